@@ -1,4 +1,4 @@
-"""Reads the files of rows that tests/runs and tests/steps make: their lines, tables and texts, and their spelling."""
+"""Reads the files of rows that tests/runs.py and tests/steps.py make: their lines, tables and texts, and their spelling."""
 
 import glob
 import itertools
@@ -6,12 +6,13 @@ import os
 import re
 from dataclasses import dataclass, field
 
-TOP = os.path.dirname(os.path.dirname(os.path.realpath(__file__)))
+from checking import TOP, Broken
+
 SHARED = "tests/data/rows/shared.txt"
 SHOWN = 2000  # bytes of a text that a failure shows
 
 
-class BadRows(Exception):
+class BadRows(Broken):
     """A file of rows can't be read; the message says where and why."""
 
 
@@ -53,6 +54,7 @@ class Section:
     named: dict
     tables: list = field(default_factory=list)
     rows: list = field(default_factory=list)
+    head: Item = None  # its title
 
     def lines(self):
         """For each line of its tables with each of the others: what names it, and a speller that knows its cells."""
@@ -120,10 +122,10 @@ def sections_of(path, named, take_row):
     """The sections of a file of rows, the first of which is what stands above the others."""
     with open(f"{TOP}/{path}", encoding="utf-8") as file:
         items = items_of(path, file.read())
-    sections = [Section(dict(named))]
+    sections = [Section(dict(named), head=Item(path, 1, "[", "", ()))]
     for item in items:
         if item.key == "[":
-            sections.append(Section(dict(sections[0].named), list(sections[0].tables)))
+            sections.append(Section(dict(sections[0].named), list(sections[0].tables), head=item))
         else:
             take(sections[-1], item, take_row)
     return sections
@@ -144,10 +146,15 @@ def shared_texts():
 
 
 def sections_in(paths, take_row):
-    """The sections of files of rows, which know the shared texts."""
+    """For each file of rows: its sections, which know the shared texts."""
     shared = shared_texts()
     for path in paths:
-        yield from sections_of(path, shared, take_row)
+        yield sections_of(path, shared, take_row)
+
+
+def row_name(part, item):
+    """The words that run the row alone which has this first line."""
+    return f"{part} {os.path.basename(item.path).removesuffix('.txt')}:{item.number}"
 
 
 # ---- Spelling ---------------------------------------------------------------------------------------------------

@@ -6,7 +6,6 @@ use crate::fresh::Fresh;
 use crate::loading::{fed, loaded};
 use crate::sessions::session_step;
 use crate::words::{Words, small_number};
-use plain_listing::first_routes;
 use sabr_frontier::{Loader, Session};
 use sabr_model::Plan;
 use sabr_plan::digest;
@@ -110,16 +109,6 @@ impl<'p, B: Fresh<A>, A: Allocator + Copy> HeldSession<'p, B, A> {
         match verify(self.alloc, &mut reader, self.plan, &digest, finder) {
             Ok(yes) => yes_or_no(desk.alloc, yes),
             Err(fault) => refused(desk.alloc, fault),
-        }
-    }
-
-    /// The first routes of the plain listing, at most 10000, and whether there are more.
-    pub fn plain(&self, desk: &Desk<'_>, words: &mut Words<'_>) -> Option<String> {
-        let request = desk.asked.request().ok()?;
-        let count = small_number(words)?.min(10000);
-        match first_routes(self.alloc, self.plan, &request, count) {
-            Ok(page) => routes_and_more(desk.alloc, page.routes.as_slice(), page.more),
-            Err(_) => no_memory(desk.alloc),
         }
     }
 }

@@ -1,7 +1,7 @@
 //! The program `steps` calls the libraries as a text on standard input says, and prints what each call answers.
 //!
 //! Each line of the text is a step: a word that names the call, and its values. Each step is answered by one line; a
-//! step that isn't understood, by `?`. `tests/steps` says which steps there are, and makes them.
+//! step that isn't understood, by `?`. `tests/steps.py` says which steps there are, and makes them.
 #![tactic(auto)]
 
 mod answers;

@@ -55,7 +55,6 @@ fn step<A: Allocator + Copy, B: Fresh<A>>(
         "load" => held.load(desk),
         "feed" => held.feed(desk),
         "verify" => held.verify(desk),
-        "plain" => held.plain(desk, words),
         "fits" | "best" | "looks" | "follow" => part_step(held.plan(), finder, desk, name, words),
         "last" => held.last(desk, words),
         "page" | "back" | "certify" | "place" | "parts" | "write" | "keep" => {

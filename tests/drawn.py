@@ -1,14 +1,9 @@
-#!/usr/bin/env python3
-"""Compares what the libraries answer over small plans with a listing of all routes that is made here.
-
-    tests/drawn [PROGRAM [CGRLIST]]     PROGRAM: the program `steps`; the one that this clone built if not given
-                                        CGRLIST: the program `cgrlist`, likewise
+"""Compares what the libraries answer over small plans with the listing of all routes of tests/oracle.py.
 
 There are 500 plans drawn from seeds, of 3 to 6 nodes and some 12 contacts, each with a request. There are five plans
-worked out by hand, each with five requests, four times. Over each, all routes are listed here, depth first, by what a
-route is and by nothing else. From that listing alone follows what must be answered:
+worked out by hand, each with five requests, four times. Each plan is made by calls for one of the finders, and read from
+its text for the other. From the listing alone follows what must be answered:
 
-    plain listing   the routes of the crate `plain_listing`, which ends after them
     finders         the least route of drawn parts; which drawn chains routes may begin with; bounds on looks
     sessions        pages and pages taken back: the routes, the place, the parts and the text. A place has one text,
                     whatever the way that led there; on some ways the session passes through its text
@@ -16,327 +11,78 @@ route is and by nothing else. From that listing alone follows what must be answe
                     another request, yes only if it is the text of a place
     a long listing  pages of 200 and 1000 over a chain of eleven double hops, and a passage through the text between
 
-Each is asked of both finders, which live on from plan to plan, and of sessions with both. One run of the program
-answers all. `cgrlist` is asked for
+Both finders live on from plan to plan: one run of the program `steps` answers all. `cgrlist` is asked for
 
     many            what it prints for six requests over the text of a drawn plan, between drawn nodes and with drawn
                     limits; over every tenth plan, the same of a run of `first` for each of them
 
-The last line is 'N passed, M failed': one for each answer that was compared, and for each count of what was drawn.
+There is a check for each answer that is compared, and for each count of what was drawn.
 """
 
 import itertools
-import math
-import os
 import random
 import re
 import subprocess
-import sys
 import tempfile
-import time
 from collections import Counter
 from dataclasses import dataclass, field
-from fractions import Fraction
-from hashlib import sha256
+from functools import partial
 
-sys.dont_write_bytecode = True
-from row_files import TOP
+from checking import Broken, Check
+from oracle import NO_LIMIT, Bad, Listing, Plan, Request, Route, spelled, time_text
+from steps import answers_of as answers_to
 
-BUILT = f"{TOP}/crates/steps/out/steps"
-BUILT_CGRLIST = f"{TOP}/crates/cgrlist/out/cgrlist"
 SECONDS = 600
 DRAWN = 500  # plans that are drawn
 WORKED_OUT = 100  # cases of the plans worked out by hand
-SHOWN = 10  # failures that are shown
 
 FINDERS = ("settled", "layered")
 BEGIN = 1893456000  # 2030/01/01-00:00:00
 RATE = 1000
-NO_LIMIT = 20000  # hops of a request without a limit on them
 ALL = 18446744073709551615  # the limit of a reader without one
 
-# ---- Plans, requests and routes ---------------------------------------------------------------------------------
+# ---- Plans ------------------------------------------------------------------------------------------------------
 
 
-def time_text(second):
-    return time.strftime("%Y/%m/%d-%H:%M:%S", time.gmtime(second))
-
-
-@dataclass(frozen=True)
-class Contact:
-    """A contact that stands."""
-
-    number: int
-    sender: int
-    receiver: int
-    start: int
-    end: int
-
-    def is_like(self, other):
-        return (self.start, self.sender, self.receiver) == (other.start, other.sender, other.receiver)
-
-
-class Plan:
-    """A plan, with the steps that make it and what each answers. Times are given in seconds after BEGIN."""
+class Drawing:
+    """A plan as lines make it, with the steps that make it by calls and what each answers. Times are given in seconds
+    after BEGIN."""
 
     def __init__(self):
-        self.contacts = {}  # by number
-        self.lights = {}  # by ordered pair of nodes: start, end, light time
-        self.given = 0  # the greatest number that a contact was given
+        self.plan = Plan()
+        self.lines = []  # those that are good
         self.steps = [("new", "ok")]
 
-    def add_light(self, one, other, start, end, light):
-        """Adds a light time; at most one for each ordered pair."""
-        self.lights[one, other] = (BEGIN + start, BEGIN + end, light)
-        self.steps.append((f"range {one} {other} {BEGIN + start} {BEGIN + end} {light}", "ok"))
+    def take(self, line, step):
+        """Adds by a line if it is good, and by a step, which answers the contact's number, `ok`, or the refusal."""
+        try:
+            self.plan.line(line.encode())
+            self.lines.append(line)
+            self.steps.append((step, "ok" if step.startswith("range") else str(self.plan.greatest)))
+        except Bad as kind:
+            self.steps.append((step, str(kind)))
 
-    def fault_of(self, contact):
-        """Why the contact isn't added, or none."""
-        if contact.start >= contact.end:
-            return "EmptyWindow"
-        if contact.sender == contact.receiver:
-            return "SelfPair"
-        if any(map(contact.is_like, self.contacts.values())):
-            return "DuplicateContact"
-        return None
+    def add_light(self, one, other, start, end, light):
+        times = f"{time_text(BEGIN + start)} {time_text(BEGIN + end)}"
+        self.take(f"a range {times} {one} {other} {light}", f"range {one} {other} {BEGIN + start} {BEGIN + end} {light}")
 
     def add_contact(self, sender, receiver, start, end):
-        contact = Contact(self.given + 1, sender, receiver, BEGIN + start, BEGIN + end)
-        fault = self.fault_of(contact)
-        if not fault:
-            self.given = contact.number
-            self.contacts[contact.number] = contact
-        step = f"contact {sender} {receiver} {contact.start} {contact.end} {RATE}"
-        self.steps.append((step, fault or str(contact.number)))
+        times = f"{time_text(BEGIN + start)} {time_text(BEGIN + end)}"
+        step = f"contact {sender} {receiver} {BEGIN + start} {BEGIN + end} {RATE}"
+        self.take(f"a contact {times} {sender} {receiver} {RATE}", step)
 
     def drop_contact(self, number):
-        contact = self.contacts.pop(number)
-        step = f"drop-contact {contact.sender} {contact.receiver} {contact.start}"
-        self.steps.append((step, str(number)))
-
-    def nodes(self):
-        """The nodes that send or receive a contact."""
-        return {it.sender for it in self.contacts.values()} | {it.receiver for it in self.contacts.values()}
-
-    def light(self, contact):
-        """The light time in force at the contact's start, or none. One from the greater node on holds that way alone,
-        and wins over that of both ways."""
-        pairs = [(contact.sender, contact.receiver)]
-        if contact.sender > contact.receiver:
-            pairs.append((contact.receiver, contact.sender))
-        for pair in pairs:
-            start, end, light = self.lights.get(pair, (0, 0, 0))
-            if start <= contact.start < end:
-                return light
-        return None
+        it = self.plan.contacts[number]
+        self.lines.append(f"d contact {time_text(it.start)} {it.sender} {it.receiver}")
+        self.plan.line(self.lines[-1].encode())
+        self.steps.append((f"drop-contact {it.sender} {it.receiver} {it.start}", str(number)))
 
     def text(self):
-        """The plan's text: a line for each step that made the plan what it is."""
-        done = [step.split() for step, answer in self.steps[1:] if answer == "ok" or answer.isdigit()]
-        return "".join(f"{plan_line(*words)}\n" for words in done)
+        return "".join(f"{line}\n" for line in self.lines)
 
-    def digest(self):
-        """The digest of the canonical text."""
-        lines = ["cgr-plan 1"]
-        for it in self.contacts.values():
-            lines.append(f"c {it.number} {it.start} {it.end} {it.sender} {it.receiver} {RATE}")
-        for (one, other), (start, end, light) in sorted(self.lights.items()):
-            lines.append(f"r {one} {other} {start} {end} {light}")
-        return sha256("\n".join([*lines, "end", ""]).encode()).hexdigest()
-
-
-def plan_line(step, one, other, *numbers):
-    """The line of a plan's text that says a step."""
-    if step == "drop-contact":
-        return f"d contact {time_text(int(numbers[0]))} {one} {other}"
-    start, end, last = map(int, numbers)
-    return f"a {step} {time_text(start)} {time_text(end)} {one} {other} {last}"
-
-
-@dataclass(frozen=True)
-class Request:
-    """What is asked of a plan."""
-
-    source: int
-    target: int
-    at: int
-    margin: int = 0  # parts in a million
-    hops: int = NO_LIMIT
-    avoided: tuple = ()
-
-    @property
-    def is_limited(self):
-        return self.hops < NO_LIMIT or bool(self.avoided)
-
-    def step(self):
-        return " ".join(map(str, ("ask", self.source, self.target, self.at, self.margin, self.hops, *self.avoided)))
-
-    def line(self, version):
-        """The line of a session's text."""
-        limits = f" {self.hops} / {spelled(self.avoided)}" if version > 1 else ""
-        return f"request {self.source} {self.target} {time_text(self.at)} {self.margin}{limits}"
-
-    def many_line(self):
-        """The line of a text of requests, without the limits at its end that are none."""
-        limits = [str(self.margin), str(self.hops), ",".join(map(str, self.avoided))]
-        while limits and limits[-1] == ("0", str(NO_LIMIT), "")[len(limits) - 1]:
-            limits.pop()
-        return " ".join([str(self.source), str(self.target), time_text(self.at), *limits])
-
-    def words(self):
-        """The words of `first`."""
-        words = ["--from", self.source, "--to", self.target, "--at", time_text(self.at)]
-        words += ["--margin-ppm", self.margin, "--max-hops", self.hops]
-        return [*map(str, words), *(["--avoid", ",".join(map(str, self.avoided))] if self.avoided else [])]
-
-
-@dataclass(frozen=True)
-class Chain:
-    """Contacts that a route may begin with: their numbers, the source and the receivers, and when it ends."""
-
-    numbers: tuple
-    nodes: tuple
-    at: int
-
-
-@dataclass(frozen=True)
-class Route:
-    """A route as it is answered."""
-
-    contacts: tuple
-    delivery: int
-    until: int
-    entry: int
-
-    def key(self):
-        return self.delivery, len(self.contacts), self.contacts
-
-    def spelled(self):
-        return f"{spelled(self.contacts)} / {self.delivery} {self.until} {self.entry}"
-
-    def line(self):
-        """What a report's line says after the rank."""
-        delivery = f"delivery {time_text(self.delivery)} hops {len(self.contacts)} entry {self.entry}"
-        return f"{delivery} until {time_text(self.until)} contacts {spelled(self.contacts)}"
-
-
-def spelled(numbers):
-    return " ".join(map(str, numbers)) or "-"
-
-
-# ---- Listing ----------------------------------------------------------------------------------------------------
-
-
-def may_visit(request, chain, node):
-    """Whether a chain may go on to a node within the limits, without meeting a node twice."""
-    return len(chain.numbers) < request.hops and node not in chain.nodes and node not in request.avoided
-
-
-def arrival(plan, request, at, contact):
-    """When a bundle that is at the contact's sender in that second arrives over it, or none."""
-    sent, light = max(at, contact.start), plan.light(contact)
-    if light is None or sent >= contact.end:
-        return None
-    return sent + light + math.ceil(Fraction(light * request.margin, 1000000))
-
-
-def lengthened(plan, request, chain, number):
-    """The chain with that contact after it, or none if no route begins so."""
-    contact = plan.contacts.get(number)
-    if not contact or contact.sender != chain.nodes[-1] or not may_visit(request, chain, contact.receiver):
-        return None
-    at = arrival(plan, request, chain.at, contact)
-    return None if at is None else Chain((*chain.numbers, number), (*chain.nodes, contact.receiver), at)
-
-
-def routes_after(plan, request, chain):
-    """Each chain that begins with this one and ends at the destination."""
-    if chain.nodes[-1] == request.target:
-        yield chain
-        return
-    for number in plan.contacts:
-        longer = lengthened(plan, request, chain, number)
-        if longer:
-            yield from routes_after(plan, request, longer)
-
-
-def route_over(plan, chain):
-    until = min(plan.contacts[number].end for number in chain.numbers)
-    return Route(chain.numbers, chain.at, until, chain.nodes[1])
-
-
-def is_in(route, prefix, excluded):
-    """Whether the route is longer than the prefix, begins with it, and goes on with a number that isn't excluded."""
-    after = route.contacts[len(prefix) :]
-    return route.contacts[: len(prefix)] == prefix and bool(after) and after[0] not in excluded
-
-
-def shared(one, other):
-    """How many numbers from the front two lists share."""
-    return sum(1 for _ in itertools.takewhile(lambda pair: pair[0] == pair[1], zip(one, other)))
-
-
-class Listing:
-    """All routes of a request over a plan, best first, and what follows from them."""
-
-    def __init__(self, plan, request):
-        self.plan = plan
-        self.request = request
-        self.start = Chain((), (request.source,), request.at)
-        chains = routes_after(plan, request, self.start)
-        self.routes = sorted((route_over(plan, chain) for chain in chains), key=Route.key)
-        self.digest = plan.digest()
-        self.kept_parts = {}
-
-    def fits(self, prefix):
-        """Whether routes may begin with the prefix, and go on."""
-        chain = self.start
-        for number in prefix:
-            chain = chain and lengthened(self.plan, self.request, chain, number)
-        return bool(chain) and self.request.target not in chain.nodes
-
-    def least(self, prefix, excluded):
-        """The least route of a part, or none."""
-        return next((it for it in self.routes if is_in(it, prefix, excluded)), None)
-
-    def last(self, place):
-        """The contacts of the route that was given last."""
-        return self.routes[place - 1].contacts if place else ()
-
-    def parts(self, place):
-        """The parts that are left after so many routes were given, by their prefixes: prefix, excluded numbers, and
-        the least route. There is one for each list that a given route begins with, and the empty list."""
-        if place not in self.kept_parts:
-            nexts = {(): set()}
-            for route in self.routes[:place]:
-                for hops, number in enumerate(route.contacts):
-                    nexts.setdefault(route.contacts[:hops], set()).add(number)
-            parts = [(prefix, sorted(numbers)) for prefix, numbers in sorted(nexts.items())]
-            self.kept_parts[place] = [(*part, self.least(*part)) for part in parts]
-        return self.kept_parts[place]
-
-    def searches_for(self, place):
-        """How many searches the route at a place takes: one for each hop after the prefix of the part that carried
-        it, which is what it shares with a route before it."""
-        contacts = self.routes[place].contacts
-        return len(contacts) - max((shared(contacts, it.contacts) for it in self.routes[:place]), default=0)
-
-    def text(self, place, version=2):
-        """The session's text after so many routes were given."""
-        lines = [f"cgr-session {version}", f"plan {self.digest}", self.request.line(version), f"emitted {place}"]
-        lines += [f"last {spelled(self.last(place))}", f"parts {len(self.parts(place))}"]
-        for prefix, excluded, route in self.parts(place):
-            lines.append(f"part {spelled(prefix)} / {spelled(excluded)} / {spelled(route.contacts if route else ())}")
-        return "\n".join([*lines, "end", ""])
-
-    def report(self, count):
-        """What `first` prints of so many routes."""
-        lines = [f"{rank} {route.line()}" for rank, route in enumerate(self.routes[:count], 1)]
-        return "\n".join([*lines, "more" if len(self.routes) > count else "end", ""])
-
-    def texts(self, version=2):
-        """The texts of all places."""
-        return [self.text(place, version) for place in range(len(self.routes) + 1)]
+    def reading(self):
+        """The steps that read the plan from its text."""
+        return [(f"plan-text {self.text().encode().hex()}", "ok"), ("read", "ok")]
 
 
 # ---- What is drawn ----------------------------------------------------------------------------------------------
@@ -346,7 +92,7 @@ class Draws:
     """Numbers that a seed alone decides."""
 
     def __init__(self, seed):
-        self.random = random.Random(seed)
+        self.seed, self.random = seed, random.Random(seed)
 
     def below(self, bound):
         return int(self.random.random() * bound)
@@ -358,44 +104,44 @@ class Draws:
         return values[self.below(len(values))]
 
 
-def draw_light(plan, draws, one, other):
+def draw_light(drawing, draws, one, other):
     """Draws a light time: none, one way from the greater node, both ways, or both."""
     ways = draws.below(8)
     light = draws.below(5)
     start = max(draws.below(20) - 14, 0)
     end = max(draws.below(90), 60)
     if ways > 1:
-        plan.add_light(one, other, start, end, light)
+        drawing.add_light(one, other, start, end, light)
     if ways in (1, 2):
-        plan.add_light(other, one, 0, end, draws.below(9))
+        drawing.add_light(other, one, 0, end, draws.below(9))
 
 
-def draw_contact(plan, draws, nodes):
+def draw_contact(drawing, draws, nodes):
     """Draws a contact, mostly from the lesser node; now and then it is none, and the plan refuses it."""
     one, other = draws.below(nodes) + 1, draws.below(nodes) + 1
     if not draws.once_in(4):
         one, other = min(one, other), max(one, other)
     start = draws.below(20)
-    plan.add_contact(one, other, start, start + draws.below(60))
+    drawing.add_contact(one, other, start, start + draws.below(60))
 
 
-def drop_some(plan, draws):
+def drop_some(drawing, draws):
     """Deletes one of the contacts, so that its number is a gap."""
     place = draws.below(16)
-    for number in list(plan.contacts)[place : place + 1]:
-        plan.drop_contact(number)
+    for number in list(drawing.plan.contacts)[place : place + 1]:
+        drawing.drop_contact(number)
 
 
 def draw_plan(draws, nodes):
-    plan = Plan()
+    drawing = Drawing()
     for other in range(2, nodes + 1):
         for one in range(1, other):
-            draw_light(plan, draws, one, other)
+            draw_light(drawing, draws, one, other)
     for _ in range(draws.below(8) + 12):
-        draw_contact(plan, draws, nodes)
+        draw_contact(drawing, draws, nodes)
         if draws.once_in(6):
-            drop_some(plan, draws)
-    return plan
+            drop_some(drawing, draws)
+    return drawing
 
 
 def draw_request(draws, nodes):
@@ -482,16 +228,16 @@ ASKED = ((0, NO_LIMIT, ()), (0, 2, ()), (0, 1, ()), (0, NO_LIMIT, (4,)), (60, NO
 
 
 def worked_plan(lights, windows, deleted, more):
-    plan = Plan()
+    drawing = Drawing()
     for one, other, light in lights:
-        plan.add_light(one, other, 0, 1000, light)
+        drawing.add_light(one, other, 0, 1000, light)
     for window in windows:
-        plan.add_contact(*window)
+        drawing.add_contact(*window)
     for number in deleted:
-        plan.drop_contact(number)
+        drawing.drop_contact(number)
     for window in more:
-        plan.add_contact(*window)
-    return plan
+        drawing.add_contact(*window)
+    return drawing
 
 
 # ---- Cases ------------------------------------------------------------------------------------------------------
@@ -503,37 +249,46 @@ class Case:
 
     title: str
     draws: Draws
+    drawing: Drawing
     listing: Listing
     said: list = field(default_factory=list)
 
     def say(self, step, wanted="ok"):
         self.said.append((step, wanted))
 
+    def make_plan(self, from_text):
+        """Makes the plan: from its text, or by calls."""
+        self.said += self.drawing.reading() if from_text else self.drawing.steps
+        self.say("digest", self.listing.digest)
+
+
+def case_of(title, draws, drawing, request):
+    return Case(title, draws, drawing, Listing(drawing.plan, request))
+
 
 def drawn_case(seed):
     draws = Draws(seed)
     nodes = min(draws.below(4), draws.below(4)) + 3
-    plan = draw_plan(draws, nodes)
-    return Case(f"seed {seed}", draws, Listing(plan, draw_request(draws, nodes)))
+    drawing = draw_plan(draws, nodes)
+    return case_of(f"seed {seed}", draws, drawing, draw_request(draws, nodes))
 
 
 def worked_case(number):
     """A case of a worked plan: with each request, and drawn parts and pages of their own."""
     name, *table = WORKED[number % 5]
     after, hops, avoided = ASKED[number // 5 % 5]
-    plan = worked_plan(*table)
     request = Request(1, 3, BEGIN + after, 0, hops, avoided)
-    return Case(f"number {number}, plan {name}", Draws(DRAWN + number), Listing(plan, request))
+    return case_of(f"number {number}, plan {name}", Draws(DRAWN + number), worked_plan(*table), request)
 
 
 def long_case():
     """A chain of eleven hops, each over either of two contacts."""
-    plan = Plan()
+    drawing = Drawing()
     for node in range(1, 12):
-        plan.add_light(node, node + 1, 0, 1000, 0)
-        plan.add_contact(node, node + 1, 0, 1000)
-        plan.add_contact(node, node + 1, 1, 1000)
-    return Case("the long chain", Draws(0), Listing(plan, Request(1, 12, BEGIN)))
+        drawing.add_light(node, node + 1, 0, 1000, 0)
+        drawing.add_contact(node, node + 1, 0, 1000)
+        drawing.add_contact(node, node + 1, 1, 1000)
+    return case_of("the long chain", Draws(0), drawing, Request(1, 12, BEGIN))
 
 
 # ---- What is said over a listing --------------------------------------------------------------------------------
@@ -556,12 +311,6 @@ def part_told(prefix, excluded, route):
 
 def parts_told(parts):
     return " ; ".join([f"{len(parts)} parts", *itertools.starmap(part_told, parts)])
-
-
-def ask_listing(case, listing):
-    """Asks for the program's own listing."""
-    case.say(listing.request.step())
-    case.say("plain 10000", routes_told(listing.routes) + " end")
 
 
 def looks_of(finder, listing, prefix, answer):
@@ -705,7 +454,7 @@ def judge_under_another(case):
     """Judges the text of each place with the line of another request, by the texts of that one's listing."""
     listing = case.listing
     other = Listing(listing.plan, draw_changed(case.draws, listing.request))
-    ask_listing(case, other)
+    case.say(other.request.step())
     texts = other.texts()
     for text in listing.texts():
         judge(case, texts, text.replace(listing.request.line(2), other.request.line(2)))
@@ -713,11 +462,11 @@ def judge_under_another(case):
 
 def say_all(case):
     """Says all that is asked over a listing, of each finder."""
-    case.said += case.listing.plan.steps
     parts = draw_parts(case.draws, case.listing)
-    for finder in FINDERS:
+    for place, finder in enumerate(FINDERS):
+        case.make_plan(from_text=place == case.draws.seed % 2)
         case.say(finder)
-        ask_listing(case, case.listing)
+        case.say(case.listing.request.step())
         ask_parts(case, finder, parts)
         walk_about(case)
         walk_through_texts(case)
@@ -729,8 +478,8 @@ def say_all(case):
 def say_long(case):
     """Says two pages of a long listing. Between them the session, which has some two hundred parts with prefixes of up
     to ten contacts, passes through its text."""
-    case.said += case.listing.plan.steps
     for finder in FINDERS:
+        case.make_plan(from_text=True)
         case.say(finder)
         case.say(case.listing.request.step())
         walk = Walk(case)
@@ -762,7 +511,7 @@ class Asked:
 
 def draw_asked(case):
     """Draws six requests over a drawn plan."""
-    draws, plan = Draws(f"many, {case.title}"), case.listing.plan
+    draws, plan = Draws(f"many, {case.title}"), case.drawing.plan
     listings = [Listing(plan, draw_pair(draws, case.listing.request.target)) for _ in range(6)]
     return Asked(case, draws.one_of((1, 2, 10000)), listings)
 
@@ -780,7 +529,7 @@ def answer_of(program, folder, command, words, asked):
 
 def compare_asked(program, folder, asked, with_first):
     """How the answers to requests failed, and how each of `first` did if it is asked; empty if it passed."""
-    for name, text in (("plan", asked.case.listing.plan.text()), ("requests", asked.requests_text())):
+    for name, text in (("plan", asked.case.drawing.text()), ("requests", asked.requests_text())):
         with open(f"{folder}/{name}", "w", encoding="ascii") as file:
             file.write(text)
     found = answer_of(program, folder, "many", ["--requests", "requests"], asked)
@@ -791,19 +540,14 @@ def compare_asked(program, folder, asked, with_first):
 
 
 def differing(asked, command, wanted, found):
-    plan = asked.case.listing.plan.text()
+    plan = asked.case.drawing.text()
     return f"FAILED: {asked.case.title}: {command}, count {asked.count}\nwanted: {wanted}\nfound: {found}\nplan: {plan}"
 
 
-def compare_many(program, cases):
-    """For each run over a drawn plan: how it failed, which is empty if it passed; then the same for each count."""
-    if not os.access(program, os.X_OK):
-        raise Broken(f"there is no program {program}")
-    all_asked = [*map(draw_asked, cases)]
+def compare_many(program, asked, with_first):
+    """For each run over a drawn plan: how it failed, which is empty if it passed."""
     with tempfile.TemporaryDirectory() as folder:
-        for number, asked in enumerate(all_asked):
-            yield from compare_asked(program, folder, asked, with_first=number % 10 == 0)
-    yield from failures_of_counts(counted_asked(all_asked), LEAST_ASKED)
+        yield from compare_asked(program, folder, asked, with_first)
 
 
 # ---- Comparing --------------------------------------------------------------------------------------------------
@@ -853,23 +597,6 @@ def counted_asked(all_asked):
     return counts
 
 
-class Broken(Exception):
-    """The program didn't end as it must; the message says how."""
-
-
-def answers_of(program, steps):
-    """What the program answers to the steps."""
-    text = "".join(f"{step}\n" for step in steps)
-    try:
-        ran = subprocess.run([program], input=text, stdout=subprocess.PIPE, text=True, timeout=SECONDS)
-    except subprocess.TimeoutExpired as error:
-        raise Broken(f"no end after {SECONDS} seconds") from error
-    answers = ran.stdout.splitlines()
-    if ran.returncode or len(answers) != len(steps):
-        raise Broken(f"status {ran.returncode}, and {len(answers)} answers to {len(steps)} steps")
-    return answers
-
-
 def is_wanted(wanted, found):
     """Whether an answer is the one that is wanted: a number in a range, a fault of that name, or that text."""
     if isinstance(wanted, range):
@@ -878,10 +605,10 @@ def is_wanted(wanted, found):
 
 
 def steps_up_to(said, place):
-    """The steps that lead to an answer: those that make the plan, and those with the finder from its beginning on."""
+    """The steps that lead to an answer: those that make the plan, and those with the finder."""
     steps = [step for step, _ in said[: place + 1]]
-    begun = [at for at, step in enumerate(steps) if step in FINDERS]
-    return steps[: begun[0]] + steps[begun[-1] :] if begun else steps
+    ended = [at for at, step in enumerate(steps[:-1]) if step == "done"]
+    return steps[ended[-1] + 1 :] if ended else steps
 
 
 def readable(answer):
@@ -900,12 +627,10 @@ def failure(case, place, found):
     return f"{told}\nthe steps that lead there:\n    {steps}"
 
 
-def failures_of(cases, answers):
+def failures_of(case, answers):
     """For each step: how its answer failed, which is empty if it passed."""
-    answers = iter(answers)
-    for case in cases:
-        for place, ((_, wanted), found) in enumerate(zip(case.said, answers)):
-            yield "" if is_wanted(wanted, found) else failure(case, place, found)
+    for place, ((_, wanted), found) in enumerate(zip(case.said, answers)):
+        yield "" if is_wanted(wanted, found) else failure(case, place, found)
 
 
 def failures_of_counts(counts, leasts):
@@ -914,38 +639,35 @@ def failures_of_counts(counts, leasts):
         yield "" if counts[what] >= least else f"FAILED: {counts[what]} {what}, and not {least}"
 
 
-def compare_all(program):
-    """Gives the steps of all cases to the program. For each answer and each count: how it failed, empty if it passed."""
-    if not os.access(program, os.X_OK):
-        raise Broken("there is no such program")
-    cases = [*map(drawn_case, range(DRAWN)), *map(worked_case, range(WORKED_OUT))]
+def cases_of(asked):
+    """The cases that are asked for, with what is said over them."""
+    if asked.rows:
+        raise Broken("drawn has no rows")
+    drawn = [*map(drawn_case, range(DRAWN) if asked.seed is None else [asked.seed])]
+    others = [*map(worked_case, range(WORKED_OUT)), long_case()] if asked.seed is None else []
+    cases = [case for case in drawn + others if asked.text in case.title]
     for case in cases:
-        say_all(case)
-    cases.append(long_case())
-    say_long(cases[-1])
-    answers = answers_of(program, [step for case in cases for step, _ in case.said])
-    return [*failures_of(cases, answers), *failures_of_counts(counted(cases), LEAST)]
+        (say_long if case.title == "the long chain" else say_all)(case)
+    return cases
 
 
-def main():
-    program, cgrlist = map(os.path.realpath, [*sys.argv[1:], *(BUILT, BUILT_CGRLIST)[len(sys.argv) - 1 :]])
-    try:
-        compared = [*compare_all(program), *compare_many(cgrlist, map(drawn_case, range(DRAWN)))]
-    except Broken as error:
-        compared = [f"FAILED: {program}: {error}"]
-    failures = list(filter(None, compared))
-    for told in failures[:SHOWN]:
-        print(told)
-    print(f"drawn: {len(compared) - len(failures)} passed, {len(failures)} failed")
-    return 1 if failures else 0
+def words_of(case):
+    """The words that run a case alone."""
+    return f"drawn --seed {case.draws.seed}" if case.title.startswith("seed") else f"drawn -k '{case.title}'"
 
 
-if __name__ == "__main__":
-    try:
-        sys.exit(main())
-    except BrokenPipeError:
-        os.dup2(os.open(os.devnull, os.O_WRONLY), sys.stdout.fileno())
-        sys.exit(1)
-    except OSError as error:
-        print(f"drawn: {error}", file=sys.stderr)
-        sys.exit(2)
+def checks(asked):
+    """The cases that are asked for, and the counts of what was drawn if all are."""
+    program, cgrlist, cases = asked.program("steps"), asked.program("cgrlist"), cases_of(asked)
+    answers = iter(answers_to(program, [step for case in cases for step, _ in case.said]))
+    all_asked = []
+    for case in cases:
+        own = list(itertools.islice(answers, len(case.said)))
+        yield Check(words_of(case), partial(failures_of, case, own), case.title)
+        if case.title.startswith("seed"):
+            all_asked.append(draw_asked(case))
+            with_first = case.draws.seed % 10 == 0
+            yield Check(words_of(case), partial(compare_many, cgrlist, all_asked[-1], with_first), case.title)
+    if asked.seed is None and not asked.text:
+        yield Check("drawn", partial(failures_of_counts, counted(cases), LEAST))
+        yield Check("drawn", partial(failures_of_counts, counted_asked(all_asked), LEAST_ASKED))

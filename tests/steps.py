@@ -1,8 +1,4 @@
-#!/usr/bin/env python3
 r"""Makes the calls of the libraries that the files tests/data/step_rows/*.txt name, and compares what each answers.
-
-    tests/steps [PROGRAM [FILE ..]]     PROGRAM: the program `steps`; the one that this clone built if not given
-                                        FILE: a file of rows; all of tests/data/step_rows if not given
 
 A line says one thing; the lines that belong to it stand below it, each after four spaces:
 
@@ -64,7 +60,6 @@ Those over a plan. Lists are numbers, `-` for none:
     best PREFIX / EXCLUDED  the least route of a part, `none`, or `no prefix`; then
     looks                   how many looks it took
     follow CONTACTS         the delivery, or the fault
-    plain COUNT             the first routes by the plain listing, and `more` or `end`
     start                   a session that begins
     read                    that of the session's text
     load, part PREFIX / EXCLUDED / ROUTE, .. finish EMITTED LAST        one that is loaded part by part
@@ -80,20 +75,19 @@ Those over a plan. Lists are numbers, `-` for none:
     keep                    takes the session's text for the one that is read
 
 A fault is answered by its name and its text, as `BadLine(8): line 8 is not spelled as it has to be` of `SessionFault`.
-The last line is 'N passed, M failed': one for each step with ample memory, and one for each request that was refused.
+There is a check for each step with ample memory, and for each request that was refused.
 """
 
 import os
 import re
 import subprocess
-import sys
 import tempfile
 from dataclasses import dataclass, field
+from functools import partial
 
-sys.dont_write_bytecode = True
-from row_files import TOP, BadRows, Speller, paths_in, sections_in, shared_texts, shown
+from checking import SEEN, Broken, Check
+from row_files import BadRows, Speller, paths_in, row_name, sections_in, shared_texts, shown
 
-BUILT = f"{TOP}/crates/steps/out/steps"
 ROWS = "tests/data/step_rows"
 SECONDS = 600
 ALL = "18446744073709551615"
@@ -209,7 +203,7 @@ def answer_of(name, answer):
     if name == "run" and answer.count(" ") == 3:
         status, *texts = answer.split(" ")
         return shown_run(status.encode(), [b"" if text == "-" else bytes.fromhex(text) for text in texts])
-    if name in ("plain", "last") and re.match(r"\d+ routes", answer):
+    if name == "last" and re.match(r"\d+ routes", answer):
         routes, _, word = answer.rpartition(" ")
         answer = word if routes == "0 routes" else f"{listed(routes)}\n{word}"
     if re.match(r"\d+ (routes|parts)\b", answer):
@@ -355,17 +349,22 @@ class Maker:
             self.call(sent, "leaving")
 
 
-class Broken(Exception):
-    """The program didn't end as it must; the message says how."""
-
-
-def enter(folder):
-    """Makes the files of the shared texts in a folder, where the program then runs."""
+def answers_of(program, steps):
+    """What the program answers to steps, of which each is a line, in a folder that has the files of the shared texts."""
     named = shared_texts()
-    for name in (name for name, text in named.items() if text.is_file):
-        with open(f"{folder}/{name}", "wb") as file:
-            file.write(Speller(named).text_named(name))
-    os.chdir(folder)
+    with tempfile.TemporaryDirectory() as folder:
+        for name in (name for name, text in named.items() if text.is_file):
+            with open(f"{folder}/{name}", "wb") as file:
+                file.write(Speller(named).text_named(name))
+        text = os.fsencode("".join(f"{step}\n" for step in steps))
+        try:
+            ran = subprocess.run([program], cwd=folder, input=text, stdout=subprocess.PIPE, timeout=SECONDS)
+        except subprocess.TimeoutExpired as error:
+            raise Broken(f"no end after {SECONDS} seconds") from error
+    answers = os.fsdecode(ran.stdout).split("\n")[:-1]
+    if ran.returncode or len(answers) != len(steps):
+        raise Broken(f"status {ran.returncode}, and {len(answers)} answers to {len(steps)} steps")
+    return answers
 
 
 def perform(program, makings):
@@ -374,14 +373,7 @@ def perform(program, makings):
         making.calls = []
         Maker(making).all()
     calls = [call for making in makings for call in making.calls]
-    text = "".join(f"{call.sent}\n" for call in calls)
-    try:
-        ran = subprocess.run([program], input=os.fsencode(text), stdout=subprocess.PIPE, timeout=SECONDS)
-    except subprocess.TimeoutExpired as error:
-        raise Broken(f"no end after {SECONDS} seconds") from error
-    answers = os.fsdecode(ran.stdout).split("\n")[:-1]
-    if ran.returncode or len(answers) != len(calls):
-        raise Broken(f"status {ran.returncode}, and {len(answers)} answers to {len(calls)} steps")
+    answers = answers_of(program, [call.sent for call in calls])
     for call, answer in zip(calls, answers):
         call.answer = answer_of(call.step.name if call.step else "", answer)
 
@@ -426,103 +418,52 @@ def failures_of_turn(making):
     yield from unlike(making, making.of("step"))
 
 
-class Tally:
-    """How many answers were as they must be, and how many weren't."""
-
-    def __init__(self):
-        self.passed = self.failed = 0
-
-    def count(self, told):
-        """Counts an answer, with its failure or with none."""
-        if told:
-            self.failed += 1
-            print(told)
-        else:
-            self.passed += 1
-
-    def count_turn(self, failures):
-        """Counts the requests of a step that were refused, with their failures; only the first failure is shown."""
-        told = [it for it in failures if it]
-        self.passed += len(failures) - len(told)
-        self.failed += len(told)
-        if told:
-            print(f"{told[0]}\n{len(told)} of {len(failures)} requests")
+def counted(failures):
+    """The failures of requests of a step that were refused; only the first is shown, with their number."""
+    told = [it for it in failures if it]
+    yield from [""] * (len(failures) - len(told))
+    for place, it in enumerate(told):
+        yield SEEN if place else f"{it}\n{len(told)} of {len(failures)} requests"
 
 
-@dataclass
-class Turn:
-    """A step, and its section made again for each of its requests for memory, which then is refused."""
-
-    step: Step
-    makings: list
-
-
-def turns_of(making):
-    """The turns of a section's steps, which made so many requests with ample memory."""
-    for call in making.of("count"):
-        place = next(place for place, step in enumerate(making.steps) if step is call.step)
-        requests = range(1, int(call.answer) + 1)
-        yield Turn(call.step, [Making(making.steps, place, request) for request in requests])
+def failures_once(making):
+    """For each step with ample memory: how it failed, which is empty if it passed."""
+    for call in making.of("step"):
+        yield next(unlike(making, [call]), "")
+    yield from unlike(making, making.of("other"))
 
 
-def make_once(program, sections, tally):
-    """Makes all sections with ample memory, and returns the turns of those that passed."""
+def failures_in_turn(program, making, call):
+    """For each request of a step: how its section failed that was made again with that request refused. A section is made
+    once more whose step was answered as with ample memory."""
+    place = next(place for place, step in enumerate(making.steps) if step is call.step)
+    turns = [Making(making.steps, place, request) for request in range(1, int(call.answer) + 1)]
+    perform(program, turns)
+    for turn in turns:
+        turn.guess = not is_wanted(turn.of("turn")[0].answer, call.step.wanted)
+    perform(program, [turn for turn in turns if not turn.guess])
+    yield from counted([next(failures_of_turn(turn), "") for turn in turns])
+    if not any(turn.guess for turn in turns):
+        yield failure(call.step, 0, b"NoMemory\n", call.step.wanted)
+
+
+def failures_of(program, sections):
+    """For each step, and for each request that was refused: how it failed, which is empty if it passed."""
     makings = [Making(steps) for steps in sections]
     perform(program, makings)
-    turns = []
     for making in makings:
-        failed = tally.failed
-        for call in making.of("step"):
-            tally.count(next(unlike(making, [call]), ""))
-        for told in unlike(making, making.of("other")):
-            tally.count(told)
-        if tally.failed == failed:
-            turns += turns_of(making)
-    return turns
+        failed = False
+        for told in failures_once(making):
+            failed = failed or bool(told)
+            yield told
+        for call in making.of("count") if not failed else ():
+            yield from failures_in_turn(program, making, call)
 
 
-def make_in_turn(program, turns, tally):
-    """Makes sections with a request refused, and makes those again whose step was answered as with ample memory."""
-    makings = [making for turn in turns for making in turn.makings]
-    perform(program, makings)
-    for making in makings:
-        call = making.of("turn")[0]
-        making.guess = not is_wanted(call.answer, call.step.wanted)
-    perform(program, [making for making in makings if not making.guess])
-    for turn in turns:
-        tally.count_turn([next(failures_of_turn(making), "") for making in turn.makings])
-        if not any(making.guess for making in turn.makings):
-            tally.count(failure(turn.step, 0, b"NoMemory\n", turn.step.wanted))
-
-
-def main():
-    program, *paths = sys.argv[1:] or [BUILT]
-    program = os.path.realpath(program)
-    if not os.access(program, os.X_OK):
-        print(f"FAILED: there is no program {program}\nsteps: 0 passed, 1 failed")
-        return 1
-    tally = Tally()
-    paths = [os.path.relpath(path, TOP) for path in paths] or paths_in(ROWS)
-    sections = [steps for section in sections_in(paths, take_step) for steps in steps_of(section)]
-    with tempfile.TemporaryDirectory() as folder:
-        enter(folder)
-        try:
-            make_in_turn(program, make_once(program, sections, tally), tally)
-        except Broken as error:
-            tally.count(f"FAILED: {program}: {error}")
-    print(f"steps: {tally.passed} passed, {tally.failed} failed")
-    return 1 if tally.failed or not tally.passed else 0
-
-
-if __name__ == "__main__":
-    try:
-        sys.exit(main())
-    except BadRows as error:
-        print(f"steps: {error}", file=sys.stderr)
-        sys.exit(2)
-    except BrokenPipeError:
-        os.dup2(os.open(os.devnull, os.O_WRONLY), sys.stdout.fileno())
-        sys.exit(1)
-    except OSError as error:
-        print(f"steps: {error}", file=sys.stderr)
-        sys.exit(2)
+def checks(asked):
+    """The sections that are asked for."""
+    program = asked.program("steps")
+    for sections in sections_in(asked.paths(paths_in(ROWS)), take_step):
+        units = [(section.head, section) for section in sections if section.rows]
+        for head, section in asked.chosen(units):
+            yield Check(row_name("steps", head), partial(failures_of, program, list(steps_of(section))), head.rest)

@@ -1,7 +1,4 @@
-#!/usr/bin/env python3
 r"""Runs the program as the files tests/data/rows/*.txt say, and compares how each run ends with what its row says.
-
-    tests/runs [PROGRAM]                PROGRAM: the program; the one that this clone built if not given
 
 Each run has a folder of its own. Compared byte for byte are the status, standard output, standard error and all files
 that the folder holds at the end. In a file of rows, a line says one thing; the lines of its text stand below it, each
@@ -27,8 +24,7 @@ for its first N bytes, where N may be a text's name, `<N TEXT>` for N times TEXT
 `''` for nothing. A cell `N..M` makes a line for each number from N to M, and so does a line `for I in N..M: LINE` of a
 text, in which `{I}` stands for the number and `{I.next}` for the one after it. A line of a text ends with LF: none is
 added after a backslash, nor to what ends with LF already. A line that begins with `#` is a comment. What stands above
-the first section holds in the whole file, and the texts of tests/data/rows/shared.txt in every file. The last line is
-'N passed, M failed'.
+the first section holds in the whole file, and the texts of tests/data/rows/shared.txt in every file.
 """
 
 import fcntl
@@ -37,14 +33,13 @@ import resource
 import shutil
 import signal
 import subprocess
-import sys
 import tempfile
 from dataclasses import dataclass, field
+from functools import partial
 
-sys.dont_write_bytecode = True
-from row_files import TOP, BadRows, Item, paths_in, sections_in, shown
+from checking import Check
+from row_files import BadRows, Item, paths_in, row_name, sections_in, shown
 
-BUILT = f"{TOP}/crates/cgrlist/out/cgrlist"
 ROWS = "tests/data/rows"
 SECONDS = 60
 SET_PIPE_SIZE = 1031  # F_SETPIPE_SZ of Linux, which Python names since 3.10
@@ -235,46 +230,31 @@ def failure(row, lines, words, differing):
     return "\n".join(told)
 
 
-def failures_of(program, section, scratch):
-    """For each run of a section: how it failed, which is empty if it passed."""
+def made_from(section, row):
+    """For each line of the tables of a section: what names it, the run that a row makes, and how it must end."""
     for lines, speller in section.lines():
-        for row in section.rows:
-            try:
-                call = call_of(row, speller)
-                wanted = wanted_of(row, speller, call.files)
-            except (BadRows, ValueError, RecursionError) as error:
-                raise BadRows(f"{row.run.place}: {error}") from error
+        try:
+            call = call_of(row, speller)
+            yield lines, call, wanted_of(row, speller, call.files)
+        except (BadRows, ValueError, RecursionError) as error:
+            raise BadRows(f"{row.run.place}: {error}") from error
+
+
+def failures_of(program, section, row):
+    """For each run of a row: how it failed, which is empty if it passed."""
+    with tempfile.TemporaryDirectory() as scratch:
+        for lines, call, wanted in made_from(section, row):
             differing = differences(wanted, made(program, call, scratch))
             yield failure(row, lines, call.words, differing) if differing else ""
 
 
-def main():
-    program = os.path.realpath(sys.argv[1] if len(sys.argv) > 1 else BUILT)
-    if not os.access(program, os.X_OK):
-        print(f"FAILED: there is no program {program}\nruns: 0 passed, 1 failed")
-        return 1
-    passed = failed = 0
-    with tempfile.TemporaryDirectory() as scratch:
-        for section in sections_in(paths_in(ROWS), take_row):
-            for told in failures_of(program, section, scratch):
-                if told:
-                    failed += 1
-                    print(told)
-                else:
-                    passed += 1
-    print(f"runs: {passed} passed, {failed} failed")
-    return 1 if failed or not passed else 0
-
-
-if __name__ == "__main__":
-    try:
-        sys.exit(main())
-    except BadRows as error:
-        print(f"runs: {error}", file=sys.stderr)
-        sys.exit(2)
-    except BrokenPipeError:
-        os.dup2(os.open(os.devnull, os.O_WRONLY), sys.stdout.fileno())
-        sys.exit(1)
-    except OSError as error:
-        print(f"runs: {error}", file=sys.stderr)
-        sys.exit(2)
+def checks(asked):
+    """The rows that are asked for."""
+    program = asked.program("cgrlist")
+    for sections in sections_in(asked.paths(paths_in(ROWS)), take_row):
+        units = [(row.run, row, section) for section in sections for row in section.rows]
+        for item, row, section in asked.chosen(units):
+            if asked.trials and row.one_of("memory"):
+                continue  # what checks each access takes much memory
+            act = partial(failures_of, program, section, row)
+            yield Check(row_name("runs", item), act, f"{section.head.rest} {item.rest}")

@@ -1,4 +1,0 @@
-pub mod Before
-pub mod Way
-pub mod Steps
-pub mod Walk
