@@ -17,8 +17,8 @@ _cgrlist_words() {
         cgrlist-report) echo --plan --without --names --iso --program --from --to --at --margin-ppm --max-hops \
             --avoid --report --requests --count --by --via --distinct --look --hops --room --csv --json --help ;;
         cgrlist-timeline) echo --plan --without --names --iso --program --from --to --at --margin-ppm --max-hops \
-            --avoid --count --by --via --distinct --look --report --explained --between --used --links --nodes \
-            --order --text --list --columns --width --all --help ;;
+            --avoid --count --by --via --distinct --look --report --explained --between --used --unused --links \
+            --nodes --order --text --list --html --columns --width --all --help ;;
     esac
 }
 
@@ -27,10 +27,10 @@ _cgrlist() {
     [[ $command != cgrlist ]] || ((COMP_CWORD == 1)) || command=${COMP_WORDS[1]}
     COMPREPLY=()
     case ${COMP_WORDS[COMP_CWORD - 1]} in
-        --plan | --session | --session-out | --names | --program | --report | --requests | --explained) files=yes ;;
+        --plan | --session | --session-out | --names | --program | --report | --requests | --explained | --html) files=yes ;;
         --distinct) mapfile -t COMPREPLY < <(compgen -W 'entry nodes contacts' -- "$word") ;;
         --order) mapfile -t COMPREPLY < <(compgen -W 'link route' -- "$word") ;;
-        --help | --version | --iso | --hops | --room | --csv | --json | --used | --text | --list | --all | [!-]*)
+        --help | --version | --iso | --hops | --room | --csv | --json | --used | --unused | --text | --list | --all | [!-]*)
             mapfile -t COMPREPLY < <(compgen -W "$(_cgrlist_words "$command")" -- "$word")
             [[ $command != cgrlist-from-ionrc || $word == -* ]] || files=yes
             ;;

@@ -15,12 +15,12 @@ set -l latest --by --after --plan --without --names --iso --program --from --to 
 set -l report --plan --without --names --iso --program --from --to --at --margin-ppm --max-hops --avoid --report \
     --requests --count --by --via --distinct --look --hops --room --csv --json --help
 set -l timeline --plan --without --names --iso --program --from --to --at --margin-ppm --max-hops --avoid --count \
-    --by --via --distinct --look --report --explained --between --used --links --nodes --order --text --list \
-    --columns --width --all --help
+    --by --via --distinct --look --report --explained --between --used --unused --links --nodes --order --text \
+    --list --html --columns --width --all --help
 
 # What may follow an option: nothing of its own, a file, one of some words, or else a value that isn't completed.
-set -l flags --help --version --iso --hops --room --csv --json --used --text --list --all
-set -l files --plan --session --session-out --names --program --report --requests --explained
+set -l flags --help --version --iso --hops --room --csv --json --used --unused --text --list --all
+set -l files --plan --session --session-out --names --program --report --requests --explained --html
 
 # __cgrlist_option COMMAND CONDITION OPTION
 function __cgrlist_option --inherit-variable flags --inherit-variable files

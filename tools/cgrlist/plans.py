@@ -37,6 +37,19 @@ class Contact:
         light = f"a range {time_text(self.start)} {time_text(self.start + 1)} {nodes} {self.light}\n"
         return f"a contact {times} {nodes} {self.rate}\n{'' if self.light is None else light}"
 
+    @property
+    def deletion(self):
+        """The line that deletes it at the end of its plan."""
+        return f"d contact {time_text(self.start)} {self.sender} {self.receiver}"
+
+
+def links_of(contacts):
+    """Contacts by link and by start; the links by sender and receiver."""
+    links = defaultdict(list)
+    for contact in sorted(contacts, key=lambda it: (*it.link, it.start)):
+        links[contact.link].append(contact)
+    return dict(links)
+
 
 class Ranges:
     """The ranges that stand, by ordered pair of nodes."""
@@ -101,10 +114,7 @@ class Plan:
 
     def links(self):
         """The contacts of each link by start; the links by sender and receiver."""
-        links = defaultdict(list)
-        for contact in sorted(self.contacts, key=lambda it: (*it.link, it.start)):
-            links[contact.link].append(contact)
-        return dict(links)
+        return links_of(self.contacts)
 
     def contact(self, number):
         """The contact with a number."""
@@ -113,10 +123,10 @@ class Plan:
         return self._numbered[number]
 
     def delete(self, number):
-        """Takes out the contact with a number. Returns the line that does so at the end of the plan."""
+        """Takes out the contact with a number, and returns it."""
         it = self.contact(number)
         del self._numbered[number]
-        return f"d contact {time_text(it.start)} {it.sender} {it.receiver}"
+        return it
 
     def nodes_of(self, contacts):
         """The nodes that a list of contact numbers passes, in order."""

@@ -223,6 +223,12 @@ class Program:
         progress.end()
         return told
 
+    def without(self, contacts):
+        """The program over the plan without some contacts; all others keep their numbers."""
+        with open(self.plan_file, "rb") as plan, open(scratch(), "wb") as file:
+            file.write(plan.read() + "\n".join(["", *(it.deletion for it in contacts), ""]).encode())
+        return replace(self, plan_file=file.name)
+
     def run(self, command, *words):
         """What a command prints on standard output; Refused, with its status, if that isn't 0."""
         return self._told(command, *words)

@@ -11,7 +11,6 @@ A tool reads its words and what they ask for as follows; a bad word is refused i
 import argparse
 import functools
 import re
-from dataclasses import replace
 from pathlib import Path
 
 from . import hints
@@ -20,7 +19,7 @@ from .names import Names
 from .plans import Plan
 from .routes import Program, Request, program_path
 from .times import TIMES, iso_text, time_of, time_text
-from .tool import Tool, scratch
+from .tool import Tool
 
 
 # ---- The parser -------------------------------------------------------------------------------------------------
@@ -126,12 +125,20 @@ class Asked:
             raise Refused("the plan is a pipe: the program has to read it again, so give it as a file")
         hints.check_file(self.words.plan)
         program = Program(program_path(self.words.program), self.words.plan)
-        return replace(program, plan_file=self._file_without(program)) if self.words.without else program
+        if not self.words.without:
+            return program
+        program.run("check")
+        return program.without(self.lost)
 
     @property
     def plan(self):
         """The plan without the contacts that are lost. Ask the program first: it says more if it refuses the plan."""
-        return self._plan_and_lines[0]
+        return self._plan_and_lost[0]
+
+    @property
+    def lost(self):
+        """The contacts that are lost, by number."""
+        return self._plan_and_lost[1]
 
     def tell_hints(self, requests=()):
         """Tells hints about the plan, about requests, and about the other nodes among the words."""
@@ -141,13 +148,6 @@ class Asked:
         hints.tell_all([*found.of_plan(), *about_requests, *found.of_nodes(others)])
 
     @functools.cached_property
-    def _plan_and_lines(self):
+    def _plan_and_lost(self):
         plan = Plan.from_file(self.words.plan)
         return plan, [plan.delete(number) for number in self.words.without or ()]
-
-    def _file_without(self, program):
-        """A file with the plan, and with lines that delete the lost contacts: all others keep their numbers."""
-        program.run("check")
-        with open(self.words.plan, "rb") as plan, open(scratch(), "wb") as file:
-            file.write(plan.read() + "\n".join(["", *self._plan_and_lines[1], ""]).encode())
-        return file.name
