@@ -77,7 +77,8 @@ def add_view_words(parser):
     parser.add_argument("--between", **span, help="the span of time")
     used = parser.add_mutually_exclusive_group()
     used.add_argument("--used", action="store_true", default=None, help="only the links that the routes use")
-    used.add_argument("--unused", action="store_false", dest="used", default=None, help="the links that no route uses, too")
+    unused = {"action": "store_false", "dest": "used", "default": None}
+    used.add_argument("--unused", **unused, help="the links that no route uses, too")
     parser.add_argument("--links", metavar="LIST", help="only these links: 'A>B', joined by commas")
     parser.add_argument("--nodes", metavar="LIST", help="only the links from and to these nodes, joined by commas")
     parser.add_argument("--order", choices=("link", "route"), help="rows by nodes, or as routes go")
@@ -87,7 +88,8 @@ def add_view_words(parser):
     shape.add_argument("--html", metavar="H", help="write a page to touch into this file")
     parser.add_argument("--columns", type=int, default=100, metavar="N", help="how wide a text is; 100 if not given")
     parser.add_argument("--width", type=int, metavar="PX", help="how wide a picture is")
-    parser.add_argument("--all", action="store_true", help=f"a picture that is higher than {MOST}, and a page of more routes, too")
+    more = f"a picture that is higher than {MOST}, and a page with more routes, too"
+    parser.add_argument("--all", action="store_true", help=more)
 
 
 def check_words(parser, words):

@@ -30,7 +30,7 @@ class Answers:
 
     routes: list
     request: "Request | None" = None
-    best: "dict" = None
+    best: "dict | None" = None
     digest: "str | None" = None  # the plan's, as the program tells it
 
 
@@ -71,7 +71,7 @@ class Page:
             "made": self._made(),
             "iso": self._view.date_sign == "-",
             "span": span and [self._second(span.first), self._second(span.last)],
-            "links_at_first": {None: None, True: "some", False: "all"}[self._view.choice.used],
+            "linksAtFirst": {None: None, True: "some", False: "all"}[self._view.choice.used],
             "byRoute": self._view.choice.by_route,
             "base": self._base,
             **self._plan_data(),

@@ -11,7 +11,7 @@ LOST = "x lost contact"
 
 
 class Text:
-    """The scene as text: `=` where a window is, `x` if it is lost, `#` from sending to arrival, `.` for the wait before."""
+    """The scene as text: `=` for a window, `x` for a lost one, `#` from sending to arrival, `.` for the wait before."""
 
     def __init__(self, scene, columns):
         self.scene, self.routes = scene, scene.routes

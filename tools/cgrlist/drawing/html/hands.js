@@ -244,7 +244,10 @@ function loseAtCursor() {
   byId("said").textContent = [...byId("lost").children].slice(0, -1).map((it) => it.textContent).join(". ");
 }
 
-const contactsOf = (link) => links[link].strips.flat().sort((one, other) => known.start[one] - known.start[other] || one - other);
+function contactsOf(link) {
+  const byStart = (one, other) => known.start[one] - known.start[other] || one - other;
+  return links[link].strips.flat().sort(byStart);
+}
 
 // Without a cursor, the first one is on the first contact of the best route, or of the first row.
 function firstCursor() {

@@ -1,8 +1,11 @@
 // The picture on the canvas: rows and contacts that are in view alone, routes, the axis, and the map of the whole plan.
 
 const DASHES = [[], [6, 3], [2, 3], [8, 3, 2, 3]];
-const SMALL = "11.5px system-ui, sans-serif", MIDDLE = "12.5px system-ui, sans-serif", BOLD = `bold 12px ${SMALL.slice(7)}`;
-const COLOURS = ["back", "band", "ink", "soft", "line", "grid", "day", "bar", "edge", "used", "number", "accent", "bad", "calm"];
+const FAMILY = "system-ui, sans-serif";
+const SMALL = `11.5px ${FAMILY}`, MIDDLE = `12.5px ${FAMILY}`, BOLD = `bold 12px ${FAMILY}`;
+const COLOURS = [
+  "back", "band", "ink", "soft", "line", "grid", "day", "bar", "edge", "used", "number", "accent", "bad", "calm",
+];
 
 const paper = chart.getContext("2d", { alpha: false });
 const map = byId("map");
@@ -288,8 +291,8 @@ function paintRoute(route, top, turns) {
 
 function hopPlace(route, hop, top) {
   const row = rows.of.get(linkOf[hop.contact]), lane = rows.lanes.get(row.link).get(route);
-  const send = xOf(hop.send);
-  return { y: top + row.top + row.bars + lane * LANE + LANE / 2 - 3, send, arrive: Math.max(xOf(hop.arrive), send + 0.1) };
+  const y = top + row.top + row.bars + lane * LANE + LANE / 2 - 3, send = xOf(hop.send);
+  return { y, send, arrive: Math.max(xOf(hop.arrive), send + 0.1) };
 }
 
 function paintWait(piece, turns) {

@@ -47,7 +47,7 @@ const roomFrom = (contact, second) => BigInt(known.rates[known.rate[contact]]) *
 // ---- Routes ----
 
 const routes = known.routes.map((it, place) => readRoute(it, place, String(it.rank)));
-const answers = new Map(Object.entries(known.lost).map(([number, it]) => [contactWith.get(Number(number)), readAnswer(it)]));
+const answers = readAnswers();
 if (known.byRoute) rankLinks([...routes, ...[...answers.values()].filter(Boolean)]);
 
 function readRoute(it, place, label) {
@@ -55,6 +55,12 @@ function readRoute(it, place, label) {
   const passed = hops.map((hop) => links[linkOf[hop.contact]]);
   const nodes = [passed[0].from, ...passed.map((link) => link.to)];
   return { ...it, place, label, hops, nodes, uses: new Set(hops.map((hop) => hop.contact)) };
+}
+
+// Under each contact that may be lost, the best route without it.
+function readAnswers() {
+  const told = Object.entries(known.lost);
+  return new Map(told.map(([number, it]) => [contactWith.get(Number(number)), readAnswer(it)]));
 }
 
 // The best route without a contact: none, the one at a place among the shown ones, or another one.

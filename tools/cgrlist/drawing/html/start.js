@@ -35,8 +35,9 @@ function tellHead() {
   byId("title").textContent = known.title;
   byId("made").textContent = known.made;
   const limits = request?.limits ? `, ${request.limits}` : "";
-  const asks = () => `${fullName(request.from)} → ${fullName(request.to)}, bundle at the source ${timeText(request.at)}`;
-  byId("asks").textContent = request ? `${asks()}${known.iso ? "" : " UTC"}${limits}` : count(contactCount, "contact");
+  const ends = () => `${fullName(request.from)} → ${fullName(request.to)}`;
+  const start = () => `bundle at the source ${timeText(request.at)}${known.iso ? "" : " UTC"}`;
+  byId("asks").textContent = request ? `${ends()}, ${start()}${limits}` : count(contactCount, "contact");
   const told = [count(contactCount, "contact"), count(links.length, "link"), count(routes.length, "route")].join(", ");
   chart.setAttribute("aria-label", `${told}. Arrow keys go from contact to contact.`);
 }
@@ -46,7 +47,7 @@ function prepareButtons() {
   byId("some").textContent = `Route links (${passed})`;
   byId("all").textContent = `All links (${links.length})`;
   byId("some").disabled = !passed;
-  const isSome = known.links_at_first === "some" || (known.links_at_first === null && links.length > MANY);
+  const isSome = known.linksAtFirst === "some" || (known.linksAtFirst === null && links.length > MANY);
   shows.links = passed && isSome ? "some" : "all";
   const does = {
     some: () => showLinks("some"),
@@ -90,7 +91,7 @@ function start() {
 
 surroundings.onchange = () => theme.isChosen || changeTheme(surroundings.matches);
 
-// A print is light, as wide as a page, and has all rows.
+// A print is light, as wide as a page, and has all rows and the hops of all routes.
 addEventListener("beforeprint", () => {
   theme.before = theme.isDark;
   isPrinting = true;

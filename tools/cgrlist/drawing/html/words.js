@@ -129,14 +129,16 @@ function card(route) {
   const isOpen = isOpenCard(route);
   const classes = [isBroken(route) && "gone", isFaint(route) && "off", isOpen && "on"].filter(Boolean);
   const item = element("li", { class: classes.join(" ") }, cardButton(route, isOpen));
-  item.append(element("div", { class: "hops", hidden: !isOpen }, hopTable(route, true)));
+  if (isOpen || isPrinting) item.append(element("div", { class: "hops" }, hopTable(route, true)));
   item.style.setProperty("--hue", isBroken(route) ? ink.soft : `var(--c${route.place % HUES})`);
   item.onmouseenter = () => glance(isShownRoute(route) ? route.place : null);
   item.onmouseleave = () => glance(null);
   return item;
 }
 
-const isOpenCard = (route) => !isShownRoute(route) || chosen.route === route.place || (isLosing() && route === bestThen());
+function isOpenCard(route) {
+  return !isShownRoute(route) || chosen.route === route.place || (isLosing() && route === bestThen());
+}
 
 function cardButton(route, isOpen) {
   const about = { class: "route", "data-key": `route ${route.place}`, "aria-expanded": isOpen };
