@@ -11,28 +11,42 @@ _cgrlist_words() {
         check) echo --plan --help ;;
         explain) echo --plan --from --to --at --margin-ppm --max-hops --avoid --contacts --help ;;
         many) echo --plan --requests --count --help ;;
+        cgrlist-compare) echo --from --to --at --margin-ppm --max-hops --avoid --requests --count --names --iso \
+            --program --help ;;
         cgrlist-from-ionrc) echo --reference --help ;;
         cgrlist-latest) echo --by --after --plan --without --names --iso --program --from --to --margin-ppm \
             --max-hops --avoid --help ;;
         cgrlist-report) echo --plan --without --names --iso --program --from --to --at --margin-ppm --max-hops \
-            --avoid --report --requests --count --by --via --distinct --look --hops --room --csv --json --help ;;
+            --avoid --report --requests --choices --count --by --via --fits --distinct --look --hops --room --lost \
+            --send-by --csv --json --help ;;
         cgrlist-timeline) echo --plan --without --names --iso --program --from --to --at --margin-ppm --max-hops \
-            --avoid --count --by --via --distinct --look --report --explained --between --used --unused --links \
+            --avoid --count --by --via --fits --distinct --look --report --explained --between --used --unused --links \
             --nodes --order --text --list --html --columns --width --all --help ;;
+        cgrlist-timetable) echo --plan --without --names --iso --program --from --to --margin-ppm --max-hops \
+            --avoid --between --csv --svg --help ;;
     esac
 }
 
 _cgrlist() {
-    local word=${COMP_WORDS[COMP_CWORD]} command=${COMP_WORDS[0]##*/} files=''
+    local word=${COMP_WORDS[COMP_CWORD]} before=${COMP_WORDS[COMP_CWORD - 1]} command=${COMP_WORDS[0]##*/} files=''
     [[ $command != cgrlist ]] || ((COMP_CWORD == 1)) || command=${COMP_WORDS[1]}
     COMPREPLY=()
-    case ${COMP_WORDS[COMP_CWORD - 1]} in
-        --plan | --session | --session-out | --names | --program | --report | --requests | --explained | --html) files=yes ;;
+    if [ "$word" = = ]; then # bash makes three words of an option and its value with = between them
+        word=''
+    elif [ "$before" = = ]; then
+        before=${COMP_WORDS[COMP_CWORD - 2]}
+    fi
+    case $before in
+        --plan | --session | --session-out | --names | --program | --report | --requests | --choices | --explained | \
+            --html)
+            files=yes
+            ;;
         --distinct) mapfile -t COMPREPLY < <(compgen -W 'entry nodes contacts' -- "$word") ;;
         --order) mapfile -t COMPREPLY < <(compgen -W 'link route' -- "$word") ;;
-        --help | --version | --iso | --hops | --room | --csv | --json | --used | --unused | --text | --list | --all | [!-]*)
+        --help | --version | --iso | --hops | --room | --lost | --send-by | --csv | --json | --svg | --used | --unused | \
+            --text | --list | --all | [!-]*)
             mapfile -t COMPREPLY < <(compgen -W "$(_cgrlist_words "$command")" -- "$word")
-            [[ $command != cgrlist-from-ionrc || $word == -* ]] || files=yes
+            [[ $command != cgrlist-@(compare|from-ionrc) || $word == -* ]] || files=yes
             ;;
     esac
     if [ -n "$files" ]; then
@@ -41,4 +55,4 @@ _cgrlist() {
     fi
 }
 
-complete -F _cgrlist cgrlist cgrlist-{from-ionrc,latest,report,timeline}
+complete -F _cgrlist cgrlist cgrlist-{compare,from-ionrc,latest,report,timeline,timetable}

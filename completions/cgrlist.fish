@@ -9,18 +9,21 @@ set -l verify --plan --session --help
 set -l check --plan --help
 set -l explain --plan --from --to --at --margin-ppm --max-hops --avoid --contacts --help
 set -l many --plan --requests --count --help
+set -l compare --from --to --at --margin-ppm --max-hops --avoid --requests --count --names --iso --program --help
 set -l from_ionrc --reference --help
 set -l latest --by --after --plan --without --names --iso --program --from --to --margin-ppm --max-hops --avoid \
     --help
 set -l report --plan --without --names --iso --program --from --to --at --margin-ppm --max-hops --avoid --report \
-    --requests --count --by --via --distinct --look --hops --room --csv --json --help
+    --requests --choices --count --by --via --fits --distinct --look --hops --room --lost --send-by --csv --json --help
 set -l timeline --plan --without --names --iso --program --from --to --at --margin-ppm --max-hops --avoid --count \
-    --by --via --distinct --look --report --explained --between --used --unused --links --nodes --order --text \
+    --by --via --fits --distinct --look --report --explained --between --used --unused --links --nodes --order --text \
     --list --html --columns --width --all --help
+set -l timetable --plan --without --names --iso --program --from --to --margin-ppm --max-hops --avoid --between --csv \
+    --svg --help
 
 # What may follow an option: nothing of its own, a file, one of some words, or else a value that isn't completed.
-set -l flags --help --version --iso --hops --room --csv --json --used --unused --text --list --all
-set -l files --plan --session --session-out --names --program --report --requests --explained --html
+set -l flags --help --version --iso --hops --room --lost --send-by --csv --json --svg --used --unused --text --list --all
+set -l files --plan --session --session-out --names --program --report --requests --choices --explained --html
 
 # __cgrlist_option COMMAND CONDITION OPTION
 function __cgrlist_option --inherit-variable flags --inherit-variable files
@@ -40,8 +43,8 @@ for command in $help
         __cgrlist_option cgrlist "__fish_seen_subcommand_from $command" $option
     end
 end
-for tool in from_ionrc latest report timeline
-    test $tool = from_ionrc; or complete -c cgrlist-$tool -f
+for tool in compare from_ionrc latest report timeline timetable
+    contains $tool compare from_ionrc; or complete -c cgrlist-$tool -f
     for option in $$tool
         __cgrlist_option cgrlist-(string replace _ - $tool) true $option
     end

@@ -1,46 +1,56 @@
-"""The forms of a report: a table for people, comma-separated values, and JSON."""
+"""The forms of a report: a table for people, comma-separated values, and JSON. Each is printed as the routes come."""
 
-import csv
-import io
+import functools
 import itertools
 import json
 from dataclasses import dataclass
 
-from .listing import Listing
-from .names import Names
-from .plans import Plan
-from .routes import Request
+from .tables import Columns, csv_line
 from .times import iso_text
 
+TIMES = ("delivery", "until", "send_by")  # the fields that are times
 EXACT = 2**53 - 1  # up to here, numbers of JSON are read exactly everywhere
 
 
 @dataclass(frozen=True)
-class Answer:
-    """A listing, with the request that it answers; None if it is the only one."""
-
-    listing: Listing
-    request: "Request | None" = None
-
-
-@dataclass(frozen=True)
 class Form:
-    """How answers are printed: over a plan, with names, with a function that spells times, and with what they show."""
+    """How answers are printed: for what was asked, which has a plan and names, with a function that spells times."""
 
-    plan: Plan
-    names: Names
-    time_text: "callable"
-    with_hops: bool
-    with_room: bool
+    asked: "Asked"
+    time_text: "Callable[[int], str]"
+    with_hops: bool = False
+    with_room: bool = False
+    with_send_by: bool = False
 
-    def room(self, route):
-        """The most bytes that fit into a route by its contacts alone; None if its hops aren't known."""
-        return min(map(self.room_of, route.hops), default=None)
+    @property
+    def plan(self):
+        """The plan. It isn't read before the program has answered, which says more if it refuses it."""
+        return self.asked.plan
 
-    def room_of(self, hop):
-        """The bytes that a hop's contact can send from the hop's sending on."""
-        contact = self.plan.contact(hop.contact)
-        return contact.rate * (contact.end - hop.send)
+    @property
+    def names(self):
+        """The names of nodes."""
+        return self.asked.names
+
+    def fields(self, fields):
+        """Those of some fields that are shown."""
+        hidden = {"room": not self.with_room, "send_by": not self.with_send_by}
+        return [field for field in fields if not hidden.get(field)]
+
+    def values(self, it):
+        """What is told of a route: a value under the name of each field, with times as seconds."""
+        room = self.plan.room(it) if self.with_room else None
+        numbers = {"rank": it.rank, "hops": len(it.contacts), "entry": it.entry, "room": room}
+        times = {"delivery": it.delivery, "until": it.until, "send_by": it.send_by}
+        return {**numbers, **times, "contacts": it.contacts, "nodes": it.nodes}
+
+    def texts(self, route):
+        """The same, as a table has it."""
+        values = self.values(route)
+        times = {field: self.time_text(values[field]) for field in TIMES if values[field] is not None}
+        entry, contacts = self.names.of(route.entry), " ".join(map(str, route.contacts))
+        texts = {**values, **times, "entry": entry, "contacts": contacts, "nodes": self.path(route.nodes)}
+        return {field: "" if text is None else text for field, text in texts.items()}
 
     def path(self, nodes):
         """Nodes by their names, with arrows between them."""
@@ -54,6 +64,7 @@ COLUMNS = {  # the fields of the table, each with its side; the entry node is th
     "delivery": str.ljust,
     "hops": str.rjust,
     "until": str.ljust,
+    "send_by": str.ljust,
     "room": str.rjust,
     "contacts": str.ljust,
     "nodes": str.ljust,
@@ -61,84 +72,69 @@ COLUMNS = {  # the fields of the table, each with its side; the entry node is th
 HOP_SIDES = [str.rjust, str.ljust, str.ljust, str.ljust, str.ljust, str.ljust]
 
 
-def aligned(lines, sides):
-    """Lines of words as text in columns, each column moved to its side."""
-    widths = [max(map(len, column)) for column in zip(*lines)]
-    return ["  ".join(side(word, width) for side, word, width in zip(sides, line, widths)).rstrip() for line in lines]
-
-
 def table_text(answers, form):
-    """A table for people. Each answer ends as a report does."""
-    return "\n".join(answer_text(answer, form) for answer in answers)
+    """A table for people, in pieces. Each answer ends as a report does."""
+    for place, (request, listing) in enumerate(answers):
+        if request:
+            nodes = f"from {form.names.of(request.source)} to {form.names.of(request.destination)}"
+            yield "\n" * (place > 0) + f"request {nodes} at {form.time_text(request.at)}\n"
+        yield from listing_text(listing, form)
+        yield "end\n" if listing.is_whole else "more\n"
 
 
-def answer_text(answer, form):
-    """An answer's request if it isn't the only one, its routes, and the last line of the report."""
-    head = []
-    if answer.request:
-        nodes = f"from {form.names.of(answer.request.source)} to {form.names.of(answer.request.destination)}"
-        head = [f"request {nodes} at {form.time_text(answer.request.at)}"]
-    rows = answer.listing.rows
-    columns = [column for column in COLUMNS if column != "room" or form.with_room]
-    lines = aligned([columns, *(table_words(row, columns, form) for row in rows)], [COLUMNS[it] for it in columns])
-    if form.with_hops and rows:
-        lines = [lines[0], *with_hops(rows, lines[1:], form)]
-    return "".join(f"{line}\n" for line in [*head, *lines, "end" if answer.listing.is_whole else "more"])
+def listing_text(listing, form):
+    """The routes of a listing, in pieces, below the names of the columns."""
+    fields = form.fields(COLUMNS)
+    columns, hops = Columns(COLUMNS[field] for field in fields), Columns(HOP_SIDES)
+    head = [[field.replace("_", " ") for field in fields]]
+    for block in listing.blocks():
+        if block:
+            rows = ({**row, "rank": row["rank"] or "-"} for row in map(form.texts, block))
+            lines = columns.lines([*head, *([row[field] for field in fields] for row in rows)])
+            lines = [*lines[: len(head)], *with_hops(block, lines[len(head) :], hops, form)]
+            yield "".join(f"{line}\n" for line in lines)
+            head = []
+    yield "".join(f"{line}\n" for line in columns.lines(head))
 
 
-def table_words(row, columns, form):
-    """The words of a row in the table."""
-    it = row.route
-    texts = {
-        "rank": it.rank,
-        "delivery": form.time_text(it.delivery),
-        "hops": len(it.contacts),
-        "until": form.time_text(it.until),
-        "room": form.room(it) if form.with_room else "",
-        "contacts": " ".join(map(str, it.contacts)),
-        "nodes": form.path(row.nodes),
-    }
-    return [str(texts[column]) for column in columns]
-
-
-def with_hops(rows, lines, form):
-    """The lines of rows, each with the lines of its hops below it."""
-    words = [hop_words(place, hop, form) for row in rows for place, hop in enumerate(row.route.hops, 1)]
-    hop_lines = iter(aligned(words, HOP_SIDES))
-    for row, line in zip(rows, lines):
+def with_hops(routes, lines, columns, form):
+    """The lines of routes, each with the lines of its hops below it if they are shown."""
+    words = [hop_words(place, hop, form) for route in routes for place, hop in enumerate(route.hops, 1)]
+    hop_lines = iter(columns.lines(words) if form.with_hops else ())
+    for route, line in zip(routes, lines):
         yield line
-        yield from (f"      {it}" for it in itertools.islice(hop_lines, len(row.route.hops)))
+        yield from (f"      {it}" for it in itertools.islice(hop_lines, len(route.hops)))
 
 
 def hop_words(place, hop, form):
     """The words of a hop's line in the table."""
     times = [f"send {form.time_text(hop.send)}", f"arrive {form.time_text(hop.arrive)}"]
-    room = [f"room {form.room_of(hop)}"] if form.with_room else []
-    return [f"hop {place}", f"contact {hop.contact}", form.path(hop.link), *times, *room]
+    room = f"room {form.plan.room_of(hop)}" if form.with_room else ""
+    return [f"hop {place}", f"contact {hop.contact}", form.path(hop.link), *times, room]
 
 
 # ---- Comma-separated values -------------------------------------------------------------------------------------
 
 REQUEST_FIELDS = ("source", "destination", "at")
-FIELDS = ("rank", "delivery", "hops", "entry", "until", "contacts", "nodes", "room")
+FIELDS = ("rank", "delivery", "hops", "entry", "until", "send_by", "contacts", "nodes", "room")
 HOP_FIELDS = ("rank", "hop", "contact", "from", "to", "send", "arrive", "room")
 
 
 def csv_text(answers, form):
-    """Comma-separated values, a line for each route or for each hop, below a line with the names of the fields.
+    """Comma-separated values, in pieces, a line for each route or for each hop, below a line with the fields.
 
     If answers have requests, each line begins with its request, and an answer without a route has a line, too.
     """
-    text = io.StringIO()
-    table = csv.writer(text, lineterminator="\n")
-    fields = HOP_FIELDS if form.with_hops else FIELDS
-    table.writerow([*(REQUEST_FIELDS if answers[0].request else ()), *fields])
-    for answer in answers:
-        lines = [line for row in answer.listing.rows for line in csv_lines(row, form)]
-        if answer.request:
-            lines = [[*request_cells(answer.request, form), *line] for line in lines or [[""] * len(fields)]]
-        table.writerows(lines)
-    return text.getvalue()
+    fields = form.fields(HOP_FIELDS if form.with_hops else FIELDS)
+    for place, (request, listing) in enumerate(answers):
+        cells = request_cells(request, form) if request else []
+        if not place:
+            yield csv_line([*(REQUEST_FIELDS if request else ()), *fields])
+        for block in listing.blocks():
+            rows = hop_rows(block, form) if form.with_hops else map(form.texts, block)
+            yield "".join(csv_line([*cells, *(row[field] for field in fields)]) for row in rows)
+        if cells and not listing.shown:
+            yield csv_line([*cells, *([""] * len(fields))])
 
 
 def request_cells(request, form):
@@ -146,18 +142,14 @@ def request_cells(request, form):
     return [form.names.of(request.source), form.names.of(request.destination), form.time_text(request.at)]
 
 
-def csv_lines(row, form):
-    """The cells of a row: of its route, or of each of its hops."""
-    it = row.route
-    if form.with_hops:
-        for place, hop in enumerate(it.hops, 1):
-            nodes, times = map(form.names.of, hop.link), map(form.time_text, (hop.send, hop.arrive))
-            yield [it.rank, place, hop.contact, *nodes, *times, form.room_of(hop)]
-        return
-    delivery, until = map(form.time_text, (it.delivery, it.until))
-    contacts = " ".join(map(str, it.contacts))
-    entry, nodes = form.names.of(it.entry), form.path(row.nodes)
-    yield [it.rank, delivery, len(it.contacts), entry, until, contacts, nodes, form.room(it)]
+def hop_rows(routes, form):
+    """What is told of each hop of routes, under the names of its fields."""
+    for route in routes:
+        for place, hop in enumerate(route.hops, 1):
+            sender, receiver = map(form.names.of, hop.link)
+            times = {"send": form.time_text(hop.send), "arrive": form.time_text(hop.arrive)}
+            room = form.plan.room_of(hop) if form.with_room else None
+            yield {"rank": route.rank, "hop": place, "contact": hop.contact, "from": sender, "to": receiver, **times, "room": room}
 
 
 # ---- JSON -------------------------------------------------------------------------------------------------------
@@ -168,52 +160,59 @@ class Json:
 
     def __init__(self, form):
         self._form = form
-        contacts = form.plan.contacts
-        self.node = spelled(node for it in contacts for node in it.link)
-        self.room = spelled(it.rate * (it.end - it.start) for it in contacts)
 
-    def answer(self, answer):
-        """An answer as JSON has it, but for its routes."""
-        listing = answer.listing
-        named = {node: self._form.names.of(node) for row in listing.rows for node in row.nodes}
-        named = {node: name for node, name in sorted(named.items()) if name != str(node)}
+    @functools.cached_property
+    def node(self):
+        """A function that gives a node as JSON has it."""
+        return spelled(node for it in self._form.plan.contacts for node in it.link)
+
+    @functools.cached_property
+    def room(self):
+        """The same of a room."""
+        return spelled(it.rate * (it.end - it.start) for it in self._form.plan.contacts)
+
+    def answer(self, listing, nodes):
+        """An answer as JSON has it, but for its routes, which pass some nodes."""
+        named = {node: self._form.names.of(node) for node in sorted(nodes)}
+        named = {node: name for node, name in named.items() if name != str(node)}
         return {"names": named, "looked_at": listing.looked, "end": listing.is_whole}
 
-    def object(self, answer):
-        """An answer as an object, with a line for each of its routes."""
-        routes = ",".join(f"\n  {json.dumps(self.row(row))}" for row in answer.listing.rows)
-        parts = [f'"{key}": {json.dumps(value)}' for key, value in self.answer(answer).items()]
-        return ",\n ".join([f'{{"routes": [{routes}]', *parts]) + "}\n"
+    def object(self, listing):
+        """An answer as an object, in pieces, with a line for each of its routes."""
+        nodes, before = set(), '{"routes": ['
+        for block in listing.blocks():
+            nodes.update(node for route in block for node in route.nodes)
+            for route in block:
+                yield f"{before}\n  {json.dumps(self.row(route))}"
+                before = ","
+        yield "]" if nodes else f"{before}]"
+        yield "".join(f',\n "{key}": {json.dumps(value)}' for key, value in self.answer(listing, nodes).items()) + "}\n"
 
-    def line(self, answer):
+    def line(self, request, listing):
         """An answer with its request as an object in a line."""
-        request, rows = self.request(answer.request), [self.row(row) for row in answer.listing.rows]
-        return json.dumps({"request": request, "routes": rows, **self.answer(answer)}) + "\n"
+        routes = listing.routes()
+        nodes = {node for route in routes for node in route.nodes}
+        told = {"request": self.request(request), "routes": [*map(self.row, routes)], **self.answer(listing, nodes)}
+        return json.dumps(told) + "\n"
 
     def request(self, it):
         """A request as JSON has it."""
         return {"from": self.node(it.source), "to": self.node(it.destination), "at": iso_text(it.at)}
 
-    def row(self, row):
-        """A row as JSON has it."""
-        it = row.route
-        fields = {
-            "rank": it.rank,
-            "delivery": iso_text(it.delivery),
-            "hops": len(it.contacts),
-            "entry": self.node(it.entry),
-            "until": iso_text(it.until),
-            "contacts": it.contacts,
-            "nodes": [*map(self.node, row.nodes)],
-            "room": self.room(self._form.room(it)),
-        }
-        return {**fields, "path": [*map(self.hop, it.hops)]} if self._form.with_hops else fields
+    def row(self, route):
+        """A route as JSON has it."""
+        values = self._form.values(route)
+        spelled_out = {field: values[field] and iso_text(values[field]) for field in TIMES}
+        spelled_out.update(entry=self.node(route.entry), nodes=[*map(self.node, route.nodes)])
+        spelled_out["room"] = self.room(values["room"]) if self._form.with_room else None
+        row = {field: {**values, **spelled_out}[field] for field in self._form.fields(FIELDS)}
+        return {**row, "path": [*map(self.hop, route.hops)]} if self._form.with_hops else row
 
     def hop(self, it):
         """A hop as JSON has it."""
         nodes = {"from": self.node(it.sender), "to": self.node(it.receiver)}
-        times = {"send": iso_text(it.send), "arrive": iso_text(it.arrive)}
-        return {"contact": it.contact, **nodes, **times, "room": self.room(self._form.room_of(it))}
+        room = {"room": self.room(self._form.plan.room_of(it))} if self._form.with_room else {}
+        return {"contact": it.contact, **nodes, "send": iso_text(it.send), "arrive": iso_text(it.arrive), **room}
 
 
 def spelled(numbers):
@@ -224,5 +223,7 @@ def spelled(numbers):
 
 
 def json_text(answers, form):
-    """One object with its routes, one a line; if answers have requests, an object in a line for each."""
-    return "".join(map(Json(form).line if answers[0].request else Json(form).object, answers))
+    """One object with its routes, one a line; if answers have requests, an object in a line for each. In pieces."""
+    made = Json(form)
+    for request, listing in answers:
+        yield from [made.line(request, listing)] if request else made.object(listing)

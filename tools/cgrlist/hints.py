@@ -1,11 +1,30 @@
 """Hints on standard error, for what a planner may have mistyped. They change no answer and no status."""
 
+import re
 import shlex
 
 from .errors import FILE_STATUS, Refused
 from .tool import tell
 
 MOST = 10  # so many hints are told
+SHOWN = 80  # so much of a line
+
+REPAIRS = {  # of each reason for which the program refuses a line of a plan, the usual cause and its repair
+    "LineTooLong": "a long comment: break it; CR alone at the ends of lines: write LF",
+    "BadByte": "a letter beyond ASCII: write it otherwise",
+    "UnknownCommand": "an ionrc: from_ionrc makes a plan of it; 'A' or 'add': write 'a'; a blank before '#'",
+    "WrongOperands": "a confidence or a comment: take it off; an unknown rate: write 0",
+    "BadTime": "a missing zero, '*' or a negative offset: write the time in full, yyyy/mm/dd-hh:mm:ss",
+    "NoReference": "put a line '@ TIME' in front, with the time from which relative times count",
+    "BadNode": "a name, ipn:2.0 or a leading zero: write the node's number",
+    "BadNumber": "a fraction, a unit or an exponent: round up to a whole number",
+    "EmptyWindow": "an end that counts from the start: both count from the line '@'",
+    "SelfPair": "a loopback, as in ION's examples: take it out",
+    "DuplicateContact": "a contact with that start, sender and receiver stands above: take one out",
+    "RangeOverlap": "a range of these nodes shares a second with it: let one end where the next starts",
+    "TooMany": "over 20000 contacts or ranges: leave out contacts that have ended",
+    "NothingToDelete": "write start and nodes as in the line that added it, and below that",
+}
 
 
 def tell_all(texts):
@@ -26,10 +45,21 @@ def check_file(path):
         raise Refused(f"{path}: {error.strerror}", FILE_STATUS) from error
 
 
-def of_bytes(path):
-    """Hints about a plan that the program refuses: bytes that other programs leave in a text."""
+def of_refusal(path, message):
+    """Hints about a plan that the program refuses with a message: the line and its repair, and what other programs leave
+    in a text.
+    """
     with open(path, "rb") as file:
         lines = file.read().split(b"\n")
+    found, of_bytes = re.search(r"plan line (\d+): (\w+)", message), list(_of_bytes(path, lines))
+    if found and int(found[1]) <= len(lines) and not of_bytes:
+        line = lines[int(found[1]) - 1].decode("utf-8", "replace").strip()
+        yield f"plan line {found[1]} is: {line[:SHOWN]}{' ..' if line[SHOWN:] else ''}"
+        yield from filter(None, [REPAIRS.get(found[2])])
+    yield from of_bytes
+
+
+def _of_bytes(path, lines):
     if lines[0].startswith(b"\xef\xbb\xbf"):
         take_off = rf"sed -i '1s/^\xEF\xBB\xBF//' {shlex.quote(path)}"
         yield f"plan line 1 begins with a byte order mark; {take_off} takes it off"

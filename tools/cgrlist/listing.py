@@ -1,11 +1,11 @@
-"""Which routes a report shows, with their nodes: the first ones, all by a time, those through a node, distinct ones."""
+"""Which routes are shown: the first ones, all by a time, those through a node, those with room, distinct ones."""
 
 import argparse
 import re
-from dataclasses import dataclass
+from dataclasses import dataclass, replace
 
 from .errors import Refused
-from .routes import Route
+from .routes import Answer
 from .times import time_text
 from .tool import Progress, tell
 from .words import time_word
@@ -13,37 +13,10 @@ from .words import time_word
 NUMBER = re.compile(r"[1-9]\d{0,17}", re.ASCII)
 LOOK = 100000  # so many routes are looked at for distinct ones if no other number is given
 
-
-@dataclass(frozen=True)
-class Row:
-    """A route, and the nodes that it passes, in order."""
-
-    route: Route
-    nodes: "list[int]"
-
-
-@dataclass(frozen=True)
-class Listing:
-    """The rows to print, whether the list of all routes ends with them, and how many routes were looked at."""
-
-    rows: "list[Row]"
-    is_whole: bool
-    looked: int
-
-
-def row_of(route, plan):
-    """A route with its nodes; refused if it can't be one of this plan."""
-    nodes = plan.nodes_of(route.contacts)
-    links = [plan.contact(number).link for number in route.contacts]
-    if links != list(zip(nodes, nodes[1:])) or route.entry != nodes[1]:
-        raise Refused(f"route {route.rank} isn't one of this plan: its contacts don't go from node to node")
-    return Row(route, nodes)
-
-
-DISTINCT = {  # what a row has that no other shown one may have
-    "entry": lambda row: [row.route.entry],
-    "nodes": lambda row: [tuple(row.nodes)],
-    "contacts": lambda row: row.route.contacts,
+DISTINCT = {  # what a route has that no other shown one may have
+    "entry": lambda route: [route.entry],
+    "nodes": lambda route: route.nodes[1:-1] or [None],  # the relays; routes without any have that in common
+    "contacts": lambda route: route.contacts,
 }
 
 
@@ -51,67 +24,120 @@ DISTINCT = {  # what a row has that no other shown one may have
 class Choice:
     """Which of the routes are shown, None where any are.
 
-    They deliver by a second, pass a node, and are distinct in something. Of distinct ones there are so many at most,
-    and so many routes at most are looked at.
+    They deliver by a second, pass a node, have room for so many bytes, and are distinct in something. There are so many
+    at most, and so many at most are looked at.
     """
 
     by: "int | None" = None
     via: "int | None" = None
+    fits: "int | None" = None
     distinct: "str | None" = None
     count: "int | None" = None
     look: "int | None" = None
 
-    def listing(self, pages, row_of):
-        """The rows that are chosen of reports, which are pages of one list; a function makes rows of routes."""
-        chosen, progress = _Chosen(self), Progress()
-        for page in pages:
-            for route in page.routes:
-                if chosen.is_over(route):
-                    return chosen.listing(False, progress)
-                chosen.look_at(row_of(route))
-            progress.tell(chosen.told())
-        if page.is_whole is None:
-            raise Refused("the report is cut: its last line is neither 'more' nor 'end'")
-        return chosen.listing(page.is_whole, progress)
 
+class Listing:
+    """The chosen routes of pages, which are answers of the program, with their nodes, and with what a function adds to the
+    routes of a page. Once the blocks are read, `is_whole` says whether the list of all routes ends with them, `looked`
+    how many routes were looked at, and `shown` how many are shown.
+    """
 
-class _Chosen:
-    """The rows that are chosen so far, and how many routes were looked at."""
+    def __init__(self, choice, pages, asked, add):
+        self._choice, self._pages, self._asked, self._add = choice, pages, asked, add
+        self._values, self._last = set(), None  # what no further route may have, and the last one that was looked at
+        self.is_whole, self.looked, self.shown = False, 0, 0
 
-    def __init__(self, choice):
-        self._choice, self._rows, self._looked, self._taken = choice, [], 0, set()
-        self._last = None
+    def blocks(self):
+        """The routes, a block for each page, as they come. How far it is is told meanwhile."""
+        progress, page, is_over = Progress(), None, False
+        for page in self._pages:
+            block = []
+            for route in page.routes if self._choice.fits is None else self._add(page):
+                is_over = self._is_over(route)
+                if is_over:
+                    break
+                self.looked, self._last = self.looked + 1, route
+                route = self._asked.plan.with_nodes(route)
+                if self._takes(route):
+                    self.shown += 1
+                    block.append(route)
+            yield self._add(replace(page, routes=block)) if self._choice.fits is None else block
+            if is_over:
+                break
+            progress.tell(self._told())
+        progress.end()
+        self.is_whole = page.is_whole and not is_over
 
-    def is_over(self, route):
+    def read(self):
+        """Reads all blocks, so that no more is asked. Returns this."""
+        blocks = [*self.blocks()]
+        self.blocks = lambda: iter(blocks)
+        return self
+
+    def forget(self):
+        """Keeps the counts alone."""
+        self.blocks, self._pages, self._last, self._values = None, None, None, None
+
+    def routes(self):
+        """All the routes."""
+        return [route for block in self.blocks() for route in block]
+
+    def _is_over(self, route):
         """Whether neither a route nor one after it is chosen."""
         it = self._choice
         return (
             (it.by is not None and it.by < route.delivery)
-            or (it.count is not None and it.count <= len(self._rows))
-            or (it.look is not None and it.look <= self._looked)
+            or (it.count is not None and it.count <= self.shown)
+            or (it.look is not None and it.look <= self.looked)
         )
 
-    def look_at(self, row):
-        """Takes a row if it is chosen."""
-        self._looked, self._last = self._looked + 1, row.route
-        if self._choice.via is not None and self._choice.via not in row.nodes:
-            return
-        if self._choice.distinct:
-            values = DISTINCT[self._choice.distinct](row)
-            if not self._taken.isdisjoint(values):
-                return
-            self._taken.update(values)
-        self._rows.append(row)
+    def _takes(self, route):
+        """Whether a route with its nodes is chosen."""
+        it = self._choice
+        if it.via is not None and it.via not in route.nodes:
+            return False
+        if it.fits is not None and self._asked.plan.room(route) < it.fits:
+            return False
+        values = DISTINCT[it.distinct](route) if it.distinct else ()
+        if not self._values.isdisjoint(values):
+            return False
+        self._values.update(values)
+        return True
 
-    def told(self):
+    def _told(self):
         """How far the choice is."""
         last = f", the last delivers at {time_text(self._last.delivery)}" if self._last else ""
-        return f"{len(self._rows)} routes of {self._looked} looked at{last}"
+        return f"{self.shown} routes of {self.looked} looked at{last}"
 
-    def listing(self, is_whole, progress):
-        """The rows, at the end."""
-        progress.end()
-        return Listing(self._rows, is_whole, self._looked)
+
+def asked_again(program, plan, request, distinct):
+    """The best route of a request, and then each time the best one over the plan without what is distinct of those
+    before, a page for each. What their places are in the list of all routes isn't known.
+    """
+    lost, taken = set(), set()
+    while True:
+        lines = [plan.contact(number).deletion() for number in sorted(lost)]
+        with program.with_lines(lines) as left:
+            page = left.first(request, 1)
+        if not page.routes:
+            yield Answer((), True, request)
+            return
+        route = plan.with_nodes(page.routes[0])
+        yield Answer((replace(route, rank=None),), False, request)
+        if not taken.isdisjoint(DISTINCT[distinct](route)):
+            raise Refused("the program lists a route over what was taken out of the plan")
+        taken.update(DISTINCT[distinct](route))
+        lost.update(it.number for it in plan.contacts if _is_taken(it, taken, distinct, route))
+
+
+def _is_taken(contact, taken, distinct, route):
+    """Whether no further route may pass a contact. A route with this entry begins with a contact from the source."""
+    if distinct == "contacts":
+        return contact.number in taken
+    source, destination = route.nodes[0], route.nodes[-1]
+    if distinct == "entry":
+        return contact.sender == source and contact.receiver in taken
+    return not taken.isdisjoint(contact.link) or (None in taken and contact.link == (source, destination))
 
 
 # ---- The words that choose routes -------------------------------------------------------------------------------
@@ -125,50 +151,66 @@ def number_word(text):
 
 
 def add_choice_words(parser):
-    """Adds the words that choose routes to a parser of the command line, and returns the group of those for how many."""
-    number = parser.add_mutually_exclusive_group()
-    number.add_argument("--count", metavar="K", help="how many routes")
-    number.add_argument("--by", type=time_word, metavar="T", help="all routes that deliver by T")
+    """Adds the words that choose routes to a parser of the command line."""
+    parser.add_argument("--count", metavar="K", help="how many routes")
+    parser.add_argument("--by", type=time_word, metavar="T", help="all routes that deliver by T")
     parser.add_argument("--via", metavar="N", help="only the routes through this node")
-    parser.add_argument("--distinct", choices=DISTINCT, help="only the first of routes that are alike in this")
-    parser.add_argument("--look", type=number_word, metavar="N", help="how many routes --distinct looks at")
-    return number
+    parser.add_argument("--fits", type=number_word, metavar="BYTES", help="only the routes with room for so many bytes")
+    parser.add_argument("--distinct", choices=DISTINCT, help="only the first of routes that have this in common")
+    parser.add_argument("--look", type=number_word, metavar="N", help="how many routes are looked at for distinct ones")
 
 
 def check_choice_words(parser, words):
     """Refuses words that choose routes without those that they need."""
-    if words.look and not (words.distinct and words.count):
-        parser.error("--look needs --distinct and --count")
-    if words.distinct and words.count and not NUMBER.fullmatch(words.count):
+    if words.look and not (words.distinct and words.count and (words.via or words.fits)):
+        parser.error("--look needs --distinct, --count, and --via or --fits")
+    if words.count and (words.distinct or words.by is not None) and not NUMBER.fullmatch(words.count):
         parser.error(f"argument --count: no number above 0: {words.count}")
 
 
 def choice_of(words):
     """Which routes the words choose."""
-    if not (words.distinct and words.count):
-        return Choice(words.by, words.via, words.distinct)
-    return Choice(None, words.via, words.distinct, int(words.count), words.look or LOOK)
+    count = int(words.count) if words.count and not is_counted(words) else None
+    if words.distinct:
+        look = (words.look or LOOK) if count and not is_asked_again(words) else None
+        return Choice(words.by, words.via, words.fits, words.distinct, count, look)
+    return Choice(words.by, words.via, words.fits, look=count)
 
 
 def is_counted(words):
     """Whether the routes are chosen of the first page alone, of so many routes."""
-    return bool(words.count) and not words.distinct
+    return bool(words.count) and not words.distinct and words.by is None
+
+
+def is_asked_again(words):
+    """Whether the program is asked for each distinct route by itself."""
+    return bool(words.distinct) and words.via is None and words.fits is None and not getattr(words, "report", None)
 
 
 def pages_of(asked, request):
-    """The pages of the list of which routes are chosen: as many routes as are asked for, or all."""
+    """The pages of the list of which routes are chosen."""
     if is_counted(asked.words):
         return [asked.program.first(request, asked.words.count)]
+    if is_asked_again(asked.words):
+        return asked_again(asked.program, asked.plan, request, asked.words.distinct)
     return asked.program.pages(request)
 
 
-def chosen(asked, pages):
-    """The routes of pages that the words choose."""
-    return choice_of(asked.words).listing(pages, lambda route: row_of(route, asked.plan))
+def added(asked, answers, with_hops=False, with_send_by=False):
+    """Answers with what is needed of their routes: the hops, and until when they may be sent."""
+    if with_hops or asked.words.fits is not None:
+        answers = asked.program.with_hops(answers)
+    return asked.program.with_send_by(answers) if with_send_by else answers
+
+
+def listing_of(asked, pages, add=lambda answers: answers):
+    """The routes of pages that the words choose, with what a function adds to answers."""
+    return Listing(choice_of(asked.words), pages, asked, lambda page: add([page])[0].routes)
 
 
 def tell_looked(listings, words):
-    """Tells how many routes are shown, and of how many; and if there may be more."""
-    shown, looked = sum(len(it.rows) for it in listings), sum(it.looked for it in listings)
-    is_cut = words.count and any(len(it.rows) < int(words.count) and not it.is_whole for it in listings)
-    tell(f"{shown} routes are shown of {looked} looked at{'; --look N looks at more' if is_cut else ''}")
+    """Tells how many routes are shown, and of how many, if distinct ones were looked for; and if there may be more."""
+    if words.distinct and not is_asked_again(words):
+        shown, looked = sum(it.shown for it in listings), sum(it.looked for it in listings)
+        is_cut = words.count and any(it.shown < int(words.count) and not it.is_whole for it in listings)
+        tell(f"{shown} routes are shown of {looked} looked at{'; --look N looks at more' if is_cut else ''}")

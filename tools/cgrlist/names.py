@@ -3,7 +3,7 @@
 import re
 
 from .errors import Refused
-from .plans import lines_of
+from .tool import lines_of
 
 NODE = re.compile(r"[1-9]\d{0,19}", re.ASCII)
 
@@ -48,6 +48,10 @@ class Names:
             raise ValueError("it doesn't begin with a node's number")
         if not name or not name.isprintable():
             raise ValueError("it has no name that can be printed")
+        if ">" in name or "," in name:
+            raise ValueError("its name has '>' or ',', which join nodes")
+        if NODE.fullmatch(name) and name != number:
+            raise ValueError("its name is the number of another node")
         if int(number) in self._names or name in self._names.values():
             raise ValueError("the node or the name stands in a line above")
         self._names[int(number)] = name

@@ -1,17 +1,14 @@
 """Contact plans as they stand after their last line, and the files that hold them."""
 
 import bisect
+import copy
 from collections import defaultdict
 from dataclasses import dataclass, replace
 
 from .errors import PLAN_STATUS, Refused
+from .names import Names
 from .times import seconds_of, time_text
-
-
-def lines_of(path):
-    """The lines of a file, without their line feeds."""
-    with open(path, encoding="utf-8", errors="replace", newline="\n") as file:
-        return file.read().split("\n")
+from .tool import lines_of, scratch
 
 
 @dataclass(frozen=True)
@@ -31,15 +28,8 @@ class Contact:
         """The sender and the receiver."""
         return self.sender, self.receiver
 
-    def lines(self):
-        """The lines of a plan in which the contact is as it is here."""
-        times, nodes = f"{time_text(self.start)} {time_text(self.end)}", f"{self.sender} {self.receiver}"
-        light = f"a range {time_text(self.start)} {time_text(self.start + 1)} {nodes} {self.light}\n"
-        return f"a contact {times} {nodes} {self.rate}\n{'' if self.light is None else light}"
-
-    @property
     def deletion(self):
-        """The line that deletes it at the end of its plan."""
+        """The line that takes the contact out at the end of a plan."""
         return f"d contact {time_text(self.start)} {self.sender} {self.receiver}"
 
 
@@ -88,9 +78,14 @@ class Ranges:
 
 
 class Plan:
-    """What stands after the last line of a plan that `cgrlist check` accepts."""
+    """What stands after the last line of a plan that `cgrlist check` accepts.
 
-    def __init__(self, lines):
+    `file` is the path of the plan's text, which the program reads again, and None for a plan made of lines. `names` may
+    say names of its nodes. In a notebook the plan shows itself as a table of its contacts and as a picture.
+    """
+
+    def __init__(self, lines, file=None, names=None):
+        self.file, self.names = file, names or Names()
         self._given, self._reference = 0, None
         self._standing, self._ranges = {}, Ranges()
         for place, line in enumerate(lines, 1):
@@ -103,9 +98,9 @@ class Plan:
         self._numbered = {it.number: it for it in map(self._with_light, self._standing.values())}
 
     @classmethod
-    def from_file(cls, path):
-        """Reads the plan of a file."""
-        return cls(lines_of(path))
+    def from_file(cls, path, names=None):
+        """Reads the plan of a file; the names may be a file's path, too."""
+        return cls(lines_of(path), path, names if isinstance(names, Names) else Names.from_file(names))
 
     @property
     def contacts(self):
@@ -122,16 +117,49 @@ class Plan:
             raise Refused(f"the plan has no contact {number}")
         return self._numbered[number]
 
-    def delete(self, number):
-        """Takes out the contact with a number, and returns it."""
-        it = self.contact(number)
-        del self._numbered[number]
-        return it
+    def without(self, numbers):
+        """The plan without the contacts with some numbers, of which there must be some; the others keep theirs."""
+        plan = copy.copy(self)
+        lost = {self.contact(number).number for number in numbers}
+        plan._numbered = {number: it for number, it in self._numbered.items() if number not in lost}
+        plan.file = self.file and with_lines(self.file, [self.contact(number).deletion() for number in sorted(lost)])
+        return plan
 
     def nodes_of(self, contacts):
         """The nodes that a list of contact numbers passes, in order."""
         path = [self.contact(number) for number in contacts]
-        return [it.sender for it in path[:1]] + [it.receiver for it in path]
+        return (*(it.sender for it in path[:1]), *(it.receiver for it in path))
+
+    def with_nodes(self, route):
+        """A route with its nodes; refused if it can't be one of this plan."""
+        nodes = self.nodes_of(route.contacts)
+        links = [self.contact(number).link for number in route.contacts]
+        if links != list(zip(nodes, nodes[1:])) or route.entry != nodes[1]:
+            raise Refused(f"route {route.rank} isn't one of this plan: its contacts don't go from node to node")
+        return replace(route, nodes=nodes)
+
+    def room_of(self, hop):
+        """The bytes that a hop's contact can send from the hop's sending on."""
+        contact = self.contact(hop.contact)
+        return contact.rate * (contact.end - hop.send)
+
+    def room(self, route):
+        """The most bytes that fit into a route by its contacts alone; None if its hops aren't known."""
+        return min(map(self.room_of, route.hops), default=None)
+
+    def path_text(self, nodes):
+        """Nodes by their names, with arrows between them."""
+        return " > ".join(map(self.names.of, nodes))
+
+    def _repr_html_(self):
+        from . import showing
+
+        return showing.plan_html(self)
+
+    def _repr_svg_(self):
+        from . import showing
+
+        return showing.plan_svg(self)
 
     def _with_light(self, it):
         return replace(it, light=self._ranges.light(it.sender, it.receiver, it.start))
@@ -167,3 +195,11 @@ class Plan:
 
     def _delete_range(self, start, words):
         self._ranges.delete((int(words[0]), int(words[1])), start)
+
+
+def with_lines(file, lines):
+    """The path of a copy of a plan's text with further lines."""
+    path = scratch()
+    with open(file, "rb") as plan, open(path, "wb") as made:
+        made.write(plan.read() + "".join(f"\n{line}" for line in lines).encode() + b"\n")
+    return path

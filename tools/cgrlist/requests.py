@@ -1,5 +1,6 @@
-"""Many requests in one file, a line for each: `from to at`."""
+"""Files of requests, a line for each: `from to at`, and then the limits that `cgrlist many` takes, if it has any."""
 
+import re
 from dataclasses import dataclass
 
 from .errors import WORDS_STATUS, Refused
@@ -7,7 +8,8 @@ from .routes import Request
 from .times import time_of
 from .tool import processors
 
-MOST_OF_PART = 1000  # requests that one run answers, so that progress can be told
+MOST_OF_PART = 500  # requests that one run answers, so that progress can be told, and memory doesn't grow
+_LIMIT = re.compile(r"\d{1,20}", re.ASCII)
 
 
 @dataclass(frozen=True)
@@ -19,32 +21,56 @@ class Line:
 
 
 def requests_of(lines, names, limits):
-    """The requests of lines, with limits for all. Empty lines and those that begin with `#` have none."""
+    """The requests of lines, with limits for all that have none. Empty lines and those that begin with `#` have none."""
     found = []
     for place, line in enumerate(map(str.strip, lines), 1):
         if line and not line.startswith("#"):
             try:
-                found.append(Line(place, Request(*_request(line.split(), names), limits)))
+                found.append(Line(place, _request(line.split(), names, limits)))
             except ValueError as error:
                 raise Refused(f"requests line {place}: {error}: {line}", WORDS_STATUS) from error
     return found
 
 
 def parts_of(lines, are_joined):
-    """The requests in parts, in their order: if they are joined a part for each processor, else one for each line."""
+    """The requests in parts, in their order: if they are joined some for each processor, else one for each line."""
     size = min(-(-len(lines) // processors()), MOST_OF_PART) if are_joined else 1
     return [lines[start : start + size] for start in range(0, len(lines), size)]
 
 
-def _request(words, names):
-    """The nodes and the time of a line. Names may have spaces, so each cut between two of them is tried."""
+def _request(words, names, limits):
+    """The request of a line. Names may have spaces, so each place of the time is tried, and each cut between two names."""
     if len(words) < 3:
         raise ValueError("it has fewer than three words: from to at")
-    at = time_of(words[-1])
-    found = {pair for cut in range(1, len(words) - 1) if (pair := _pair(words[:cut], words[cut:-1], names))}
-    if len(found) != 1:
-        raise ValueError("it names no two nodes" if not found else "its names can be read as several pairs of nodes")
-    return *found.pop(), at
+    times = {place: second for place in range(2, len(words)) if (second := _time(words[place])) is not None}
+    found = {
+        Request(*pair, second, **(_limits(words[place + 1 :], names) or limits))
+        for place, second in times.items()
+        for cut in range(1, place)
+        if (pair := _pair(words[:cut], words[cut:place], names)) and _limits(words[place + 1 :], names) is not None
+    }
+    if len(found) > 1:
+        raise ValueError("its names can be read as several pairs of nodes")
+    if not found:
+        raise ValueError(_why_none(words, names, times))
+    return found.pop()
+
+
+def _why_none(words, names, times):
+    """Why a line has no request."""
+    if not times:
+        time_of(words[-1])
+    if not any(_limits(words[place + 1 :], names) is not None for place in times):
+        return "after the time come at most a margin, a limit on hops and nodes to avoid"
+    return "it names no two nodes"
+
+
+def _time(word):
+    """The second of a word; None if it is no time."""
+    try:
+        return time_of(word)
+    except ValueError:
+        return None
 
 
 def _pair(one, other, names):
@@ -53,3 +79,15 @@ def _pair(one, other, names):
         return names.node(" ".join(one)), names.node(" ".join(other))
     except ValueError:
         return None
+
+
+def _limits(words, names):
+    """The limits of a line after its time; None if the words are none."""
+    if not all(map(_LIMIT.fullmatch, words[:2])):
+        return None
+    try:
+        avoid = [names.node(text) for text in " ".join(words[2:]).split(",")] if words[2:] else []
+    except ValueError:
+        return None
+    given = dict(zip(("margin_ppm", "max_hops"), words))
+    return {**given, "avoid": tuple(sorted(avoid))} if words else {}

@@ -1,5 +1,6 @@
 """How a tool runs: what it prints, what it tells meanwhile, and how it ends."""
 
+import collections
 import contextlib
 import itertools
 import os
@@ -14,14 +15,15 @@ from .errors import FILE_STATUS, Refused
 
 
 class Tool:
-    """The tool that runs: its name, a folder of its own if it needed one, what tells how far it is, and the processes
-    that it waits for.
+    """The tool that runs: its name, a folder of its own if it needed one, what tells how far it is, the processes that it
+    waits for, and what is to be told if a signal ends it.
     """
 
     name = os.path.basename(sys.argv[0])
     progress = None
     folder = None
     children = set()
+    when_ended = None
     lock = threading.Lock()
     counted = itertools.count(1)
 
@@ -31,6 +33,12 @@ def scratch():
     with Tool.lock:
         Tool.folder = Tool.folder or tempfile.TemporaryDirectory(prefix="cgrlist-")
     return os.path.join(Tool.folder.name, str(next(Tool.counted)))
+
+
+def lines_of(path):
+    """The lines of a file, without their line feeds."""
+    with open(path, encoding="utf-8", errors="replace", newline="\n") as file:
+        return file.read().split("\n")
 
 
 def tell(message):
@@ -98,6 +106,18 @@ def threads():
     pool.shutdown()
 
 
+def in_order(work, parts):
+    """The results of a function over some parts, in their order. Only as many as there are threads wait to be taken."""
+    with threads() as pool:
+        begun = collections.deque()
+        for part in parts:
+            begun.append(pool.submit(work, part))
+            if len(begun) > processors():
+                yield begun.popleft().result()
+        while begun:
+            yield begun.popleft().result()
+
+
 def stop_children():
     """Ends the processes that the tool waits for."""
     for process in list(Tool.children):
@@ -116,7 +136,7 @@ def _end(number, _):
 
 
 def run_tool(tool):
-    """Prints the text that a tool returns. If it is refused, says why and ends with that status."""
+    """Prints the text that a tool returns, or its pieces. If it is refused, says why and ends with that status."""
     for number in (signal.SIGINT, signal.SIGTERM, signal.SIGHUP):
         if number == signal.SIGINT or signal.getsignal(number) != signal.SIG_IGN:
             signal.signal(number, _end)
@@ -124,6 +144,8 @@ def run_tool(tool):
         _run(tool)
     except Ended as ended:
         stop_children()
+        if ended.args[0] == signal.SIGINT:
+            _keep_what_was_found()
         if Tool.folder:
             Tool.folder.cleanup()
         signal.signal(ended.args[0], signal.SIG_DFL)
@@ -135,7 +157,11 @@ def _run(tool):
         _give_up(Refused("standard output is closed", FILE_STATUS))
     sys.stdout.reconfigure(encoding="utf-8")
     try:
-        sys.stdout.write(tool())
+        told = tool()
+        for piece in [told] if isinstance(told, str) else told:
+            if Tool.progress:
+                Tool.progress.clear()
+            sys.stdout.write(piece)
         sys.stdout.flush()
     except Refused as refused:
         _give_up(refused)
@@ -144,6 +170,14 @@ def _run(tool):
     except OSError as error:
         where = f"{error.filename}: " if error.filename else ""
         _give_up(Refused(f"{where}{error.strerror}", FILE_STATUS))
+
+
+def _keep_what_was_found():
+    """Prints what was found before the tool is interrupted, and says how to go on."""
+    with contextlib.suppress(OSError, AttributeError):
+        sys.stdout.flush()
+    if Tool.when_ended:
+        Tool.when_ended()
 
 
 def _give_up(refused):

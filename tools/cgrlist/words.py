@@ -17,12 +17,31 @@ from . import hints
 from .errors import WORDS_STATUS, Refused
 from .names import Names
 from .plans import Plan
-from .routes import Program, Request, program_path
+from .program import Program, program_path
+from .routes import Request
 from .times import TIMES, iso_text, time_of, time_text
 from .tool import Tool
 
-
 # ---- The parser -------------------------------------------------------------------------------------------------
+
+
+class Once(argparse.Action):
+    """Keeps an option's value, or its constant, and refuses to be given twice."""
+
+    is_given = False
+
+    def __call__(self, parser, namespace, values, option_string=None):
+        if self.is_given:
+            parser.error(f"argument {option_string}: it is given twice")
+        self.is_given = True
+        setattr(namespace, self.dest, values if self.const is None else self.const)
+
+
+class Flag(Once):
+    """An option without a value, likewise."""
+
+    def __init__(self, option_strings, dest, const=True, default=False, help=None):
+        super().__init__(option_strings, dest, nargs=0, const=const, default=default, help=help)
 
 
 class Words(argparse.ArgumentParser):
@@ -32,6 +51,9 @@ class Words(argparse.ArgumentParser):
         shape = argparse.RawDescriptionHelpFormatter
         text = with_commands(text) if Tool.name.startswith("cgrlist-") else text
         super().__init__(prog=Tool.name, description=text, formatter_class=shape, allow_abbrev=False)
+        self.register("action", None, Once)
+        self.register("action", "store_true", Flag)
+        self.register("action", "store_const", Flag)
 
     def error(self, message):
         """Refuses the words."""
@@ -45,6 +67,9 @@ def with_commands(text):
     return of_line.sub(lambda it: f"cgrlist-{it[1].replace('_', '-')}{it[2]}", text)
 
 
+# ---- Words of all tools -----------------------------------------------------------------------------------------
+
+
 def time_word(text):
     """Reads a time of the command line."""
     try:
@@ -53,7 +78,12 @@ def time_word(text):
         raise argparse.ArgumentTypeError(f"{error}; {TIMES}") from error
 
 
-# ---- The command line -------------------------------------------------------------------------------------------
+def numbers_word(text):
+    """Reads numbers of contacts, joined by commas."""
+    if not re.fullmatch(r"[1-9]\d{0,9}(,[1-9]\d{0,9})*", text, re.ASCII):
+        raise argparse.ArgumentTypeError(f"no numbers of contacts, joined by commas: {text}")
+    return sorted(set(map(int, text.split(","))))
+
 
 def add_plan_words(parser):
     """Adds the words about the plan, the program and the way to print to a parser of the command line."""
@@ -77,11 +107,12 @@ def add_request_words(parser, required=(), without=()):
     parser.add_argument("--avoid", metavar="LIST", help="nodes that no route may pass, joined by commas")
 
 
-def numbers_word(text):
-    """Reads numbers of contacts, joined by commas."""
-    if not re.fullmatch(r"[1-9]\d{0,9}(,[1-9]\d{0,9})*", text, re.ASCII):
-        raise argparse.ArgumentTypeError(f"no numbers of contacts, joined by commas: {text}")
-    return sorted(set(map(int, text.split(","))))
+def node_word(parser, names, word, text):
+    """The node that a word's value says, by its number or its name."""
+    try:
+        return names.node(text)
+    except ValueError as error:
+        return parser.error(f"argument --{word}: {error}")
 
 
 class Asked:
@@ -95,28 +126,23 @@ class Asked:
         for word in ("from", "to", "via"):
             if getattr(self.words, word, None) is not None:
                 setattr(self.words, word, self.node(word, getattr(self.words, word)))
-        avoided = self.words.avoid.split(",") if self.words.avoid is not None else ()
+        avoided = self.words.avoid.split(",") if getattr(self.words, "avoid", None) is not None else ()
         self.words.avoid = sorted(self.node("avoid", text) for text in avoided)
 
     def node(self, word, text):
         """The node that a word's value says."""
-        try:
-            return self.names.node(text)
-        except ValueError as error:
-            return self._parser.error(f"argument --{word}: {error}")
+        return node_word(self._parser, self.names, word, text)
 
     def request(self, at=None):
         """The request of the words, at the time that they say or at another one."""
         words = vars(self.words)
-        return Request(words["from"], words["to"], words["at"] if at is None else at, self.limits)
+        return Request(words["from"], words["to"], words["at"] if at is None else at, **self.limits)
 
     @property
     def limits(self):
-        """The limits of the request, as the program takes them."""
+        """The limits of the request."""
         words = self.words
-        avoid = ",".join(map(str, words.avoid)) or None
-        given = {"--margin-ppm": words.margin_ppm, "--max-hops": words.max_hops, "--avoid": avoid}
-        return tuple(text for name, value in given.items() if value is not None for text in (name, value))
+        return {"margin_ppm": words.margin_ppm, "max_hops": words.max_hops, "avoid": tuple(words.avoid)}
 
     @functools.cached_property
     def program(self):
@@ -127,18 +153,28 @@ class Asked:
         program = Program(program_path(self.words.program), self.words.plan)
         if not self.words.without:
             return program
-        program.run("check")
-        return program.without(self.lost)
+        program.check()
+        return Program(program.path, self.plan.file)
 
-    @property
+    @functools.cached_property
     def plan(self):
         """The plan without the contacts that are lost. Ask the program first: it says more if it refuses the plan."""
-        return self._plan_and_lost[0]
+        return self._whole_plan.without(self.words.without) if self.words.without else self._whole_plan
 
     @property
     def lost(self):
-        """The contacts that are lost, by number."""
-        return self._plan_and_lost[1]
+        """The contacts that are lost."""
+        return [self._whole_plan.contact(number) for number in self.words.without or ()]
+
+    @functools.cached_property
+    def _whole_plan(self):
+        return Plan.from_file(self.words.plan, self.names)
+
+    @property
+    def plan_after_check(self):
+        """The plan, after the program was asked whether it accepts it."""
+        self.program.check()
+        return self.plan
 
     def tell_hints(self, requests=()):
         """Tells hints about the plan, about requests, and about the other nodes among the words."""
@@ -146,8 +182,3 @@ class Asked:
         others = [*self.words.avoid, *filter(None, [getattr(self.words, "via", None)])]
         about_requests = (text for request in requests for text in found.of_request(request))
         hints.tell_all([*found.of_plan(), *about_requests, *found.of_nodes(others)])
-
-    @functools.cached_property
-    def _plan_and_lost(self):
-        plan = Plan.from_file(self.words.plan)
-        return plan, [plan.delete(number) for number in self.words.without or ()]

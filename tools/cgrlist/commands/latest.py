@@ -23,7 +23,8 @@ import sys
 from dataclasses import dataclass, replace
 
 from ..errors import WORDS_STATUS, Refused
-from ..routes import Program, Request, Route
+from ..program import Program
+from ..routes import Request, Route
 from ..tool import run_tool
 from ..words import Asked, Words, add_plan_words, add_request_words, time_word
 

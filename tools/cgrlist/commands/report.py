@@ -2,21 +2,29 @@
 
     tools/report --plan F --from N --to N --at T --count K [--margin-ppm P] [--max-hops H] [--avoid LIST]
                                     the first K routes of a request
-    tools/report .. --by T          in place of --count: all routes that deliver by T, in as many pages as that takes
-    tools/report .. --requests G    in place of --from, --to and --at: requests of a file, a line `from to at` for each
+    tools/report .. --by T          all routes that deliver by T, in as many pages as that takes, or the first K of them
+    tools/report .. --requests G    in place of --from, --to and --at: requests of a file, a line `from to at` for each;
+                                    a line may go on with a margin, a limit on hops and nodes to avoid, as for many
     tools/report --plan F --report G
                                     the routes of a report, or of pages one after the other
 
 Which routes:
     --without LIST                  as if these contacts were lost; the others keep their numbers
     --via N                         only routes through node N; K counts the routes before they are chosen
-    --distinct entry|nodes|contacts of routes with the same entry node, with the same nodes in order, or with a contact
-                                    in common, the first alone; here K counts those that are shown
-    --look N                        for --distinct, look at N routes at most; 100000 if not given
+    --fits BYTES                    only routes with room for so many bytes; K counts likewise
+    --distinct entry|nodes|contacts of routes with the same entry node, with a relay in common, or with a contact in
+                                    common, the first alone; here K counts those that are shown
+    --look N                        for --distinct with --via or --fits, look at N routes at most; 100000 if not given
 
 What of them, and how:
     --hops                          each hop with its contact, nodes, sending and arrival
-    --room                          in the table, too: the most bytes that fit by the rates of the contacts
+    --room                          the most bytes that fit by the rates of the contacts
+    --send-by                       the last second at which a bundle at the source still arrives over these contacts
+    --lost                          in place of the routes: for each of their contacts what is best if it is lost, and how
+                                    many seconds later it delivers
+    --choices G                     in place of --count: lists of contacts that a router chose, lines as `4,11,2` or
+                                    `31>22@2030-01-01T01:00:00Z,..`: the fault or the delivery, how many seconds it is
+                                    after the best, and the rank, if it is among 100000 routes
     --csv                           comma-separated values; a time is 2030-01-01 02:47:22; with --hops a line a hop
     --json                          JSON, with `end` for whether the list ends there; with --requests a line a request
     --names FILE                    nodes by their names, which can be given in place of numbers, too; JSON has both
@@ -24,10 +32,14 @@ What of them, and how:
 
 T is 2031/03/03-01:00:00, 2031-03-03T01:00:00Z, 2031-03-03, now, or now+2h with s, m, h or d. All times are UTC. G may
 be /dev/stdin, or - for requests. An answer ends as a report does: with `more`, or `end` if there are no further routes.
+Routes are printed as they come. Ctrl-C keeps those, and standard error then has a command that goes on.
+
+Each distinct route is asked for by itself, over the plan without what those before it have. So it has no rank, and what
+comes next is known at once. With --via, --fits or --report, the list is looked through instead, and ranks are told.
 
 Room is information and no promise: the least over the hops of rate times the seconds from sending to the contact's end.
 It leaves out other traffic, and that a later hop has to wait for bytes that an earlier, slower one is still sending.
-With --report, room and hops need --from, --to and --at of the report. Where the plan has nodes above 2^53 - 1, which
+With --report, room, hops and --send-by need --from, --to and --at of the report. Where the plan has nodes above 2^53 - 1, which
 many readers of JSON would round, nodes are texts in JSON; and so are rooms if they can be so large.
 
 Hints on standard error name what may be mistyped. They change neither the answer nor the status.
@@ -36,27 +48,23 @@ Status 0: done. 1: the report or the names can't be used, or the report isn't on
 used. 3: the plan is refused. 5: a file can't be read. 125: there is no program. Any other status is the program's.
 """
 
-import itertools
+import functools
+import os
+import shlex
+import shutil
 import sys
+import tempfile
 
 from .. import forms
 from ..errors import WORDS_STATUS, Refused
-from ..forms import Answer, Form
-from ..listing import (
-    Listing,
-    Row,
-    add_choice_words,
-    check_choice_words,
-    chosen,
-    is_counted,
-    pages_of,
-    tell_looked,
-)
-from ..plans import lines_of
+from ..forms import Form
+from ..listing import add_choice_words, added, check_choice_words, is_counted, listing_of, pages_of, tell_looked
+from ..lost import choices, choices_of, losses
 from ..requests import parts_of, requests_of
-from ..routes import report_of
+from ..routes import Fault, whole_report_of
+from ..tables import Table
 from ..times import iso_text, sheet_text, time_text
-from ..tool import Progress, run_tool, threads
+from ..tool import Progress, Tool, in_order, lines_of, run_tool, tell
 from ..words import Asked, Words, add_plan_words, add_request_words
 
 TABLE, CSV, JSON = forms.table_text, forms.csv_text, forms.json_text
@@ -65,60 +73,122 @@ TABLE, CSV, JSON = forms.table_text, forms.csv_text, forms.json_text
 # ---- Answers ----------------------------------------------------------------------------------------------------
 
 
-def listing_of(asked, request, report=None):
-    """What is shown of a request's routes, or of a report of them, with their hops if these are needed."""
+def adding(asked):
+    """A function that adds to answers what is printed of their routes."""
     words = asked.words
-    if words.report:
-        report = report_of(lines_of(words.report))
-    listing = chosen(asked, [report] if report else pages_of(asked, request))
-    if not request or not (words.hops or words.room or words.form != TABLE):
-        return listing
-    told = asked.program.explained(request, [row.route for row in listing.rows], asked.plan)
-    rows = [Row(route, row.nodes) for route, row in zip(told, listing.rows)]
-    return Listing(rows, listing.is_whole, listing.looked)
+    return functools.partial(added, asked, with_hops=words.hops or words.room, with_send_by=words.send_by)
 
 
 def only_answer(asked):
-    """The answer to the request of the words, or to their report."""
-    request = asked.request() if asked.words.at is not None else None
-    listing = listing_of(asked, request)
+    """The answer to the request of the words, or to their report: no request, and a listing."""
+    words = asked.words
+    request = asked.request() if words.at is not None else None
+    pages = [whole_report_of(lines_of(words.report), request)] if words.report else pages_of(asked, request)
+    Tool.when_ended = functools.partial(tell_how_to_go_on, words, pages)
+    listing = listing_of(asked, pages, *([adding(asked)] * bool(request)))
+    yield None, listing
     asked.tell_hints([request] if request else [])
-    return Answer(listing)
+    tell_looked([listing], words)
+
+
+def tell_how_to_go_on(words, pages):
+    """Tells how the list of all routes goes on after the last page, and keeps the text of its session."""
+    session = getattr(pages, "session", None)
+    if session and not words.without:
+        kept, path = tempfile.mkstemp(prefix="cgrlist-", suffix=".session")
+        os.close(kept)
+        shutil.copyfile(session, path)
+        command = f"cgrlist next --plan {shlex.quote(words.plan)} --session {path} --count 10000"
+        tell(f"this command goes on after the routes that were looked at: {command}")
 
 
 def answers_of(asked):
-    """The answers to the requests of a file. As many parts of it as there are processors are answered at a time."""
+    """The answers to the requests of a file, each a request and a listing, in their order and as they come."""
     path = "/dev/stdin" if asked.words.requests == "-" else asked.words.requests
     lines = requests_of(lines_of(path), asked.names, asked.limits)
     if not lines:
         raise Refused(f"there is no request in {path}", WORDS_STATUS)
-    asked.program.run("check")  # so that a plan is refused once
-    answers, progress = [], Progress()
-    with threads() as pool:
-        for answered in pool.map(lambda part: part_answered(asked, part), parts_of(lines, is_counted(asked.words))):
-            answers += answered
-            progress.tell(f"{len(answers)} of {len(lines)} requests are answered")
+    asked.program.check()  # so that a plan is refused once
+    listings, progress = [], Progress()
+    for answers in in_order(functools.partial(part_answered, asked), parts_of(lines, is_counted(asked.words))):
+        for answer in answers:
+            yield answer
+            answer[1].forget()
+            listings.append(answer[1])
+        progress.tell(f"{len(listings)} of {len(lines)} requests are answered")
     progress.end()
     asked.tell_hints([line.request for line in lines])
-    return answers
+    tell_looked(listings, asked.words)
 
 
 def part_answered(asked, lines):
     """The answers to some requests of a file, by one run of the program if each has one page and none is refused."""
-    are_counted = is_counted(asked.words)
-    reports = asked.program.many([line.request for line in lines], asked.words.count) if are_counted else None
-    return [answer_of(asked, *it) for it in zip(lines, reports or itertools.repeat(None))]
+    requests, add = [line.request for line in lines], adding(asked)
+    pages = asked.program.many(requests, asked.words.count) if is_counted(asked.words) else None
+    if pages is None:
+        return [(line.request, line_answered(asked, line, add)) for line in lines]
+    return [(it.request, listing_of(asked, [it]).read()) for it in add(pages)]
 
 
-def answer_of(asked, line, report):
-    """The answer to a request of a file, of which there may be a report; if it is refused, its line is named."""
+def line_answered(asked, line, add):
+    """The listing of a request of a file, which is read; if it is refused, its line is named."""
     try:
-        return Answer(listing_of(asked, line.request, report), line.request)
+        return listing_of(asked, pages_of(asked, line.request), add).read()
     except Refused as refused:
         if refused.is_told:
             sys.stderr.write(refused.message)
         message = "it is refused" if refused.is_told else refused.message
         raise Refused(f"requests line {line.place}: {message}", refused.status) from refused
+
+
+# ---- Lost contacts, and a router's choices ----------------------------------------------------------------------
+
+LOSS_SIDES = {
+    "lost": str.rjust,
+    "link": str.ljust,
+    "delivery": str.ljust,
+    "later": str.rjust,
+    "contacts": str.ljust,
+    "nodes": str.ljust,
+}
+CHOICE_SIDES = {
+    "line": str.rjust,
+    "rank": str.rjust,
+    "delivery": str.ljust,
+    "later": str.rjust,
+    "contacts": str.ljust,
+    "fault": str.ljust,
+}
+
+
+def losses_table(asked):
+    """A table of the contacts of the shown routes: the best route if each is lost."""
+    request, plan = asked.request(), asked.plan_after_check
+    routes = listing_of(asked, pages_of(asked, request)).routes()
+    best = next((route for route in routes if route.rank == 1), None) or next(iter(asked.program.first(request, 1)), None)
+    spelled, rows = time_form(asked.words), []
+    for it in losses(asked.program, plan, request, routes):
+        told = [it.contact, plan.path_text(plan.contact(it.contact).link)]
+        if it.route:
+            told += [spelled(it.route.delivery), it.route.delivery - best.delivery, " ".join(map(str, it.route.contacts))]
+        rows.append([*told, plan.path_text(it.route.nodes)] if it.route else [*told, None, None, None, None])
+    asked.tell_hints([request])
+    return Table(LOSS_SIDES, rows)
+
+
+def choices_table(asked):
+    """A table of the lists of contacts that a router chose."""
+    request, plan, spelled, rows = asked.request(), asked.plan_after_check, time_form(asked.words), []
+    best = next(iter(asked.program.first(request, 1)), None)
+    for it in choices(asked.program, request, choices_of(lines_of(asked.words.choices), plan)):
+        contacts = " ".join(map(str, it.contacts))
+        if isinstance(it.told, Fault):
+            rows.append([it.place, None, None, None, contacts, it.told.text.removeprefix("refused").strip(" :")])
+        else:
+            delivery = it.told.delivery
+            rows.append([it.place, it.rank, spelled(delivery), delivery - best.delivery, contacts, None])
+    asked.tell_hints([request])
+    return Table(CHOICE_SIDES, rows)
 
 
 # ---- The command line -------------------------------------------------------------------------------------------
@@ -133,7 +203,10 @@ def read_words():
     parser.add_argument("--requests", metavar="G", help="a file of requests, in place of --from, --to and --at")
     add_choice_words(parser)
     parser.add_argument("--hops", action="store_true", help="each hop, too")
-    parser.add_argument("--room", action="store_true", help="in the table, too, how many bytes fit")
+    parser.add_argument("--room", action="store_true", help="how many bytes fit, too")
+    parser.add_argument("--choices", metavar="G", help="a router's choices, a line each, in place of --count or --by")
+    parser.add_argument("--lost", action="store_true", help="for each contact of the routes, what is best if it is lost")
+    parser.add_argument("--send-by", action="store_true", help="the last second at the source for these contacts, too")
     form = parser.add_mutually_exclusive_group()
     form.add_argument("--csv", dest="form", action="store_const", const=CSV, help="comma-separated values")
     form.add_argument("--json", dest="form", action="store_const", const=JSON, help="JSON")
@@ -150,16 +223,32 @@ def check_words(parser, words):
     missing = [name for name in request if name not in given]
     if words.requests and (given or words.report):
         parser.error("--requests takes the place of --from, --to, --at and --report")
+    if words.choices or words.lost:
+        check_table_words(parser, words, missing)
+        return
     if words.report and (words.count or words.by):
         parser.error("--report takes the place of --count and --by")
     limits = words.margin_ppm or words.max_hops or words.avoid
-    if words.report and missing and (given or limits or words.hops or words.room):
+    needs_hops = words.hops or words.room or words.fits or words.send_by
+    if words.report and missing and (given or limits or needs_hops):
         parser.error(f"these words of the report's request are missing: {', '.join(missing)}")
     if not words.report:
         missing = [] if words.requests else missing
         missing += [] if words.count or words.by is not None else ["--count or --by"]
         if missing:
             parser.error(f"these words are missing: {', '.join(missing)}")
+    check_choice_words(parser, words)
+
+
+def check_table_words(parser, words, missing):
+    """Refuses words that don't go with --lost or --choices."""
+    if words.requests or words.report or words.hops or words.room or words.send_by or (words.lost and words.choices):
+        parser.error("--lost and --choices are for one request, and don't go with each other, --hops, --room or --send-by")
+    missing = [*missing, *(["--count or --by"] if words.lost and not words.count and words.by is None else [])]
+    if missing:
+        parser.error(f"these words are missing: {', '.join(missing)}")
+    if words.choices and (words.count or words.by is not None or words.via or words.fits or words.distinct):
+        parser.error("--choices takes the place of --count, --by, --via, --fits and --distinct")
     check_choice_words(parser, words)
 
 
@@ -171,13 +260,14 @@ def time_form(words):
 
 
 def tool():
-    """The answers' text, in the form that is asked for."""
+    """The answers' text, in the form that is asked for, in pieces."""
     asked = read_words()
     words = asked.words
-    answers = [only_answer(asked)] if words.requests is None else answers_of(asked)
-    if words.distinct:
-        tell_looked([answer.listing for answer in answers], words)
-    return words.form(answers, Form(asked.plan, asked.names, time_form(words), words.hops, words.room))
+    if words.lost or words.choices:
+        table = losses_table(asked) if words.lost else choices_table(asked)
+        return {TABLE: table.text, CSV: table.csv, JSON: table.json}[words.form]()
+    answers = only_answer(asked) if words.requests is None else answers_of(asked)
+    return words.form(answers, Form(asked, time_form(words), words.hops, words.room, words.send_by))
 
 
 def main():

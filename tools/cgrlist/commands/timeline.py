@@ -27,9 +27,9 @@ All times are UTC. A and B are nodes, by their numbers or by the names of --name
 
 The page has the picture with zoom and pan by mouse, touch and keys, the list of routes, and what each contact and route
 is. It finds contacts and nodes, and has all links if there are at most 60; a button shows the others. A click on a
-contact of a shown route, or Enter, tells the best route without that contact. The program is asked for each of these
-when the page is made, a run for each contact, whatever --via and --distinct choose. The page has at most 1000 routes
-without --all. Its address keeps what is chosen, as H#lost=11&theme=dark.
+contact of a shown route, or Enter, tells the best of all routes without that contact, as the program answered when the
+page was made. The page has at most 1000 routes without --all. Its address keeps what is chosen, as
+H#lost=11&theme=dark.
 
 Status 0: done. 1: the routes or the names can't be used, or the routes are not of this plan. 2: the words can't be
 used, or the picture is too high. 3: the plan can't be read. 5: a file can't be read, or writing failed. 125: there is
@@ -39,21 +39,20 @@ no program. Any other status is the program's.
 import os
 from dataclasses import replace
 
-from .. import routes as explanations
 from ..drawing.axis import Span
-from ..drawing.page import MOST_ROUTES, Answers, Page
+from ..drawing.page import MOST_ROUTES, Page, Told
 from ..drawing.picture import LINE, MOST, Picture
 from ..drawing.scene import Choice, View
 from ..drawing.text import Text, list_text
 from ..errors import WORDS_STATUS, Refused
-from ..listing import add_choice_words, check_choice_words, chosen, pages_of, tell_looked
-from ..losses import best_without
-from ..plans import lines_of
-from ..tool import run_tool
+from ..listing import add_choice_words, added, check_choice_words, listing_of, pages_of, tell_looked
+from ..lost import losses
+from ..routes import Answer, explained_routes, report_of
+from ..tool import lines_of, run_tool
 from ..words import Asked, Words, add_plan_words, add_request_words, time_word
 
 NEEDED = ("from", "to", "at")  # the words that a request has to have
-OTHERS = ("margin-ppm", "max-hops", "avoid", "via", "distinct", "look")  # words that go with a request
+OTHERS = ("margin-ppm", "max-hops", "avoid", "via", "fits", "distinct", "look")  # words that go with a request
 
 
 # ---- The command line -------------------------------------------------------------------------------------------
@@ -64,9 +63,9 @@ def parser_of_words():
     parser = Words(__doc__)
     add_plan_words(parser)
     add_request_words(parser)
-    routes = add_choice_words(parser)
-    routes.add_argument("--report", metavar="G", help="the routes of this report of the request")
-    routes.add_argument("--explained", metavar="G", help="the routes of these explanations")
+    add_choice_words(parser)
+    parser.add_argument("--report", metavar="G", help="the routes of this report of the request")
+    parser.add_argument("--explained", metavar="G", help="the routes of these explanations")
     add_view_words(parser)
     return parser
 
@@ -152,22 +151,28 @@ def routes_of(asked):
     """The routes that are asked for, with their hops; None if none are."""
     words = asked.words
     if words.explained is not None:
-        return explanations.explained_routes(lines_of(words.explained))
+        return explained_routes(lines_of(words.explained))
     if not asks_for_routes(words):
         return None
     request = asked.request()
-    pages = pages_of(asked, request) if words.report is None else [report_of(words.report)]
-    listing = chosen(asked, pages)
+    pages = pages_of(asked, request) if words.report is None else [given_report(words.report, request)]
+    listing = listing_of(asked, pages, lambda answers: added(asked, answers))
+    routes = tuple(listing.routes())
     asked.tell_hints([request])
-    if words.distinct:
-        tell_looked([listing], words)
-    check_count(words, len(listing.rows))
-    return asked.program.explained(request, [row.route for row in listing.rows], asked.plan)
+    tell_looked([listing], words)
+    check_count(words, len(routes))
+    (answer,) = asked.program.with_hops([Answer(routes, None, request)])
+    return list(answer.routes)
 
 
-def report_of(path):
+def ranked(routes):
+    """Routes with ranks: those in the list of all, or if these aren't known, their places here."""
+    return [replace(route, rank=route.rank or place) for place, route in enumerate(routes, 1)]
+
+
+def given_report(path, request):
     """The routes of a report's file, as of a report that may go on."""
-    return replace(explanations.report_of(lines_of(path)), is_whole=False)
+    return replace(report_of(lines_of(path), request), is_whole=False)
 
 
 def check_count(words, count):
@@ -198,15 +203,23 @@ def picture_text(scene, words):
 
 def write_page(asked, view, routes):
     """Writes the page into its file."""
-    answers = Answers(routes or [])
+    told = Told(ranked(routes or []))
     if asks_for_routes(asked.words):
         request, digest = asked.request(), asked.program.run("check").split()[-1]
-        best = best_without(asked.program, asked.plan, request, routes)
-        answers = Answers(routes, request, best, digest)
-    text = Page(view, asked.plan, asked.lost, answers).html()
+        told = Told(ranked(routes), request, best_without(asked, request, routes), digest)
+    text = Page(view, asked.plan, asked.lost, told).html()
     with open(asked.words.html, "w", encoding="utf-8", newline="\n") as file:
         file.write(text)
     return ""
+
+
+def best_without(asked, request, routes):
+    """Under the number of each contact of some routes, the best route without it, with its hops, or None."""
+    found = losses(asked.program, asked.plan, request, routes)
+    others = tuple(it.route for it in found if it.route)
+    (answer,) = asked.program.with_hops([Answer(others, None, request)])
+    with_hops = iter(answer.routes)
+    return {it.contact: it.route and next(with_hops) for it in found}
 
 
 def timeline():
@@ -220,7 +233,7 @@ def timeline():
     check_routes(asked.plan, routes or [])
     if words.html is not None:
         return write_page(asked, view, routes)
-    scene = view.scene(asked.plan, routes, () if words.list else asked.lost, words.list)
+    scene = view.scene(asked.plan, routes and ranked(routes), () if words.list else asked.lost, words.list)
     if words.list:
         return list_text(scene, words.names)
     return Text(scene, words.columns).text() if words.text else picture_text(scene, words)

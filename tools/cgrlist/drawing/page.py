@@ -21,7 +21,7 @@ EXACT = 2**53 - 1  # up to here, numbers are exact in JavaScript
 
 
 @dataclass(frozen=True)
-class Answers:
+class Told:
     """What a page tells, besides the plan: a request with its routes, and the best routes without their contacts.
 
     `best` has a route or None under the number of each contact of the routes; it is empty if that wasn't asked. Without
@@ -35,17 +35,17 @@ class Answers:
 
 
 class Page:
-    """A plan with answers as a page, shown as a view says. Contacts that are lost are crossed out."""
+    """A plan with what is told of it as a page, shown as a view says. Contacts that are lost are crossed out."""
 
-    def __init__(self, view, plan, lost, answers):
-        self._view, self._answers = view, answers
+    def __init__(self, view, plan, lost, told):
+        self._view, self._told = view, told
         self._lost = [it.number for it in lost]
         self._links = self._chosen(links_of([*plan.contacts, *lost]))
         self._contacts = [it for windows in self._links.values() for it in windows]
         self._base = min((it.start for it in self._contacts), default=0)
         self._nodes = Places(sorted(self._all_nodes()))
         self._rates = Places(sorted({it.rate for it in self._contacts}))
-        self._shown = Places(route.contacts for route in answers.routes)
+        self._shown = Places(route.contacts for route in told.routes)
 
     def html(self):
         """The whole text."""
@@ -76,28 +76,28 @@ class Page:
             "base": self._base,
             **self._plan_data(),
             "request": self._request_data(),
-            "routes": [self._route_data(route) for route in self._answers.routes],
-            "lost": {number: self._best_data(route) for number, route in (self._answers.best or {}).items()},
+            "routes": [self._route_data(route) for route in self._told.routes],
+            "lost": {number: self._best_data(route) for number, route in (self._told.best or {}).items()},
         }
 
     def _chosen(self, links):
         """The links that are chosen by name, and those of the routes and the answers."""
-        choice, told = self._view.choice, [*self._answers.routes, *filter(None, (self._answers.best or {}).values())]
+        choice, best = self._view.choice, filter(None, (self._told.best or {}).values())
         choice.check(links)
-        used = {hop.link for route in told for hop in route.hops}
+        used = {hop.link for route in [*self._told.routes, *best] for hop in route.hops}
         return {link: windows for link, windows in links.items() if link in used or choice.has(link)}
 
     def _all_nodes(self):
         """The nodes of the links and the request."""
-        request = self._answers.request
+        request = self._told.request
         ends = {request.source, request.destination} if request else set()
         return ends.union(*self._links)
 
     def _made(self):
         """From what the answers are."""
-        if self._answers.request is None:
-            return "The routes are those of an explanation." if self._answers.routes else ""
-        return f"The answers are those of cgrlist over the plan with this digest: {self._answers.digest}"
+        if self._told.request is None:
+            return "The routes are those of an explanation." if self._told.routes else ""
+        return f"The answers are those of cgrlist over the plan with this digest: {self._told.digest}"
 
     def _plan_data(self):
         """The nodes, the links and the contacts."""
@@ -117,11 +117,11 @@ class Page:
 
     def _request_data(self):
         """The request, if there is one."""
-        it = self._answers.request
+        it = self._told.request
         if it is None:
             return None
         ends = {"from": self._nodes.of(it.source), "to": self._nodes.of(it.destination)}
-        return {**ends, "at": self._second(it.at), "limits": " ".join(it.limits)}
+        return {**ends, "at": self._second(it.at), "limits": " ".join(it.words()[6:])}
 
     def _route_data(self, it):
         """A route with its hops."""

@@ -1,0 +1,65 @@
+"""The plot of tools/timetable: when a bundle is delivered, by the second at which it is at the source; an SVG."""
+
+import html
+
+from ..times import date_of
+from .axis import Axis, Span
+from .picture import hue, style, titled
+
+LEFT, TOP, WIDTH, HEIGHT, SIDE = 150, 40, 640, 360, 30
+CHARACTER, LINE = 7.8, 20
+
+
+def plot_svg(stretches, title, time_text, path_text):
+    """The stretches that have a route, a line for each; each route has a colour, and says what it is under the mouse."""
+    shown = [it for it in stretches if it.route]
+    places = {contacts: place for place, contacts in enumerate(dict.fromkeys(it.route.contacts for it in shown))}
+    width, height = LEFT + WIDTH + SIDE, TOP + HEIGHT + SIDE + LINE * len(places)
+    size = f'width="{width}" height="{height}"'
+    yield f'<svg xmlns="http://www.w3.org/2000/svg" viewBox="0 0 {width} {height}" {size} role="img">\n<title>{html.escape(title)}</title>\n{style()}\n<rect class="back" {size}/>\n'
+    if shown:
+        across = Axis(Span(stretches[0].first, stretches[-1].last + 1), WIDTH, CHARACTER, 10)
+        up = Axis(_span(shown), HEIGHT, 0, LINE)
+        yield from _ticks(across, up, time_text)
+        for it in shown:
+            yield _line(it, across, up, f"line{hue(places[it.route.contacts])}", time_text) + "\n"
+        yield from _legend(shown, places, path_text)
+    else:
+        yield f'<text x="8" y="{TOP}">no route</text>\n'
+    yield "</svg>\n"
+
+
+def _span(shown):
+    """The deliveries, with a margin."""
+    first, last = min(it.delivery for it in shown), max(it.last_delivery for it in shown)
+    margin = (last - first) // 20 + 1
+    return Span(first - margin, last + margin)
+
+
+def _ticks(across, up, time_text):
+    yield f'<text x="{LEFT}" y="15">at the source, UTC</text>\n<text x="8" y="15">delivery, UTC</text>\n'
+    for tick in across.ticks():
+        x = f"{LEFT + across.place(tick.second):.1f}"
+        yield titled(f'path class="tick" d="M{x} {TOP - 4}V{TOP + HEIGHT}"', time_text(tick.second)) + "\n"
+        yield f'<text x="{x}" y="{TOP - 8}" text-anchor="middle">{tick.label}</text>\n'
+    for second in up.step.times(up.span):
+        y = f"{TOP + HEIGHT - up.place(second):.1f}"
+        yield titled(f'path class="tick" d="M{LEFT - 4} {y}H{LEFT + WIDTH}"', time_text(second)) + "\n"
+        yield f'<text x="{LEFT - 8}" y="{y}" text-anchor="end">{date_of(second):%m/%d %H:%M:%S}</text>\n'
+
+
+def _line(it, across, up, line, time_text):
+    """The line of a stretch: a second is as wide as it lasts."""
+    x, end = (LEFT + across.place(second) for second in (it.first, it.last + 1))
+    y, last = (TOP + HEIGHT - up.place(second) for second in (it.delivery, it.last_delivery))
+    told = f"from {time_text(it.first)} to {time_text(it.last)}: delivery {time_text(it.delivery)}"
+    told += f" to {time_text(it.last_delivery)}" if it.rises else ""
+    told += f", contacts {' '.join(map(str, it.route.contacts))}"
+    return titled(f'path class="hop {line}" d="M{x:.1f} {y:.1f}L{end:.1f} {last:.1f}"', told)
+
+
+def _legend(shown, places, path_text):
+    for contacts, place in places.items():
+        y, nodes = TOP + HEIGHT + SIDE + LINE * place, next(it.route.nodes for it in shown if it.route.contacts == contacts)
+        told = html.escape(f"{path_text(nodes)}, contacts {' '.join(map(str, contacts))}")
+        yield f'<path class="hop line{hue(place)}" d="M{LEFT} {y - 4}h22"/>\n<text x="{LEFT + 30}" y="{y}">{told}</text>\n'

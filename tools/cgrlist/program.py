@@ -1,0 +1,212 @@
+"""The program cgrlist: where it is, and what it answers over a plan's file. All rules of routes are its own."""
+
+import contextlib
+import functools
+import os
+import shutil
+import subprocess
+import sys
+import threading
+from dataclasses import dataclass, replace
+
+from . import hints
+from .errors import PLAN_STATUS, REQUESTS_STATUS, START_STATUS, Refused
+from .plans import with_lines
+from .routes import Fault, followed, parts_of, whole_report_of
+from .tool import Tool, processors, scratch, threads
+
+CLONE = os.path.dirname(os.path.dirname(os.path.dirname(os.path.realpath(__file__))))  # if the package stands in one
+SCRIPT = os.path.join(CLONE, "cgrlist")
+BUILT = os.path.join(CLONE, "crates/cgrlist/out/cgrlist")  # what the script runs if it is current
+MOST = 10000  # routes that the program gives at a time
+LISTS = 2000  # of contacts that a run follows, so that several processors share many
+
+_PROCESSES = threading.BoundedSemaphore(processors())  # no more of them run at a time
+_WITHOUT_TRIAL = {**os.environ, "CGRLIST_TRIAL": "no"}  # the clone's script then runs the proved program or none
+
+
+# ---- Runs -------------------------------------------------------------------------------------------------------
+
+
+@functools.lru_cache(maxsize=None)
+def program_path(given=None):
+    """The program that is given, or that of the clone in which the package stands, or the one in the path."""
+    places = [SCRIPT, "cgrlist"] if given is None else [given]
+    path = next(filter(None, map(shutil.which, places)), None)
+    if not path:
+        elsewhere = f"{SCRIPT} and for cgrlist in the path; --program names another place"
+        looked = elsewhere if given is None else given or "''"
+        raise Refused(f"there is no program: looked for {looked}", START_STATUS)
+    return _built(path) if path == SCRIPT and os.access(BUILT, os.X_OK) else path
+
+
+def _built(script):
+    """The program that a clone's script runs, which takes a while to find that it is current."""
+    status, _, told = _ran([script, "--version"])
+    if status == START_STATUS:
+        raise Refused(told, START_STATUS, is_told=True)
+    return BUILT
+
+
+@functools.lru_cache(maxsize=None)
+def _has_follow(path):
+    """Whether a program has the command follow."""
+    return "Usage: cgrlist follow" in _ran([path, "follow", "--help"])[2]
+
+
+def _ran(words):
+    """Runs the program: its status, and what it prints on standard output and standard error."""
+    how = {"stdout": subprocess.PIPE, "stderr": subprocess.PIPE, "text": True, "errors": "replace"}
+    with _PROCESSES:
+        try:
+            process = subprocess.Popen(words, env=_WITHOUT_TRIAL, **how)
+        except OSError as error:
+            raise Refused(f"cannot start {words[0]}: {error.strerror}", START_STATUS) from error
+        Tool.children.add(process)
+        try:
+            said, told = process.communicate()
+        finally:
+            Tool.children.discard(process)
+    return process.returncode, said, told
+
+
+# ---- The program over a plan ------------------------------------------------------------------------------------
+
+
+@dataclass(frozen=True)
+class Program:
+    """The program at a path, over the plan of a file. What it refuses is `Refused`, with its message and its status."""
+
+    path: str
+    plan_file: str
+
+    def check(self):
+        """Refuses a plan that the program refuses."""
+        self.run("check")
+
+    def first(self, request, count):
+        """The answer with the first routes of a request, at most 10000."""
+        return whole_report_of(self.run("first", *request.words(), "--count", str(count)).split("\n"), request)
+
+    def many(self, requests, count):
+        """The answers with the first routes of requests, by one run; None if the program refuses one of them."""
+        lines = [request.line() for request in requests]
+        if None in lines:
+            return None
+        told = self._over_lines("many", "--requests", lines, "--count", str(count), but=REQUESTS_STATUS)
+        return None if told is None else [whole_report_of(part, request) for part, request in zip(told, requests)]
+
+    def pages(self, request):
+        """The pages of a request's list, to its end."""
+        return Pages(self, request)
+
+    def follow(self, lists):
+        """What lists of contacts do, each with its request: for each a route with its hops, or a `Fault`."""
+        lists = list(lists)
+        with threads() as pool:
+            if not _has_follow(self.path):
+                return list(pool.map(lambda it: self._explained(*it), lists))
+            parts = [lists[start : start + LISTS] for start in range(0, len(lists), LISTS)]
+            return [told for part in pool.map(self._followed, parts) for told in part]
+
+    def with_hops(self, answers):
+        """Answers with the hops of their routes; refused if a request makes another one of a route's contacts."""
+        told = iter(self.follow((route.contacts, it.request) for it in answers for route in it.routes))
+        return [replace(it, routes=tuple(_as_listed(route, next(told)) for route in it.routes)) for it in answers]
+
+    def with_send_by(self, answers):
+        """Answers with the last second at the source for each route's contacts. None is after the first of their ends."""
+        lists = [(route.contacts, it.request) for it in answers for route in it.routes]
+        untils = [route.until for it in answers for route in it.routes]
+        seconds = iter(self.latest(lists, untils, lambda place, at, told: not isinstance(told, Fault)))
+        return [replace(it, routes=tuple(replace(route, send_by=next(seconds)) for route in it.routes)) for it in answers]
+
+    def latest(self, lists, lasts, holds):
+        """For each of some lists of contacts with its request: the last second, of those from the request's on and up to
+        that in `lasts`, at which something holds, by bisection of all of them at once.
+
+        `holds` is asked with the list's place, a second, and what the list does then. It must hold at the request's time,
+        and at no second after one at which it doesn't.
+        """
+        seconds, lates = [request.at for _, request in lists], [last + 1 for last in lasts]
+        while left := [place for place in range(len(lists)) if lates[place] - seconds[place] > 1]:
+            middles = [(seconds[place] + lates[place]) // 2 for place in left]
+            asked = [(lists[place][0], replace(lists[place][1], at=at)) for place, at in zip(left, middles)]
+            for place, at, told in zip(left, middles, self.follow(asked)):
+                (seconds if holds(place, at, told) else lates)[place] = at
+        return seconds
+
+    @contextlib.contextmanager
+    def with_lines(self, lines):
+        """The program over a copy of the plan with further lines, as those that delete contacts, while it is needed."""
+        file = with_lines(self.plan_file, lines)
+        yield replace(self, plan_file=file)
+        os.unlink(file)
+
+    def _followed(self, lists):
+        lines = [f"{','.join(map(str, contacts))} {request.line()}" for contacts, request in lists]
+        return map(followed, self._over_lines("follow", "--lists", lines))
+
+    def _explained(self, contacts, request):
+        words = [*request.words(), "--contacts", ",".join(map(str, contacts))]
+        return followed(self.run("explain", *words, also=1).split("\n")[:-1])
+
+    def _over_lines(self, command, option, lines, *words, but=None):
+        """The parts of what a command answers to a file of lines, a part for each; None if its status is that one."""
+        file = scratch()
+        with open(file, "w", encoding="utf-8") as written:
+            written.writelines(f"{line}\n" for line in lines)
+        told = self.run(command, option, file, *words, but=but)
+        os.unlink(file)
+        if told is None:
+            return None
+        parts = parts_of(told, {"many": "request ", "follow": "list "}[command])
+        if len(parts) != len(lines):
+            raise Refused(f"cgrlist {command} answers {len(parts)} of {len(lines)} lines")
+        return parts
+
+    def run(self, command, *words, but=None, also=0):
+        """What a command prints on standard output, with status 0 or another one; None with the status `but`."""
+        status, said, told = _ran([self.path, command, "--plan", self.plan_file, *words])
+        if status and status == but:
+            return None
+        if status < 0:
+            raise Refused(f"cgrlist {command} was ended by signal {-status}", 128 - status)
+        if status == 1 != also:
+            raise Refused(f"cgrlist {command} answers: {[*said.splitlines(), 'no'][-1]}")
+        if status not in (0, also):
+            found = hints.of_refusal(self.plan_file, told) if status == PLAN_STATUS else ()
+            raise Refused(told, status, is_told=True, hints=found)
+        sys.stderr.write(told)
+        return said
+
+
+class Pages:
+    """The answers of a request's list, a page at a time, to its end. `session` is the path of the last page's text, from
+    which `cgrlist next` goes on.
+    """
+
+    def __init__(self, program, request):
+        self._program, self._request, self.session = program, request, None
+
+    def __iter__(self):
+        asked, count = ["first", *self._request.words()], 100
+        while True:
+            before, session = self.session, scratch()
+            told = self._program.run(*asked, "--count", str(count), "--session-out", session)
+            self.session = session
+            if before:
+                os.unlink(before)
+            page = whole_report_of(told.split("\n"), self._request)
+            yield page
+            if page.is_whole:
+                return
+            asked, count = ["next", "--session", session], min(count * 4, MOST)
+
+
+def _as_listed(route, told):
+    """A listed route with the hops that were told of its contacts."""
+    found = told.text if isinstance(told, Fault) else told.text()
+    if found != route.text():
+        raise Refused(f"route {route.rank} isn't one of this request: cgrlist explain says {found}")
+    return replace(route, hops=told.hops)
