@@ -20,8 +20,8 @@ _cgrlist_words() {
             --avoid --report --requests --choices --count --by --via --fits --distinct --look --hops --room --lost \
             --send-by --csv --json --help ;;
         cgrlist-timeline) echo --plan --without --names --iso --program --from --to --at --margin-ppm --max-hops \
-            --avoid --count --by --via --fits --distinct --look --report --explained --between --used --links --nodes \
-            --order --text --list --columns --width --all --help ;;
+            --avoid --count --by --via --fits --distinct --look --report --explained --between --used --unused --links \
+            --nodes --order --text --list --html --columns --width --all --help ;;
         cgrlist-timetable) echo --plan --without --names --iso --program --from --to --margin-ppm --max-hops \
             --avoid --between --csv --svg --help ;;
     esac
@@ -37,13 +37,14 @@ _cgrlist() {
         before=${COMP_WORDS[COMP_CWORD - 2]}
     fi
     case $before in
-        --plan | --session | --session-out | --names | --program | --report | --requests | --choices | --explained)
+        --plan | --session | --session-out | --names | --program | --report | --requests | --choices | --explained | \
+            --html)
             files=yes
             ;;
         --distinct) mapfile -t COMPREPLY < <(compgen -W 'entry nodes contacts' -- "$word") ;;
         --order) mapfile -t COMPREPLY < <(compgen -W 'link route' -- "$word") ;;
-        --help | --version | --iso | --hops | --room | --lost | --send-by | --csv | --json | --svg | --used | --text | \
-            --list | --all | [!-]*)
+        --help | --version | --iso | --hops | --room | --lost | --send-by | --csv | --json | --svg | --used | --unused | \
+            --text | --list | --all | [!-]*)
             mapfile -t COMPREPLY < <(compgen -W "$(_cgrlist_words "$command")" -- "$word")
             [[ $command != cgrlist-@(compare|from-ionrc) || $word == -* ]] || files=yes
             ;;

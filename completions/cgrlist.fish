@@ -16,14 +16,14 @@ set -l latest --by --after --plan --without --names --iso --program --from --to 
 set -l report --plan --without --names --iso --program --from --to --at --margin-ppm --max-hops --avoid --report \
     --requests --choices --count --by --via --fits --distinct --look --hops --room --lost --send-by --csv --json --help
 set -l timeline --plan --without --names --iso --program --from --to --at --margin-ppm --max-hops --avoid --count \
-    --by --via --fits --distinct --look --report --explained --between --used --links --nodes --order --text --list \
-    --columns --width --all --help
+    --by --via --fits --distinct --look --report --explained --between --used --unused --links --nodes --order --text \
+    --list --html --columns --width --all --help
 set -l timetable --plan --without --names --iso --program --from --to --margin-ppm --max-hops --avoid --between --csv \
     --svg --help
 
 # What may follow an option: nothing of its own, a file, one of some words, or else a value that isn't completed.
-set -l flags --help --version --iso --hops --room --lost --send-by --csv --json --svg --used --text --list --all
-set -l files --plan --session --session-out --names --program --report --requests --choices --explained
+set -l flags --help --version --iso --hops --room --lost --send-by --csv --json --svg --used --unused --text --list --all
+set -l files --plan --session --session-out --names --program --report --requests --choices --explained --html
 
 # __cgrlist_option COMMAND CONDITION OPTION
 function __cgrlist_option --inherit-variable flags --inherit-variable files

@@ -33,6 +33,14 @@ class Contact:
         return f"d contact {time_text(self.start)} {self.sender} {self.receiver}"
 
 
+def links_of(contacts):
+    """Contacts by link and by start; the links by sender and receiver."""
+    links = defaultdict(list)
+    for contact in sorted(contacts, key=lambda it: (*it.link, it.start)):
+        links[contact.link].append(contact)
+    return dict(links)
+
+
 class Ranges:
     """The ranges that stand, by ordered pair of nodes."""
 
@@ -101,10 +109,7 @@ class Plan:
 
     def links(self):
         """The contacts of each link by start; the links by sender and receiver."""
-        links = defaultdict(list)
-        for contact in sorted(self.contacts, key=lambda it: (*it.link, it.start)):
-            links[contact.link].append(contact)
-        return dict(links)
+        return links_of(self.contacts)
 
     def contact(self, number):
         """The contact with a number."""

@@ -159,8 +159,16 @@ class Asked:
     @functools.cached_property
     def plan(self):
         """The plan without the contacts that are lost. Ask the program first: it says more if it refuses the plan."""
-        plan = Plan.from_file(self.words.plan, self.names)
-        return plan.without(self.words.without) if self.words.without else plan
+        return self._whole_plan.without(self.words.without) if self.words.without else self._whole_plan
+
+    @property
+    def lost(self):
+        """The contacts that are lost."""
+        return [self._whole_plan.contact(number) for number in self.words.without or ()]
+
+    @functools.cached_property
+    def _whole_plan(self):
+        return Plan.from_file(self.words.plan, self.names)
 
     @property
     def plan_after_check(self):

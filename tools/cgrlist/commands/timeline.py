@@ -9,18 +9,27 @@
                                                with the routes of the report G, which the program explains
     tools/timeline --plan F --explained G      with the routes of the explanations in G
     tools/timeline .. --between T T            a span of time; if not given, that of the routes, or else of the plan
-    tools/timeline .. --used                   only the links that the routes use
+    tools/timeline .. --unused                 also the links that no route uses
     tools/timeline .. --links 'A>B,..'         only these links
     tools/timeline .. --nodes A,..             only the links from and to these nodes
-    tools/timeline .. --order route            the links of the first route first, in its order, and so on
+    tools/timeline .. --order link             the links by their nodes, and not as the routes go
     tools/timeline .. --width PX [--all]       how wide the picture is; it is at most 20000 high without --all
     tools/timeline .. --text [--columns N]     the same as text
+    tools/timeline .. --html H                 a page to touch: the file H, which needs no network and no server
     tools/timeline --plan F --list             each contact with its number, one a line
 
-Each option may go with the others. Of a request's or a report's routes, --via, --distinct and --look choose those that
-they choose for tools/report. --without draws the plan and its routes as if contacts were lost. A plan is one that
+Each option may go with the others. With routes, only the links that they use are shown, the first route's first and in
+its order, and so on; --links and --nodes choose of all links. --used and --order route say the same, and --list has all
+links without --used. Of a request's or a report's routes, --via, --distinct and --look choose those that they choose
+for tools/report. --without draws the routes as if contacts were lost, which are crossed out. A plan is one that
 `cgrlist check` accepts. T is 2031/03/03-01:00:00, 2031-03-03T01:00:00Z, 2031-03-03, now, or now+2h with s, m, h or d.
 All times are UTC. A and B are nodes, by their numbers or by the names of --names. G may be /dev/stdin.
+
+The page has the picture with zoom and pan by mouse, touch and keys, the list of routes, and what each contact and route
+is. It finds contacts and nodes, and has all links if there are at most 60; a button shows the others. A click on a
+contact of a shown route, or Enter, tells the best of all routes without that contact, as the program answered when the
+page was made. The page has at most 1000 routes without --all. Its address keeps what is chosen, as
+H#lost=11&theme=dark.
 
 Status 0: done. 1: the routes or the names can't be used, or the routes are not of this plan. 2: the words can't be
 used, or the picture is too high. 3: the plan can't be read. 5: a file can't be read, or writing failed. 125: there is
@@ -31,12 +40,14 @@ import os
 from dataclasses import replace
 
 from ..drawing.axis import Span
-from ..drawing.picture import MOST, Picture
+from ..drawing.page import MOST_ROUTES, Page, Told
+from ..drawing.picture import LINE, MOST, Picture
 from ..drawing.scene import Choice, View
 from ..drawing.text import Text, list_text
 from ..errors import WORDS_STATUS, Refused
 from ..listing import add_choice_words, added, check_choice_words, listing_of, pages_of, tell_looked
-from ..routes import explained_routes, report_of
+from ..lost import losses
+from ..routes import Answer, explained_routes, report_of
 from ..tool import lines_of, run_tool
 from ..words import Asked, Words, add_plan_words, add_request_words, time_word
 
@@ -63,16 +74,21 @@ def add_view_words(parser):
     """Adds the words that say what is shown and how."""
     span = {"nargs": 2, "type": time_word, "metavar": ("T", "T")}
     parser.add_argument("--between", **span, help="the span of time")
-    parser.add_argument("--used", action="store_true", help="only the links that the routes use")
+    used = parser.add_mutually_exclusive_group()
+    used.add_argument("--used", action="store_true", default=None, help="only the links that the routes use")
+    unused = {"action": "store_false", "dest": "used", "default": None}
+    used.add_argument("--unused", **unused, help="the links that no route uses, too")
     parser.add_argument("--links", metavar="LIST", help="only these links: 'A>B', joined by commas")
     parser.add_argument("--nodes", metavar="LIST", help="only the links from and to these nodes, joined by commas")
-    parser.add_argument("--order", choices=("link", "route"), default="link", help="rows by nodes, or as routes go")
+    parser.add_argument("--order", choices=("link", "route"), help="rows by nodes, or as routes go")
     shape = parser.add_mutually_exclusive_group()
     shape.add_argument("--text", action="store_true", help="draw with characters")
     shape.add_argument("--list", action="store_true", help="list the contacts by number")
+    shape.add_argument("--html", metavar="H", help="write a page to touch into this file")
     parser.add_argument("--columns", type=int, default=100, metavar="N", help="how wide a text is; 100 if not given")
     parser.add_argument("--width", type=int, metavar="PX", help="how wide a picture is")
-    parser.add_argument("--all", action="store_true", help=f"draw a picture that is higher than {MOST}, too")
+    more = f"a picture that is higher than {MOST}, and a page with more routes, too"
+    parser.add_argument("--all", action="store_true", help=more)
 
 
 def check_words(parser, words):
@@ -85,7 +101,7 @@ def check_words(parser, words):
     missing = [name for name in needed if name not in given]
     if missing and (given or asks):
         parser.error(f"these words are missing: {', '.join(missing)}")
-    if (words.used or words.order == "route") and not asks and words.explained is None:
+    if (words.used or words.order == "route") and not has_routes(words):
         parser.error("--used and --order route need routes: --count, --by, --report or --explained")
     check_choice_words(parser, words)
 
@@ -95,10 +111,18 @@ def asks_for_routes(words):
     return any(it is not None for it in (words.count, words.by, words.report))
 
 
+def has_routes(words):
+    """Whether routes are to be shown."""
+    return asks_for_routes(words) or words.explained is not None
+
+
 def view_of(asked, parser):
     """How the words ask for a plan to be shown."""
     words = asked.words
-    choice = Choice(words.used, links_of(asked), nodes_of(asked, "nodes", words.nodes), words.order == "route")
+    is_by_name = words.links is not None or words.nodes is not None
+    used = False if words.used is None and (is_by_name or words.list) else words.used
+    by_route = has_routes(words) and words.order != "link"
+    choice = Choice(used, links_of(asked), nodes_of(asked, "nodes", words.nodes), by_route)
     span = Span(*words.between) if words.between else None
     if span and span.first >= span.last:
         parser.error("--between: the first time isn't before the second")
@@ -132,16 +156,31 @@ def routes_of(asked):
         return None
     request = asked.request()
     pages = pages_of(asked, request) if words.report is None else [given_report(words.report, request)]
-    listing = listing_of(asked, pages, lambda answers: added(asked, answers, with_hops=True))
-    routes = listing.routes()
+    listing = listing_of(asked, pages, lambda answers: added(asked, answers))
+    routes = tuple(listing.routes())
     asked.tell_hints([request])
     tell_looked([listing], words)
-    return routes
+    check_count(words, len(routes))
+    (answer,) = asked.program.with_hops([Answer(routes, None, request)])
+    return list(answer.routes)
+
+
+def ranked(routes):
+    """Routes with ranks: those in the list of all, or if these aren't known, their places here."""
+    return [replace(route, rank=route.rank or place) for place, route in enumerate(routes, 1)]
 
 
 def given_report(path, request):
     """The routes of a report's file, as of a report that may go on."""
     return replace(report_of(lines_of(path), request), is_whole=False)
+
+
+def check_count(words, count):
+    """Refuses more routes than have room, before they are explained."""
+    what, most = ("a page", MOST_ROUTES) if words.html is not None else (f"a picture of {MOST} px", MOST // LINE)
+    if count > most and not (words.all or words.text or words.list):
+        smaller = "a smaller --count, --via and --distinct choose fewer; --all draws them"
+        raise Refused(f"there are {count} routes, and {what} has room for {most}: {smaller}", WORDS_STATUS)
 
 
 def check_routes(plan, routes):
@@ -157,9 +196,30 @@ def picture_text(scene, words):
     """The scene as an SVG, if it isn't too high."""
     picture = Picture(scene, words.width)
     if picture.height > MOST and not words.all:
-        smaller = "--used, --links, --nodes and --between choose links, a smaller --count routes; --all draws it so"
+        smaller = "--links, --nodes and --between choose links, a smaller --count routes; --all draws it so"
         raise Refused(f"the picture would be {picture.height} px high, more than {MOST}: {smaller}", WORDS_STATUS)
     return picture.svg()
+
+
+def write_page(asked, view, routes):
+    """Writes the page into its file."""
+    told = Told(ranked(routes or []))
+    if asks_for_routes(asked.words):
+        request, digest = asked.request(), asked.program.run("check").split()[-1]
+        told = Told(ranked(routes), request, best_without(asked, request, routes), digest)
+    text = Page(view, asked.plan, asked.lost, told).html()
+    with open(asked.words.html, "w", encoding="utf-8", newline="\n") as file:
+        file.write(text)
+    return ""
+
+
+def best_without(asked, request, routes):
+    """Under the number of each contact of some routes, the best route without it, with its hops, or None."""
+    found = losses(asked.program, asked.plan, request, routes)
+    others = tuple(it.route for it in found if it.route)
+    (answer,) = asked.program.with_hops([Answer(others, None, request)])
+    with_hops = iter(answer.routes)
+    return {it.contact: it.route and next(with_hops) for it in found}
 
 
 def timeline():
@@ -171,7 +231,9 @@ def timeline():
     view = view_of(asked, parser)
     routes = routes_of(asked)  # first, since the program says more of a plan that it refuses
     check_routes(asked.plan, routes or [])
-    scene = view.scene(asked.plan, routes, words.list)
+    if words.html is not None:
+        return write_page(asked, view, routes)
+    scene = view.scene(asked.plan, routes and ranked(routes), () if words.list else asked.lost, words.list)
     if words.list:
         return list_text(scene, words.names)
     return Text(scene, words.columns).text() if words.text else picture_text(scene, words)

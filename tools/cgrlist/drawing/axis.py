@@ -72,19 +72,19 @@ class Step:
         first = span.first + (offset - span.first) % self.seconds
         return range(first, span.last + 1, self.seconds)
 
-    def label(self, date):
-        """What stands at a tick."""
+    def label(self, date, sign):
+        """What stands at a tick; the sign stands between the numbers of a date."""
         if self.months >= 12:
             return f"{date.year}"
         if self.seconds >= DAY:
-            return f"{date.month:02}/{date.day:02}"
+            return f"{date.month:02}{sign}{date.day:02}"
         return f"{date:%H:%M}" if self.seconds >= 60 else f"{date:%H:%M:%S}"
 
-    def period(self, date):
+    def period(self, date, sign):
         """What the labels of a period have in common: the date of clock times, the year of dates."""
         if self.months >= 12:
             return ""
-        return f"{date.year}" if self.seconds >= DAY else day_text(date)
+        return f"{date.year}" if self.seconds >= DAY else f"{date.year}{sign}{date.month:02}{sign}{date.day:02}"
 
 
 def month_starts(span, months):
@@ -99,11 +99,6 @@ def month_starts(span, months):
             starts.append(start)
         at += months
     return starts
-
-
-def day_text(date):
-    """Spells a date."""
-    return f"{date.year}/{date.month:02}/{date.day:02}"
 
 
 CLOCK = [1, 2, 5, 10, 15, 30, 60, 120, 300, 600, 900, 1800, 3600, 7200, 10800, 21600, 43200]
@@ -122,10 +117,13 @@ class Tick:
 
 
 class Axis:
-    """Seconds along a width, where a character of a label has a width and a gap keeps labels apart."""
+    """Seconds along a width, where a character of a label has a width and a gap keeps labels apart.
 
-    def __init__(self, span, width, character, gap):
-        self.span, self.width = span, width
+    The sign stands between the numbers of a date.
+    """
+
+    def __init__(self, span, width, character, gap, sign="/"):
+        self.span, self.width, self.sign = span, width, sign
         self.character, self.gap = character, gap
         self.step = next((step for step in STEPS if self.is_wide(step)), STEPS[-1])
 
@@ -140,19 +138,20 @@ class Axis:
     def is_wide(self, step):
         """Whether the labels of a step have room side by side."""
         width = step.seconds / (self.span.last - self.span.first) * self.width
-        return width >= self.room(step.label(EPOCH))
+        return width >= self.room(step.label(EPOCH, self.sign))
 
     def ticks(self):
         """The ticks with their labels."""
         times = self.step.times(self.span)
         above = self.periods(times)
-        return [Tick(second, self.step.label(date_of(second)), above.get(second, "")) for second in times]
+        labels = {second: self.step.label(date_of(second), self.sign) for second in times}
+        return [Tick(second, label, above.get(second, "")) for second, label in labels.items()]
 
     def periods(self, times):
         """What stands above the ticks at which it changes: a date without its year if that stands further left."""
         changes, before = [], ""
         for second in times:
-            period = self.step.period(date_of(second))
+            period = self.step.period(date_of(second), self.sign)
             if period != before:
                 changes.append((second, period))
             before = period

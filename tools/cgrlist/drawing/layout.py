@@ -68,7 +68,7 @@ class Layout:
         self.left = max(round(longest * CHARACTER) + 16, 76)
         self.plot = plot_width(self.left, width)
         self.width = self.left + self.plot + SIDE
-        self.axis = Axis(self.span, self.plot, CHARACTER, 10) if self.span else None
+        self.axis = Axis(self.span, self.plot, CHARACTER, 10, scene.date_sign) if self.span else None
         self.by_contact = scene.stages_by(lambda stage: stage.hop.contact)
         self.comes, self.goes = self.shifts()
         self.bottom, self.strips = HEAD, {}  # each strip under the number of each of its contacts

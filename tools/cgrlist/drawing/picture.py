@@ -19,6 +19,9 @@ text { font: 13px system-ui, sans-serif; fill: #1f2328 }
 .band { fill: #f3f5f7 }
 .tick { stroke: #d0d7de }
 .bar { fill: #7d8590; stroke: #7d8590; stroke-width: 1 }
+.lost { fill: #cf222e; fill-opacity: 0.15; stroke: #cf222e }
+.cross { stroke: #cf222e; stroke-width: 1.5 }
+.number.lost { fill-opacity: 1; stroke: #ffffff; text-decoration: line-through }
 .hop { stroke-width: 4; stroke-linecap: round }
 .wait { fill: none; stroke-width: 1.3 }
 .any { stroke: #1f2328 }
@@ -32,6 +35,9 @@ text { fill: #e6edf3 }
 .band { fill: #161b22 }
 .tick { stroke: #30363d }
 .bar { fill: #768390; stroke: #768390 }
+.lost { fill: #ff7b72; stroke: #ff7b72 }
+.cross { stroke: #ff7b72 }
+.number.lost { stroke: #0d1117 }
 .any { stroke: #e6edf3 }
 .mark { fill: #e6edf3 }
 """
@@ -69,6 +75,12 @@ def titled(element, title):
 # The signs of the legend: the element, the place of its words, the words, and the width of all.
 SIGNS = {
     "contact": (f'<rect class="bar" y="-9" width="22" height="{BAR}"/>', 28, "contact, with its number", 205),
+    "lost": (
+        f'<rect class="bar lost" y="-9" width="22" height="{BAR}"/><path class="cross" d="M0 -5h22"/>',
+        28,
+        "lost",
+        70,
+    ),
     "hop": ('<path class="hop any" d="M0 -4h22"/>', 30, "sending to arrival", 160),
     "wait": ('<path class="wait any" d="M0 -4h22"/>', 28, "wait", 85),
     "delivery": ('<circle class="mark" cx="0" cy="-4" r="3.4"/>', 10, "delivery", 80),
@@ -134,15 +146,19 @@ class Picture:
             for it in filter(self.span.shows, strip.windows):
                 x = self.x(it.start)
                 width = max(self.x(it.end) - x, 0.1)  # nothing is drawn of no width
-                rect = f'rect class="bar" x="{x:.1f}" y="{strip.bar}" width="{width:.1f}" height="{BAR}"'
+                kind = "bar lost" if it.number in self.scene.lost else "bar"
+                rect = f'rect class="{kind}" x="{x:.1f}" y="{strip.bar}" width="{width:.1f}" height="{BAR}"'
                 yield titled(rect, self.told(it))
+                if it.number in self.scene.lost:
+                    yield f'<path class="cross" d="M{x:.1f} {strip.bar + BAR / 2}h{width:.1f}"/>'
 
     def told(self, it):
         """A contact in words."""
         sender, receiver = map(self.scene.names.full, it.link)
         window = f"{self.scene.time_text(it.start)} to {self.scene.time_text(it.end)}"
         light = "no light time" if it.light is None else f"light time {it.light} s"
-        return f"contact {it.number}: {sender} {ARROW} {receiver}, {window}, {light}"
+        lost = ", lost" if it.number in self.scene.lost else ""
+        return f"contact {it.number}: {sender} {ARROW} {receiver}, {window}, {light}{lost}"
 
     def numbers(self, strip):
         """The numbers of a strip's contacts, if there is room for them."""
@@ -150,7 +166,8 @@ class Picture:
         for it in filter(self.span.shows, strip.windows):
             x = self.x(it.start)
             if x >= free:
-                yield f'<text class="number" x="{x:.1f}" y="{strip.bar - 2}">{it.number}</text>'
+                kind = "number lost" if it.number in self.scene.lost else "number"
+                yield f'<text class="{kind}" x="{x:.1f}" y="{strip.bar - 2}">{it.number}</text>'
                 free = x + DIGIT * len(str(it.number)) + 4
 
     def trace(self, at, route):

@@ -8,6 +8,7 @@ from functools import cached_property
 
 from ..errors import Refused
 from ..names import Names
+from ..plans import links_of
 from ..routes import Hop
 from .axis import Span, span_of
 
@@ -89,16 +90,20 @@ def row_of(windows):
 class Choice:
     """Which links have rows, and in which order."""
 
-    used: bool = False  # those that the routes use alone
+    used: "bool | None" = None  # those of the routes and of lost contacts alone; None: if there are routes
     links: "frozenset | None" = None  # these alone
     nodes: "tuple | None" = None  # those from and to these nodes alone
     by_route: bool = False  # in the order of the routes, the others after them
 
-    def of(self, links, used):
-        """The links that are chosen, with their windows, in their order; `used` are those of routes, in order."""
+    def of(self, links, used, lost=()):
+        """The links that are chosen, with their windows, in their order.
+
+        `used` are those of routes, in order, and `lost` those of lost contacts.
+        """
         self.check(links)
-        places = {link: place for place, link in reversed(list(enumerate(used)))}
-        chosen = [link for link in links if self.has(link) and (not self.used or link in places)]
+        places = {link: place for place, link in reversed(list(enumerate([*used, *lost])))}
+        is_used = bool(used) if self.used is None else self.used
+        chosen = [link for link in links if self.has(link) and (not is_used or link in places)]
         chosen.sort(key=lambda link: (places.get(link, len(used)) if self.by_route else 0, link))
         return {link: links[link] for link in chosen}
 
@@ -126,10 +131,16 @@ class Scene:
     rows: list
     routes: list
     stages: list  # those that the span and the rows show
+    lost: "frozenset[int]"  # the contacts that are crossed out, by number
     span: "Span | None"
     names: Names
     time_text: "Callable[[int], str]"
     remarks: list  # lines of words
+
+    @property
+    def date_sign(self):
+        """What stands between the numbers of a date."""
+        return date_sign(self.time_text)
 
     def label(self, link, arrow):
         """A link's nodes with an arrow between them."""
@@ -163,9 +174,11 @@ class Scene:
         return "after this span" if route.hops[0].send > self.span.last else "not over these links"
 
     def signs(self):
-        """What is drawn, besides windows: any of hop, wait and delivery."""
+        """What is drawn, besides windows: any of hop, wait, delivery and lost."""
         shown = {"hop": self.span.shows_hop, "wait": self.span.shows_wait, "delivery": self.shows_delivery}
-        return {sign for sign, is_shown in shown.items() if any(map(is_shown, self.stages))}
+        signs = {sign for sign, is_shown in shown.items() if any(map(is_shown, self.stages))}
+        windows = (it for row in self.rows for strip in row.strips for it in strip)
+        return signs | {"lost" for it in windows if it.number in self.lost and self.span.shows(it)}
 
     def shows_delivery(self, stage):
         """Whether the delivery of a route is drawn at the end of a stage."""
@@ -182,22 +195,33 @@ class View:
     names: Names
     time_text: "Callable[[int], str]"
 
-    def scene(self, plan, routes, is_list=False):
-        """What is to be shown of a plan and of routes, which are None if none were asked for."""
-        links, hops = plan.links(), [hop for route in routes or [] for hop in route.hops]
-        chosen = self.choice.of(links, [hop.link for hop in hops])
+    @property
+    def date_sign(self):
+        """What stands between the numbers of a date."""
+        return date_sign(self.time_text)
+
+    def scene(self, plan, routes, lost=(), is_list=False):
+        """What is to be shown of a plan, of routes, which are None if none were asked for, and of lost contacts."""
+        links, hops = links_of([*plan.contacts, *lost]), [hop for route in routes or [] for hop in route.hops]
+        chosen = self.choice.of(links, [hop.link for hop in hops], [it.link for it in lost])
         span = self.span or span_of([it for windows in chosen.values() for it in windows], [] if is_list else hops)
         stages = [it for it in stages_of(routes or []) if it.hop.link in chosen and span.shows_stage(it)]
         numbers = {stage.hop.contact for stage in stages}
         shown = [[it for it in windows if span.shows(it) or it.number in numbers] for windows in chosen.values()]
         rows = [row_of(windows) for windows in shown if windows]
-        remarks = list(remarks_of(plan, routes, len(chosen) - len(rows)))
-        return Scene(self.title, rows, routes or [], stages, span, self.names, self.time_text, remarks)
+        remarks = list(remarks_of(links, routes, len(chosen) - len(rows)))
+        numbers = frozenset(it.number for it in lost)
+        return Scene(self.title, rows, routes or [], stages, numbers, span, self.names, self.time_text, remarks)
 
 
-def remarks_of(plan, routes, hidden):
+def date_sign(time_text):
+    """What stands between the numbers of a date as a function spells times."""
+    return time_text(0)[4]
+
+
+def remarks_of(links, routes, hidden):
     """What a picture says of what it doesn't show."""
-    if not plan.contacts:
+    if not links:
         yield "no contacts"
     if hidden:
         yield f"{hidden} more {'link has' if hidden == 1 else 'links have'} no contact in this span"

@@ -7,17 +7,18 @@ from .scene import columns_of
 
 OVER = 7  # columns right of the rows, for the last label
 SIGNS = {"#": "sending to arrival", ".": "wait"}
+LOST = "x lost contact"
 
 
 class Text:
-    """The scene as text: `=` where a window is, `#` from sending to arrival, `.` for the wait before."""
+    """The scene as text: `=` for a window, `x` for a lost one, `#` from sending to arrival, `.` for the wait before."""
 
     def __init__(self, scene, columns):
         self.scene, self.routes = scene, scene.routes
         labels = [scene.label(row.link, ">") for row in scene.rows] + [route_label(it) for it in self.routes]
         self.left = max(map(columns_of, labels), default=3) + 2
         self.width = max(columns - self.left - OVER, 20)
-        self.axis = Axis(scene.span, self.width, 1, 2) if scene.span else None
+        self.axis = Axis(scene.span, self.width, 1, 2, scene.date_sign) if scene.span else None
         self.by_contact = scene.stages_by(lambda stage: stage.hop.contact)
 
     def cell(self, second):
@@ -50,7 +51,8 @@ class Text:
         """What the signs mean that are drawn, of routes those in some of these lines."""
         cells = "".join(line[self.left :] for line in traces)
         shown = [f"{sign} {meaning}" for sign, meaning in SIGNS.items() if sign in cells]
-        return ["   ".join(["= contact, with its number", *shown])]
+        lost = [LOST] if "lost" in self.scene.signs() else []
+        return ["   ".join(["= contact, with its number", *lost, *shown])]
 
     def head(self):
         """The axis."""
@@ -65,7 +67,7 @@ class Text:
         starts = [self.cell(it.start) for it in shown]
         for start, it in zip(starts, shown):
             end = min(int(self.axis.place(it.end)), self.width)
-            yield start, "=" * max(end - start, 1)
+            yield start, ("x" if it.number in self.scene.lost else "=") * max(end - start, 1)
         for start, it, after in zip(starts, shown, [*starts[1:], self.width + 1]):
             if start + len(str(it.number)) < after:
                 yield start, str(it.number)

@@ -1,0 +1,290 @@
+// What a mouse, fingers and keys do.
+
+// ---- What can be chosen ----
+
+// Shows what was chosen.
+function change() {
+  for (const [name, isPressed] of Object.entries(pressedButtons())) byId(name).setAttribute("aria-pressed", isPressed);
+  byId("one").hidden = shows.node === null;
+  byId("crossed").hidden = !isLosing() && !missing.size;
+  if (shows.node !== null) byId("one").textContent = `${fullName(shows.node)} ✕`;
+  layOut();
+  listRoutes();
+  draw();
+  remember();
+}
+
+function pressedButtons() {
+  const isAny = shows.node === null;
+  return { some: isAny && shows.links === "some", all: isAny && shows.links === "all", one: !isAny };
+}
+
+function glance(place) {
+  pointed.route = place;
+  draw();
+}
+
+// Singles a route out, or shows all again.
+function single(place) {
+  chosen.route = chosen.route === place ? null : place;
+  chosen.lost = null;
+  change();
+}
+
+// Loses a contact, or takes that back.
+function lose(contact) {
+  chosen.lost = chosen.lost === contact ? null : contact;
+  if (isLosing()) chosen.route = null;
+  hideTip();
+  change();
+  const best = bestThen();
+  if (best && (best.delivery > view.last || best.hops[0].send < view.first)) showRoutes();
+}
+
+function showLinks(which, node = null) {
+  [shows.links, shows.node] = [which, node];
+  scroller.scrollTop = 0;
+  change();
+}
+
+// ---- What lies where ----
+
+// What lies at a place of the canvas: a contact, a piece of a route, or null.
+function whatIsAt(x, y) {
+  if (y < AXIS || x < size.left) return null;
+  return contactAt(x, y - AXIS + scroller.scrollTop) ?? routeAt(x, y);
+}
+
+function contactAt(x, y) {
+  const row = rows.list[firstRowAt(y)];
+  if (!row || y < row.top + 3) return null;
+  const strip = links[row.link].strips[Math.floor((y - row.top - 3) / STRIP)];
+  if (!strip) return null;
+  for (const slack of [0, 4]) {
+    const contact = strip[firstEndingAfter(strip, secondAt(x - slack))];
+    if (contact !== undefined && xOf(known.start[contact]) <= x + slack) return { contact };
+  }
+  return null;
+}
+
+function routeAt(x, y) {
+  let nearest = null, least = 6;
+  for (const piece of traced) {
+    const away = Math.hypot(Math.max(piece.left - x, 0, x - piece.right), Math.max(piece.low - y, 0, y - piece.high));
+    const distance = away + (isFaint(piece.route) ? 2 : 0);
+    if (distance < least) [nearest, least] = [piece, distance];
+  }
+  return nearest;
+}
+
+// ---- The mouse and fingers ----
+
+const fingers = new Map(); // where each is
+let moved = 0; // how far since the first one came
+
+chart.onpointerdown = (event) => {
+  fingers.set(event.pointerId, [event.offsetX, event.offsetY]);
+  moved = 0;
+  chart.setPointerCapture(event.pointerId);
+};
+
+chart.onpointermove = (event) => {
+  if (fingers.has(event.pointerId)) moveFinger(event);
+  else point(event);
+};
+
+// The mouse moves without a button.
+function point(event) {
+  const what = (pointed.what = whatIsAt(event.offsetX, event.offsetY));
+  chart.classList.toggle("hand", Boolean(what && (what.contact === undefined || canBeLost(what.contact))));
+  showTip(what, event.clientX, event.clientY);
+  draw();
+}
+
+function moveFinger(event) {
+  const before = fingers.get(event.pointerId), now = [event.offsetX, event.offsetY];
+  moved += Math.abs(now[0] - before[0]) + Math.abs(now[1] - before[1]);
+  if (fingers.size === 2) pinch(event.pointerId, before, now);
+  else if (moved > 3) drag(event, before, now);
+  else return;
+  fingers.set(event.pointerId, now);
+}
+
+function pinch(moving, before, now) {
+  const [[, other]] = [...fingers].filter(([finger]) => finger !== moving);
+  const apart = (place) => Math.max(Math.abs(place[0] - other[0]), 12);
+  zoom(apart(before) / apart(now), secondAt((now[0] + other[0]) / 2));
+  pan((before[0] - now[0]) / 2);
+}
+
+function drag(event, before, now) {
+  chart.classList.add("drag");
+  hideTip();
+  if (before[0] >= size.left || now[0] >= size.left) pan(before[0] - now[0]);
+  if (event.pointerType === "mouse") scroller.scrollTop += before[1] - now[1]; // fingers scroll by themselves
+}
+
+chart.onpointerup = (event) => {
+  if (moved <= 3 && fingers.size === 1) click(event);
+  letGo(event);
+};
+
+chart.onpointercancel = letGo;
+
+function letGo(event) {
+  fingers.delete(event.pointerId);
+  chart.classList.remove("drag");
+}
+
+// A finger's first tap tells what is there, and a second one does what a click does.
+function click(event) {
+  const isTouch = event.pointerType === "touch", what = whatIsAt(event.offsetX, event.offsetY);
+  const isTold = !isTouch || (what && what.contact === chosen.contact);
+  showTip(what, event.clientX, event.clientY, isTouch);
+  chosen.contact = what?.contact ?? null;
+  if (!what) {
+    if (chosen.route !== null) single(chosen.route);
+  } else if (what.contact === undefined) {
+    if (isShownRoute(what.route)) single(what.route.place);
+  } else if (canBeLost(what.contact) && isTold) lose(what.contact);
+  draw();
+}
+
+chart.onpointerleave = (event) => {
+  if (event.pointerType === "touch") return;
+  pointed.what = null;
+  hideTip();
+  draw();
+};
+
+chart.addEventListener("wheel", turnWheel, { passive: false });
+
+// The wheel zooms; over the names the rows scroll.
+function turnWheel(event) {
+  if (event.offsetX < size.left && !event.ctrlKey) return;
+  event.preventDefault();
+  hideTip();
+  const lines = event.deltaMode ? 30 : 1;
+  const isSideways = event.shiftKey || Math.abs(event.deltaX) > Math.abs(event.deltaY);
+  if (isSideways) pan((event.deltaX || event.deltaY) * lines);
+  else {
+    const turned = Math.max(-120, Math.min(120, event.deltaY * lines));
+    zoom(Math.exp(turned * (event.ctrlKey ? 0.01 : 0.0022)), secondAt(event.offsetX));
+  }
+}
+
+scroller.onscroll = draw;
+
+function goOnMap(event) {
+  const middle = earliest + ((event.offsetX - size.left) / plotWidth()) * (latest - earliest);
+  const half = (view.last - view.first) / 2;
+  showSpan(middle - half, middle + half);
+}
+
+map.onpointerdown = (event) => {
+  map.setPointerCapture(event.pointerId);
+  goOnMap(event);
+  map.onpointermove = goOnMap;
+};
+
+map.onpointerup = map.onpointercancel = () => {
+  map.onpointermove = null;
+};
+
+// ---- Keys ----
+
+const ZOOM = 1.4;
+const scrollBy = (pixels) => (scroller.scrollTop += pixels);
+const KEYS = {
+  "+": () => zoom(1 / ZOOM),
+  "=": () => zoom(1 / ZOOM),
+  "-": () => zoom(ZOOM),
+  0: showRoutes,
+  9: showPlan,
+  Home: showRoutes,
+  End: showPlan,
+  ArrowLeft: ({ shiftKey }) => (shiftKey ? pan(-plotWidth() / 8) : goAlong(-1)),
+  ArrowRight: ({ shiftKey }) => (shiftKey ? pan(plotWidth() / 8) : goAlong(1)),
+  ArrowUp: ({ shiftKey }) => (shiftKey ? scrollBy(-80) : goAcross(-1)),
+  ArrowDown: ({ shiftKey }) => (shiftKey ? scrollBy(80) : goAcross(1)),
+  PageUp: () => scrollBy(AXIS - size.height),
+  PageDown: () => scrollBy(size.height - AXIS),
+  Enter: loseAtCursor,
+  " ": loseAtCursor,
+};
+
+chart.onkeydown = (event) => {
+  if (event.ctrlKey || event.metaKey || event.altKey || !KEYS[event.key]) return;
+  event.preventDefault();
+  KEYS[event.key](event);
+};
+
+chart.onblur = hideTip;
+
+document.onkeydown = (event) => {
+  if (event.key === "/" && event.target !== byId("find")) {
+    event.preventDefault();
+    byId("find").focus();
+  }
+  if (event.key === "Escape") startOver();
+};
+
+// Takes back all that was chosen.
+function startOver() {
+  hideTip();
+  closeFound();
+  Object.assign(chosen, { route: null, lost: null, contact: null });
+  shows.node = null;
+  change();
+}
+
+function loseAtCursor() {
+  if (chosen.contact === null || !canBeLost(chosen.contact)) return;
+  lose(chosen.contact);
+  byId("said").textContent = [...byId("lost").children].slice(0, -1).map((it) => it.textContent).join(". ");
+}
+
+function contactsOf(link) {
+  const byStart = (one, other) => known.start[one] - known.start[other] || one - other;
+  return links[link].strips.flat().sort(byStart);
+}
+
+// Without a cursor, the first one is on the first contact of the best route, or of the first row.
+function firstCursor() {
+  const first = routes.length ? routes[0].hops[0].contact : rows.list.length ? contactsOf(rows.list[0].link)[0] : null;
+  if (first !== null) goTo(first);
+}
+
+// To the contact before or after in its row.
+function goAlong(step) {
+  if (chosen.contact === null) return firstCursor();
+  const all = contactsOf(linkOf[chosen.contact]), next = all[all.indexOf(chosen.contact) + step];
+  if (next !== undefined) goTo(next);
+}
+
+// To the contact of the row above or below that starts nearest.
+function goAcross(step) {
+  if (chosen.contact === null) return firstCursor();
+  const place = rows.list.findIndex((row) => row.link === linkOf[chosen.contact]), row = rows.list[place + step];
+  if (place < 0 || !row) return;
+  const away = (contact) => Math.abs(known.start[contact] - known.start[chosen.contact]);
+  goTo(contactsOf(row.link).reduce((best, other) => (away(other) < away(best) ? other : best)));
+}
+
+// Puts the cursor on a contact, shows it, and says what it is.
+function goTo(contact) {
+  chosen.contact = contact;
+  reveal(contact);
+  draw();
+  const lost = canBeLost(contact) ? ". Enter: what if it is lost" : "";
+  const told = aboutContact(contact).map((pair) => pair.join(" ")).join(", ");
+  byId("said").textContent = `${headOfContact(contact)}: ${told}${lost}`;
+  setTimeout(() => tipAtCursor(contact), 240); // the picture is there by then
+}
+
+function tipAtCursor(contact) {
+  const place = placeOf(contact), canvas = chart.getBoundingClientRect();
+  if (chosen.contact !== contact || !place || document.activeElement !== chart) return;
+  const x = Math.min(Math.max(place.left, size.left), size.width - 40);
+  showTip({ contact }, canvas.left + x, canvas.top + AXIS + place.top - scroller.scrollTop + BAR);
+}

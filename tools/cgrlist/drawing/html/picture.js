@@ -1,0 +1,472 @@
+// The picture on the canvas: rows and contacts that are in view alone, routes, the axis, and the map of the whole plan.
+
+const DASHES = [[], [6, 3], [2, 3], [8, 3, 2, 3]];
+const FAMILY = "system-ui, sans-serif";
+const SMALL = `11.5px ${FAMILY}`, MIDDLE = `12.5px ${FAMILY}`, BOLD = `bold 12px ${FAMILY}`;
+const COLOURS = [
+  "back", "band", "ink", "soft", "line", "grid", "day", "bar", "edge", "used", "number", "accent", "bad", "calm",
+];
+
+const paper = chart.getContext("2d", { alpha: false });
+const map = byId("map");
+const ink = { routes: [] };
+let traced = []; // the pieces of routes that were drawn, for the mouse
+let digitWidth = 7;
+let isPrinting = false;
+
+const hueOf = (route) => ink.routes[route.place % HUES];
+
+// Reads the colours of the page's style.
+function readColours() {
+  const style = getComputedStyle(document.documentElement);
+  const colour = (name) => style.getPropertyValue(`--${name}`).trim();
+  for (const name of COLOURS) ink[name] = colour(name);
+  ink.routes = Array.from({ length: HUES }, (_, place) => colour(`c${place}`));
+}
+
+let due = 0;
+
+// Draws all anew at the next frame.
+function draw() {
+  due = due || requestAnimationFrame(() => {
+    due = 0;
+    paint();
+    placePart();
+  });
+}
+
+function paint() {
+  const scroll = scroller.scrollTop;
+  const last = firstRowAt(scroll + size.height - AXIS) + 1;
+  const inView = rows.list.slice(firstRowAt(scroll), last);
+  const top = AXIS - scroll; // that of the first row of all
+  const step = stepFor(view.last - view.first, plotWidth());
+  const ticks = ticksIn(view.first, view.last, step);
+  paintGround(inView, top, ticks, step);
+  paper.save();
+  clipTo(size.left, AXIS, size.width - size.left, size.height - AXIS);
+  const used = usedContacts();
+  const numbers = inView.flatMap((row) => paintRow(row, top, used));
+  paintStart(Math.min(size.height, top + rows.height));
+  paintRoutes(top);
+  paintNumbers(numbers);
+  for (const contact of new Set([pointed.what?.contact, chosen.contact])) paintOutline(contact, top);
+  paper.restore();
+  paintNames(inView, top);
+  paintAxis(ticks, step);
+}
+
+// ---- Brushes ----
+
+function fillBox(colour, x, y, width, height) {
+  paper.fillStyle = colour;
+  paper.fillRect(x, y, width, height);
+}
+
+function clipTo(x, y, width, height) {
+  paper.beginPath();
+  paper.rect(x, y, width, height);
+  paper.clip();
+}
+
+function write(text, x, y, colour, align = "left") {
+  paper.textAlign = align;
+  paper.fillStyle = colour;
+  paper.fillText(text, x, y);
+}
+
+// Writes with a rim, so that the text stands out from lines.
+function writeOver(text, x, y, colour, rim) {
+  paper.lineWidth = 3;
+  paper.lineJoin = "round";
+  paper.textAlign = "left";
+  paper.strokeStyle = rim;
+  paper.strokeText(text, x, y);
+  write(text, x, y, colour);
+}
+
+function useFont(font, baseline = "middle") {
+  paper.font = font;
+  paper.textBaseline = baseline;
+}
+
+// ---- Rows and contacts ----
+
+function paintGround(inView, top, ticks, step) {
+  fillBox(ink.back, 0, 0, size.width, size.height);
+  for (const row of inView) if (row.isBanded) fillBox(ink.band, 0, top + row.top, size.width, row.height);
+  const bottom = Math.min(size.height, top + rows.height);
+  for (const tick of ticks) {
+    const isMidnight = step.seconds < DAY && (tick + known.base) % DAY === 0;
+    fillBox(isMidnight ? ink.day : ink.grid, Math.round(xOf(tick)), AXIS, 1, bottom - AXIS);
+  }
+}
+
+// Draws a link's contacts, and returns their numbers, which are written over the routes.
+function paintRow(row, top, used) {
+  const { strips } = links[row.link];
+  const numbers = strips.flatMap((strip, place) => paintStrip(strip, top + topOfStrip(row, place), used));
+  useFont(SMALL);
+  paintElsewhere(strips, top + row.top + ABOVE + BAR / 2);
+  return numbers;
+}
+
+// The contacts of the routes that don't stand back.
+function usedContacts() {
+  return new Set(drawnRoutes().filter((it) => !isFaint(it)).flatMap((it) => it.hops.map((hop) => hop.contact)));
+}
+
+function paintStrip(strip, y, used) {
+  const numbers = [], crowd = new Crowd(y);
+  for (let place = firstEndingAfter(strip, view.first); place < strip.length; place++) {
+    const contact = strip[place], start = xOf(known.start[contact]);
+    if (start > size.width) break;
+    const left = Math.max(start, size.left - 9), right = Math.min(rightOf(contact, start), size.width + 9);
+    const kind = kindOf(contact, used);
+    if (right - left < 5 && kind === "plain") crowd.add(left, right);
+    else {
+      crowd.paint();
+      paintBar(left, right, y, kind);
+    }
+    const next = place + 1 < strip.length ? xOf(known.start[strip[place + 1]]) : Infinity;
+    numbers.push(...numberOf(contact, kind, { left, right, next, y: y + BAR / 2 + 0.5 }));
+  }
+  crowd.paint();
+  return numbers;
+}
+
+function kindOf(contact, used) {
+  if (contact === chosen.lost || missing.has(contact)) return "lost";
+  return used.has(contact) ? "used" : "plain";
+}
+
+// Narrow bars that are less than a pixel apart are drawn as one.
+class Crowd {
+  constructor(y) {
+    this.y = y;
+    this.left = this.right = null;
+  }
+
+  add(left, right) {
+    if (this.right !== null && left > this.right + 1) this.paint();
+    if (this.right === null) this.left = left;
+    this.right = right;
+  }
+
+  paint() {
+    if (this.right !== null) fillBox(ink.edge, this.left, this.y, this.right - this.left, BAR);
+    this.right = null;
+  }
+}
+
+const FILLS = { plain: "bar", used: "used", lost: "calm" };
+const EDGES = { plain: ["edge", 1], lost: ["bad", 1.5] };
+
+function paintBar(left, right, y, kind) {
+  const width = Math.max(right - left - 1, 1.5);
+  paper.fillStyle = ink[FILLS[kind]];
+  paper.beginPath();
+  paper.roundRect(left + 0.5, y + 0.5, width, BAR - 1, Math.min(3, (right - left) / 3));
+  paper.fill();
+  if (EDGES[kind]) {
+    const [edge, thick] = EDGES[kind];
+    paper.strokeStyle = ink[edge];
+    paper.lineWidth = thick;
+    paper.stroke();
+  }
+  if (kind === "lost") crossOut(Math.max(left, size.left), right, y);
+}
+
+function crossOut(left, right, y) {
+  paper.save();
+  clipTo(left, y, right - left, BAR);
+  paper.strokeStyle = ink.bad;
+  paper.globalAlpha = 0.35;
+  paper.lineWidth = 1.2;
+  paper.beginPath();
+  for (let x = Math.max(left, 0) - BAR; x < Math.min(right, size.width); x += 7) {
+    paper.moveTo(x, y + BAR);
+    paper.lineTo(x + BAR, y);
+  }
+  paper.stroke();
+  paper.globalAlpha = 1;
+  paper.beginPath();
+  paper.moveTo(left, y + BAR / 2);
+  paper.lineTo(right, y + BAR / 2);
+  paper.stroke();
+  paper.restore();
+}
+
+// A contact's number with its place and colours, in the bar or right of it; nothing if there is no room.
+function numberOf(contact, kind, { left, right, next, y }) {
+  const from = Math.max(left, size.left), text = String(known.number[contact]);
+  const room = text.length * digitWidth + 9;
+  const told = kind === "lost" ? `${text} lost` : text, wide = kind === "lost" ? room + 60 : room;
+  const inside = { lost: ["bad", "calm"], used: ["back", "used"], plain: ["number", "bar"] }[kind];
+  if (right - from > wide) return [[told, from + 5, y, ...inside]];
+  return right + room < next ? [[text, right + 4, y, kind === "lost" ? "bad" : "soft", "back"]] : [];
+}
+
+function paintNumbers(numbers) {
+  useFont(SMALL);
+  for (const [text, x, y, colour, rim] of numbers) writeOver(text, x, y, ink[colour], ink[rim]);
+}
+
+// If no contact of a link is in view: when the last one ended, and when the next one starts.
+function paintElsewhere(strips, y) {
+  const places = strips.map((strip) => firstEndingAfter(strip, view.first));
+  const next = Math.min(...strips.map((strip, at) => known.start[strip[places[at]]] ?? Infinity));
+  if (next < view.last) return;
+  const before = Math.max(...strips.map((strip, at) => ends[strip[places[at] - 1]] ?? -Infinity));
+  if (before > -Infinity) write(`‹ ${timeBeside(before, view.first)}`, size.left + 8, y, ink.soft);
+  if (next < Infinity) write(`${timeBeside(next, view.last)} ›`, size.width - SIDE, y, ink.soft, "right");
+}
+
+function paintOutline(contact, top) {
+  const place = contact === undefined || contact === null ? null : placeOf(contact);
+  if (!place) return;
+  const left = Math.max(place.left, size.left - 9), right = Math.min(place.right, size.width + 9);
+  paper.strokeStyle = ink.accent;
+  paper.lineWidth = 2;
+  paper.beginPath();
+  paper.roundRect(left - 2, top + place.top - 2, right - left + 4, BAR + 4, 5);
+  paper.stroke();
+}
+
+// ---- Routes ----
+
+// The line of the second at which the bundle is at the source.
+function paintStart(bottom) {
+  if (!request) return;
+  const x = Math.round(xOf(request.at)) + 0.5;
+  paper.strokeStyle = ink.soft;
+  paper.lineWidth = 1;
+  paper.setLineDash([2, 3]);
+  paper.beginPath();
+  paper.moveTo(x, AXIS);
+  paper.lineTo(x, bottom);
+  paper.stroke();
+  paper.setLineDash([]);
+}
+
+function paintRoutes(top) {
+  traced = [];
+  const turns = new Turns();
+  const order = (one, other) => isFaint(other) - isFaint(one) || other.place - one.place;
+  for (const route of drawnRoutes().sort(order)) paintRoute(route, top, turns);
+}
+
+// Keeps the lines apart by which routes change rows: each has a place that is free in all rows between.
+class Turns {
+  constructor() {
+    this.taken = [];
+  }
+
+  // A free place at x or right of it.
+  free(x, low, high) {
+    const isTaken = (at) => this.taken.some((it) => Math.abs(it.x - at) < 3 && it.low < high && low < it.high);
+    let at = x;
+    while (at < x + 18 && isTaken(at)) at += 3;
+    this.taken.push({ x: at, low, high });
+    return at;
+  }
+}
+
+// A thick line for each hop, a thin one for the wait before it, and a dot with the rank at the delivery.
+function paintRoute(route, top, turns) {
+  const colour = isBroken(route) ? ink.soft : hueOf(route);
+  paper.strokeStyle = paper.fillStyle = colour;
+  paper.globalAlpha = isFaint(route) ? (isBroken(route) ? 0.5 : 0.32) : 1;
+  paper.lineCap = paper.lineJoin = "round";
+  let at = null; // where the bundle is: the end of the last hop
+  for (const hop of route.hops) {
+    const piece = { route, hop, from: at, ...hopPlace(route, hop, top) };
+    paintWait(piece, turns);
+    paintHop(piece);
+    at = { x: piece.arrive, y: piece.y };
+  }
+  paintDelivery(route, at, colour);
+  paper.globalAlpha = 1;
+}
+
+function hopPlace(route, hop, top) {
+  const row = rows.of.get(linkOf[hop.contact]), lane = rows.lanes.get(row.link).get(route);
+  const y = top + row.top + row.bars + lane * LANE + LANE / 2 - 3, send = xOf(hop.send);
+  return { y, send, arrive: Math.max(xOf(hop.arrive), send + 0.1) };
+}
+
+function paintWait(piece, turns) {
+  paper.lineWidth = isFaint(piece.route) ? 1.2 : 1.6;
+  paper.setLineDash(DASHES[(piece.route.place % HUES) % DASHES.length]);
+  paper.beginPath();
+  if (piece.from) turnTo(piece, turns);
+  else if (request && piece.hop.send > request.at) {
+    paper.moveTo(xOf(request.at), piece.y);
+    paper.lineTo(piece.send, piece.y);
+    traced.push(tracedPiece(piece, xOf(request.at), piece.send, true));
+  }
+  paper.stroke();
+  paper.setLineDash([]);
+}
+
+// From the lane of the hop before to that of this one, and on to its sending.
+function turnTo(piece, turns) {
+  const { from, y, send } = piece, low = Math.min(from.y, y), high = Math.max(from.y, y);
+  const x = turns.free(from.x, low, high), down = Math.sign(y - from.y);
+  const bend = Math.min(5, (high - low) / 2, Math.max(0, send - x));
+  paper.moveTo(from.x, from.y);
+  paper.lineTo(x, from.y);
+  paper.lineTo(x, y - bend * down);
+  paper.quadraticCurveTo(x, y, x + bend, y);
+  paper.lineTo(Math.max(send, x), y);
+  traced.push({ ...tracedPiece(piece, x, x, true), low, high }, tracedPiece(piece, x, send, true));
+}
+
+function paintHop(piece) {
+  paper.lineWidth = isFaint(piece.route) ? 3.5 : 5;
+  paper.beginPath();
+  paper.moveTo(piece.send, piece.y);
+  paper.lineTo(piece.arrive, piece.y);
+  paper.stroke();
+  traced.push(tracedPiece(piece, piece.send, piece.arrive, false));
+}
+
+const tracedPiece = ({ route, hop, y }, left, right, isWait) => ({ route, hop, left, right, low: y, high: y, isWait });
+
+function paintDelivery(route, { x, y }, colour) {
+  paper.beginPath();
+  paper.arc(x, y, isFaint(route) ? 3.5 : 4.5, 0, 7);
+  paper.fill();
+  useFont(BOLD);
+  writeOver(route.label, x + 9, y + 0.5, colour, ink.back);
+}
+
+// ---- Names and axis ----
+
+function paintNames(inView, top) {
+  useFont(MIDDLE);
+  for (const row of inView) {
+    const { from, to } = links[row.link], isOfNode = shows.node !== null && (from === shows.node || to === shows.node);
+    fillBox(row.isBanded ? ink.band : ink.back, 0, top + row.top, size.left, row.height);
+    paper.fillStyle = isOfNode ? ink.accent : rows.lanes.has(row.link) ? ink.number : ink.soft;
+    paper.textAlign = "right";
+    paper.fillText(linkName(row.link), size.left - 10, top + row.top + ABOVE + BAR / 2 + 0.5, size.left - 16);
+  }
+  fillBox(ink.back, 0, top + rows.height, size.left, size.height);
+  fillBox(ink.line, size.left - 1, AXIS, 1, Math.min(size.height, top + rows.height) - AXIS);
+  if (!rows.list.length) write(contactCount ? "no link is chosen" : "no contacts", size.left + 12, AXIS + 24, ink.soft);
+}
+
+function paintAxis(ticks, step) {
+  fillBox(ink.back, 0, 0, size.width, AXIS);
+  fillBox(ink.line, 0, AXIS - 1, size.width, 1);
+  useFont(MIDDLE, "alphabetic");
+  write("UTC", size.left - 10, AXIS - 10, ink.soft, "right");
+  if (step.months < 12) {
+    const first = ticks.find((tick) => xOf(tick) > size.left) ?? view.first;
+    write(step.seconds < DAY ? dayText(first) : yearText(first), size.left - 10, 15, ink.number, "right");
+  }
+  for (const tick of ticks) paintTick(tick, step);
+  paintStartLabel();
+}
+
+function paintTick(tick, step) {
+  const text = tickLabel(tick, step), period = tickPeriod(tick, step);
+  const x = Math.min(xOf(tick), size.width - 26);
+  if (x < size.left + text.length * 3.7 - 8) return;
+  write(text, x, AXIS - 10, ink.number, "center");
+  fillBox(ink.day, Math.round(xOf(tick)), AXIS - 5, 1, 5);
+  if (period && x > size.left + 60 && x < size.width - 36) write(period, x, 15, ink.number, "center");
+}
+
+// The label hangs right of its line, or left of it near the right end.
+function paintStartLabel() {
+  const x = request ? xOf(request.at) : -1;
+  if (x < size.left - 1 || x > size.width - 4) return;
+  useFont(SMALL, "alphabetic");
+  const text = `bundle at the source ${clockText(request.at)}`, width = paper.measureText(text).width;
+  const isLeft = x + width + 10 > size.width;
+  fillBox(ink.back, isLeft ? x - width - 10 : x - 4, 4, width + 14, 17);
+  write(text, x + (isLeft ? -5 : 5), 15, ink.soft, isLeft ? "right" : "left");
+  fillBox(ink.soft, Math.round(x), 6, 1, 13);
+}
+
+// ---- The map ----
+
+// How many contacts are open at each pixel of the whole plan.
+function openAtPixels(scale) {
+  const open = new Float64Array(Math.ceil(plotWidth()) + 2);
+  for (let contact = 0; contact < contactCount; contact++) {
+    open[Math.floor((known.start[contact] - earliest) * scale)]++;
+    open[Math.floor((ends[contact] - earliest) * scale) + 1]--;
+  }
+  for (let pixel = 1; pixel < open.length; pixel++) open[pixel] += open[pixel - 1];
+  return open;
+}
+
+const mapScale = () => plotWidth() / (latest - earliest || 1);
+
+function paintMap() {
+  const height = 33, brush = map.getContext("2d"), open = openAtPixels(mapScale());
+  const most = open.reduce((one, other) => Math.max(one, other), 1);
+  fitCanvas(map, size.width, height, brush);
+  brush.fillStyle = ink.back;
+  brush.fillRect(0, 0, size.width, height);
+  brush.fillStyle = ink.bar;
+  open.forEach((count, pixel) => {
+    const high = (count / most) * 24;
+    brush.fillRect(size.left + pixel, height - 3 - high, 1, high);
+  });
+  brush.font = SMALL;
+  brush.textAlign = "right";
+  brush.textBaseline = "middle";
+  brush.fillStyle = ink.soft;
+  brush.fillText("whole plan", size.left - 10, height / 2);
+}
+
+// Marks the part of the map that is in view.
+function placePart() {
+  const scale = mapScale(), right = size.width - SIDE;
+  const from = Math.min(Math.max(size.left, size.left + (view.first - earliest) * scale), right - 4);
+  const to = Math.min(right, Math.max(from + 4, size.left + (view.last - earliest) * scale));
+  byId("part").style.transform = `translateX(${from}px)`;
+  byId("part").style.width = `${to - from}px`;
+}
+
+// ---- Sizes ----
+
+// Gives a canvas its size in pixels of the screen.
+function fitCanvas(canvas, width, height, brush) {
+  const scale = (isPrinting ? 3 : devicePixelRatio) || 1;
+  const [wide, high] = [Math.round(width * scale), Math.round(height * scale)];
+  if (canvas.width !== wide || canvas.height !== high) {
+    [canvas.width, canvas.height] = [wide, high];
+    [canvas.style.width, canvas.style.height] = [`${width}px`, `${height}px`];
+  }
+  brush.setTransform(scale, 0, 0, scale, 0, 0);
+}
+
+// Measures the page, and draws all for it.
+function fitAll() {
+  size.width = isPrinting ? 1040 : scroller.clientWidth;
+  paper.font = SMALL;
+  digitWidth = paper.measureText("0").width;
+  size.left = namesWidth();
+  size.height = isPrinting ? 0 : scroller.clientHeight;
+  layOut();
+  if (isPrinting) size.height = Math.min(rows.height + AXIS + 6, 1400);
+  fitCanvas(chart, size.width, size.height, paper);
+  paint();
+  paintMap();
+  placePart();
+}
+
+// The width of the rows' names: of all links, so that it stays.
+function namesWidth() {
+  paper.font = MIDDLE;
+  const names = links.map((_, link) => linkName(link));
+  const longest = names.reduce((most, name) => Math.max(most, name.length), 0);
+  const long = names.filter((name) => name.length >= longest - 2).slice(0, 50);
+  const wide = Math.max(84, ...long.map((name) => paper.measureText(name).width + 26));
+  return Math.round(Math.min(wide, size.width * 0.32));
+}

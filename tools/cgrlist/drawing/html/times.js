@@ -1,0 +1,86 @@
+// How times are spelled, and where the ticks of the axis are.
+
+const DAY = 86400;
+const dateOf = (second) => new Date((Math.round(second) + known.base) * 1000);
+const twoDigits = (number) => String(number).padStart(2, "0");
+const dateSign = known.iso ? "-" : "/";
+
+function monthDay(second) {
+  const date = dateOf(second);
+  return [date.getUTCMonth() + 1, date.getUTCDate()].map(twoDigits).join(dateSign);
+}
+
+const yearText = (second) => String(dateOf(second).getUTCFullYear());
+const dayText = (second) => `${yearText(second)}${dateSign}${monthDay(second)}`;
+
+function clockText(second) {
+  const date = dateOf(second);
+  return [date.getUTCHours(), date.getUTCMinutes(), date.getUTCSeconds()].map(twoDigits).join(":");
+}
+
+const timeText = (second) => `${dayText(second)}${known.iso ? "T" : "-"}${clockText(second)}${known.iso ? "Z" : ""}`;
+
+// A time beside another one: without the day if that is the same.
+const timeBeside = (second, other) => (dayText(second) === dayText(other) ? clockText(second) : timeText(second));
+
+function durationText(seconds) {
+  const parts = [
+    [Math.floor(seconds / DAY), "d"],
+    [Math.floor(seconds / 3600) % 24, "h"],
+    [Math.floor(seconds / 60) % 60, "min"],
+    [seconds % 60, "s"],
+  ];
+  const told = parts.filter(([count]) => count).map(([count, unit]) => `${count} ${unit}`);
+  return told.join(" ") || "0 s";
+}
+
+// ---- Ticks ----
+
+const CLOCK = [1, 2, 5, 10, 15, 30, 60, 120, 300, 600, 900, 1800, 3600, 7200, 10800, 21600, 43200];
+const DAYS = [1, 2, 7, 14].map((days) => days * DAY);
+const MONTHS = [1, 2, 3, 6, ...[1, 2, 5, 10, 20, 50, 100, 200, 500, 1000].map((years) => years * 12)];
+const STEPS = [
+  ...[...CLOCK, ...DAYS].map((seconds) => ({ seconds, months: 0 })),
+  ...MONTHS.map((months) => ({ seconds: months * 28 * DAY, months })),
+];
+
+// The least step whose labels have room.
+function stepFor(seconds, width) {
+  const isWide = (step) => (step.seconds / seconds) * width >= (step.seconds < 60 ? 74 : 58);
+  return STEPS.find(isWide) || STEPS.at(-1);
+}
+
+function ticksIn(first, last, step) {
+  return step.months ? monthTicks(first, last, step.months) : secondTicks(first, last, step.seconds);
+}
+
+function secondTicks(first, last, seconds) {
+  const offset = seconds % (7 * DAY) === 0 ? 4 * DAY : 0; // weeks begin with Monday
+  const ticks = [];
+  let tick = Math.ceil((first + known.base - offset) / seconds) * seconds + offset - known.base;
+  for (; tick <= last; tick += seconds) ticks.push(tick);
+  return ticks;
+}
+
+function monthTicks(first, last, months) {
+  const date = dateOf(first), ticks = [];
+  let month = Math.floor((date.getUTCFullYear() * 12 + date.getUTCMonth()) / months) * months;
+  for (; ; month += months) {
+    const tick = Date.UTC(Math.floor(month / 12), month % 12, 1) / 1000 - known.base;
+    if (tick > last) return ticks;
+    if (tick >= first) ticks.push(tick);
+  }
+}
+
+function tickLabel(second, step) {
+  if (step.months >= 12) return yearText(second);
+  if (step.seconds >= DAY) return monthDay(second);
+  return clockText(second).slice(0, step.seconds < 60 ? 8 : 5);
+}
+
+// What stands above a tick at which a day begins, or of dates a year.
+function tickPeriod(second, step) {
+  if (step.months >= 12) return "";
+  if (step.seconds >= DAY) return monthDay(second) === `01${dateSign}01` ? yearText(second) : "";
+  return (second + known.base) % DAY === 0 ? dayText(second) : "";
+}

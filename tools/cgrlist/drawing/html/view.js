@@ -1,0 +1,185 @@
+// What is in view: the state, the rows of links, places on the canvas, and how the view moves.
+
+const HUES = 8; // so many routes have a colour of their own
+const AXIS = 46, BAR = 16, STRIP = BAR + 2, LANE = 12, PLAIN = 28, ABOVE = 5; // heights
+const SIDE = 14; // the right margin
+const SHORTEST = 10; // seconds of the shortest span in view
+
+const scroller = byId("scroll");
+const chart = byId("chart");
+const size = { width: 0, height: 0, left: 120 }; // of the canvas, and the width of the rows' names
+const view = { first: 0, last: 1, widest: 0 }; // the span in view
+const shows = { links: "all", node: null }; // the links of routes alone, all, or those of a node
+const chosen = { route: null, lost: null, contact: null }; // a route singled out, a lost contact, the one at the cursor
+const pointed = { what: null, route: null }; // what is below the mouse: on the canvas, and in the list
+
+// ---- Which routes are drawn ----
+
+const isLosing = () => chosen.lost !== null;
+const bestThen = () => (isLosing() ? answers.get(chosen.lost) : null);
+const isBroken = (route) => isLosing() && route.uses.has(chosen.lost);
+
+function allRoutes() {
+  const best = bestThen();
+  return best && !isShownRoute(best) ? [...routes, best] : routes;
+}
+
+// As many as there are colours, the one singled out, and the best one without the lost contact.
+const drawnRoutes = () => allRoutes().filter((it) => it.place < HUES || it.place === chosen.route || it === bestThen());
+
+// Whether a route stands back behind others.
+function isFaint(route) {
+  if (isBroken(route)) return true;
+  if (isLosing()) return route !== bestThen();
+  const place = chosen.route ?? pointed.route;
+  return place !== null && route.place !== place;
+}
+
+// ---- Rows ----
+
+const rows = { list: [], of: new Map(), lanes: new Map(), height: 0 };
+
+// Lays out the rows: which links have one, how high they are, and the lanes of routes in them.
+function layOut() {
+  rows.lanes = lanesOfRoutes();
+  let top = 0;
+  rows.list = chosenLinks().map((link, place) => {
+    const row = rowAt(link, top, place);
+    top += row.height;
+    return row;
+  });
+  rows.of = new Map(rows.list.map((row) => [row.link, row]));
+  rows.height = top;
+  byId("room").style.height = `${Math.max(0, top + AXIS + 8 - size.height)}px`;
+}
+
+// Of each link, the lane of each route that uses it.
+function lanesOfRoutes() {
+  const lanes = new Map();
+  for (const route of drawnRoutes()) {
+    for (const hop of route.hops) {
+      const link = linkOf[hop.contact];
+      if (!lanes.has(link)) lanes.set(link, new Map());
+      if (!lanes.get(link).has(route)) lanes.get(link).set(route, lanes.get(link).size);
+    }
+  }
+  return lanes;
+}
+
+function chosenLinks() {
+  const isOf = ({ from, to }) => from === shows.node || to === shows.node;
+  const has = (link) => rows.lanes.has(link) || (shows.node === null ? shows.links === "all" : isOf(links[link]));
+  const found = links.map((_, link) => link).filter(has);
+  return found.sort((a, b) => (links[a].rank === links[b].rank ? a - b : links[a].rank - links[b].rank));
+}
+
+function rowAt(link, top, place) {
+  const lanes = rows.lanes.get(link)?.size ?? 0;
+  const bars = links[link].strips.length * STRIP + 8; // the lanes lie below that
+  return { link, top, bars, isBanded: place % 2 === 0, height: bars + (lanes ? lanes * LANE + 3 : PLAIN - BAR - 10) };
+}
+
+// The place of the first of some things, in order, for which something holds; it holds for all after that.
+function firstOf(things, holds) {
+  let low = 0, high = things.length;
+  while (low < high) {
+    const middle = (low + high) >> 1;
+    if (holds(things[middle])) high = middle;
+    else low = middle + 1;
+  }
+  return low;
+}
+
+const firstRowAt = (y) => firstOf(rows.list, (row) => row.top + row.height > y);
+const firstEndingAfter = (strip, second) => firstOf(strip, (contact) => ends[contact] > second);
+
+// ---- Places ----
+
+const plotWidth = () => size.width - size.left - SIDE;
+const xOf = (second) => size.left + ((second - view.first) / (view.last - view.first)) * plotWidth();
+const secondAt = (x) => view.first + ((x - size.left) / plotWidth()) * (view.last - view.first);
+const topOfStrip = (row, strip) => row.top + ABOVE + strip * STRIP;
+const rightOf = (contact, left) => Math.max(xOf(ends[contact]), left + 1.6); // nothing is drawn of no width
+
+// Where a contact lies, from the first row's top; null if its link has no row.
+function placeOf(contact) {
+  const row = rows.of.get(linkOf[contact]);
+  if (!row) return null;
+  const strip = links[row.link].strips.findIndex((it) => it.includes(contact));
+  const left = xOf(known.start[contact]);
+  return { row, left, right: rightOf(contact, left), top: topOfStrip(row, strip) };
+}
+
+// ---- Moving ----
+
+// Shows a span, not further out or in than makes sense.
+function showSpan(first, last) {
+  const most = Math.max(Math.max(latest - earliest, SHORTEST) * 1.06, view.widest);
+  const wide = Math.min(Math.max(last - first, SHORTEST), most);
+  const start = Math.min(earliest, request ? request.at : earliest);
+  const middle = Math.min((first + last) / 2, latest + wide * 0.4);
+  view.first = Math.max(middle - wide / 2, start - wide * 0.9);
+  view.last = view.first + wide;
+  draw();
+}
+
+let flight = 0;
+
+// Moves to a span, smoothly if that is wanted.
+function flyTo(first, last) {
+  cancelAnimationFrame(flight);
+  const from = { ...view }, began = performance.now();
+  const isStill = matchMedia("(prefers-reduced-motion: reduce)").matches;
+  const step = (now) => {
+    const part = isStill ? 1 : Math.min(1, Math.max(0, (now - began) / 220));
+    const eased = 1 - (1 - part) ** 3;
+    showSpan(from.first + (first - from.first) * eased, from.last + (last - from.last) * eased);
+    if (part < 1) flight = requestAnimationFrame(step);
+  };
+  step(began);
+}
+
+function zoom(factor, at = (view.first + view.last) / 2) {
+  cancelAnimationFrame(flight);
+  showSpan(at - (at - view.first) * factor, at + (view.last - at) * factor);
+}
+
+function pan(pixels) {
+  cancelAnimationFrame(flight);
+  const seconds = (pixels / plotWidth()) * (view.last - view.first);
+  showSpan(view.first + seconds, view.last + seconds);
+}
+
+function spanOfPlan() {
+  const room = (latest - earliest) * 0.02;
+  return [earliest - room, latest + room];
+}
+
+function spanOfRoutes() {
+  const drawn = drawnRoutes();
+  if (!drawn.length) return spanOfPlan();
+  const first = Math.min(...drawn.map((it) => it.hops[0].send), request ? request.at : Infinity);
+  const last = Math.max(...drawn.map((it) => it.delivery));
+  const room = Math.max((last - first) * 0.07, 1);
+  return [first - room, last + room * 1.6];
+}
+
+const showRoutes = () => flyTo(...spanOfRoutes());
+const showPlan = () => flyTo(...spanOfPlan());
+
+// Brings a contact into view.
+function reveal(contact) {
+  if (!rows.of.has(linkOf[contact])) {
+    [shows.links, shows.node] = ["all", null];
+    change();
+  }
+  const { row } = placeOf(contact), height = size.height - AXIS, wide = view.last - view.first;
+  if (row.top < scroller.scrollTop || row.top + row.height > scroller.scrollTop + height) {
+    scroller.scrollTop = row.top - height / 3;
+  }
+  const start = known.start[contact];
+  if (ends[contact] < view.first + wide * 0.03 || start > view.last - wide * 0.05) {
+    const middle = (start + Math.min(ends[contact], start + wide / 2)) / 2;
+    flyTo(middle - wide / 2, middle + wide / 2);
+  }
+}
