@@ -82,7 +82,8 @@ class Drawing:
 
     def reading(self):
         """The steps that read the plan from its text."""
-        return [(f"plan-text {self.text().encode().hex()}", "ok"), ("read", "ok")]
+        text = self.text().encode().hex()
+        return [(f"plan-text {text}".strip(), "ok"), (f"plan-given 4096 {ALL} ends", "ok"), ("read", "ok")]
 
 
 # ---- What is drawn ----------------------------------------------------------------------------------------------
