@@ -56,7 +56,7 @@ impl Finger {
             self.place += 1;
             return true;
         }
-        if is_outside(numbers, in_order, number) {
+        if in_order && is_outside(numbers, number) {
             return false;
         }
         self.seeks(numbers, in_order, number)
@@ -84,17 +84,20 @@ impl Finger {
     }
 }
 
-/// Returns true if, by the least and the greatest of the numbers, this one isn't among them. With 24 questions for 100 and
-/// 1000 routes that saves 2 to 6 percent of the instructions.
+/// Returns true if the number is less than the first of a rising list, or greater than the last. Over 24 questions for 100
+/// and 1000 routes, that saves 2 to 6 percent of the instructions.
 #[inline(always)]
-fn is_outside(numbers: &[u32], in_order: bool, number: u32) -> bool
-    requires { IsTrue in_order → IsNonDecreasing numbers.now }
+fn is_outside(numbers: &[u32], number: u32) -> bool
+    requires { IsNonDecreasing numbers.now }
     ensures { IsTrue result → Contains numbers.now number → ⊥ }
 {
     if numbers.is_empty() {
         return true;
     }
-    in_order && (number < numbers[0] || number > numbers[numbers.len() - 1])
+    if number < numbers[0] {
+        return true;
+    }
+    numbers[numbers.len() - 1] < number
 }
 
 /// Returns true if each number is greater than the one before it. It compares all of them, several at a time.
