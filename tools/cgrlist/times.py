@@ -9,10 +9,12 @@ EPOCH = datetime(1970, 1, 1, tzinfo=timezone.utc)
 DAY = 86400
 LAST = 253370764799  # 9998/12/31-23:59:59, the last time that a plan or a word can name
 NOW = int(time.time())  # one moment for all words of a run
-TIMES = "a time is 2031/03/03-01:00:00, 2031-03-03T01:00:00Z, 2031-03-03, now or now+2h"
+TIMES = "a time is 2031/03/03-01:00:00, 2031-03-03T01:00:00Z, 2031-03-03 01:00, 2031-062, now or now+2h"
 
 _TIME = re.compile(r"(\d{4}/\d\d/\d\d)-(\d\d):(\d\d):(\d\d)", re.ASCII)
-_ISO = re.compile(r"(\d{4})-(\d\d)-(\d\d)(?:T(\d\d:\d\d:\d\d)Z)?", re.ASCII)
+_DATE = r"(\d{4})([-/])(?:(\d\d)\2(\d\d)|(\d{3}))"  # with the day of the month or of the year
+_CLOCK = r"(\d\d):(\d\d)(?::(\d\d))?(?:Z|([+-])(\d\d):?(\d\d))?"
+_ISO = re.compile(rf"{_DATE}(?:(?:T|-| ){_CLOCK})?", re.ASCII)
 _NOW = re.compile(r"now(?:([+-]\d{1,12})([smhd]))?", re.ASCII)
 _UNITS = {"s": 1, "m": 60, "h": 3600, "d": DAY, None: 1}
 _ORIGIN = date(1970, 1, 1).toordinal()
@@ -49,12 +51,26 @@ def time_of(text):
 def _second_of(text):
     if found := _NOW.fullmatch(text):
         return NOW + int(found[1] or 0) * _UNITS[found[2]]
-    if found := _ISO.fullmatch(text):
-        text = f"{found[1]}/{found[2]}/{found[3]}-{found[4] or '00:00:00'}"
+    found = _ISO.fullmatch(text)
+    if not found:
+        return -1
+    year, _, month, day, day_of_year, hours, minutes, seconds, sign, *offset = found.groups()
     try:
-        return seconds_of(text)
+        begin = _day(f"{year}/{month}/{day}") if month else _day(f"{year}/01/01") + (int(day_of_year) - 1) * DAY
+        clock = seconds_of(f"1970/01/01-{hours or '00'}:{minutes or '00'}:{seconds or '00'}")
     except ValueError:
         return -1
+    if day_of_year and date_of(begin).year != int(year):
+        return -1
+    east = (int(offset[0]) * 3600 + int(offset[1]) * 60) * (1 if sign == "+" else -1) if sign else 0
+    return begin + clock - east
+
+
+def second_of(time):
+    """The second of a number of seconds, a `datetime` with a time zone, or a text as the command line takes it."""
+    if isinstance(time, datetime):
+        return (time - EPOCH) // timedelta(seconds=1)
+    return time_of(time) if isinstance(time, str) else int(time)
 
 
 # ---- Spelling ---------------------------------------------------------------------------------------------------
