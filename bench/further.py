@@ -77,7 +77,8 @@ def print_runs(bench, title, runs):
     runs = figures.counted(runs, bench.programs, bench.given)
     for run in runs:
         bench.check(run.is_alike and None not in run.millions)
-    figures.print_table(runs, "millions")
+    if runs:
+        figures.print_table(runs, "millions")
 
 
 def limits(bench):

@@ -25,7 +25,7 @@ ROWS = [
      ["hub-40-relative", "hub-40-absolute", "hub-40-aligned", "hub-40-trailing", "hub-40-tabs", "hub-40", "hub-40-relative by 7"]),
     ("the plans of each shape", "plans.py", ["--contacts", "40", "--out", "plans"], [], []),
     ("each finder lists three routes by four searches after the first", "searching.py", [*OVER_A, "--count", "3", "--repeats", "1"],
-     [2, 3], ["3 4", "3 4"]),
+     [1, 2], ["3 4"]),
     ("a text of 191 bytes is written, read and verified", "sessions.py", [*OVER_A, "--counts", "3", "--repeats", "1"],
      [1, 2, 3], ["3 3 191"]),
 ]
@@ -45,10 +45,11 @@ BESIDE = [
 
 
 def cells_in(text, columns):
-    """Those columns of each row of a table, without its head."""
+    """Those columns of each row of the tables, without their heads."""
     rows = [[cell.strip() for cell in line.strip("| ").split("|")] for line in text.splitlines() if line.startswith("|")]
-    below = [row for before, row in zip(rows, rows[1:]) if not row[0].startswith("--") and not row[0].endswith("-:")]
-    return [" ".join(row[column] for column in columns) for row in below if columns]
+    lines = [row[0].startswith("--") for row in rows] + [False]
+    data = [row for row, is_line, is_head in zip(rows, lines, lines[1:]) if not is_line and not is_head]
+    return [" ".join(row[column] for column in columns) for row in data if columns]
 
 
 def made(script, words, programs):

@@ -12,8 +12,8 @@ use std::alloc::{AllocError, Allocator};
 
 /// The number of buckets. A chain of the largest plan has five contacts. With 8192, plans of 448 and 1833 contacts take 4 and 2
 /// percent more instructions for one route, and four of 17000 to 20000 contacts 0.3 to 0.8 percent fewer; with 2048, the
-/// small ones take 2 and 1 percent fewer, and the large ones 1 to 2 percent more. `bench/figures.py --counts 1 --only
-/// grid-8,dense-20,relay-moon-20000,walker-24-20000,dense-60,line-19998` shows it.
+/// small ones take 2 and 1 percent fewer, and the large ones 1 to 2 percent more. To vary it: `bench/figures.py --counts 1
+/// --only grid-8,dense-20,relay-moon-20000,walker-24-20000,dense-60,line-19998`.
 const BUCKETS: usize = 4096;
 
 /// The last of the openings of contacts, by start, sender and receiver, and chains of the first contacts by buckets.

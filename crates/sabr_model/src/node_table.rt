@@ -14,8 +14,8 @@ use indexmap::IndexMap;
 use std::alloc::{AllocError, Allocator};
 use std::hash::{BuildHasherDefault, FoldHasher};
 
-/// So many indexes are guessed, each for the nodes of one remainder. `bench/figures.py --counts 1 --only
-/// walker-66-20000,grid-40,sparse-20000,cube` shows it.
+/// So many indexes are guessed, each for the nodes of one remainder. To vary it: `bench/figures.py --counts 1 --only
+/// walker-66-20000,grid-40,sparse-20000,cube`.
 const GUESSES: usize = 2048;
 
 /// For each node, the rising numbers of the contacts that it sends.

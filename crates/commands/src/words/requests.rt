@@ -18,7 +18,7 @@ const MOST_REQUESTS: u32 = 1000000;
 /// line within so many.
 const MOST_BYTES: usize = 412000001;
 
-/// The size of the buffer that the reader fills, in bytes. Not varied in measurements; `bench/many.py` would show it.
+/// The size of the buffer that the reader fills, in bytes. Not varied in measurements. To vary it: `bench/many.py`.
 const PIECE_BYTES: usize = 65536;
 
 /// Splits off the first line, without its LF. With it comes what stands after that. `None` if there is no byte.

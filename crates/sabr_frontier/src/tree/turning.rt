@@ -4,8 +4,8 @@ ghost use Rattle.std.specs.Prelude.{◌≡◌, ◌+◌, ◌-◌, ◌≤◌, ◌+
 
 use crate::tree::NodeId;
 
-/// So many nodes at most wait on the stack while others take their places. `bench/figures.py --counts 1000 --only
-/// relay-mars-500,line-19998` would show another number; none was tried.
+/// So many nodes at most wait on the stack while others take their places. To vary it: `bench/figures.py
+/// --counts 1000 --only relay-mars-500,line-19998`.
 const ROOM: usize = 128;
 
 /// Moves all but the last `by` nodes of a list `by` places on; they wait on the stack meanwhile. What stands in front

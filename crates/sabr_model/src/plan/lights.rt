@@ -13,7 +13,7 @@ use crate::contact::{Contact, Range};
 use std::alloc::{AllocError, Allocator};
 
 /// So many slots have guesses for each range. With 4, walker-24 has 195 wrong guesses, each of which costs a binary search.
-/// This and the next show in `bench/figures.py --counts 1 --only walker-24-5000,walker-24-20000,cube`.
+/// To vary it and the next: `bench/figures.py --counts 1 --only walker-24-5000,walker-24-20000,cube`.
 const SLOTS_OF_RANGE: usize = 8;
 
 /// The guesses of more ranges than this share the slots of so many. With half as many slots, cube has 990 more wrong guesses.
