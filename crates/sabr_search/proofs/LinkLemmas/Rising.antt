@@ -1,5 +1,6 @@
 -- Lists of numbers that rise.
 use Rattle.std.proofs.Common.{◌≡◌, ℕ, zero, suc, ◌+◌, ◌-◌, ◌<◌, ◌≤◌, true, List, length, get_or, ap, subst, arith}
+use Rattle.std.specs.Prelude.{Contains}
 use Rattle.std.specs.List.Sorted.{IsNonDecreasing, IsStrictlyIncreasing}
 use Rattle.std.proofs.lemmas.Grind.{get_or_default_zero}
 use Rattle.sabr_model.specs.plan.Plan.{has}
@@ -21,6 +22,13 @@ never_falls xs rising i j d le lt =
     let up = further xs rising i (j - i) (omega (arith, le, lt)) in
     let there : get_or xs (i + (j - i)) 0 ≡ get_or xs j 0 = ap (λ k. get_or xs k 0) apart in
     omega (arith, up, there, get_or_default_zero xs i d (omega (arith, le, lt)), get_or_default_zero xs j d lt)
+
+-- a number of a list that never falls is no less than the first, and no greater than the last
+pub within_span : (xs : List ℕ) → IsNonDecreasing xs → (n : ℕ) → Contains xs n → (get_or xs 0 0 ≤ n) × (n ≤ get_or xs (length xs - 1) 0)
+within_span xs never n has = (
+  omega (arith, never 0 has.0 n (omega arith) has.1, has.2, get_or_default_zero xs 0 n (omega (arith, has.1))),
+  omega (arith, never has.0 (length xs - 1) n (omega (arith, has.1)) (omega (arith, has.1)), has.2, get_or_default_zero xs (length xs - 1) n (omega (arith, has.1))),
+)
 
 -- if the first and the last number of a row differ by as much as their places, all numbers between them are in the row
 pub row_has : (xs : List ℕ) → IsStrictlyIncreasing xs → (p more n j : ℕ) → p + more ≤ length xs → get_or xs p 0 ≡ n + 1 → get_or xs (p + more - 1) 0 ≡ n + more → j < more → has (n + 1 + j) xs ≡ true
