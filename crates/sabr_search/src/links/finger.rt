@@ -94,10 +94,15 @@ fn is_outside(numbers: &[u32], number: u32) -> bool
     if numbers.is_empty() {
         return true;
     }
-    if number < numbers[0] {
+    let least = numbers[0];
+    let greatest = numbers[numbers.len() - 1];
+    if number < least {
         return true;
     }
-    numbers[numbers.len() - 1] < number
+    if greatest < number {
+        return true;
+    }
+    false
 }
 
 /// Returns true if each number is greater than the one before it. It compares all of them, several at a time.
