@@ -16,7 +16,7 @@ use std::alloc::Allocator;
 
 /// A finder of the least route of a part of the routes.
 pub trait BestOf<A: Allocator + Copy>: Drop {
-    /// The number of contact records that the last call of `best` read.
+    /// The looks of the last call of `best`: how often it used a contact's record.
     ghost looks_of: { Self → ℕ };
 
     /// How often `best` was called, refused calls among them.
@@ -92,7 +92,8 @@ pub trait BestOf<A: Allocator + Copy>: Drop {
         self.best_beside(kept, index, request, part)
     }
 
-    /// How many times the last call of `best` read a contact's record; 0 before the first call.
+    /// How many looks the last call of `best` took, each a use of a contact's record; 0 before the first call. Bounds beside
+    /// contacts, and what binary searches compare, aren't counted.
     fn looks(&self) -> u64
         ensures { result ≡ looks_of self.now };
 }

@@ -12,7 +12,7 @@ use std::alloc::Allocator;
 /// More looks than a search ever needs.
 const MANY_LOOKS: u64 = u64::MAX;
 
-/// The looks that a search may still take. Each use of a contact's record takes one.
+/// The looks that a search may still take. Each use of a contact's record takes one, but for those that `look` names.
 #[derive(Clone, Copy)]
 pub struct Looks {
     pub left: u64,
@@ -63,8 +63,10 @@ impl Looks {
 
     /// Takes a look and passes on what leads to the record: the contact's number, or its pass.
     ///
-    /// Searches read records only after this call, once for each use. The binary searches of a link compare keys and
-    /// bounds that the index keeps, and read no record.
+    /// What isn't counted is the bounds that the index keeps beside passes; the starts and numbers that a binary search
+    /// compares, though passes and contacts have them; and the second use of two in a row, as `Course::go` reads a contact
+    /// for its arrival, and then for what the record of a route tells of it. That nothing else reads a record uncounted is
+    /// seen by reading the code.
     pub fn look<T>(&mut self, contact: T) -> T
         requires few { 0 < self.old.left }
         ensures counted { self.old.left ≡ self.new.left + 1 }
