@@ -41,7 +41,7 @@ from checking import Check
 from row_files import BadRows, Item, paths_in, row_name, sections_in, shown
 
 ROWS = "tests/data/rows"
-SECONDS = 60
+SECONDS = 300  # a trial on a busy machine takes long over a million lines
 SET_PIPE_SIZE = 1031  # F_SETPIPE_SZ of Linux, which Python names since 3.10
 PACKETS = 256  # how many a pipe of a MiB holds
 
