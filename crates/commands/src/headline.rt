@@ -6,6 +6,7 @@ ghost use Rattle.commands.specs.runs.ManyAsFirst.{ManyAnswersAsFirst};
 ghost use Rattle.commands.specs.runs.NextPage.{NextGoesOn};
 ghost use Rattle.commands.specs.runs.PagesLeft.{PagesStand};
 ghost use Rattle.commands.specs.runs.RunsInTurn.{RunsInTurn};
+ghost use Rattle.commands.specs.runs.RunsGoOn.{RunsGoOn};
 
 /// Shows that every run of a session follows the list of all routes. Whatever sizes its pages have, and wherever it
 /// went through its text, its pages in turn are the next routes of the list, best first, none left out and none twice.
@@ -46,4 +47,11 @@ pub fn many_answers_as_first()
 /// stands at the place after their routes.
 pub fn pages_stand()
     ensures { PagesStand }
+{}
+
+/// Shows that runs `next` go on page by page from any session text that `verify` accepts, in either version: their pages
+/// joined are the next routes of the list, the text that the last of them leaves is that of the place after them, and a run
+/// over it that keeps no session reports the page from there.
+pub fn runs_go_on()
+    ensures { RunsGoOn }
 {}
