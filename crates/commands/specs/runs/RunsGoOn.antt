@@ -1,5 +1,5 @@
--- Next runs in turn from any session text of a place: each over the text that the one before wrote, and a last one that keeps no
--- session.
+-- Next runs from any session text of a place: each over the text that the one before wrote, and at last one that keeps
+-- no session.
 use Rattle.std.specs.Prelude.{◌≡◌, ℕ, ◌+◌, true, false, List, [], ◌∷◌, ◌++◌, Some, Result, Ok}
 use Rattle.sabr_model.specs.Devices.{Input}
 use Rattle.sabr_model.specs.plan.Plan.{ContactPlan}
