@@ -4,6 +4,7 @@ pub mod SessionRuns
 pub mod EveryRun
 pub mod NextPage
 pub mod RunsInTurn
+pub mod RunsGoOn
 pub mod PagesLeft
 pub mod Many
 pub mod ManyAsFirst

@@ -5,6 +5,7 @@ ghost use Rattle.commands.specs.runs.EveryRun.{EveryRunFollows};
 ghost use Rattle.commands.specs.runs.ManyAsFirst.{ManyAnswersAsFirst};
 ghost use Rattle.commands.specs.runs.NextPage.{NextGoesOn};
 ghost use Rattle.commands.specs.runs.PagesLeft.{PagesStand};
+ghost use Rattle.commands.specs.runs.RunsGoOn.{RunsGoOn};
 ghost use Rattle.commands.specs.runs.RunsInTurn.{RunsInTurn};
 
 /// Shows that every run of a session follows the list of all routes. Whatever sizes its pages have, and wherever it
@@ -36,7 +37,8 @@ pub fn runs_in_turn()
 
 /// Shows that a run `many` answers each request as a run `first` does. Over one plan text, and with readers and writers
 /// that know their bytes, if it ends with [`Status::Done`](crate::Status::Done), it writes for each request in order its
-/// line and then the bytes that a run `first` for that request and count writes as its report.
+/// line and then the bytes that a run `first` for that request and count writes as its report, whether that run keeps
+/// its session or not.
 pub fn many_answers_as_first()
     ensures { ManyAnswersAsFirst }
 {}
@@ -46,4 +48,11 @@ pub fn many_answers_as_first()
 /// stands at the place after their routes.
 pub fn pages_stand()
     ensures { PagesStand }
+{}
+
+/// Shows that runs `next` go on page by page from any session text that `verify` accepts, in either version. Their pages
+/// joined are the next routes of the list. The text that the last of them leaves is that of the place after them, and a
+/// run over it that keeps no session reports the page from there.
+pub fn runs_go_on()
+    ensures { RunsGoOn }
 {}

@@ -1,7 +1,7 @@
 -- One run over many requests writes what first runs for each of them report.
-use Rattle.std.proofs.Common.{◌≡◌, ℕ, true, List, [], ◌∷◌, ◌++◌, Option, Some, None, Result, Ok, Err, refl, sym, ap, subst, ◌∙◌, inl, inr}
+use Rattle.std.proofs.Common.{◌≡◌, ℕ, Bool, true, List, [], ◌∷◌, ◌++◌, Option, Some, None, Result, Ok, Err, refl, sym, ap, subst, ◌∙◌, inl, inr}
 use Rattle.std.specs.Io.KnownBytes.{Consumes}
-use Rattle.sabr_model.specs.Devices.{Input}
+use Rattle.sabr_model.specs.Devices.{Input, Output}
 use Rattle.sabr_model.specs.plan.Plan.{ContactPlan, TabledPlan}
 use Rattle.sabr_model.specs.routes.Arrival.{RouteRequest}
 use Rattle.sabr_plan.specs.Reading.{plan_of}
@@ -15,8 +15,8 @@ use Rattle.commands.specs.words.Requests.{ReadsRequests, RequestLine, requests_o
 use Rattle.commands.specs.runs.Runs.{first_report, status_at}
 use Rattle.commands.specs.runs.SessionRuns.{WritesFirstPage, WritesPage}
 use Rattle.commands.specs.runs.Many.{ReadsRequestsOver, WritesAll, WritesAnswers, answers_text}
-use Rattle.commands.specs.runs.RunsInTurn.{Run, IsDone}
-use Rattle.commands.specs.runs.ManyAsFirst.{AreFirst, IsMany, ManyAnswersAsFirst, reports_of}
+use Rattle.commands.specs.runs.RunsInTurn.{Takes}
+use Rattle.commands.specs.runs.ManyAsFirst.{IsReport, AreReports, IsMany, ManyAnswersAsFirst, reports_of}
 use Rattle.commands.proofs.RunLemmas.NextPages.{none_more}
 use Rattle.commands.proofs.RunLemmas.RunsInTurn.{never_done, plan_read, taken}
 
@@ -41,26 +41,25 @@ requests_read text xs ys reader reader₁ spelled has h = elim h.told [
 
 module _ (plan : List ℕ) (p : ContactPlan) (spelled : plan_of plan true ≡ Ok p) where
   -- a first run that is done reports the first page
-  page_taken : (q : ContactPlan) (report : List ℕ) (place : RouteRequest × State) (run : Run) (x : IsDone plan run) (end : Result (Unit {0}) Failure) → status_at end ≡ status.Done
-      → WritesPage true q report place end x.out x.out₁ x.session x.session₁ → run.report ≡ report
-  page_taken q report place run x (Err f) done w = absurd (never_done f done)
-  page_taken q report place run x (Ok u) done w = taken x.out report run.report x.out₁ w.0.0 x.takes_report
+  page_taken : (q : ContactPlan) (keep : Bool) (written report : List ℕ) (place : RouteRequest × State) (end : Result (Unit {0}) Failure) (out out₁ session session₁ : Output) → status_at end ≡ status.Done
+      → Takes out report out₁ → WritesPage keep q written place end out out₁ session session₁ → report ≡ written
+  page_taken q keep written report place (Err f) out out₁ session session₁ done takes w = absurd (never_done f done)
+  page_taken q keep written report place (Ok u) out out₁ session session₁ done takes w = taken out written report out₁ w.0.0 takes
 
-  first_told : (r : RouteRequest) (run : Run) (x : IsDone plan run) (planned : Result TabledPlan PlanFault) → ReadsPlan x.reader planned x.reader₁
-      → WritesFirstPage planned r true run.count x.end x.out x.out₁ x.session x.session₁ → run.report ≡ first_report p r run.count
-  first_told r run x (Err fault) reads w = absurd (never_done _ (sym (ap status_at w.0) ∙ x.done))
-  first_told r run x (Ok t) reads w =
-      subst (λ q. run.report ≡ first_report q r run.count) (plan_read plan p x.reader t x.reader₁ spelled x.has reads)
-      (page_taken t.plan (first_report t.plan r run.count) _ run x x.end x.done w)
+  first_told : (r : RouteRequest) (count : ℕ) (report : List ℕ) (x : IsReport plan r count report) (planned : Result TabledPlan PlanFault) → ReadsPlan x.reader planned x.reader₁
+      → WritesFirstPage planned r x.keep count x.end x.out x.out₁ x.session x.session₁ → report ≡ first_report p r count
+  first_told r count report x (Err fault) reads w = absurd (never_done _ (sym (ap status_at w.0) ∙ x.done))
+  first_told r count report x (Ok t) reads w =
+      subst (λ q. report ≡ first_report q r count) (plan_read plan p x.reader t x.reader₁ spelled x.has reads)
+      (page_taken t.plan x.keep (first_report t.plan r count) report _ x.end x.out x.out₁ x.session x.session₁ x.done x.takes w)
 
-  -- the answers are the reports of first runs, each after its line
-  reports_told : (count : ℕ) (xs : List RequestLine) (runs : List Run) → AreFirst plan count xs runs → answers_text p xs count ≡ reports_of xs runs
+  -- the answers are these reports, each after its line
+  reports_told : (count : ℕ) (xs : List RequestLine) (reports : List (List ℕ)) → AreReports plan count xs reports → answers_text p xs count ≡ reports_of xs reports
   reports_told count [] [] are = refl
-  reports_told count [] (run ∷ runs) bad = absurd bad
+  reports_told count [] (report ∷ reports) bad = absurd bad
   reports_told count (x ∷ xs) [] bad = absurd bad
-  reports_told count (x ∷ xs) (run ∷ runs) (is, counted, others) =
-      let report : run.report ≡ first_report p x.request count = first_told x.request run is.0 is.0.planned is.0.reads is.1 ∙ ap (first_report p x.request) counted in
-      rw (report, reports_told count xs runs others) refl
+  reports_told count (x ∷ xs) (report ∷ reports) (is, others) =
+      rw (first_told x.request count report is is.planned is.reads is.writes, reports_told count xs reports others) refl
 
   module _ (text : List ℕ) (xs : List RequestLine) (count : ℕ) (bytes : List ℕ) (many : IsMany plan text count bytes) (requests : requests_of text ≡ Ok xs) where
     all_taken : (q : ContactPlan) (ys : List RequestLine) (end : Result (Unit {0}) Failure) → status_at end ≡ status.Done → WritesAll q ys count end many.out many.out₁ → bytes ≡ answers_text q ys count
@@ -77,6 +76,6 @@ module _ (plan : List ℕ) (p : ContactPlan) (spelled : plan_of plan true ≡ Ok
         (subst (λ zs. bytes ≡ answers_text t.plan zs count) same (all_taken t.plan ys many.end many.done w))
 
 pub many_answers_as_first : ManyAnswersAsFirst
-many_answers_as_first plan text p xs count bytes runs spelled requests many are =
+many_answers_as_first plan text p xs count bytes reports spelled requests many are =
     answers_told plan p spelled text xs count bytes many requests many.planned many.requested many.reads many.reads_asked many.writes
-    ∙ reports_told plan p spelled count xs runs are
+    ∙ reports_told plan p spelled count xs reports are

@@ -1,5 +1,5 @@
 -- Runs in turn write the listing page by page.
-use Rattle.std.proofs.Common.{◌≡◌, ◌≢◌, ℕ, ◌+◌, true, List, [], ◌∷◌, ◌++◌, length, length-append, arith, refl, sym, ap, subst, ◌∙◌, inl, inr, Some, Result, Ok, Err}
+use Rattle.std.proofs.Common.{◌≡◌, ◌≢◌, ℕ, ◌+◌, Bool, true, false, List, [], ◌∷◌, ◌++◌, length, length-append, append-nil, append_assoc, arith, refl, sym, ap, subst, ◌∙◌, inl, inr, Some, Result, Ok, Err}
 use Rattle.std.proofs.lemmas.List.{append_cancel_left}
 use Rattle.sabr_model.specs.Devices.{Input, Output, Written}
 use Rattle.sabr_model.specs.plan.Plan.{ContactPlan, TabledPlan, IsPlan}
@@ -21,6 +21,7 @@ use Rattle.commands.specs.runs.SessionRuns.{ReadsOldSession, WritesFirstPage, Wr
 use Rattle.commands.specs.runs.EveryRun.{IsAt, from_text}
 use Rattle.commands.specs.runs.NextPage.{place_after, report_from, WritesPageFrom, GoesOnFrom}
 use Rattle.commands.specs.runs.RunsInTurn.{Run, Takes, IsDone, IsFirst, IsNext, AreNext, given_of, IsPage, ArePages, RunsInTurn}
+use Rattle.commands.specs.runs.RunsGoOn.{IsLast, asked_of, text_left, pages_given, IsPageAfter, ArePagesAfter, GoOnFrom, RunsGoOn}
 use Rattle.commands.proofs.RunLemmas.RunsFollow.{next_within, pages_joined}
 use Rattle.commands.proofs.RunLemmas.SessionPages.{none_before, first_from}
 use Rattle.commands.proofs.RunLemmas.NextPages.{none_more, place_kept, next_goes_on}
@@ -141,6 +142,88 @@ module _ (plan : List ℕ) (p : ContactPlan) (r : RouteRequest) (spelled : plan_
       let page = is_page 0 first (first_page first x x.planned x.reads writes) in
       (page, pages_on (0 + first.count) first.text runs page.there others)
 
+  -- a run that is done reported the page from place i on, whether it keeps its session or not
+  report_taken : (keep : Bool) (q : ContactPlan) (i : ℕ) (run : Run) (x : IsDone plan run) (end : Result (Unit {0}) Failure) → status_at end ≡ status.Done
+      → WritesPageFrom keep q r i run.count end x.out x.out₁ x.session x.session₁ → run.report ≡ report_from q r i run.count
+  report_taken keep q i run x (Err f) done w = absurd (never_done f done)
+  report_taken keep q i run x (Ok u) done w = taken x.out _ run.report x.out₁ w.0.0.0 x.takes_report
+
+  last_report : (i : ℕ) (text : List ℕ) (run : Run) (x : IsLast plan text run) (planned : Result TabledPlan PlanFault) → x.is_done.planned ≡ planned
+      → IsAt p r i (from_text text) → run.report ≡ report_from p r i run.count
+  last_report i text run x (Err fault) is at =
+      let d = x.is_done in
+      let w = subst (λ q. WritesNextPage q (place_of x.resumed) false run.count d.end d.out d.out₁ d.session d.session₁) is x.writes in
+      absurd (never_done _ (sym (ap status_at w.0) ∙ d.done))
+  last_report i text run x (Ok t) is at =
+      let d = x.is_done in
+      let e = plan_read plan p d.reader t d.reader₁ spelled d.has (subst (λ q. ReadsPlan d.reader q d.reader₁) is d.reads) in
+      let goes_on = text_goes_on t i text (subst IsPlan (sym e) good) (subst (λ q. IsAt q r i (from_text text)) (sym e) at) in
+      let left = goes_on x.reader x.resumed x.reader₁ x.has (subst (λ q. ReadsOldSession q x.reader x.resumed x.reader₁) is x.reads)
+      false run.count d.end d.out d.out₁ d.session d.session₁
+      (subst (λ q. WritesNextPage q (place_of x.resumed) false run.count d.end d.out d.out₁ d.session d.session₁) is x.writes) in
+      let from : run.report ≡ report_from t.plan r i run.count = elim left [
+        | inl w ↦ report_taken false t.plan i run d d.end d.done w
+        | inr w ↦ absurd (never_done failure.SessionRead (sym (ap status_at w.1) ∙ d.done))
+      ]
+      in
+      subst (λ q. run.report ≡ report_from q r i run.count) e from
+
+  -- the place after pages from place i on that were asked for so many routes, and then one more
+  place_on_from : (i asked count : ℕ) → place_after p r (place_after p r i asked) count ≡ place_after p r i (asked + count)
+  place_on_from i asked count =
+      let a = page_of p r i asked in
+      let b = page_of p r (place_after p r i asked) count in
+      let joined : a ++ b ≡ page_of p r i (asked + count) = pages_joined p r good accepted i asked count in
+      let many : length a + length b ≡ length (page_of p r i (asked + count)) = sym (length-append a b) ∙ ap length joined in
+      omega (arith, many)
+
+  is_page_after : (i asked : ℕ) (run : Run) → IsPageFrom p (place_after p r i asked) run → IsPageAfter p r i asked run
+  is_page_after i asked run (report, text, there) =
+      let to = place_on_from i asked run.count in
+      record {
+        report = report;
+        text = text ∙ ap (session_text p r) to;
+        there = subst (λ n. IsAt p r n (from_text run.text)) to (subst (λ b. IsAt p r (place_after p r (place_after p r i asked) run.count) (from_text b)) (sym text) there);
+      }
+
+  pages_after : (i asked : ℕ) (text : List ℕ) (runs : List Run) → IsAt p r (place_after p r i asked) (from_text text) → AreNext plan text runs
+      → ArePagesAfter p r i asked runs × (page_of p r i asked ++ pages_given p r i asked runs ≡ page_of p r i (asked + asked_of runs)) × IsAt p r (place_after p r i (asked + asked_of runs)) (from_text (text_left text runs))
+  pages_after i asked text [] at are =
+      let none : asked + 0 ≡ asked = omega arith in
+      (tt, append-nil (page_of p r i asked) ∙ ap (page_of p r i) (sym none), subst (λ n. IsAt p r (place_after p r i n) (from_text text)) (sym none) at)
+  pages_after i asked text (run ∷ runs) at (next, others) =
+      let page = is_page_after i asked run (next_page (place_after p r i asked) text run next next.is_done.planned refl at) in
+      let rest = pages_after i (asked + run.count) run.text runs page.there others in
+      let most : (asked + run.count) + asked_of runs ≡ asked + (run.count + asked_of runs) = omega arith in
+      let given = page_of p r (place_after p r i asked) run.count in
+      let more = pages_given p r i (asked + run.count) runs in
+      let joined : page_of p r i asked ++ given ≡ page_of p r i (asked + run.count) = pages_joined p r good accepted i asked run.count in (
+        (page, rest.0),
+        sym (append_assoc (page_of p r i asked) given more) ∙ ap (λ xs. xs ++ more) joined ∙ rest.1 ∙ ap (page_of p r i) most,
+        subst (λ n. IsAt p r (place_after p r i n) (from_text (text_left run.text runs))) most rest.2,
+      )
+
+  all_after : (i : ℕ) (text : List ℕ) (runs : List Run) → IsAt p r i (from_text text) → AreNext plan text runs → GoOnFrom plan text p r i runs
+  all_after i text runs at are =
+      let begin : i ≡ place_after p r i 0 = omega (arith, length-none i) in
+      let on = pages_after i 0 text runs (subst (λ n. IsAt p r n (from_text text)) begin at) are in
+      let none : 0 + asked_of runs ≡ asked_of runs = omega arith in
+      let left = subst (λ n. IsAt p r (place_after p r i n) (from_text (text_left text runs))) none on.2 in
+      record {
+        each = on.0;
+        joined = on.1 ∙ ap (page_of p r i) none;
+        left = left;
+        last = λ run x. last_report (place_after p r i (asked_of runs)) (text_left text runs) run x x.is_done.planned refl left;
+      }
+    where
+      length-none : (i : ℕ) → length (page_of p r i 0) ≡ 0
+      length-none i = refl
+
 -- over the text of a plan, runs in turn write its listing page by page
 pub runs_in_turn : RunsInTurn
 runs_in_turn plan p r first runs spelled accepted is others = all_pages plan p r spelled accepted first runs is others
+
+-- so do next runs from any text that verifying accepts
+pub runs_go_on : RunsGoOn
+runs_go_on plan text p r i runs spelled at others =
+    all_after plan p r spelled (subst IsRequest at.1 at.0.accepted) i text runs at others
