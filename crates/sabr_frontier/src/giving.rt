@@ -3,5 +3,6 @@
 pub mod asker;
 mod divide;
 mod gather;
+mod other_end;
 mod peek;
 mod take;

@@ -4,6 +4,7 @@
 mod certify;
 mod giving;
 mod laws;
+mod lists;
 mod loader;
 mod plan_request;
 mod rows;

@@ -54,7 +54,7 @@ Rises_from_sorted R (x ∷ xs) h = (Below-from R x xs (λ y m. all_in (λ z. R x
 same_number_test : (x y : ℕ) → eqb x y ≡ is_eq (nat_cmp x y)
 same_number_test x y = grind (arith, nat_tests)
 
-has_number : (x : ℕ) (xs : List ℕ) → plans.has x xs ≡ has nat_cmp x xs
+pub has_number : (x : ℕ) (xs : List ℕ) → plans.has x xs ≡ has nat_cmp x xs
 has_number x [] = refl
 has_number x (y ∷ xs) = λ i. same_number_test x y i || has_number x xs i
 

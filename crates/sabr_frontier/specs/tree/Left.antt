@@ -1,7 +1,10 @@
 -- What is left once a route is given.
-use Rattle.std.specs.Prelude.{ℕ, ◌+◌, Bool, false, ◌||◌, List, [], ◌∷◌, ◌++◌, take, drop, Option, is_some}
+use Rattle.std.specs.Prelude.{◌≡◌, ℕ, ◌+◌, Bool, false, ◌||◌, IsTrue, List, [], ◌∷◌, ◌++◌, take, drop, Option, is_some}
 use Rattle.std.specs.List.{list_any}
+use Rattle.sabr_model.specs.plan.Plan.{ContactPlan, has}
+use Rattle.sabr_model.specs.routes.Arrival.{RouteRequest}
 use Rattle.sabr_model.specs.routes.Record.{RouteRecord}
+use Rattle.sabr_model.specs.routes.Route.{is_route}
 use Rattle.sabr_frontier.specs.declared.tree.NodeId.{NodeId}
 use Rattle.sabr_frontier.specs.declared.tree.Node.{Node}
 use Rattle.sabr_frontier.specs.tree.Taking.{wide_of}
@@ -22,3 +25,16 @@ longer_go_on best q (y ∷ ys) = is_some (best q (y ∷ [])) || longer_go_on bes
 -- the node's part has another route than s, or one of the parts has one that its longer beginnings make
 abbrev pub part_goes_on : {A : Type 0} → (List ℕ → List ℕ → Option RouteRecord) → Node A → List ℕ → Bool
 part_goes_on best n s = is_some (best (take n.length s) (wide_of n s)) || longer_go_on best (take (n.length + 1) s) (drop (n.length + 1) s)
+
+-- the numbers of front and then n are a route, and n is neither the number that ended it nor an excluded one
+pub record IsOtherEnd (p : ContactPlan) (r : RouteRequest) (front : List ℕ) (last : ℕ) (excluded : List ℕ) (n : ℕ) : Type 0 where
+  pub route : IsTrue (is_route p r (front ++ n ∷ []))
+  pub other : n ≡ last → ⊥
+  pub free : has n excluded ≡ false
+
+-- a list of numbers may end on n in place of its last one
+pub record EndsOtherwise (p : ContactPlan) (r : RouteRequest) (numbers excluded : List ℕ) (n : ℕ) : Type 0 where
+  pub front : List ℕ
+  pub last : ℕ
+  pub numbers_are : numbers ≡ front ++ last ∷ []
+  pub is_end : IsOtherEnd p r front last excluded n

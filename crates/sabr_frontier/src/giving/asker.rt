@@ -93,6 +93,13 @@ impl<'p, B: BestOf<A>, A: Allocator + Copy> Asker<'p, B, A> {
         self.index.plan()
     }
 
+    /// The index of the plan.
+    pub fn index(&self) -> &Index<'p, A>
+        ensures { result.now ≡ self.now.asked.plan }
+    {
+        &self.index
+    }
+
     /// The request.
     pub fn request(&self) -> &Request
         ensures { result.now ≡ self.now.asked.request }

@@ -1,10 +1,26 @@
 use Rattle.std.proofs.Common.{slice_index, subst, sym, ◌∙◌}
 use Rattle.std.specs.Cmp.{nat_cmp_total}
 use Rattle.std.specs.List.Sorted.{IsStrictlyIncreasing}
+use Rattle.sabr_model.specs.plan.Plan.{IsPlan, TabledPlan}
+use Rattle.sabr_frontier.specs.tree.Left.{EndsOtherwise}
 use Rattle.sabr_frontier.specs.tree.Taking.{wide_of}
 use Rattle.sabr_frontier.proofs.ListingLemmas.Rising.{Rises-put_in}
 use Rattle.sabr_frontier.proofs.TreeLemmas.TestBoundaries.{increasing}
+use Rattle.sabr_frontier.proofs.TreeLemmas.OtherEnds.{goes_on_otherwise}
 use Rattle.sabr_frontier.proofs.giving.peek.part_goes_on.Goals as goal
+
+pub returns-in-Some-clause-ok : goal.returns-in-Some-clause-ok
+returns-in-Some-clause-ok g c =
+    let p = c.args.asker.now.asked.plan in
+    let r = c.args.asker.now.asked.request in
+    let s = c.args.route.now in
+    let n = c.in-Some._other in
+    let good : IsPlan p.plan = subst (λ (t : TabledPlan). IsPlan t.plan) c.plan.ensures c.tell_rules.ensures in
+    let over : EndsOtherwise p.plan c.request.result.now s c.as_slice-excluded.result.now n =
+    subst (λ (t : TabledPlan). EndsOtherwise t.plan c.request.result.now s c.as_slice-excluded.result.now n) c.index.ensures c.in-Some.ensures in
+    let of : EndsOtherwise p.plan r s c.as_slice-excluded.result.now n = subst (λ q. EndsOtherwise p.plan q s c.as_slice-excluded.result.now n) c.request.ensures over in
+    let ends : EndsOtherwise p.plan r s c.args.part.now.excluded n = subst (λ xs. EndsOtherwise p.plan r s xs n) c.as_slice-excluded.ensures of in
+    sym (goes_on_otherwise p.plan r good c.args.part.now s n c.requires.next ends)
 
 pub ask-requires-clause-rising : goal.ask-requires-clause-rising
 ask-requires-clause-rising g c =
