@@ -74,8 +74,12 @@ none_answered p kind lines old e =
     let requested = all_fine (requests_from (form_of kind) 1 lines) e in
     record { done = []; left = requested.0; number = 1; parts = requested.1; rest = requested.1; written = Written-nil old }
 
-module _ (p : ContactPlan) (kind : AnswerKind) (requested : Result (List RequestLine) RequestsFault) (lines lines₁ : List (List ℕ)) (line : List ℕ) (old mid : Output)
-    (h : HasAnswered p kind requested lines old mid) (e : lines ≡ line ∷ lines₁) where
+-- what answering a line leaves over a plan
+abbrev pub Leaves : AnswerKind → List ℕ → Result (Unit {0}) Failure → Output → Output → TabledPlan → Type 0
+Leaves kind line end old new p = IfOk (asked_in (form_of kind) line) (λ a. LeavesAnswer p.plan kind (record { line = line; asked = a }) end old new)
+
+module _ (p : TabledPlan) (kind : AnswerKind) (requested : Result (List RequestLine) RequestsFault) (lines lines₁ : List (List ℕ)) (line : List ℕ) (old mid : Output)
+    (h : HasAnswered p.plan kind requested lines old mid) (e : lines ≡ line ∷ lines₁) where
   pub first : HasFirst line (asked_at (form_of kind) h.number line) (requests_from (form_of kind) (h.number + 1) lines₁) h.left
   first =
       has_first h.number line (asked_at (form_of kind) h.number line) (requests_from (form_of kind) (h.number + 1) lines₁) h.left
@@ -91,15 +95,11 @@ module _ (p : ContactPlan) (kind : AnswerKind) (requested : Result (List Request
   parted : requested ≡ Ok (h.done ++ next ∷ first.others)
   parted = h.parts ∙ ap (λ xs. Ok (h.done ++ xs)) first.parts
 
-  -- what answering it leaves
-  abbrev pub Leaves : Result (Unit {0}) Failure → Output → Type 0
-  Leaves end new = IfOk (asked_in (form_of kind) line) (λ a. LeavesAnswer p kind (record { line = line; asked = a }) end mid new)
-
-  left_next : (end : Result (Unit {0}) Failure) (new : Output) → Leaves end new → LeavesAnswer p kind next end mid new
-  left_next end new left = subst (λ o. IfOk o (λ a. LeavesAnswer p kind (record { line = line; asked = a }) end mid new)) has_asked left
+  left_next : (end : Result (Unit {0}) Failure) (new : Output) → Leaves kind line end mid new p → LeavesAnswer p.plan kind next end mid new
+  left_next end new left = subst (λ o. IfOk o (λ a. LeavesAnswer p.plan kind (record { line = line; asked = a }) end mid new)) has_asked left
 
   -- one more is answered
-  pub one_answered : (new : Output) (u : Unit {0}) → Leaves (Ok u) new → HasAnswered p kind requested lines₁ old new
+  pub one_answered : (new : Output) (u : Unit {0}) → Leaves kind line (Ok u) mid new p → HasAnswered p.plan kind requested lines₁ old new
   one_answered new u left = record {
     done = h.done ++ next ∷ [];
     left = first.others;
@@ -107,27 +107,27 @@ module _ (p : ContactPlan) (kind : AnswerKind) (requested : Result (List Request
     parts = parted ∙ ap Ok (sym (append_assoc h.done (next ∷ []) first.others));
     rest = first.all;
     written =
-        subst (λ text. Written old text new) (sym (one_more p kind h.done next))
-        (Written-append old mid new (answers_text p h.done kind) (answer_text p kind next) h.written (left_next (Ok u) new left));
+        subst (λ text. Written old text new) (sym (one_more p.plan kind h.done next))
+        (Written-append old mid new (answers_text p.plan h.done kind) (answer_text p.plan kind next) h.written (left_next (Ok u) new left));
   }
 
   -- memory is refused at this one
-  stops : (xs : List RequestLine) × (requested ≡ Ok xs) × StopsAtRequest p xs kind old mid
+  stops : (xs : List RequestLine) × (requested ≡ Ok xs) × StopsAtRequest p.plan xs kind old mid
   stops = (h.done ++ next ∷ first.others, parted, record { before = h.done; request = next; after = first.others; parts = refl; written = h.written })
 
   -- the writer fails in this one
-  breaks : (new : Output) → WrittenInPart mid (answer_text p kind next) new → (xs : List RequestLine) × (requested ≡ Ok xs) × WrittenInPart old (answers_text p xs kind) new
+  breaks : (new : Output) → WrittenInPart mid (answer_text p.plan kind next) new → (xs : List RequestLine) × (requested ≡ Ok xs) × WrittenInPart old (answers_text p.plan xs kind) new
   breaks new part =
-      let all = WrittenInPart-after old mid new (answers_text p h.done kind) _ h.written (WrittenInPart-more mid new (answer_text p kind next) (answers_text p first.others kind) part) in
-      (h.done ++ next ∷ first.others, parted, subst (λ text. WrittenInPart old text new) (sym (answers_then p kind h.done (next ∷ first.others))) all)
+      let all = WrittenInPart-after old mid new (answers_text p.plan h.done kind) _ h.written (WrittenInPart-more mid new (answer_text p.plan kind next) (answers_text p.plan first.others kind) part) in
+      (h.done ++ next ∷ first.others, parted, subst (λ text. WrittenInPart old text new) (sym (answers_then p.plan kind h.done (next ∷ first.others))) all)
 
-  failed : (new : Output) (f : Failure) → LeavesAnswer p kind next (Err f) mid new → (xs : List RequestLine) × (requested ≡ Ok xs) × LeavesAnswers p xs kind (Err f) old new
+  failed : (new : Output) (f : Failure) → LeavesAnswer p.plan kind next (Err f) mid new → (xs : List RequestLine) × (requested ≡ Ok xs) × LeavesAnswers p.plan xs kind (Err f) old new
   failed new failure.Write part = breaks new part
   failed new failure.NoMemory same = rw same stops
   failed new _ bad = absurd bad
 
   -- either of them
-  pub fails : (new : Output) (f : Failure) → Leaves (Err f) new → (xs : List RequestLine) × (requested ≡ Ok xs) × LeavesAnswers p xs kind (Err f) old new
+  pub fails : (new : Output) (f : Failure) → Leaves kind line (Err f) mid new p → (xs : List RequestLine) × (requested ≡ Ok xs) × LeavesAnswers p.plan xs kind (Err f) old new
   fails new f left = failed new f (left_next (Err f) new left)
 
 -- none is left

@@ -1,6 +1,7 @@
 -- The lines of lists.
-use Rattle.std.proofs.Common.{◌≡◌, ℕ, cond, true, false, List, length, refl, ap, sym, ◌∙◌, Result, Ok, Err}
-use Rattle.std.specs.Prelude.{is_some, nat_lt}
+use Rattle.std.proofs.Common.{◌≡◌, ℕ, ◌<◌, ◌≤◌, cond, true, false, List, length, refl, ap, sym, ◌∙◌, Result, Ok, Err}
+use Rattle.std.proofs.lemmas.Bool.{lt-ltb, le-ltb}
+use Rattle.std.specs.Prelude.{is_some}
 use Rattle.std.specs.declared.option.Option.{Option}
 use Rattle.std.specs.declared.option.Option.TheVariants.{Some, None}
 use Rattle.sabr_model.specs.routes.Arrival.{RouteRequest}
@@ -25,14 +26,14 @@ with None e = absurd cc
 with (Some contacts) e = (contacts, refl)
 
 -- a line that is too long
-pub too_long : (line : List ℕ) → nat_lt most_list_bytes (length line) ≡ true → list_in line ≡ Err BadLine
+pub too_long : (line : List ℕ) → most_list_bytes < length line → list_in line ≡ Err BadLine
 unfolding list_in
-too_long line long = ap (λ t. cond t (Err BadLine) (list_where_given (list_texts_of (pieces_of space line)))) long
+too_long line long = ap (λ t. cond t (Err BadLine) (list_where_given (list_texts_of (pieces_of space line)))) (lt-ltb most_list_bytes (length line) long)
 
-module _ (line : List ℕ) (short : nat_lt most_list_bytes (length line) ≡ false) where
+module _ (line : List ℕ) (short : length line ≤ most_list_bytes) where
   by_texts : list_in line ≡ list_where_given (list_texts_of (pieces_of space line))
   unfolding list_in
-  by_texts = ap (λ t. cond t (Err BadLine) (list_where_given (list_texts_of (pieces_of space line)))) short
+  by_texts = ap (λ t. cond t (Err BadLine) (list_where_given (list_texts_of (pieces_of space line)))) (le-ltb most_list_bytes (length line) short)
 
   -- one with too few words, or too many
   pub not_texts : None ≡ list_texts_of (pieces_of space line) → list_in line ≡ Err BadLine

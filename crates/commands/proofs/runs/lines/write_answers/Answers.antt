@@ -1,6 +1,7 @@
 use Rattle.std.proofs.Common.{Ok, Err, refl, ap, ◌∙◌}
 use Rattle.std.proofs.lemmas.Result.{err_from_is_err_and}
 use Rattle.commands.specs.runs.Many.{form_of}
+use Rattle.commands.specs.texts.Messages.{failure_of_requests}
 use Rattle.commands.specs.words.Requests.{fault_of, lines_in, requests_from}
 use Rattle.commands.specs.declared.words.requests_fault.RequestsFault.TheVariants.{NoMemory}
 use Rattle.commands.proofs.RunLemmas.ManyAnswers.{not_requested, none_bad, answers_left}
@@ -12,10 +13,10 @@ returns-in_err-plan g c =
     let (failure, is, same) = err_from_is_err_and c.from_residual.result c.from_residual.ensures.1 in
     (Err c.in_err-plan.field-0.0, (Err NoMemory, (c.in_err-plan.ensures {u = tt}).read, refl, (is ∙ ap Err same, refl)))
 
-pub returns-in-Err : goal.returns-in-Err
-returns-in-Err g c =
+pub returns : goal.returns
+returns g c =
     let read = rw c.form.ensures at c.in-Err.ensures in
-    (Ok c.in_ok-plan.plan, (read.0, c.in_ok-plan.ensures.read, read.1, not_requested c.in_ok-plan.plan c.args.kind read.0 c.in-Err.fault _ (g.O.Write.output c.args.out.now) read.2 (ap Err (c.of_lines.ensures ∙ ap _ c.form-2.ensures))))
+    (Ok c.in_ok-plan.plan, (read.0, c.in_ok-plan.ensures.read, read.1, not_requested c.in_ok-plan.plan c.args.kind read.0 c.in-Err.fault _ (g.O.Write.output c.args.out.now) read.2 (ap Err (c.of_lines.ensures ∙ ap (λ form. failure_of_requests form c.in-Err.fault) c.form-in-Err.ensures))))
 
 pub send_answers-requires-clause-requests : goal.send_answers-requires-clause-requests
 send_answers-requires-clause-requests g c =

@@ -1,5 +1,5 @@
-use Rattle.std.proofs.Common.{sym, ap, ◌∙◌}
-use Rattle.commands.specs.words.Requests.{asked_at, fault_of, lines_in, requests_from}
+use Rattle.std.proofs.Common.{sym, ap, ◌∙◌, arith}
+use Rattle.commands.specs.words.Requests.{fault_of, requests_from}
 use Rattle.commands.proofs.WordLemmas.RequestsRead.{bad_first, good_first}
 use Rattle.commands.proofs.words.requests.first_fault.Goals as goal
 
@@ -8,7 +8,11 @@ returns-in-Some-fault_at c =
     let first = ap (λ ls. fault_of (requests_from c.args.form c.loop-line.number ls)) (c.in-Some.ensures {u = tt}).lines in
     sym (bad_first _ _ _ _ _ (sym c.fault_at.ensures.value ∙ c.in-Some-fault_at.is)) ∙ sym first ∙ c.loop-line.invariant.same
 
-pub loop-line-preserved-clause-same : goal.loop-line-preserved-clause-same
-loop-line-preserved-clause-same c =
+pub loop-line-preserved : goal.loop-line-preserved
+loop-line-preserved c =
     let first = ap (λ ls. fault_of (requests_from c.args.form c.loop-line.number ls)) (c.in-Some.ensures {u = tt}).lines in
-    sym (good_first _ _ _ _ (sym c.fault_at.ensures.value ∙ c.in_default-fault_at.is)) ∙ sym first ∙ c.loop-line.invariant.same
+    let within = rw c.in_default-fault_at.is at c.fault_at.ensures.limit in
+    record {
+      few = omega (arith, within);
+      same = sym (good_first _ _ _ _ (sym c.fault_at.ensures.value ∙ c.in_default-fault_at.is)) ∙ sym first ∙ c.loop-line.invariant.same;
+    }
