@@ -26,12 +26,12 @@ impl AnswerKind {
     }
 
     /// The word before a line that is answered so.
-    pub fn word(self) -> &'static str
+    pub fn word<'a>(self) -> &'a [u8]
         ensures { result.now ≡ word_of self }
     {
         match self {
-            AnswerKind::FirstRoutes(_) => "request ",
-            AnswerKind::Explanation => "list ",
+            AnswerKind::FirstRoutes(_) => b"request ",
+            AnswerKind::Explanation => b"list ",
         }
     }
 }

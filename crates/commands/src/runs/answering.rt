@@ -189,7 +189,8 @@ fn write_heading<O: Write>(kind: AnswerKind, line: &[u8], out: &mut O) -> Result
     ensures { WritesText (O.output out.old) (heading kind line.now) result (O.output out.new) }
 {
     let mut text = TextBuffer::new(out);
-    let pieces: [&[u8]; 3] = [kind.word().as_bytes(), line, b"\n"];
+    let word = kind.word();
+    let pieces: [&[u8]; 3] = [word, line, b"\n"];
     put_pieces(&mut text, &pieces)?;
     text.send()
 }
