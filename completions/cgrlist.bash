@@ -3,14 +3,15 @@
 # The words that may follow the name of the program, of a command or of a tool.
 _cgrlist_words() {
     case $1 in
-        cgrlist) echo first next verify check explain many help --help --version ;;
-        help) echo first next verify check explain many ;;
+        cgrlist) echo first next verify check explain many follow help --help --version ;;
+        help) echo first next verify check explain many follow ;;
         first) echo --plan --from --to --at --margin-ppm --max-hops --avoid --count --session-out --help ;;
         next) echo --plan --session --count --session-out --help ;;
         verify) echo --plan --session --help ;;
         check) echo --plan --help ;;
         explain) echo --plan --from --to --at --margin-ppm --max-hops --avoid --contacts --help ;;
         many) echo --plan --requests --count --help ;;
+        follow) echo --plan --lists --help ;;
         cgrlist-compare) echo --from --to --at --margin-ppm --max-hops --avoid --requests --count --names --iso \
             --program --help ;;
         cgrlist-from-ionrc) echo --reference --help ;;
@@ -37,7 +38,7 @@ _cgrlist() {
         before=${COMP_WORDS[COMP_CWORD - 2]}
     fi
     case $before in
-        --plan | --session | --session-out | --names | --program | --report | --requests | --choices | --explained | \
+        --plan | --session | --session-out | --names | --program | --report | --requests | --lists | --choices | --explained | \
             --html)
             files=yes
             ;;

@@ -1,14 +1,15 @@
 # Completes the words of cgrlist and of its tools in fish.
 
 # The words that may follow the name of the program, of a command or of a tool.
-set -l cgrlist first next verify check explain many help --help --version
-set -l help first next verify check explain many
+set -l cgrlist first next verify check explain many follow help --help --version
+set -l help first next verify check explain many follow
 set -l first --plan --from --to --at --margin-ppm --max-hops --avoid --count --session-out --help
 set -l next --plan --session --count --session-out --help
 set -l verify --plan --session --help
 set -l check --plan --help
 set -l explain --plan --from --to --at --margin-ppm --max-hops --avoid --contacts --help
 set -l many --plan --requests --count --help
+set -l follow --plan --lists --help
 set -l compare --from --to --at --margin-ppm --max-hops --avoid --requests --count --names --iso --program --help
 set -l from_ionrc --reference --help
 set -l latest --by --after --plan --without --names --iso --program --from --to --margin-ppm --max-hops --avoid \
@@ -23,7 +24,7 @@ set -l timetable --plan --without --names --iso --program --from --to --margin-p
 
 # What may follow an option: nothing of its own, a file, one of some words, or else a value that isn't completed.
 set -l flags --help --version --iso --hops --room --lost --send-by --csv --json --svg --used --unused --text --list --all
-set -l files --plan --session --session-out --names --program --report --requests --choices --explained --html
+set -l files --plan --session --session-out --names --program --report --requests --lists --choices --explained --html
 
 # __cgrlist_option COMMAND CONDITION OPTION
 function __cgrlist_option --inherit-variable flags --inherit-variable files

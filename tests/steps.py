@@ -15,7 +15,7 @@ A line says one thing; the lines that belong to it stand below it, each after fo
 
 A refused `finish` ends a loading, and a refused `piece` is followed by another and by `finish`, which answer NoMemory,
 too; there the section ends. A run that is refused ends with status 6 and `cgrlist: no memory`, and writes nothing else but
-the whole answers to requests before the one at which it was refused. A section that fails with ample memory isn't made
+the whole answers to lines before the one at which it was refused. A section that fails with ample memory isn't made
 again.
 
 The texts of tests/data/rows/shared.txt have a name in every file. What stands above the first section holds in the whole
@@ -48,6 +48,7 @@ Those that make a plan, which is empty at first:
                             a command over the plan's text and the session's text: its status, and what is on `out`,
                             `kept` (the session) and `err`, each on lines that begin so
     run many COUNT          the same, where the session's text holds the requests
+    run follow              the same, where the session's text holds the lists
     run words WORD ..       the program over these words, with `out` and `err` as its writers, in a folder that has the
                             files of tests/data/rows/shared.txt
     value-fault NAME        a fault of a command's values, with its text
@@ -215,8 +216,8 @@ REFUSED = re.compile(rb"NoMemory(: out of memory)?\n|(\d+) NoMemory: line \2: ou
 
 
 def refused_runs(wanted):
-    """What a run may leave that is refused: its message, after the answers to some of the requests, if it has them."""
-    _, *answers = re.split(rb"^(?=out request )", wanted, flags=re.MULTILINE)
+    """What a run may leave that is refused: its message, after the answers to some of the lines, if it has them."""
+    _, *answers = re.split(rb"^(?=out (?:request|list) )", wanted, flags=re.MULTILINE)
     return [b"6\n" + b"".join(answers[:count]) + b"err cgrlist: no memory\n" for count in range(len(answers) or 1)]
 
 

@@ -1,5 +1,6 @@
--- Lists on the command line, and texts of requests.
+-- Lists on the command line, and texts of requests and of lists.
 pub mod ListedNumbers
 pub mod RequestWords
 pub mod RequestLines
+pub mod ListLines
 pub mod RequestsRead

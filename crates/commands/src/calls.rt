@@ -8,9 +8,12 @@ ghost use Rattle.commands.specs.words.Values.{has_count, IsCount};
 use crate::command::CommandName;
 use crate::failure::Failure;
 use crate::files::{
-    make_session, open_plan, open_requests, open_session, remove_unless_done, session_out,
+    make_session, open_lists, open_plan, open_requests, open_session, remove_unless_done,
+    session_out,
 };
-use crate::runs::{run_check, run_explain, run_first, run_many, run_next, run_verify};
+use crate::runs::{
+    run_check, run_explain, run_first, run_follow, run_many, run_next, run_verify,
+};
 use crate::status::Status;
 use crate::words::read_values;
 use clap::ArgMatches;
@@ -158,4 +161,16 @@ pub fn many<R: Files + AllocGlobal, O: Write, E: Write>(
     let mut plan = open_plan(rt, words)?;
     let mut requests = open_requests(rt, words)?;
     Ok(run_many(alloc, &mut plan, &mut requests, count, out, err))
+}
+
+/// Explains many lists of contacts over a plan.
+pub fn follow<R: Files + AllocGlobal, O: Write, E: Write>(
+    rt: &R,
+    words: &ArgMatches<'_>,
+    out: &mut O,
+    err: &mut E,
+) -> Result<Status, Failure> {
+    let mut plan = open_plan(rt, words)?;
+    let mut lists = open_lists(rt, words)?;
+    Ok(run_follow(rt.alloc(), &mut plan, &mut lists, out, err))
 }

@@ -3,7 +3,7 @@
 ghost use Rattle.std.specs.Prelude.{◌≡◌, Some};
 ghost use Rattle.commands.specs.words.Values.{command_named, has_request, has_count, has_contacts};
 
-use crate::calls::{check, explain, list, many, verify};
+use crate::calls::{check, explain, follow, list, many, verify};
 use crate::failure::Failure;
 use crate::status::Status;
 use clap::ArgMatches;
@@ -25,16 +25,19 @@ pub enum CommandName {
     Explain,
     /// Answers many requests over a plan.
     Many,
+    /// Explains many lists of contacts over a plan.
+    Follow,
 }
 
 /// The commands, in the order in which help lists them.
-pub const COMMANDS: [CommandName; 6] = [
+pub const COMMANDS: [CommandName; 7] = [
     CommandName::First,
     CommandName::Next,
     CommandName::Verify,
     CommandName::Check,
     CommandName::Explain,
     CommandName::Many,
+    CommandName::Follow,
 ];
 
 /// The declaration of a command. Each command has a plan; its other words come in this order.
@@ -52,6 +55,8 @@ pub struct Declared<'a> {
     pub has_session: bool,
     /// Whether it has the word for a file of requests.
     pub has_requests: bool,
+    /// Whether it has the word for a file of lists.
+    pub has_lists: bool,
     /// Whether it has the word for the number of routes of a page.
     pub has_count: bool,
     /// Whether it has the word for the file that keeps its session.
@@ -79,6 +84,7 @@ impl CommandName {
                 has_request: true,
                 has_session: false,
                 has_requests: false,
+                has_lists: false,
                 has_count: true,
                 keeps_session: true,
                 has_contacts: false,
@@ -92,6 +98,7 @@ impl CommandName {
                 has_request: false,
                 has_session: true,
                 has_requests: false,
+                has_lists: false,
                 has_count: true,
                 keeps_session: true,
                 has_contacts: false,
@@ -104,6 +111,7 @@ impl CommandName {
                 has_request: false,
                 has_session: true,
                 has_requests: false,
+                has_lists: false,
                 has_count: false,
                 keeps_session: false,
                 has_contacts: false,
@@ -117,6 +125,7 @@ impl CommandName {
                 has_request: false,
                 has_session: false,
                 has_requests: false,
+                has_lists: false,
                 has_count: false,
                 keeps_session: false,
                 has_contacts: false,
@@ -130,6 +139,7 @@ impl CommandName {
                 has_request: true,
                 has_session: false,
                 has_requests: false,
+                has_lists: false,
                 has_count: false,
                 keeps_session: false,
                 has_contacts: true,
@@ -145,7 +155,24 @@ A request is a line FROM TO TIME, and after it, if need be, PPM, HOPS and NODES 
                 has_request: false,
                 has_session: false,
                 has_requests: true,
+                has_lists: false,
                 has_count: true,
+                keeps_session: false,
+                has_contacts: false,
+            },
+            CommandName::Follow => Declared {
+                name: "follow",
+                about: "Tells what many lists of contacts do over one plan, each as explain does",
+                examples: "Examples:
+  cgrlist follow --plan plan.txt --lists lists.txt
+A list is a line NUMBERS FROM TO TIME, and after it, if need be, PPM, HOPS and NODES in this order, with single spaces:
+  4,11,2 31 1 2030/01/01-00:45:00
+  5,12,2 31 1 2030/01/01-00:45:00 0 4 22",
+                has_request: false,
+                has_session: false,
+                has_requests: false,
+                has_lists: true,
+                has_count: false,
                 keeps_session: false,
                 has_contacts: false,
             },
@@ -170,6 +197,7 @@ A request is a line FROM TO TIME, and after it, if need be, PPM, HOPS and NODES 
             CommandName::Check => check(rt, words, out, err),
             CommandName::Explain => explain(rt, words, out, err),
             CommandName::Many => many(rt, words, out, err),
+            CommandName::Follow => follow(rt, words, out, err),
         }
     }
 }
@@ -191,6 +219,8 @@ pub fn command_named(name: &str) -> Option<CommandName>
         Some(CommandName::Explain)
     } else if name == b"many".as_slice() {
         Some(CommandName::Many)
+    } else if name == b"follow".as_slice() {
+        Some(CommandName::Follow)
     } else {
         None
     }

@@ -5,7 +5,7 @@ ghost use Rattle.commands.specs.declared.failure.Failure.TheVariants as failure;
 ghost use Rattle.commands.specs.texts.Messages.{status_of, failure_of_plan, failure_of_requests, failure_of_session, failure_of_value};
 
 use crate::status::Status;
-use crate::words::{RequestKind, RequestsFault, ValueFault, ValueName};
+use crate::words::{LineForm, RequestKind, RequestsFault, ValueFault, ValueName};
 use sabr_model::{NoMemory, WriteFault};
 use sabr_plan::{PlanFault, PlanKind};
 use sabr_session::SessionFault;
@@ -39,6 +39,12 @@ pub enum Failure {
     RequestsLine(u32, RequestKind),
     /// The reader of the requests failed.
     RequestsRead,
+    /// The file of lists can't be opened.
+    CannotOpenLists,
+    /// The line of lists of this number is bad.
+    ListsLine(u32, RequestKind),
+    /// The reader of the lists failed.
+    ListsRead,
     /// A writer failed.
     Write,
     /// Memory was refused.
@@ -60,10 +66,26 @@ impl Failure {
                 Status::Io
             }
             Failure::PlanRead | Failure::SessionRead | Failure::Write => Status::Io,
-            Failure::RequestsLine(_, _) => Status::Session,
+            Failure::RequestsLine(_, _) | Failure::ListsLine(_, _) => Status::Session,
             Failure::CannotOpenRequests | Failure::RequestsRead => Status::Io,
+            Failure::CannotOpenLists | Failure::ListsRead => Status::Io,
             Failure::NoMemory => Status::Memory,
             Failure::NotUtf8 => Status::Usage,
+        }
+    }
+
+    /// The failure that refused lines of this form are.
+    pub fn of_lines(form: LineForm, fault: RequestsFault) -> Failure
+        ensures { result ≡ failure_of_requests form fault }
+    {
+        match (form, fault) {
+            (_, RequestsFault::NoMemory) => Failure::NoMemory,
+            (LineForm::Requests, RequestsFault::Read) => Failure::RequestsRead,
+            (LineForm::Requests, RequestsFault::Line(line, kind)) => {
+                Failure::RequestsLine(line, kind)
+            }
+            (LineForm::Lists, RequestsFault::Read) => Failure::ListsRead,
+            (LineForm::Lists, RequestsFault::Line(line, kind)) => Failure::ListsLine(line, kind),
         }
     }
 }
@@ -106,19 +128,6 @@ impl From<SessionFault> for Failure {
             SessionFault::Read => Failure::SessionRead,
             SessionFault::NoMemory => Failure::NoMemory,
             _ => Failure::Session(fault),
-        }
-    }
-}
-
-/// The failure that refused requests are.
-impl From<RequestsFault> for Failure {
-    ghost from_gives = { λ fault e. e ≡ failure_of_requests fault };
-
-    fn from(fault: RequestsFault) -> Failure {
-        match fault {
-            RequestsFault::Line(line, kind) => Failure::RequestsLine(line, kind),
-            RequestsFault::Read => Failure::RequestsRead,
-            RequestsFault::NoMemory => Failure::NoMemory,
         }
     }
 }

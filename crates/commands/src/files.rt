@@ -17,6 +17,9 @@ pub const SESSION: &str = "session";
 /// The word for the file of requests.
 pub const REQUESTS: &str = "requests";
 
+/// The word for the file of lists.
+pub const LISTS: &str = "lists";
+
 /// The word for the new session's file.
 pub const SESSION_OUT: &str = "session-out";
 
@@ -58,6 +61,15 @@ pub fn open_session<R: Files>(rt: &R, words: &ArgMatches<'_>) -> Result<Device<R
 /// [`Failure::CannotOpenRequests`] if it can't be opened.
 pub fn open_requests<R: Files>(rt: &R, words: &ArgMatches<'_>) -> Result<Device<R::File>, Failure> {
     open(rt, words, REQUESTS, Failure::CannotOpenRequests)
+}
+
+/// Opens the file of lists.
+///
+/// # Errors
+///
+/// [`Failure::CannotOpenLists`] if it can't be opened.
+pub fn open_lists<R: Files>(rt: &R, words: &ArgMatches<'_>) -> Result<Device<R::File>, Failure> {
+    open(rt, words, LISTS, Failure::CannotOpenLists)
 }
 
 /// The path of the file for the new session. `None` if it isn't kept.

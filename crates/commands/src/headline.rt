@@ -2,7 +2,7 @@
 //! nothing.
 
 ghost use Rattle.commands.specs.runs.EveryRun.{EveryRunFollows};
-ghost use Rattle.commands.specs.runs.ManyAsFirst.{ManyAnswersAsFirst};
+ghost use Rattle.commands.specs.runs.ManyAsFirst.{FollowAnswersAsExplain, ManyAnswersAsFirst};
 ghost use Rattle.commands.specs.runs.NextPage.{NextGoesOn};
 ghost use Rattle.commands.specs.runs.PagesLeft.{PagesStand};
 ghost use Rattle.commands.specs.runs.RunsGoOn.{RunsGoOn};
@@ -35,6 +35,13 @@ pub fn runs_in_turn()
     ensures { RunsInTurn }
 {}
 
+/// Shows that runs `next` go on page by page from any session text that `verify` accepts, in either version. Their pages
+/// joined are the next routes of the list. The text that the last of them leaves is that of the place after them, and a
+/// run over it that keeps no session reports the page from there.
+pub fn runs_go_on()
+    ensures { RunsGoOn }
+{}
+
 /// Shows that a run `many` answers each request as a run `first` does. Over one plan text, and with readers and writers
 /// that know their bytes, if it ends with [`Status::Done`](crate::Status::Done), it writes for each request in order its
 /// line and then the bytes that a run `first` for that request and count writes as its report, whether that run keeps
@@ -43,16 +50,16 @@ pub fn many_answers_as_first()
     ensures { ManyAnswersAsFirst }
 {}
 
+/// Shows that a run `follow` answers each list as a run `explain` does. Over one plan text, and with readers and writers
+/// that know their bytes, if it ends with [`Status::Done`](crate::Status::Done), it writes for each list in order its
+/// line and then the bytes that a run `explain` for these contacts and that request writes, if that ends with yes or no.
+pub fn follow_answers_as_explain()
+    ensures { FollowAnswersAsExplain }
+{}
+
 /// Shows that after any pages, refusals and steps back a session is that of the pages that weren't taken back, in the
 /// order in which they were given. So are the states that it can go back to. If it began at a place of the list, it
 /// stands at the place after their routes.
 pub fn pages_stand()
     ensures { PagesStand }
-{}
-
-/// Shows that runs `next` go on page by page from any session text that `verify` accepts, in either version. Their pages
-/// joined are the next routes of the list. The text that the last of them leaves is that of the place after them, and a
-/// run over it that keeps no session reports the page from there.
-pub fn runs_go_on()
-    ensures { RunsGoOn }
 {}

@@ -15,11 +15,14 @@ mod words;
 
 pub use failure::Failure;
 pub use headline::{
-    every_run, many_answers_as_first, next_goes_on, pages_stand, runs_go_on, runs_in_turn,
+    every_run, follow_answers_as_explain, many_answers_as_first, next_goes_on, pages_stand,
+    runs_go_on, runs_in_turn,
 };
 pub use program::run_words;
 pub use rows::explanations_of_plan_a;
-pub use runs::{run_check, run_explain, run_first, run_many, run_next, run_verify};
+pub use runs::{
+    run_check, run_explain, run_first, run_follow, run_many, run_next, run_verify,
+};
 pub use status::Status;
 pub use texts::tell;
 pub use words::{ValueFault, ValueName, Values, read_values};

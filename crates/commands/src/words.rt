@@ -2,6 +2,7 @@
 
 mod command_line;
 mod first_piece;
+mod line_form;
 mod lists;
 mod request_line;
 mod request_texts;
@@ -13,7 +14,9 @@ mod value_name;
 mod values;
 
 pub use command_line::parsed;
-pub use request_line::request_in;
+pub use line_form::LineForm;
+pub use lists::contacts_listed;
+pub use request_line::{Listed, list_in, request_in};
 pub use requests::{first_line, read_requests};
 pub use requests_fault::{RequestKind, RequestsFault};
 pub use value_fault::ValueFault;

@@ -7,8 +7,8 @@ use crate::answers::refused;
 use crate::desk::Desk;
 use crate::words::{Words, numbers, small_number};
 use commands::{
-    Status, ValueFault, ValueName, run_check, run_explain, run_first, run_many, run_next,
-    run_verify, run_words,
+    Status, ValueFault, ValueName, run_check, run_explain, run_first, run_follow, run_many,
+    run_next, run_verify, run_words,
 };
 use failing::LimitedWriter;
 use std::alloc::{Allocator, Global};
@@ -73,6 +73,7 @@ fn status_of<A: Allocator + Copy>(
         "check" => Some(check(alloc, desk, writers)),
         "explain" => explain(alloc, desk, words, writers),
         "many" => many(alloc, desk, words, writers),
+        "follow" => Some(follow(alloc, desk, writers)),
         "words" => program(desk, words, writers),
         _ => None,
     }
@@ -140,6 +141,11 @@ fn many<A: Allocator + Copy>(
     let (plan, requests) = (&mut desk.plan.reader(), &mut desk.session.reader());
     let (out, err) = (&mut writers.out, &mut writers.err);
     Some(run_many(alloc, plan, requests, count, out, err))
+}
+
+fn follow<A: Allocator + Copy>(alloc: A, desk: &Desk<'_>, writers: &mut Writers) -> Status {
+    let (plan, lists) = (&mut desk.plan.reader(), &mut desk.session.reader());
+    run_follow(alloc, plan, lists, &mut writers.out, &mut writers.err)
 }
 
 /// Runs the program over these words.

@@ -1,4 +1,4 @@
--- Answers to requests, one after the other.
+-- Answers to lines, one after the other.
 use Rattle.std.proofs.Common.{◌≡◌, ℕ, ◌+◌, Bool, true, false, cond, List, [], ◌∷◌, ◌++◌, map, append_assoc, append-nil, refl, sym, ap, subst, ◌∙◌, None, Result, Ok, Err}
 use Rattle.sabr_model.specs.Devices.{Output, Written, WrittenInPart}
 use Rattle.sabr_model.specs.plan.Plan.{ContactPlan, IsPlan, TabledPlan}
@@ -16,8 +16,10 @@ use Rattle.sabr_model.proofs.ListLemmas.WrittenTexts.{Written-nil, Written-appen
 use Rattle.commands.specs.declared.words.requests_fault.RequestKind.{RequestKind}
 use Rattle.commands.specs.declared.words.requests_fault.RequestKind.TheVariants.{BadLine}
 use Rattle.commands.specs.declared.words.requests_fault.RequestsFault.{RequestsFault}
-use Rattle.commands.specs.words.Requests.{HasRequests, RequestLine, fault_of, lines_in, most_requests, put_first, request_at, request_in, requests_from}
-use Rattle.commands.specs.runs.Many.{IsFirstPage, LeavesAnswer, LeavesAnswers, StopsAtRequest, WritesAll, WritesAnswers, answer_text, answers_text}
+use Rattle.commands.specs.declared.words.line_form.LineForm.{LineForm}
+use Rattle.commands.specs.declared.runs.answer_kind.AnswerKind.{AnswerKind}
+use Rattle.commands.specs.words.Requests.{Asked, HasRequests, RequestLine, asked_at, asked_in, fault_of, lines_in, most_requests, put_first, requests_from}
+use Rattle.commands.specs.runs.Many.{IsFirstPage, LeavesAnswer, LeavesAnswers, StopsAtRequest, WritesAll, WritesAnswers, answer_text, answers_text, form_of}
 use Rattle.commands.specs.texts.Messages.{failure_of_requests}
 use Rattle.commands.specs.runs.Runs.{first_report}
 use Rattle.commands.specs.runs.SessionRuns.{next_report}
@@ -27,108 +29,112 @@ use Rattle.std.specs.Prelude.{All, IfOk, is_some, nat_lt}
 use Rattle.commands.specs.declared.failure.Failure.{Failure}
 use Rattle.commands.specs.declared.failure.Failure.TheVariants as failure
 
--- the answers to some requests, and then to others
-answers_then : (p : ContactPlan) (count : ℕ) (xs ys : List RequestLine) → answers_text p (xs ++ ys) count ≡ answers_text p xs count ++ answers_text p ys count
-answers_then p count [] ys = refl
-answers_then p count (x ∷ xs) ys =
-    ap (λ t. answer_text p count x ++ t) (answers_then p count xs ys)
-    ∙ sym (append_assoc (answer_text p count x) (answers_text p xs count) (answers_text p ys count))
+-- the answers to some lines, and then to others
+answers_then : (p : ContactPlan) (kind : AnswerKind) (xs ys : List RequestLine) → answers_text p (xs ++ ys) kind ≡ answers_text p xs kind ++ answers_text p ys kind
+answers_then p kind [] ys = refl
+answers_then p kind (x ∷ xs) ys =
+    ap (λ t. answer_text p kind x ++ t) (answers_then p kind xs ys)
+    ∙ sym (append_assoc (answer_text p kind x) (answers_text p xs kind) (answers_text p ys kind))
 
-one_more : (p : ContactPlan) (count : ℕ) (xs : List RequestLine) (x : RequestLine) → answers_text p (xs ++ x ∷ []) count ≡ answers_text p xs count ++ answer_text p count x
-one_more p count xs x = answers_then p count xs (x ∷ []) ∙ ap (λ t. answers_text p xs count ++ t) (append-nil (answer_text p count x))
+one_more : (p : ContactPlan) (kind : AnswerKind) (xs : List RequestLine) (x : RequestLine) → answers_text p (xs ++ x ∷ []) kind ≡ answers_text p xs kind ++ answer_text p kind x
+one_more p kind xs x = answers_then p kind xs (x ∷ []) ∙ ap (λ t. answers_text p xs kind ++ t) (append-nil (answer_text p kind x))
 
--- a line before others with requests has one
-pub record HasFirst (line : List ℕ) (a : Result RouteRequest RequestKind) (rest : Result (List RequestLine) RequestsFault) (xs : List RequestLine) : Type 0 where
-  pub request : RouteRequest
+-- a line before others that aren't bad isn't bad
+pub record HasFirst (line : List ℕ) (a : Result Asked RequestKind) (rest : Result (List RequestLine) RequestsFault) (xs : List RequestLine) : Type 0 where
+  pub asked : Asked
   pub others : List RequestLine
-  pub there : a ≡ Ok request
+  pub there : a ≡ Ok asked
   pub all : rest ≡ Ok others
-  pub parts : xs ≡ record { line = line; request = request } ∷ others
+  pub parts : xs ≡ record { line = line; asked = asked } ∷ others
 
-has_first : (n : ℕ) (line : List ℕ) (a : Result RouteRequest RequestKind) (rest : Result (List RequestLine) RequestsFault) (xs : List RequestLine) → put_first n line a rest ≡ Ok xs → HasFirst line a rest xs
+has_first : (n : ℕ) (line : List ℕ) (a : Result Asked RequestKind) (rest : Result (List RequestLine) RequestsFault) (xs : List RequestLine) → put_first n line a rest ≡ Ok xs → HasFirst line a rest xs
 has_first n line (Err k) rest xs e = absurd cc
 has_first n line (Ok r) (Err f) xs e = absurd cc
-has_first n line (Ok r) (Ok ys) xs e = record { request = r; others = ys; there = refl; all = refl; parts = cc }
+has_first n line (Ok r) (Ok ys) xs e = record { asked = r; others = ys; there = refl; all = refl; parts = cc }
 
-within : (beyond : Bool) (x : Result RouteRequest RequestKind) (r : RouteRequest) → cond beyond (Err BadLine) x ≡ Ok r → x ≡ Ok r
-within true x r e = absurd cc
-within false x r e = e
+within : (beyond : Bool) (x : Result Asked RequestKind) (a : Asked) → cond beyond (Err BadLine) x ≡ Ok a → x ≡ Ok a
+within true x a e = absurd cc
+within false x a e = e
 
 all_fine : (requested : Result (List RequestLine) RequestsFault) → fault_of requested ≡ None → (xs : List RequestLine) × (requested ≡ Ok xs)
 all_fine (Ok xs) e = (xs, refl)
 all_fine (Err f) e = absurd cc
 
--- requests were answered, and these lines are left
-pub record HasAnswered (p : ContactPlan) (count : ℕ) (requested : Result (List RequestLine) RequestsFault) (lines : List (List ℕ)) (old new : Output) : Type 0 where
+-- lines were answered, and these are left
+pub record HasAnswered (p : ContactPlan) (kind : AnswerKind) (requested : Result (List RequestLine) RequestsFault) (lines : List (List ℕ)) (old new : Output) : Type 0 where
   pub done : List RequestLine
   pub left : List RequestLine
   pub number : ℕ
   pub parts : requested ≡ Ok (done ++ left)
-  pub rest : requests_from number lines ≡ Ok left
-  pub written : Written old (answers_text p done count) new
+  pub rest : requests_from (form_of kind) number lines ≡ Ok left
+  pub written : Written old (answers_text p done kind) new
 
-pub none_answered : (p : ContactPlan) (count : ℕ) (lines : List (List ℕ)) (old : Output) → fault_of (requests_from 1 lines) ≡ None → HasAnswered p count (requests_from 1 lines) lines old old
-none_answered p count lines old e =
-    let requested = all_fine (requests_from 1 lines) e in
+pub none_answered : (p : ContactPlan) (kind : AnswerKind) (lines : List (List ℕ)) (old : Output) → fault_of (requests_from (form_of kind) 1 lines) ≡ None → HasAnswered p kind (requests_from (form_of kind) 1 lines) lines old old
+none_answered p kind lines old e =
+    let requested = all_fine (requests_from (form_of kind) 1 lines) e in
     record { done = []; left = requested.0; number = 1; parts = requested.1; rest = requested.1; written = Written-nil old }
 
-module _ (p : ContactPlan) (count : ℕ) (requested : Result (List RequestLine) RequestsFault) (lines lines₁ : List (List ℕ)) (line : List ℕ) (old mid : Output)
-    (h : HasAnswered p count requested lines old mid) (e : lines ≡ line ∷ lines₁) where
-  pub first : HasFirst line (request_at h.number line) (requests_from (h.number + 1) lines₁) h.left
-  first = has_first h.number line (request_at h.number line) (requests_from (h.number + 1) lines₁) h.left (ap (requests_from h.number) (sym e) ∙ h.rest)
+-- what answering a line leaves over a plan
+abbrev pub Leaves : AnswerKind → List ℕ → Result (Unit {0}) Failure → Output → Output → TabledPlan → Type 0
+Leaves kind line end old new p = IfOk (asked_in (form_of kind) line) (λ a. LeavesAnswer p.plan kind (record { line = line; asked = a }) end old new)
 
-  -- the line has a request
-  pub has_request : request_in line ≡ Ok first.request
-  has_request = within (nat_lt most_requests h.number) (request_in line) first.request first.there
+module _ (p : TabledPlan) (kind : AnswerKind) (requested : Result (List RequestLine) RequestsFault) (lines lines₁ : List (List ℕ)) (line : List ℕ) (old mid : Output)
+    (h : HasAnswered p.plan kind requested lines old mid) (e : lines ≡ line ∷ lines₁) where
+  pub first : HasFirst line (asked_at (form_of kind) h.number line) (requests_from (form_of kind) (h.number + 1) lines₁) h.left
+  first =
+      has_first h.number line (asked_at (form_of kind) h.number line) (requests_from (form_of kind) (h.number + 1) lines₁) h.left
+      (ap (requests_from (form_of kind) h.number) (sym e) ∙ h.rest)
+
+  -- the line asks something
+  pub has_asked : asked_in (form_of kind) line ≡ Ok first.asked
+  has_asked = within (nat_lt most_requests h.number) (asked_in (form_of kind) line) first.asked first.there
 
   abbrev next : RequestLine
-  next = record { line = line; request = first.request }
+  next = record { line = line; asked = first.asked }
 
   parted : requested ≡ Ok (h.done ++ next ∷ first.others)
   parted = h.parts ∙ ap (λ xs. Ok (h.done ++ xs)) first.parts
 
-  is_next : (r : RouteRequest) → Ok r ≡ request_in line → record { line = line; request = r } ≡ next
-  is_next r is =
-      let same : Ok r ≡ Ok first.request = is ∙ has_request in
-      cc
+  left_next : (end : Result (Unit {0}) Failure) (new : Output) → Leaves kind line end mid new p → LeavesAnswer p.plan kind next end mid new
+  left_next end new left = subst (λ o. IfOk o (λ a. LeavesAnswer p.plan kind (record { line = line; asked = a }) end mid new)) has_asked left
 
   -- one more is answered
-  pub one_answered : (new : Output) (r : RouteRequest) → Ok r ≡ request_in line → Written mid (answer_text p count (record { line = line; request = r })) new → HasAnswered p count requested lines₁ old new
-  one_answered new r is written = record {
+  pub one_answered : (new : Output) (u : Unit {0}) → Leaves kind line (Ok u) mid new p → HasAnswered p.plan kind requested lines₁ old new
+  one_answered new u left = record {
     done = h.done ++ next ∷ [];
     left = first.others;
     number = h.number + 1;
     parts = parted ∙ ap Ok (sym (append_assoc h.done (next ∷ []) first.others));
     rest = first.all;
     written =
-        subst (λ text. Written old text new) (sym (one_more p count h.done next))
-        (Written-append old mid new (answers_text p h.done count) (answer_text p count next) h.written (subst (λ x. Written mid (answer_text p count x) new) (is_next r is) written));
+        subst (λ text. Written old text new) (sym (one_more p.plan kind h.done next))
+        (Written-append old mid new (answers_text p.plan h.done kind) (answer_text p.plan kind next) h.written (left_next (Ok u) new left));
   }
 
   -- memory is refused at this one
-  stops : (xs : List RequestLine) × (requested ≡ Ok xs) × StopsAtRequest p xs count old mid
+  stops : (xs : List RequestLine) × (requested ≡ Ok xs) × StopsAtRequest p.plan xs kind old mid
   stops = (h.done ++ next ∷ first.others, parted, record { before = h.done; request = next; after = first.others; parts = refl; written = h.written })
 
   -- the writer fails in this one
-  breaks : (new : Output) (r : RouteRequest) → Ok r ≡ request_in line → WrittenInPart mid (answer_text p count (record { line = line; request = r })) new
-      → (xs : List RequestLine) × (requested ≡ Ok xs) × WrittenInPart old (answers_text p xs count) new
-  breaks new r is part =
-      let these = subst (λ x. WrittenInPart mid (answer_text p count x) new) (is_next r is) part in
-      let all = WrittenInPart-after old mid new (answers_text p h.done count) _ h.written (WrittenInPart-more mid new (answer_text p count next) (answers_text p first.others count) these) in
-      (h.done ++ next ∷ first.others, parted, subst (λ text. WrittenInPart old text new) (sym (answers_then p count h.done (next ∷ first.others))) all)
+  breaks : (new : Output) → WrittenInPart mid (answer_text p.plan kind next) new → (xs : List RequestLine) × (requested ≡ Ok xs) × WrittenInPart old (answers_text p.plan xs kind) new
+  breaks new part =
+      let all = WrittenInPart-after old mid new (answers_text p.plan h.done kind) _ h.written (WrittenInPart-more mid new (answer_text p.plan kind next) (answers_text p.plan first.others kind) part) in
+      (h.done ++ next ∷ first.others, parted, subst (λ text. WrittenInPart old text new) (sym (answers_then p.plan kind h.done (next ∷ first.others))) all)
+
+  failed : (new : Output) (f : Failure) → LeavesAnswer p.plan kind next (Err f) mid new → (xs : List RequestLine) × (requested ≡ Ok xs) × LeavesAnswers p.plan xs kind (Err f) old new
+  failed new failure.Write part = breaks new part
+  failed new failure.NoMemory same = rw same stops
+  failed new _ bad = absurd bad
 
   -- either of them
-  pub fails : (new : Output) (r : RouteRequest) → Ok r ≡ request_in line → (f : Failure) → LeavesAnswer p count (record { line = line; request = r }) (Err f) mid new
-      → (xs : List RequestLine) × (requested ≡ Ok xs) × LeavesAnswers p xs count (Err f) old new
-  fails new r is failure.Write part = breaks new r is part
-  fails new r is failure.NoMemory same = rw same stops
-  fails new r is _ bad = absurd bad
+  pub fails : (new : Output) (f : Failure) → Leaves kind line (Err f) mid new p → (xs : List RequestLine) × (requested ≡ Ok xs) × LeavesAnswers p.plan xs kind (Err f) old new
+  fails new f left = failed new f (left_next (Err f) new left)
 
 -- none is left
-pub all_answered : (p : ContactPlan) (count : ℕ) (requested : Result (List RequestLine) RequestsFault) (lines : List (List ℕ)) (old new : Output) → HasAnswered p count requested lines old new → lines ≡ []
-    → (xs : List RequestLine) × (requested ≡ Ok xs) × Written old (answers_text p xs count) new
-all_answered p count requested lines old new h e =
-    let none : Ok [] ≡ Ok h.left = ap (requests_from h.number) (sym e) ∙ h.rest in
+pub all_answered : (p : ContactPlan) (kind : AnswerKind) (requested : Result (List RequestLine) RequestsFault) (lines : List (List ℕ)) (old new : Output) → HasAnswered p kind requested lines old new → lines ≡ []
+    → (xs : List RequestLine) × (requested ≡ Ok xs) × Written old (answers_text p xs kind) new
+all_answered p kind requested lines old new h e =
+    let none : Ok [] ≡ Ok h.left = ap (requests_from (form_of kind) h.number) (sym e) ∙ h.rest in
     let left : h.left ≡ [] = cc in
     (h.done, h.parts ∙ ap (λ xs. Ok (h.done ++ xs)) left ∙ ap Ok (append-nil h.done), h.written)
 
@@ -156,14 +162,14 @@ first_pages p r s k (Ok l) rules limits (plan, request, state) last = record {
       ∙ first_of_page p r s k l.routes s.state.emitted l.more (subst (λ (q : TabledPlan). IsPlan q.plan) plan rules) (plan, request, state) last.routes refl last.more;
 }
 
--- what a run leaves, where the requests were refused, or were answered and flushed
-pub none_bad : (text : List ℕ) (requested : Result (List RequestLine) RequestsFault) → HasRequests text requested → fault_of (requests_from 1 (lines_in text)) ≡ None
-none_bad text requested h = ap fault_of h.0 ∙ h.1
+-- what a run leaves, where lines were refused, or were answered and flushed
+pub none_bad : (form : LineForm) (text : List ℕ) (requested : Result (List RequestLine) RequestsFault) → HasRequests form text requested → fault_of (requests_from form 1 (lines_in text)) ≡ None
+none_bad form text requested h = ap fault_of h.0 ∙ h.1
 
-pub not_requested : (p : TabledPlan) (count : ℕ) (requested : Result (List RequestLine) RequestsFault) (fault : RequestsFault) (end : Result (Unit {0}) Failure) (a : Output)
-    → requested ≡ Err fault → end ≡ Err (failure_of_requests fault) → WritesAnswers (Ok p) requested count end a a
-not_requested p count requested fault end a is e = rw is (e, refl)
+pub not_requested : (p : TabledPlan) (kind : AnswerKind) (requested : Result (List RequestLine) RequestsFault) (fault : RequestsFault) (end : Result (Unit {0}) Failure) (a : Output)
+    → requested ≡ Err fault → end ≡ Err (failure_of_requests (form_of kind) fault) → WritesAnswers (Ok p) requested kind end a a
+not_requested p kind requested fault end a is e = rw is (e, refl)
 
-pub answers_left : (p : TabledPlan) (count : ℕ) (requested : Result (List RequestLine) RequestsFault) (text : List ℕ) (end : Result (Unit {0}) Failure) (a c : Output) → HasRequests text requested
-    → (xs : List RequestLine) × (requests_from 1 (lines_in text) ≡ Ok xs) × WritesAll p.plan xs count end a c → WritesAnswers (Ok p) requested count end a c
-answers_left p count requested text end a c h (xs, is, left) = subst (λ t. WritesAnswers (Ok p) t count end a c) (sym is ∙ h.0) left
+pub answers_left : (p : TabledPlan) (kind : AnswerKind) (requested : Result (List RequestLine) RequestsFault) (text : List ℕ) (end : Result (Unit {0}) Failure) (a c : Output) → HasRequests (form_of kind) text requested
+    → (xs : List RequestLine) × (requests_from (form_of kind) 1 (lines_in text) ≡ Ok xs) × WritesAll p.plan xs kind end a c → WritesAnswers (Ok p) requested kind end a c
+answers_left p kind requested text end a c h (xs, is, left) = subst (λ t. WritesAnswers (Ok p) t kind end a c) (sym is ∙ h.0) left

@@ -20,8 +20,8 @@ use Rattle.commands.specs.runs.Runs.{status_at}
 use Rattle.commands.specs.runs.SessionRuns.{ReadsOldSession, WritesFirstPage, WritesNextPage, WritesPage, place_of}
 use Rattle.commands.specs.runs.EveryRun.{IsAt, from_text}
 use Rattle.commands.specs.runs.NextPage.{place_after, report_from, WritesPageFrom, GoesOnFrom}
-use Rattle.commands.specs.runs.RunsInTurn.{Run, Takes, IsDone, IsFirst, IsNext, AreNext, given_of, IsPage, ArePages, RunsInTurn}
-use Rattle.commands.specs.runs.RunsGoOn.{IsLast, asked_of, text_left, pages_given, IsPageAfter, ArePagesAfter, GoOnFrom, RunsGoOn}
+use Rattle.commands.specs.runs.RunsInTurn.{Run, Takes, IsDone, IsFirst, IsNext, AreNext, IsPage, ArePages, RunsInTurn}
+use Rattle.commands.specs.runs.RunsGoOn.{asked_of, text_left, pages_given, GoOnFrom, RunsGoOn}
 use Rattle.commands.proofs.RunLemmas.RunsFollow.{next_within, pages_joined}
 use Rattle.commands.proofs.RunLemmas.SessionPages.{none_before, first_from}
 use Rattle.commands.proofs.RunLemmas.NextPages.{none_more, place_kept, next_goes_on}
@@ -41,6 +41,9 @@ never_done failure.SessionRead e = cc
 never_done failure.CannotOpenRequests e = cc
 never_done (failure.RequestsLine line kind) e = cc
 never_done failure.RequestsRead e = cc
+never_done failure.CannotOpenLists e = cc
+never_done (failure.ListsLine line kind) e = cc
+never_done failure.ListsRead e = cc
 never_done failure.Write e = cc
 never_done failure.NoMemory e = cc
 never_done failure.NotUtf8 e = cc
@@ -94,92 +97,54 @@ module _ (plan : List ℕ) (p : ContactPlan) (r : RouteRequest) (spelled : plan_
       let same : ◌≡◌ {A = RouteRequest × ℕ} (is.request, is.place) (r, i) = λ j. (of_request j, of_place j) in
       subst (λ (w : RouteRequest × ℕ). GoesOnFrom t w.0 w.1 text) same (next_goes_on t text rules is)
 
-  next_page : (i : ℕ) (text : List ℕ) (run : Run) (x : IsNext plan text run) (planned : Result TabledPlan PlanFault) → x.is_done.planned ≡ planned
-      → IsAt p r i (from_text text) → IsPageFrom p i run
-  next_page i text run x (Err fault) is at =
+  next_left : (keep : Bool) (i : ℕ) (text : List ℕ) (run : Run) (x : IsNext plan text keep run) (planned : Result TabledPlan PlanFault) → x.is_done.planned ≡ planned → IsAt p r i (from_text text)
+      → (q : ContactPlan) × (q ≡ p) × WritesPageFrom keep q r i run.count x.is_done.end x.is_done.out x.is_done.out₁ x.is_done.session x.is_done.session₁
+  next_left keep i text run x (Err fault) is at =
       let d = x.is_done in
-      let w = subst (λ q. WritesNextPage q (place_of x.resumed) true run.count d.end d.out d.out₁ d.session d.session₁) is x.writes in
+      let w = subst (λ q. WritesNextPage q (place_of x.resumed) keep run.count d.end d.out d.out₁ d.session d.session₁) is x.writes in
       absurd (never_done _ (sym (ap status_at w.0) ∙ d.done))
-  next_page i text run x (Ok t) is at =
+  next_left keep i text run x (Ok t) is at =
       let d = x.is_done in
       let e = plan_read plan p d.reader t d.reader₁ spelled d.has (subst (λ q. ReadsPlan d.reader q d.reader₁) is d.reads) in
       let goes_on = text_goes_on t i text (subst IsPlan (sym e) good) (subst (λ q. IsAt q r i (from_text text)) (sym e) at) in
       let left = goes_on x.reader x.resumed x.reader₁ x.has (subst (λ q. ReadsOldSession q x.reader x.resumed x.reader₁) is x.reads)
-      true run.count d.end d.out d.out₁ d.session d.session₁
-      (subst (λ q. WritesNextPage q (place_of x.resumed) true run.count d.end d.out d.out₁ d.session d.session₁) is x.writes) in
-      let from : IsPageFrom t.plan i run = elim left [
-        | inl w ↦ page_from t.plan i run d d.end d.done w
+      keep run.count d.end d.out d.out₁ d.session d.session₁
+      (subst (λ q. WritesNextPage q (place_of x.resumed) keep run.count d.end d.out d.out₁ d.session d.session₁) is x.writes) in
+      let from : WritesPageFrom keep t.plan r i run.count d.end d.out d.out₁ d.session d.session₁ = elim left [
+        | inl w ↦ w
         | inr w ↦ absurd (never_done failure.SessionRead (sym (ap status_at w.1) ∙ d.done))
       ]
       in
-      subst (λ q. IsPageFrom q i run) e from
+      (t.plan, e, from)
 
-  -- the place after pages that were asked for so many routes, and then one more
-  place_on : (asked count : ℕ) → place_after p r (given_of p r asked) count ≡ given_of p r (asked + count)
-  place_on asked count =
-      let page = page_of p r (given_of p r asked) count in
-      let joined : page_of p r 0 asked ++ page ≡ page_of p r 0 (asked + count) =
-      subst (λ n. page_of p r 0 asked ++ page_of p r n count ≡ page_of p r 0 (asked + count)) (none_before (given_of p r asked)) (pages_joined p r good accepted 0 asked count) in
-      sym (length-append (page_of p r 0 asked) page) ∙ ap length joined
+  next_page : (i : ℕ) (text : List ℕ) (run : Run) → IsNext plan text true run → IsAt p r i (from_text text) → IsPageFrom p i run
+  next_page i text run x at =
+      let (q, e, w) = next_left true i text run x x.is_done.planned refl at in
+      subst (λ t. IsPageFrom t i run) e (page_from q i run x.is_done x.is_done.end x.is_done.done w)
 
-  is_page : (asked : ℕ) (run : Run) → IsPageFrom p (given_of p r asked) run → IsPage p r asked run
-  is_page asked run (report, text, there) =
-      let to = place_on asked run.count in
-      record {
-        report = report;
-        text = text ∙ ap (session_text p r) to;
-        there = subst (λ n. IsAt p r n (from_text run.text)) to (subst (λ b. IsAt p r (place_after p r (given_of p r asked) run.count) (from_text b)) (sym text) there);
-      }
-
-  pages_on : (asked : ℕ) (text : List ℕ) (runs : List Run) → IsAt p r (given_of p r asked) (from_text text) → AreNext plan text runs → ArePages p r asked runs
-  pages_on asked text [] at are = tt
-  pages_on asked text (run ∷ runs) at (next, others) =
-      let page = is_page asked run (next_page (given_of p r asked) text run next next.is_done.planned refl at) in
-      (page, pages_on (asked + run.count) run.text runs page.there others)
-
-  all_pages : (first : Run) (runs : List Run) → IsFirst plan r first → AreNext plan first.text runs → ArePages p r 0 (first ∷ runs)
-  all_pages first runs (x, writes) others =
-      let page = is_page 0 first (first_page first x x.planned x.reads writes) in
-      (page, pages_on (0 + first.count) first.text runs page.there others)
-
-  -- a run that is done reported the page from place i on, whether it keeps its session or not
+  -- whether it keeps its session or not, it reported that page
   report_taken : (keep : Bool) (q : ContactPlan) (i : ℕ) (run : Run) (x : IsDone plan run) (end : Result (Unit {0}) Failure) → status_at end ≡ status.Done
       → WritesPageFrom keep q r i run.count end x.out x.out₁ x.session x.session₁ → run.report ≡ report_from q r i run.count
   report_taken keep q i run x (Err f) done w = absurd (never_done f done)
   report_taken keep q i run x (Ok u) done w = taken x.out _ run.report x.out₁ w.0.0.0 x.takes_report
 
-  last_report : (i : ℕ) (text : List ℕ) (run : Run) (x : IsLast plan text run) (planned : Result TabledPlan PlanFault) → x.is_done.planned ≡ planned
-      → IsAt p r i (from_text text) → run.report ≡ report_from p r i run.count
-  last_report i text run x (Err fault) is at =
-      let d = x.is_done in
-      let w = subst (λ q. WritesNextPage q (place_of x.resumed) false run.count d.end d.out d.out₁ d.session d.session₁) is x.writes in
-      absurd (never_done _ (sym (ap status_at w.0) ∙ d.done))
-  last_report i text run x (Ok t) is at =
-      let d = x.is_done in
-      let e = plan_read plan p d.reader t d.reader₁ spelled d.has (subst (λ q. ReadsPlan d.reader q d.reader₁) is d.reads) in
-      let goes_on = text_goes_on t i text (subst IsPlan (sym e) good) (subst (λ q. IsAt q r i (from_text text)) (sym e) at) in
-      let left = goes_on x.reader x.resumed x.reader₁ x.has (subst (λ q. ReadsOldSession q x.reader x.resumed x.reader₁) is x.reads)
-      false run.count d.end d.out d.out₁ d.session d.session₁
-      (subst (λ q. WritesNextPage q (place_of x.resumed) false run.count d.end d.out d.out₁ d.session d.session₁) is x.writes) in
-      let from : run.report ≡ report_from t.plan r i run.count = elim left [
-        | inl w ↦ report_taken false t.plan i run d d.end d.done w
-        | inr w ↦ absurd (never_done failure.SessionRead (sym (ap status_at w.1) ∙ d.done))
-      ]
-      in
-      subst (λ q. run.report ≡ report_from q r i run.count) e from
+  last_report : (i : ℕ) (text : List ℕ) (run : Run) → IsNext plan text false run → IsAt p r i (from_text text) → run.report ≡ report_from p r i run.count
+  last_report i text run x at =
+      let (q, e, w) = next_left false i text run x x.is_done.planned refl at in
+      subst (λ t. run.report ≡ report_from t r i run.count) e (report_taken false q i run x.is_done x.is_done.end x.is_done.done w)
 
   -- the place after pages from place i on that were asked for so many routes, and then one more
-  place_on_from : (i asked count : ℕ) → place_after p r (place_after p r i asked) count ≡ place_after p r i (asked + count)
-  place_on_from i asked count =
+  place_on : (i asked count : ℕ) → place_after p r (place_after p r i asked) count ≡ place_after p r i (asked + count)
+  place_on i asked count =
       let a = page_of p r i asked in
       let b = page_of p r (place_after p r i asked) count in
       let joined : a ++ b ≡ page_of p r i (asked + count) = pages_joined p r good accepted i asked count in
       let many : length a + length b ≡ length (page_of p r i (asked + count)) = sym (length-append a b) ∙ ap length joined in
       omega (arith, many)
 
-  is_page_after : (i asked : ℕ) (run : Run) → IsPageFrom p (place_after p r i asked) run → IsPageAfter p r i asked run
-  is_page_after i asked run (report, text, there) =
-      let to = place_on_from i asked run.count in
+  is_page : (i asked : ℕ) (run : Run) → IsPageFrom p (place_after p r i asked) run → IsPage p r i asked run
+  is_page i asked run (report, text, there) =
+      let to = place_on i asked run.count in
       record {
         report = report;
         text = text ∙ ap (session_text p r) to;
@@ -187,12 +152,12 @@ module _ (plan : List ℕ) (p : ContactPlan) (r : RouteRequest) (spelled : plan_
       }
 
   pages_after : (i asked : ℕ) (text : List ℕ) (runs : List Run) → IsAt p r (place_after p r i asked) (from_text text) → AreNext plan text runs
-      → ArePagesAfter p r i asked runs × (page_of p r i asked ++ pages_given p r i asked runs ≡ page_of p r i (asked + asked_of runs)) × IsAt p r (place_after p r i (asked + asked_of runs)) (from_text (text_left text runs))
+      → ArePages p r i asked runs × (page_of p r i asked ++ pages_given p r i asked runs ≡ page_of p r i (asked + asked_of runs)) × IsAt p r (place_after p r i (asked + asked_of runs)) (from_text (text_left text runs))
   pages_after i asked text [] at are =
       let none : asked + 0 ≡ asked = omega arith in
       (tt, append-nil (page_of p r i asked) ∙ ap (page_of p r i) (sym none), subst (λ n. IsAt p r (place_after p r i n) (from_text text)) (sym none) at)
   pages_after i asked text (run ∷ runs) at (next, others) =
-      let page = is_page_after i asked run (next_page (place_after p r i asked) text run next next.is_done.planned refl at) in
+      let page = is_page i asked run (next_page (place_after p r i asked) text run next at) in
       let rest = pages_after i (asked + run.count) run.text runs page.there others in
       let most : (asked + run.count) + asked_of runs ≡ asked + (run.count + asked_of runs) = omega arith in
       let given = page_of p r (place_after p r i asked) run.count in
@@ -202,6 +167,11 @@ module _ (plan : List ℕ) (p : ContactPlan) (r : RouteRequest) (spelled : plan_
         sym (append_assoc (page_of p r i asked) given more) ∙ ap (λ xs. xs ++ more) joined ∙ rest.1 ∙ ap (page_of p r i) most,
         subst (λ n. IsAt p r (place_after p r i n) (from_text (text_left run.text runs))) most rest.2,
       )
+
+  all_pages : (first : Run) (runs : List Run) → IsFirst plan r first → AreNext plan first.text runs → ArePages p r 0 0 (first ∷ runs)
+  all_pages first runs (x, writes) others =
+      let page = is_page 0 0 first (first_page first x x.planned x.reads writes) in
+      (page, (pages_after 0 (0 + first.count) first.text runs page.there others).0)
 
   all_after : (i : ℕ) (text : List ℕ) (runs : List Run) → IsAt p r i (from_text text) → AreNext plan text runs → GoOnFrom plan text p r i runs
   all_after i text runs at are =
@@ -213,7 +183,7 @@ module _ (plan : List ℕ) (p : ContactPlan) (r : RouteRequest) (spelled : plan_
         each = on.0;
         joined = on.1 ∙ ap (page_of p r i) none;
         left = left;
-        last = λ run x. last_report (place_after p r i (asked_of runs)) (text_left text runs) run x x.is_done.planned refl left;
+        last = λ run x. last_report (place_after p r i (asked_of runs)) (text_left text runs) run x left;
       }
     where
       length-none : (i : ℕ) → length (page_of p r i 0) ≡ 0

@@ -1,23 +1,26 @@
--- Many requests answered in one run, beside first runs for each of them.
+-- Many lines answered in one run, beside a run of its own for each of them.
 use Rattle.std.specs.Prelude.{◌≡◌, ℕ, Bool, true, List, [], ◌∷◌, ◌++◌, Some, Result, Ok}
 use Rattle.sabr_model.specs.Devices.{Input, Output}
 use Rattle.sabr_model.specs.plan.Plan.{ContactPlan, TabledPlan}
+use Rattle.sabr_model.specs.routes.Arrival.{RouteRequest}
 use Rattle.sabr_plan.specs.Reading.{plan_of}
 use Rattle.sabr_plan.specs.PlanRead.{ReadsPlan}
 use Rattle.sabr_plan.specs.declared.fault.PlanFault.{PlanFault}
 use Rattle.commands.specs.declared.failure.Failure.{Failure}
+use Rattle.commands.specs.declared.runs.answer_kind.AnswerKind.{AnswerKind}
+use Rattle.commands.specs.declared.runs.answer_kind.AnswerKind.TheVariants.{FirstRoutes, Explanation}
 use Rattle.commands.specs.declared.status.Status.TheVariants as status
 use Rattle.commands.specs.declared.words.requests_fault.RequestsFault.{RequestsFault}
+use Rattle.commands.specs.texts.Explanation.{WritesExplanation}
 use Rattle.commands.specs.words.Requests.{RequestLine, requests_of}
 use Rattle.commands.specs.runs.Runs.{status_at}
-use Rattle.commands.specs.runs.Many.{ReadsRequestsOver, WritesAnswers, heading}
-use Rattle.sabr_model.specs.routes.Arrival.{RouteRequest}
-use Rattle.commands.specs.runs.SessionRuns.{WritesFirstPage}
+use Rattle.commands.specs.runs.Many.{ReadsRequestsOver, WritesAnswers, form_of, heading}
 use Rattle.commands.specs.runs.RunsInTurn.{Takes}
+use Rattle.commands.specs.runs.SessionRuns.{WritesFirstPage}
 
--- the run over readers of these texts, of a plan and of requests, where it did what was asked of it, and its writer took
+-- the run over readers of these texts, of a plan and of lines, where it did what was asked of it, and its writer took
 -- these bytes
-pub record IsMany (plan text : List ℕ) (count : ℕ) (bytes : List ℕ) : Type 0 where
+pub record IsMany (plan text : List ℕ) (kind : AnswerKind) (bytes : List ℕ) : Type 0 where
   pub reader : Input
   pub planned : Result TabledPlan PlanFault
   pub reader₁ : Input
@@ -27,45 +30,67 @@ pub record IsMany (plan text : List ℕ) (count : ℕ) (bytes : List ℕ) : Type
   pub requested : Result (List RequestLine) RequestsFault
   pub asked₁ : Input
   pub asks : asked.remaining ≡ Some text
-  pub reads_asked : ReadsRequestsOver planned asked requested asked₁
+  pub reads_asked : ReadsRequestsOver (form_of kind) planned asked requested asked₁
   pub end : Result (Unit {0}) Failure
   pub done : status_at end ≡ status.Done
   pub out : Output
   pub out₁ : Output
   pub takes : Takes out bytes out₁
-  pub writes : WritesAnswers planned requested count end out out₁
+  pub writes : WritesAnswers planned requested kind end out out₁
 
--- the report of a first run for this request, with this count, over a reader of this plan text: it keeps its session or not, ends
--- with status 0, and its writer took this report and nothing else
-pub record IsReport (plan : List ℕ) (r : RouteRequest) (count : ℕ) (report : List ℕ) : Type 0 where
+-- a run over a reader of this plan text, of which the writer took this report and nothing else
+pub record IsAlone (plan report : List ℕ) : Type 0 where
   pub reader : Input
   pub planned : Result TabledPlan PlanFault
   pub reader₁ : Input
   pub has : reader.remaining ≡ Some plan
   pub reads : ReadsPlan reader planned reader₁
-  pub keep : Bool
-  pub end : Result (Unit {0}) Failure
-  pub done : status_at end ≡ status.Done
   pub out : Output
   pub out₁ : Output
   pub takes : Takes out report out₁
+
+-- it is a first run for this request, with this count, that ends with status 0; it keeps its session or not
+pub record IsFirstReport (plan : List ℕ) (r : RouteRequest) (count : ℕ) (report : List ℕ) : Type 0 where
+  pub alone : IsAlone plan report
+  pub keep : Bool
+  pub end : Result (Unit {0}) Failure
+  pub done : status_at end ≡ status.Done
   pub session : Output
   pub session₁ : Output
-  pub writes : WritesFirstPage planned r keep count end out out₁ session session₁
+  pub writes : WritesFirstPage alone.planned r keep count end alone.out alone.out₁ session session₁
 
--- the reports of first runs over the plan, one for each request, with this count
-abbrev pub AreReports : List ℕ → ℕ → List RequestLine → List (List ℕ) → Type 0
-AreReports plan count [] [] = Unit {0}
-AreReports plan count (x ∷ xs) (report ∷ reports) = IsReport plan x.request count report × AreReports plan count xs reports
-AreReports plan count _ _ = ⊥
+-- it is an explain run of these contacts for this request that ends with an answer, and so with status 0 or 1
+pub record IsExplained (plan : List ℕ) (r : RouteRequest) (contacts report : List ℕ) : Type 0 where
+  pub alone : IsAlone plan report
+  pub answer : Bool
+  pub writes : WritesExplanation alone.planned r contacts (Ok answer) alone.out alone.out₁
 
--- the lines of requests, each with its report after it
-abbrev pub reports_of : List RequestLine → List (List ℕ) → List ℕ
-reports_of (x ∷ xs) (report ∷ reports) = (heading x.line ++ report) ++ reports_of xs reports
-reports_of _ _ = []
+-- the report of a run of its own for what a line asks
+abbrev pub IsReport : List ℕ → AnswerKind → RequestLine → List ℕ → Type 0
+IsReport plan (FirstRoutes count) x report = IsFirstReport plan x.asked.request count report
+IsReport plan Explanation x report = IsExplained plan x.asked.request x.asked.contacts report
 
--- over the texts of a plan and of requests, that run writes these reports, each after its request
+-- the reports of such runs over the plan, one for each line
+abbrev pub AreReports : List ℕ → AnswerKind → List RequestLine → List (List ℕ) → Type 0
+AreReports plan kind [] [] = Unit {0}
+AreReports plan kind (x ∷ xs) (report ∷ reports) = IsReport plan kind x report × AreReports plan kind xs reports
+AreReports plan kind _ _ = ⊥
+
+-- the lines, each after a word and with its report after it
+abbrev pub reports_of : AnswerKind → List RequestLine → List (List ℕ) → List ℕ
+reports_of kind (x ∷ xs) (report ∷ reports) = (heading kind x.line ++ report) ++ reports_of kind xs reports
+reports_of kind _ _ = []
+
+-- over the texts of a plan and of lines, that run writes these reports, each after its line
+abbrev pub AnswersAsAlone : AnswerKind → Type 0
+AnswersAsAlone kind =
+    (plan text : List ℕ) (p : ContactPlan) (xs : List RequestLine) (bytes : List ℕ) (reports : List (List ℕ))
+    → plan_of plan true ≡ Ok p → requests_of (form_of kind) text ≡ Ok xs → IsMany plan text kind bytes → AreReports plan kind xs reports → bytes ≡ reports_of kind xs reports
+
+-- a run `many` writes what first runs report
 abbrev pub ManyAnswersAsFirst : Type 0
-ManyAnswersAsFirst =
-    (plan text : List ℕ) (p : ContactPlan) (xs : List RequestLine) (count : ℕ) (bytes : List ℕ) (reports : List (List ℕ))
-    → plan_of plan true ≡ Ok p → requests_of text ≡ Ok xs → IsMany plan text count bytes → AreReports plan count xs reports → bytes ≡ reports_of xs reports
+ManyAnswersAsFirst = (count : ℕ) → AnswersAsAlone (FirstRoutes count)
+
+-- a run `follow` writes what explain runs report
+abbrev pub FollowAnswersAsExplain : Type 0
+FollowAnswersAsExplain = AnswersAsAlone Explanation

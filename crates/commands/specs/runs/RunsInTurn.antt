@@ -1,10 +1,9 @@
 -- Runs of the program in turn: a first run, and then next runs, each over the session text that the one before wrote.
-use Rattle.std.specs.Prelude.{◌≡◌, ℕ, ◌+◌, true, List, [], ◌∷◌, ◌++◌, length, Some, Result, Ok}
+use Rattle.std.specs.Prelude.{◌≡◌, ℕ, ◌+◌, Bool, true, List, [], ◌∷◌, ◌++◌, Some, Result, Ok}
 use Rattle.sabr_model.specs.Devices.{Input, Output}
 use Rattle.sabr_model.specs.plan.Plan.{ContactPlan, TabledPlan}
 use Rattle.sabr_model.specs.routes.Arrival.{RouteRequest}
 use Rattle.sabr_model.specs.routes.Asking.{IsRequest}
-use Rattle.sabr_model.specs.routes.Listing.{page_of}
 use Rattle.sabr_plan.specs.Reading.{plan_of}
 use Rattle.sabr_plan.specs.PlanRead.{ReadsPlan}
 use Rattle.sabr_plan.specs.declared.fault.PlanFault.{PlanFault}
@@ -16,9 +15,9 @@ use Rattle.commands.specs.declared.status.Status.TheVariants as status
 use Rattle.commands.specs.runs.Runs.{status_at}
 use Rattle.commands.specs.runs.SessionRuns.{ReadsOldSession, WritesFirstPage, WritesNextPage, place_of}
 use Rattle.commands.specs.runs.EveryRun.{IsAt, from_text}
-use Rattle.commands.specs.runs.NextPage.{report_from}
+use Rattle.commands.specs.runs.NextPage.{place_after, report_from}
 
--- a run that keeps its session: how many routes it is asked for, and the texts that its writers take
+-- a run: how many routes it is asked for, and the texts that its writers take
 pub record Run : Type 0 where
   pub count : ℕ
   pub report : List ℕ
@@ -44,43 +43,39 @@ pub record IsDone (plan : List ℕ) (run : Run) : Type 0 where
   pub session₁ : Output
   pub takes_text : Takes session run.text session₁
 
--- it is a first run for this request
+-- it is a first run for this request that keeps its session
 abbrev pub IsFirst : List ℕ → RouteRequest → Run → Type 0
 IsFirst plan r run = (x : IsDone plan run) × WritesFirstPage x.planned r true run.count x.end x.out x.out₁ x.session x.session₁
 
--- it is a next run over a reader of this session text
-pub record IsNext (plan text : List ℕ) (run : Run) : Type 0 where
+-- it is a next run over a reader of this session text, which keeps its session or not
+pub record IsNext (plan text : List ℕ) (keep : Bool) (run : Run) : Type 0 where
   pub is_done : IsDone plan run
   pub reader : Input
   pub resumed : Result Seen SessionFault
   pub reader₁ : Input
   pub has : reader.remaining ≡ Some text
   pub reads : ReadsOldSession is_done.planned reader resumed reader₁
-  pub writes : WritesNextPage is_done.planned (place_of resumed) true run.count is_done.end is_done.out is_done.out₁ is_done.session is_done.session₁
+  pub writes : WritesNextPage is_done.planned (place_of resumed) keep run.count is_done.end is_done.out is_done.out₁ is_done.session is_done.session₁
 
--- next runs, the first over this session text, and each other one over that of the run before
+-- next runs that keep their sessions, the first over this session text, and each other one over that of the run before
 abbrev pub AreNext : List ℕ → List ℕ → List Run → Type 0
 AreNext plan text [] = Unit {0}
-AreNext plan text (run ∷ runs) = IsNext plan text run × AreNext plan run.text runs
+AreNext plan text (run ∷ runs) = IsNext plan text true run × AreNext plan run.text runs
 
--- how many routes are in pages that were asked for so many together, from the first one on
-abbrev pub given_of : ContactPlan → RouteRequest → ℕ → ℕ
-given_of p r asked = length (page_of p r 0 asked)
-
--- a run after pages that were asked for so many routes: it reports the page after theirs, and leaves the session text
--- of the place after that, from which a run can go on
-pub record IsPage (p : ContactPlan) (r : RouteRequest) (asked : ℕ) (run : Run) : Type 0 where
-  pub report : run.report ≡ report_from p r (given_of p r asked) run.count
-  pub text : run.text ≡ session_text p r (given_of p r (asked + run.count))
-  pub there : IsAt p r (given_of p r (asked + run.count)) (from_text run.text)
+-- a run after pages from place i on that were asked for so many routes: it reports the page after theirs, and leaves the
+-- session text of the place after that, from which a run can go on
+pub record IsPage (p : ContactPlan) (r : RouteRequest) (i asked : ℕ) (run : Run) : Type 0 where
+  pub report : run.report ≡ report_from p r (place_after p r i asked) run.count
+  pub text : run.text ≡ session_text p r (place_after p r i (asked + run.count))
+  pub there : IsAt p r (place_after p r i (asked + run.count)) (from_text run.text)
 
 -- such runs, one after the other
-abbrev pub ArePages : ContactPlan → RouteRequest → ℕ → List Run → Type 0
-ArePages p r asked [] = Unit {0}
-ArePages p r asked (run ∷ runs) = IsPage p r asked run × ArePages p r (asked + run.count) runs
+abbrev pub ArePages : ContactPlan → RouteRequest → ℕ → ℕ → List Run → Type 0
+ArePages p r i asked [] = Unit {0}
+ArePages p r i asked (run ∷ runs) = IsPage p r i asked run × ArePages p r i (asked + run.count) runs
 
 -- over the text of a plan, a first run for an accepted request, and then any next runs, write the listing page by page
 abbrev pub RunsInTurn : Type 0
 RunsInTurn =
     (plan : List ℕ) (p : ContactPlan) (r : RouteRequest) (first : Run) (runs : List Run) → plan_of plan true ≡ Ok p → IsRequest r
-    → IsFirst plan r first → AreNext plan first.text runs → ArePages p r 0 (first ∷ runs)
+    → IsFirst plan r first → AreNext plan first.text runs → ArePages p r 0 0 (first ∷ runs)

@@ -18,6 +18,8 @@ use Rattle.commands.specs.declared.words.requests_fault.RequestKind.{RequestKind
 use Rattle.commands.specs.declared.words.requests_fault.RequestKind.TheVariants as request
 use Rattle.commands.specs.declared.words.requests_fault.RequestsFault.{RequestsFault}
 use Rattle.commands.specs.declared.words.requests_fault.RequestsFault.TheVariants as requests
+use Rattle.commands.specs.declared.words.line_form.LineForm.{LineForm}
+use Rattle.commands.specs.declared.words.line_form.LineForm.TheVariants.{Requests, Lists}
 use Rattle.commands.specs.words.Values.{name_text}
 
 -- a kind of a bad line, by its name
@@ -73,8 +75,9 @@ failure_of_session session.Read = failure.SessionRead
 failure_of_session session.NoMemory = failure.NoMemory
 failure_of_session fault = failure.Session fault
 
--- what is bad in a line of requests, by its name
+-- what is bad in a line of requests or of lists, by its name
 abbrev pub request_kind_text : RequestKind → List ℕ
+request_kind_text request.BadContacts = codes "BadContacts"
 request_kind_text request.BadFrom = codes "BadFrom"
 request_kind_text request.BadTo = codes "BadTo"
 request_kind_text request.BadAt = codes "BadAt"
@@ -84,11 +87,13 @@ request_kind_text request.BadAvoid = codes "BadAvoid"
 request_kind_text request.SameNode = codes "SameNode"
 request_kind_text request.BadLine = codes "BadLine"
 
--- the failure that refused requests are
-abbrev pub failure_of_requests : RequestsFault → Failure
-failure_of_requests requests.Read = failure.RequestsRead
-failure_of_requests requests.NoMemory = failure.NoMemory
-failure_of_requests (requests.Line line kind) = failure.RequestsLine line kind
+-- the failure that refused lines of this form are
+abbrev pub failure_of_requests : LineForm → RequestsFault → Failure
+failure_of_requests Requests requests.Read = failure.RequestsRead
+failure_of_requests Requests (requests.Line line kind) = failure.RequestsLine line kind
+failure_of_requests Lists requests.Read = failure.ListsRead
+failure_of_requests Lists (requests.Line line kind) = failure.ListsLine line kind
+failure_of_requests form requests.NoMemory = failure.NoMemory
 
 -- the line of a session text that a fault names
 abbrev pub session_line : SessionFault → Option ℕ
@@ -120,6 +125,10 @@ message_text failure.CannotOpenRequests = codes "cgrlist: cannot open the reques
 message_text (failure.RequestsLine line kind) =
     concat (codes "cgrlist: requests line " ∷ decimal line ∷ codes ": " ∷ request_kind_text kind ∷ codes "\n" ∷ [])
 message_text failure.RequestsRead = codes "cgrlist: requests: read failed\n"
+message_text failure.CannotOpenLists = codes "cgrlist: cannot open the lists\n"
+message_text (failure.ListsLine line kind) =
+    concat (codes "cgrlist: lists line " ∷ decimal line ∷ codes ": " ∷ request_kind_text kind ∷ codes "\n" ∷ [])
+message_text failure.ListsRead = codes "cgrlist: lists: read failed\n"
 message_text failure.Write = codes "cgrlist: write failed\n"
 message_text failure.NoMemory = codes "cgrlist: no memory\n"
 message_text failure.NotUtf8 = codes "cgrlist: a word of the command line is not UTF-8\n"
@@ -139,6 +148,9 @@ status_of failure.SessionRead = status.Io
 status_of failure.CannotOpenRequests = status.Io
 status_of (failure.RequestsLine line kind) = status.Session
 status_of failure.RequestsRead = status.Io
+status_of failure.CannotOpenLists = status.Io
+status_of (failure.ListsLine line kind) = status.Session
+status_of failure.ListsRead = status.Io
 status_of failure.Write = status.Io
 status_of failure.NoMemory = status.Memory
 status_of failure.NotUtf8 = status.Usage

@@ -1,5 +1,5 @@
--- What a text of requests says: a request a line, each word read as strictly as the option of its name.
-use Rattle.std.specs.Prelude.{◌≡◌, ℕ, ◌+◌, ◌≤◌, nat_lt, ◌⊎◌, List, [], ◌∷◌, ◌++◌, length, take, Result, Ok, Err, if◌then◌else◌}
+-- What a text of requests or of lists says: one a line, each word read as strictly as the option of its name.
+use Rattle.std.specs.Prelude.{◌≡◌, ℕ, ◌+◌, ◌≤◌, nat_lt, ◌⊎◌, List, [], ◌∷◌, ◌++◌, length, take, option_map, Result, Ok, Err, if◌then◌else◌}
 use Rattle.std.specs.Io.KnownBytes.{Consumes, IsAtEnd}
 use Rattle.sabr_model.specs.Devices.{Input}
 use Rattle.std.specs.declared.option.Option.{Option}
@@ -9,10 +9,13 @@ use Rattle.commands.specs.declared.words.value_name.ValueName.TheVariants as nam
 use Rattle.commands.specs.declared.words.value_fault.ValueFault.{ValueFault}
 use Rattle.commands.specs.declared.words.value_fault.ValueFault.TheVariants as value
 use Rattle.commands.specs.declared.words.requests_fault.RequestKind.{RequestKind}
-use Rattle.commands.specs.declared.words.requests_fault.RequestKind.TheVariants.{BadFrom, BadTo, BadAt, BadMargin, BadHops, BadAvoid, SameNode, BadLine}
+use Rattle.commands.specs.declared.words.requests_fault.RequestKind.TheVariants.{BadContacts, BadFrom, BadTo, BadAt, BadMargin, BadHops, BadAvoid, SameNode, BadLine}
 use Rattle.commands.specs.declared.words.requests_fault.RequestsFault.{RequestsFault}
 use Rattle.commands.specs.declared.words.requests_fault.RequestsFault.TheVariants.{Line, Read, NoMemory}
-use Rattle.commands.specs.words.Lists.{pieces_of}
+use Rattle.commands.specs.declared.words.line_form.LineForm.{LineForm}
+use Rattle.commands.specs.declared.words.line_form.LineForm.TheVariants.{Requests, Lists}
+use Rattle.sabr_session.specs.SessionWords.{most_number}
+use Rattle.commands.specs.words.Lists.{numbers_within, pieces_of}
 use Rattle.commands.specs.words.Values.{TextsGiven, and_then, request_words, request_of}
 
 -- what is bad in a line, by the fault of its values; a value that no line has would be no part of a line
@@ -23,6 +26,7 @@ kind_of (value.Bad name.At) = BadAt
 kind_of (value.Bad name.MarginPpm) = BadMargin
 kind_of (value.Bad name.MaxHops) = BadHops
 kind_of (value.Bad name.Avoid) = BadAvoid
+kind_of (value.Bad name.Contacts) = BadContacts
 kind_of value.BadAvoid = BadAvoid
 kind_of value.SameNode = SameNode
 kind_of _ = BadLine
@@ -68,10 +72,54 @@ request_where_given (Some texts) = or_kind (request_by texts)
 unfoldable pub request_in : List ℕ → Result RouteRequest RequestKind
 request_in line = if nat_lt most_line_bytes (length line) then Err BadLine else request_where_given (texts_of (pieces_of space line))
 
--- a request and its line
+-- what a line asks: a request, and the contacts before it; none if its form has none
+pub record Asked : Type 0 where
+  pub contacts : List ℕ
+  pub request : RouteRequest
+
+-- these contacts and then a request
+abbrev pub after_contacts : List ℕ → Result RouteRequest RequestKind → Result Asked RequestKind
+after_contacts contacts (Ok r) = Ok (record { contacts = contacts; request = r })
+after_contacts contacts (Err kind) = Err kind
+
+-- the contacts that a text lists, and then a request
+abbrev pub after_listed : Option (List ℕ) → Result RouteRequest RequestKind → Result Asked RequestKind
+after_listed None request = Err BadContacts
+after_listed (Some contacts) request = after_contacts contacts request
+
+-- the first of four to seven words as the text of contacts, and the others as those of a request
+abbrev pub list_texts_of : List (List ℕ) → Option (List ℕ × TextsGiven)
+list_texts_of [] = None
+list_texts_of (contacts ∷ words) = option_map (λ texts. (contacts, texts)) (texts_of words)
+
+-- the contacts and the request of these texts, if there are any
+abbrev pub list_where_given : Option (List ℕ × TextsGiven) → Result Asked RequestKind
+list_where_given None = Err BadLine
+list_where_given (Some (contacts, texts)) = after_listed (numbers_within 1 most_number contacts) (or_kind (request_by texts))
+
+-- the most bytes of a line of lists: 20000 numbers of ten digits, each with a byte after it, and a request
+abbrev pub most_list_bytes : ℕ
+most_list_bytes = 220411
+
+-- the contacts and the request of a line of lists, or what is bad in it
+unfoldable pub list_in : List ℕ → Result Asked RequestKind
+list_in line = if nat_lt most_list_bytes (length line) then Err BadLine else list_where_given (list_texts_of (pieces_of space line))
+
+-- a line of lists asks about the contacts that this text lists, and this request
+pub record Asks (line text : List ℕ) (r : RouteRequest) : Type 0 where
+  pub contacts : List ℕ
+  pub listed : numbers_within 1 most_number text ≡ Some contacts
+  pub says : list_in line ≡ Ok (record { contacts = contacts; request = r })
+
+-- what a line of this form asks, or what is bad in it
+abbrev pub asked_in : LineForm → List ℕ → Result Asked RequestKind
+asked_in Requests line = after_contacts [] (request_in line)
+asked_in Lists line = list_in line
+
+-- a line and what it asks
 pub record RequestLine : Type 0 where
   pub line : List ℕ
-  pub request : RouteRequest
+  pub asked : Asked
 
 -- without an empty piece at the end: what stands after the last LF is a line only if it has a byte
 abbrev pub without_last_empty : List (List ℕ) → List (List ℕ)
@@ -83,52 +131,53 @@ without_last_empty (line ∷ lines) = line ∷ without_last_empty lines
 unfoldable pub lines_in : List ℕ → List (List ℕ)
 lines_in text = without_last_empty (pieces_of line_feed text)
 
--- the request of the line of this number, if there may be so many
-abbrev pub request_at : ℕ → List ℕ → Result RouteRequest RequestKind
-request_at n line = if nat_lt most_requests n then Err BadLine else request_in line
+-- what the line of this number asks, if there may be so many
+abbrev pub asked_at : LineForm → ℕ → List ℕ → Result Asked RequestKind
+asked_at form n line = if nat_lt most_requests n then Err BadLine else asked_in form line
 
--- a request before others, unless one of them is refused, the first of them first
-abbrev pub put_first : ℕ → List ℕ → Result RouteRequest RequestKind → Result (List RequestLine) RequestsFault → Result (List RequestLine) RequestsFault
+-- a line before others, unless one of them is refused, the first of them first
+abbrev pub put_first : ℕ → List ℕ → Result Asked RequestKind → Result (List RequestLine) RequestsFault → Result (List RequestLine) RequestsFault
 put_first n line (Err kind) rest = Err (Line n kind)
-put_first n line (Ok r) (Err fault) = Err fault
-put_first n line (Ok r) (Ok xs) = Ok (record { line = line; request = r } ∷ xs)
+put_first n line (Ok a) (Err fault) = Err fault
+put_first n line (Ok a) (Ok xs) = Ok (record { line = line; asked = a } ∷ xs)
 
--- the requests of lines, of which the first has this number, or the first bad line
-abbrev pub requests_from : ℕ → List (List ℕ) → Result (List RequestLine) RequestsFault
-requests_from n [] = Ok []
-requests_from n (line ∷ lines) = put_first n line (request_at n line) (requests_from (n + 1) lines)
+-- what lines ask, of which the first has this number, or the first bad line
+abbrev pub requests_from : LineForm → ℕ → List (List ℕ) → Result (List RequestLine) RequestsFault
+requests_from form n [] = Ok []
+requests_from form n (line ∷ lines) = put_first n line (asked_at form n line) (requests_from form (n + 1) lines)
 
 -- one byte more than so many lines of the greatest length have; a text as long has a bad line within so many bytes
-abbrev pub most_bytes : ℕ
-most_bytes = 412000001
+abbrev pub most_bytes : LineForm → ℕ
+most_bytes Requests = 412000001
+most_bytes Lists = 220412000001
 
--- the requests of a text, or its first bad line
-unfoldable pub requests_of : List ℕ → Result (List RequestLine) RequestsFault
-requests_of text = requests_from 1 (lines_in (take most_bytes text))
+-- what the lines of a text ask, or its first bad line
+unfoldable pub requests_of : LineForm → List ℕ → Result (List RequestLine) RequestsFault
+requests_of form text = requests_from form 1 (lines_in (take (most_bytes form) text))
 
 -- the fault of what was refused
 abbrev pub fault_of : {A E : Type 0} → Result A E → Option E
 fault_of (Ok _) = None
 fault_of (Err fault) = Some fault
 
--- what reading a text of requests leaves: the reader ended after these bytes, and they are the text
-abbrev pub EndsRequests : Input → List ℕ → Result (List RequestLine) RequestsFault → Input → Type 0
-EndsRequests old given answer new = IsAtEnd new.remaining × (new.failures ≡ old.failures) × (requests_of given ≡ answer)
+-- what reading a text of such lines leaves: the reader ended after these bytes, and they are the text
+abbrev pub EndsRequests : LineForm → Input → List ℕ → Result (List RequestLine) RequestsFault → Input → Type 0
+EndsRequests form old given answer new = IsAtEnd new.remaining × (new.failures ≡ old.failures) × (requests_of form given ≡ answer)
 
 -- the reader failed after these bytes
 abbrev pub BreaksRequests : Input → List ℕ → Result (List RequestLine) RequestsFault → Input → Type 0
 BreaksRequests old given answer new = (new.failures ≡ old.failures + 1) × (answer ≡ Err Read)
 
 -- these bytes have the answer whatever follows them, or memory was refused
-abbrev pub RefusesRequests : Input → List ℕ → Result (List RequestLine) RequestsFault → Input → Type 0
-RefusesRequests old given answer new =
-    (new.failures ≡ old.failures) × ((answer ≡ Err NoMemory) ⊎ ((more : List ℕ) → requests_of (given ++ more) ≡ answer))
+abbrev pub RefusesRequests : LineForm → Input → List ℕ → Result (List RequestLine) RequestsFault → Input → Type 0
+RefusesRequests form old given answer new =
+    (new.failures ≡ old.failures) × ((answer ≡ Err NoMemory) ⊎ ((more : List ℕ) → requests_of form (given ++ more) ≡ answer))
 
 -- these bytes were read, and the answer is that of their text
-pub record ReadsRequests (old : Input) (answer : Result (List RequestLine) RequestsFault) (new : Input) : Type 0 where
+pub record ReadsRequests (form : LineForm) (old : Input) (answer : Result (List RequestLine) RequestsFault) (new : Input) : Type 0 where
   pub given : List ℕ
   pub consumed : Consumes old.remaining new.remaining given
-  pub told : EndsRequests old given answer new ⊎ (BreaksRequests old given answer new ⊎ RefusesRequests old given answer new)
+  pub told : EndsRequests form old given answer new ⊎ (BreaksRequests old given answer new ⊎ RefusesRequests form old given answer new)
 
 -- bytes aren't read to their end: the reader failed, or memory was refused
 abbrev pub StopsReading : Input → RequestsFault → Input → Type 0
@@ -137,11 +186,11 @@ StopsReading old NoMemory new = new.failures ≡ old.failures
 StopsReading old (Line n kind) new = ⊥
 
 -- what reading bytes leaves: all that there are, or as many as are looked at
-abbrev pub GivesText : {T : Type 0} → (T → List ℕ) → Input → List ℕ → Result T RequestsFault → Input → Type 0
-GivesText bytes old given (Ok text) new =
-    (bytes text ≡ take most_bytes given) × (new.failures ≡ old.failures) × (IsAtEnd new.remaining ⊎ (most_bytes ≤ length given))
-GivesText bytes old given (Err fault) new = StopsReading old fault new
+abbrev pub GivesText : {T : Type 0} → ℕ → (T → List ℕ) → Input → List ℕ → Result T RequestsFault → Input → Type 0
+GivesText most bytes old given (Ok text) new =
+    (bytes text ≡ take most given) × (new.failures ≡ old.failures) × (IsAtEnd new.remaining ⊎ (most ≤ length given))
+GivesText most bytes old given (Err fault) new = StopsReading old fault new
 
--- a text has these requests, and no bad line
-abbrev pub HasRequests : List ℕ → Result (List RequestLine) RequestsFault → Type 0
-HasRequests text told = (requests_from 1 (lines_in text) ≡ told) × (fault_of told ≡ None)
+-- the lines of a text ask this, and none is bad
+abbrev pub HasRequests : LineForm → List ℕ → Result (List RequestLine) RequestsFault → Type 0
+HasRequests form text told = (requests_from form 1 (lines_in text) ≡ told) × (fault_of told ≡ None)

@@ -130,6 +130,7 @@ command_named name =
     else if bytes_eq name (codes "check") then Some command.Check
     else if bytes_eq name (codes "explain") then Some command.Explain
     else if bytes_eq name (codes "many") then Some command.Many
+    else if bytes_eq name (codes "follow") then Some command.Follow
     else None
 
 -- commands with a request

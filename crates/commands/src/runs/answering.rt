@@ -1,12 +1,20 @@
-//! Answering requests over one plan, one after the other.
+//! Answering lines over one plan, one after the other.
 
-ghost use Rattle.std.specs.Prelude.{◌≡◌, ◌≤◌, ◌++◌, All, IfOk};
+ghost use Rattle.std.specs.Prelude.{◌≡◌, ◌≤◌, ◌++◌, [], All, IfOk, IfSome, IsTrue, is_ok, is_some};
 ghost use Rattle.sabr_model.specs.Devices.{WritesText};
 ghost use Rattle.sabr_frontier.specs.listing.Listing.{most_routes, state_at};
 ghost use Rattle.sabr_session.specs.ReportText.{HasSpelledTimes, report_text};
-ghost use Rattle.commands.specs.runs.Many.{IsFirstPage, LeavesAnswer, heading};
+ghost use Rattle.sabr_session.specs.SessionWords.{most_number};
+ghost use Rattle.commands.specs.declared.runs.answer_kind.AnswerKind.TheVariants as kind;
+ghost use Rattle.commands.specs.texts.Explanation.{explanation_text};
+ghost use Rattle.commands.specs.words.Lists.{numbers_within};
+ghost use Rattle.commands.specs.words.Requests.{asked_in};
+ghost use Rattle.commands.specs.runs.Many.{IsFirstPage, IsWithin, LeavesAnswer, form_of, heading};
 
 use crate::failure::Failure;
+use crate::runs::answer_kind::AnswerKind;
+use crate::texts::write_explanation;
+use crate::words::{Listed, contacts_listed, list_in, request_in};
 use sabr_frontier::{LastPage, Session};
 use sabr_model::{NoMemory, Plan, Request, Write, WriteFault};
 use sabr_search::Settled;
@@ -14,7 +22,8 @@ use sabr_session::{TextBuffer, put_pieces, write_report};
 use std::alloc::{Allocator, Global};
 use std::marker::Model;
 
-/// What answers requests over one plan: each has a session, over the index of the one before. Contracts see the plan.
+/// What answers lines over one plan. Each request has a session, over the index of the one before. Contracts see the
+/// plan.
 #[derive(Drop)]
 pub struct Answering<'p, A: Allocator + Copy = Global> {
     /// The allocator of all that is made.
@@ -37,7 +46,7 @@ impl<'p, A: Allocator + Copy> Model for Answering<'p, A> {
 }
 
 impl<'p, A: Allocator + Copy> Answering<'p, A> {
-    /// Answers no request yet. Allocates nothing.
+    /// Answers no line yet. Allocates nothing.
     pub fn new(alloc: A, plan: &'p Plan<A>) -> Answering<'p, A>
         ensures { result ≡ plan.now }
     {
@@ -76,12 +85,7 @@ impl<'p, A: Allocator + Copy> Answering<'p, A> {
     }
 
     /// Writes the answer to the request of this line, with `count` routes. All of them are found first.
-    ///
-    /// # Errors
-    ///
-    /// [`Failure::NoMemory`] if a growth was refused; then nothing was written. [`Failure::Write`] if the writer failed.
-    /// Then a beginning of the answer was written.
-    pub fn answer<O: Write>(
+    fn list<O: Write>(
         &mut self,
         line: &[u8],
         request: Request,
@@ -89,36 +93,104 @@ impl<'p, A: Allocator + Copy> Answering<'p, A> {
         out: &mut O,
     ) -> Result<(), Failure>
         requires { count ≤ most_routes }
-        ensures answer { LeavesAnswer self.old.plan count (record { line = line.now; request = request }) result (O.output out.old) (O.output out.new) }
+        ensures answer { LeavesAnswer self.old.plan (kind.FirstRoutes count) (record { line = line.now; asked = record { contacts = []; request = request } }) result (O.output out.old) (O.output out.new) }
         ensures plan { self.new ≡ self.old }
     {
         let last = self.first_page(request, count)?;
-        let written = write_answer(&last, line, out);
+        let written = write_answer(&last, count, line, out);
         self.before = Some(last);
         written?;
         Ok(())
+    }
+
+    /// Writes the answer of this kind to a line that has no fault.
+    ///
+    /// # Errors
+    ///
+    /// [`Failure::NoMemory`] if a growth was refused; then nothing was written. [`Failure::Write`] if the writer failed.
+    /// Then a beginning of the answer was written.
+    pub fn answer<O: Write>(
+        &mut self,
+        kind: AnswerKind,
+        line: &[u8],
+        out: &mut O,
+    ) -> Result<(), Failure>
+        requires count { IsWithin kind }
+        requires line { IsTrue (is_ok (asked_in (form_of kind) line.now)) }
+        ensures answer { IfOk (asked_in (form_of kind) line.now) (λ a. LeavesAnswer self.old.plan kind (record { line = line.now; asked = a }) result (O.output out.old) (O.output out.new)) }
+        ensures plan { self.new ≡ self.old }
+    {
+        match kind {
+            AnswerKind::FirstRoutes(count) => {
+                let Ok(request) = request_in(line) else {
+                    unreachable!();
+                };
+                self.list(line, request, count, out)
+            }
+            AnswerKind::Explanation => {
+                let Ok(listed) = list_in(line) else {
+                    unreachable!();
+                };
+                explain(self.alloc, self.plan, line, &listed, out)
+            }
+        }
     }
 }
 
 /// Writes an answer: its heading, and the report of a first page.
 fn write_answer<O: Write, A: Allocator + Copy>(
     last: &LastPage<'_, Settled<A>, A>,
+    count: u32,
     line: &[u8],
     out: &mut O,
 ) -> Result<(), WriteFault>
     requires { All HasSpelledTimes last.now.routes }
-    ensures { WritesText (O.output out.old) (heading line.now ++ report_text last.now.routes 1 last.now.more) result (O.output out.new) }
+    ensures { WritesText (O.output out.old) (heading (kind.FirstRoutes count) line.now ++ report_text last.now.routes 1 last.now.more) result (O.output out.new) }
 {
-    write_heading(line, out)?;
+    write_heading(AnswerKind::FirstRoutes(count), line, out)?;
     write_report(last.routes(), 1, last.more(), out)
 }
 
+/// Writes an answer: its heading, and the explanation of these contacts.
+fn write_list<O: Write, A: Allocator + Copy>(
+    plan: &Plan<A>,
+    line: &[u8],
+    request: &Request,
+    contacts: &[u32],
+    out: &mut O,
+) -> Result<(), WriteFault>
+    ensures { WritesText (O.output out.old) (heading kind.Explanation line.now ++ explanation_text plan.now.plan request.now contacts.now) result (O.output out.new) }
+{
+    write_heading(AnswerKind::Explanation, line, out)?;
+    write_explanation(plan, request, contacts, out)?;
+    Ok(())
+}
+
+/// Writes the answer to the contacts and the request of this line.
+fn explain<O: Write, A: Allocator + Copy>(
+    alloc: A,
+    plan: &Plan<A>,
+    line: &[u8],
+    listed: &Listed<'_>,
+    out: &mut O,
+) -> Result<(), Failure>
+    requires { IsTrue (is_some (numbers_within 1 most_number listed.now.contacts.now)) }
+    ensures { IfSome (numbers_within 1 most_number listed.now.contacts.now) (λ contacts. LeavesAnswer plan.now.plan kind.Explanation (record { line = line.now; asked = record { contacts = contacts; request = listed.now.request } }) result (O.output out.old) (O.output out.new)) }
+{
+    let Some(contacts) = contacts_listed(alloc, listed.contacts)? else {
+        unreachable!();
+    };
+    write_list(plan, line, &listed.request, contacts.as_slice(), out)?;
+    Ok(())
+}
+
 /// Writes the line before an answer.
-fn write_heading<O: Write>(line: &[u8], out: &mut O) -> Result<(), WriteFault>
-    ensures { WritesText (O.output out.old) (heading line.now) result (O.output out.new) }
+fn write_heading<O: Write>(kind: AnswerKind, line: &[u8], out: &mut O) -> Result<(), WriteFault>
+    ensures { WritesText (O.output out.old) (heading kind line.now) result (O.output out.new) }
 {
     let mut text = TextBuffer::new(out);
-    let pieces: [&[u8]; 3] = [b"request ", line, b"\n"];
+    let word = kind.word();
+    let pieces: [&[u8]; 3] = [word, line, b"\n"];
     put_pieces(&mut text, &pieces)?;
     text.send()
 }

@@ -101,11 +101,12 @@ fn write_session_fault<W: Write>(writer: &mut W, fault: SessionFault) -> Result<
     write_texts(writer, &["cgrlist: session line ", line, ": ", kind, "\n"])
 }
 
-/// Names what is bad in a line of requests.
+/// Names what is bad in a line of requests or of lists.
 fn request_kind_text(kind: RequestKind) -> &'static str
     ensures { result.now ≡ request_kind_text kind }
 {
     match kind {
+        RequestKind::BadContacts => "BadContacts",
         RequestKind::BadFrom => "BadFrom",
         RequestKind::BadTo => "BadTo",
         RequestKind::BadAt => "BadAt",
@@ -131,6 +132,20 @@ fn write_requests_line<W: Write>(
     write_texts(writer, &["cgrlist: requests line ", line, ": ", kind, "\n"])
 }
 
+/// Writes the message of a bad line of lists.
+fn write_lists_line<W: Write>(
+    writer: &mut W,
+    number: u32,
+    kind: RequestKind,
+) -> Result<(), WriteFault>
+    ensures { WritesText (W.output writer.old) (message_text (Failure.ListsLine number kind)) result (W.output writer.new) }
+{
+    let mut buffer = Buffer::new();
+    let line = buffer.format(number);
+    let kind = request_kind_text(kind);
+    write_texts(writer, &["cgrlist: lists line ", line, ": ", kind, "\n"])
+}
+
 /// Writes a failure's message.
 fn write_message<W: Write>(writer: &mut W, failure: Failure) -> Result<(), WriteFault>
     ensures { WritesText (W.output writer.old) (message_text failure) result (W.output writer.new) }
@@ -153,6 +168,9 @@ fn write_message<W: Write>(writer: &mut W, failure: Failure) -> Result<(), Write
         }
         Failure::RequestsLine(line, kind) => write_requests_line(writer, line, kind),
         Failure::RequestsRead => write_text(writer, b"cgrlist: requests: read failed\n"),
+        Failure::CannotOpenLists => write_text(writer, b"cgrlist: cannot open the lists\n"),
+        Failure::ListsLine(line, kind) => write_lists_line(writer, line, kind),
+        Failure::ListsRead => write_text(writer, b"cgrlist: lists: read failed\n"),
         Failure::Write => write_text(writer, b"cgrlist: write failed\n"),
         Failure::NoMemory => write_text(writer, b"cgrlist: no memory\n"),
         Failure::NotUtf8 => {

@@ -1,7 +1,7 @@
 //! The words of the command line, as one level of subcommands with texts as values.
 
 use crate::command::{COMMANDS, CommandName, Declared};
-use crate::files::{PLAN, REQUESTS, SESSION, SESSION_OUT};
+use crate::files::{LISTS, PLAN, REQUESTS, SESSION, SESSION_OUT};
 use clap::{Arg, ArgAction, ArgMatches, Command, Error};
 use std::alloc::{AllocError, Global};
 
@@ -82,6 +82,12 @@ fn requests<'a>(alloc: Global) -> Arg<'a> {
     required(alloc, REQUESTS, "FILE", help)
 }
 
+/// The word for the lists.
+fn lists<'a>(alloc: Global) -> Arg<'a> {
+    let help = "The lists: a line NUMBERS FROM TO TIME each, or with PPM, HOPS, NODES after it";
+    required(alloc, LISTS, "FILE", help)
+}
+
 /// The word for the new session.
 fn session_out<'a>(alloc: Global) -> Arg<'a> {
     let help = "Where to leave the session after the page: a file that isn't there";
@@ -122,6 +128,9 @@ fn with_inputs<'a>(
     }
     if declared.has_requests {
         made = made.arg(requests(alloc))?;
+    }
+    if declared.has_lists {
+        made = made.arg(lists(alloc))?;
     }
     Ok(made)
 }
@@ -172,7 +181,7 @@ fn program<'a>(alloc: Global) -> Result<Command<'a>, AllocError> {
         .version(VERSION)
         .after_help(
             "Status: 0 done, 1 the answer is no, 2 the words are refused or ask for help, 3 the plan is refused, 4 the session
-or a line of requests is refused, 5 a file can't be opened, read, made or written, 6 no memory. docs/cgrlist.1 is the manual page.",
+or a line of requests or lists is refused, 5 a file can't be opened, read, made or written, 6 no memory. docs/cgrlist.1 is the manual page.",
         )
         .bin_name("cgrlist")?
         .no_binary_name(true)

@@ -1,6 +1,6 @@
 //! Lists of numbers on the command line, separated by single commas.
 
-ghost use Rattle.std.specs.Prelude.{◌≡◌, None, Some, MatchOption, IfOk};
+ghost use Rattle.std.specs.Prelude.{◌≡◌, None, Some, MatchOption, IfOk, is_some};
 ghost use Rattle.sabr_session.specs.SessionWords.{most_number};
 ghost use Rattle.commands.specs.words.Lists.{nodes_listed, numbers_within};
 
@@ -22,6 +22,21 @@ pub fn nodes_listed(text: &[u8]) -> Option<NodeList>
         rest = others;
     }
     Some(nodes)
+}
+
+/// Tells whether the text is a list of contact numbers. Allocates nothing.
+pub fn are_contacts(text: &[u8]) -> bool
+    ensures { result ≡ is_some (numbers_within 1 most_number text.now) }
+{
+    let mut rest = Some(text);
+    while let Some(after) = rest {
+        let (piece, others) = first_piece(after, b',');
+        let Some(_) = number_within(piece, 1, 4294967295) else {
+            return false;
+        };
+        rest = others;
+    }
+    true
 }
 
 /// Reads the text as contact numbers. `None` if it isn't a list of them.

@@ -1,12 +1,14 @@
-//! A line of requests, with the words of a request in their order.
+//! A line of requests or of lists, with its words in their order.
 
-ghost use Rattle.std.specs.Prelude.{◌≡◌};
+ghost use Rattle.std.specs.Prelude.{◌≡◌, Err, MatchResult};
 ghost use Rattle.std.specs.Option.{option_copied, option_map};
-ghost use Rattle.commands.specs.words.Lists.{first_of, pieces_after, pieces_of};
+ghost use Rattle.sabr_session.specs.SessionWords.{most_number};
+ghost use Rattle.commands.specs.words.Lists.{first_of, numbers_within, pieces_after, pieces_of};
 ghost use Rattle.commands.specs.words.Values.{texts_given};
-ghost use Rattle.commands.specs.words.Requests.{request_by, request_in, texts_of, space};
+ghost use Rattle.commands.specs.words.Requests.{Asks, list_in, list_texts_of, or_kind, request_by, request_in, texts_of, space};
 
 use crate::words::first_piece::first_piece;
+use crate::words::lists::are_contacts;
 use crate::words::request_texts::RequestTexts;
 use crate::words::request_words::{request_of, request_words};
 use crate::words::requests_fault::RequestKind;
@@ -15,6 +17,18 @@ use sabr_model::Request;
 
 /// The most bytes of a line. A line of 20-digit nodes, a time, the greatest limits and 16 nodes to avoid has as many.
 const MOST_LINE_BYTES: usize = 411;
+
+/// The most bytes of a line of lists: 20000 numbers of ten digits, each with a byte after it, and such a line.
+const MOST_LIST_BYTES: usize = 220411;
+
+/// What a line of lists asks about.
+#[derive(Drop)]
+pub struct Listed<'a> {
+    /// The text that lists the contacts.
+    pub contacts: &'a [u8],
+    /// The request.
+    pub request: Request,
+}
 
 /// Splits off the first word, if there is one.
 fn next_word<'a>(text: Option<&'a [u8]>) -> (Option<&'a [u8]>, Option<&'a [u8]>)
@@ -27,11 +41,11 @@ fn next_word<'a>(text: Option<&'a [u8]>) -> (Option<&'a [u8]>, Option<&'a [u8]>)
     (Some(word), rest)
 }
 
-/// Splits a line into its words. `None` if they are fewer than three or more than six.
-fn texts_of(line: &[u8]) -> Option<RequestTexts<'_>>
-    ensures { option_map texts_given result ≡ texts_of (pieces_of space line.now) }
+/// Splits a text into the words of a request. `None` if they are fewer than three or more than six.
+fn texts_of(text: Option<&[u8]>) -> Option<RequestTexts<'_>>
+    ensures { option_map texts_given result ≡ texts_of (pieces_after space (option_copied text.entry)) }
 {
-    let (from, rest) = next_word(Some(line));
+    let (from, rest) = next_word(text);
     let (to, rest) = next_word(rest);
     let (at, rest) = next_word(rest);
     let (margin_ppm, rest) = next_word(rest);
@@ -50,12 +64,32 @@ fn texts_of(line: &[u8]) -> Option<RequestTexts<'_>>
     })
 }
 
+/// Splits a line of lists into the text of its contacts and the words of its request. `None` if all words are fewer
+/// than four or more than seven.
+fn list_texts_of(line: &[u8]) -> Option<(&[u8], RequestTexts<'_>)>
+    ensures { option_map (λ t. (t.0.now, texts_given t.1)) result ≡ list_texts_of (pieces_of space line.now) }
+{
+    let (contacts, rest) = first_piece(line, b' ');
+    let texts = texts_of(rest)?;
+    Some((contacts, texts))
+}
+
 /// Reads the request of these texts.
 fn request_by(texts: &RequestTexts<'_>) -> Result<Request, ValueFault>
     ensures { result ≡ request_by (texts_given texts.now) }
 {
     let words = request_words(texts)?;
     request_of(&words)
+}
+
+/// Reads the request of these texts, or tells what is bad in them.
+fn request_or_kind(texts: &RequestTexts<'_>) -> Result<Request, RequestKind>
+    ensures { result ≡ or_kind (request_by (texts_given texts.now)) }
+{
+    match request_by(texts) {
+        Ok(request) => Ok(request),
+        Err(fault) => Err(fault.into()),
+    }
 }
 
 /// Reads the request of a line without its LF.
@@ -70,11 +104,32 @@ pub fn request_in(line: &[u8]) -> Result<Request, RequestKind>
     if line.len() > MOST_LINE_BYTES {
         return Err(RequestKind::BadLine);
     }
-    let Some(texts) = texts_of(line) else {
+    let Some(texts) = texts_of(Some(line)) else {
         return Err(RequestKind::BadLine);
     };
-    match request_by(&texts) {
-        Ok(request) => Ok(request),
-        Err(fault) => Err(fault.into()),
+    request_or_kind(&texts)
+}
+
+/// Reads the contacts and the request of a line of lists without its LF. The contacts are judged, and stay as text, so
+/// that it allocates nothing.
+///
+/// # Errors
+///
+/// What is bad in it: the first that holds, in the order of the words.
+pub fn list_in(line: &[u8]) -> Result<Listed<'_>, RequestKind>
+    ensures { MatchResult result (λ listed. Asks line.now listed.contacts.now listed.request) (λ kind. list_in line.now ≡ Err kind) }
+{
+    if line.len() > MOST_LIST_BYTES {
+        return Err(RequestKind::BadLine);
+    }
+    let Some((contacts, texts)) = list_texts_of(line) else {
+        return Err(RequestKind::BadLine);
+    };
+    if !are_contacts(contacts) {
+        return Err(RequestKind::BadContacts);
+    }
+    match request_or_kind(&texts) {
+        Ok(request) => Ok(Listed { contacts, request }),
+        Err(kind) => Err(kind),
     }
 }

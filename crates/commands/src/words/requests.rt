@@ -1,22 +1,19 @@
-//! A text of requests: reading it whole, and judging its lines.
+//! A text of requests or of lists: reading it whole, and judging its lines.
 
-ghost use Rattle.std.specs.Prelude.{◌≡◌, ◌<◌, ◌≤◌, ◌∷◌, [], length, List, Result, MatchOption, MatchResult, IfSome, OnOk, Err, ℕ};
+ghost use Rattle.std.specs.Prelude.{◌≡◌, ◌<◌, ◌≤◌, ◌∷◌, [], length, List, Result, MatchOption, MatchResult, IfNone, IfSome, Err, ℕ};
 ghost use Rattle.std.specs.Io.KnownBytes.{Consumes};
-ghost use Rattle.commands.specs.words.Requests.{GivesText, HasRequests, ReadsRequests, RequestLine, fault_of, lines_in, most_requests, request_at, requests_from};
+ghost use Rattle.commands.specs.words.Requests.{GivesText, HasRequests, ReadsRequests, RequestLine, asked_at, asked_in, fault_of, lines_in, most_requests, requests_from};
 ghost use Rattle.commands.specs.declared.words.requests_fault.RequestsFault.{RequestsFault};
 
 use crate::words::first_piece::first_piece;
-use crate::words::request_line::request_in;
+use crate::words::line_form::LineForm;
+use crate::words::request_line::{list_in, request_in};
 use crate::words::requests_fault::{RequestKind, RequestsFault};
-use sabr_model::{Failed, Read, Request};
+use sabr_model::{Failed, Read};
 use std::alloc::Allocator;
 
 /// The most lines of a text.
 const MOST_REQUESTS: u32 = 1000000;
-
-/// One byte more than so many lines of the greatest length have. No more bytes are looked at: a text as long has a bad
-/// line within so many.
-const MOST_BYTES: usize = 412000001;
 
 /// The size of the buffer that the reader fills, in bytes. Not varied in measurements. To vary it: `bench/many.py`.
 const PIECE_BYTES: usize = 65536;
@@ -36,25 +33,41 @@ pub fn first_line(text: &[u8]) -> Option<(&[u8], &[u8])>
     }
 }
 
-/// Reads the request of the line of this number, counted from 1.
-fn request_at(number: u32, line: &[u8]) -> Result<Request, RequestKind>
-    ensures value { result ≡ request_at number line.now }
-    ensures limit { OnOk result (number ≤ most_requests) }
+/// Finds what is bad in a line.
+fn fault_in(form: LineForm, line: &[u8]) -> Option<RequestKind>
+    ensures { result ≡ fault_of (asked_in form line.now) }
+{
+    match form {
+        LineForm::Requests => match request_in(line) {
+            Ok(_) => None,
+            Err(kind) => Some(kind),
+        },
+        LineForm::Lists => match list_in(line) {
+            Ok(_) => None,
+            Err(kind) => Some(kind),
+        },
+    }
+}
+
+/// Finds what is bad in the line of this number, counted from 1.
+fn fault_at(form: LineForm, number: u32, line: &[u8]) -> Option<RequestKind>
+    ensures value { result ≡ fault_of (asked_at form number line.now) }
+    ensures limit { IfNone result (number ≤ most_requests) }
 {
     if number > MOST_REQUESTS {
-        return Err(RequestKind::BadLine);
+        return Some(RequestKind::BadLine);
     }
-    request_in(line)
+    fault_in(form, line)
 }
 
 /// Finds the first bad line of a text.
-fn first_fault(text: &[u8]) -> Option<RequestsFault>
-    ensures { result ≡ fault_of (requests_from 1 (lines_in text.now)) }
+fn first_fault(form: LineForm, text: &[u8]) -> Option<RequestsFault>
+    ensures { result ≡ fault_of (requests_from form 1 (lines_in text.now)) }
 {
     let mut rest = text;
     let mut number = 1;
     while let Some((line, after)) = first_line(rest) {
-        if let Err(kind) = request_at(number, line) {
+        if let Some(kind) = fault_at(form, number, line) {
             return Some(RequestsFault::Line(number, kind));
         }
         number += 1;
@@ -63,17 +76,18 @@ fn first_fault(text: &[u8]) -> Option<RequestsFault>
     None
 }
 
-/// Reads the bytes of a text, as many of them as are looked at.
+/// Reads the bytes of a text, at most so many of them.
 fn read_text<R: Read, A: Allocator + Copy>(
     alloc: A,
     reader: &mut R,
+    most: usize,
 ) -> Result<Vec<u8, A>, RequestsFault>
     ensures { (given : List ℕ) × Consumes (R.input reader.old).remaining (R.input reader.new).remaining given
-        × GivesText (λ text. text.items) (R.input reader.old) given result (R.input reader.new) }
+        × GivesText most (λ text. text.items) (R.input reader.old) given result (R.input reader.new) }
 {
     let mut buffer = [0u8; PIECE_BYTES];
     let mut text = Vec::new(alloc);
-    while text.len() < MOST_BYTES {
+    while text.len() < most {
         match reader.read(&mut buffer) {
             Ok(0) => return Ok(text),
             Ok(count) => {
@@ -84,11 +98,11 @@ fn read_text<R: Read, A: Allocator + Copy>(
             Err(Failed) => return Err(RequestsFault::Read),
         }
     }
-    text.truncate(MOST_BYTES);
+    text.truncate(most);
     Ok(text)
 }
 
-/// Reads a text of requests whole, and judges its lines.
+/// Reads a text of lines of this form whole, and judges them.
 ///
 /// # Errors
 ///
@@ -96,14 +110,15 @@ fn read_text<R: Read, A: Allocator + Copy>(
 /// [`RequestsFault::Line`] with the first bad line.
 pub fn read_requests<R: Read, A: Allocator + Copy>(
     alloc: A,
+    form: LineForm,
     reader: &mut R,
 ) -> Result<Vec<u8, A>, RequestsFault>
     ensures { (requested : Result (List RequestLine) RequestsFault)
-        × ReadsRequests (R.input reader.old) requested (R.input reader.new)
-        × MatchResult result (λ text. HasRequests text.items requested) (λ fault. requested ≡ Err fault) }
+        × ReadsRequests form (R.input reader.old) requested (R.input reader.new)
+        × MatchResult result (λ text. HasRequests form text.items requested) (λ fault. requested ≡ Err fault) }
 {
-    let text = read_text(alloc, reader)?;
-    match first_fault(text.as_slice()) {
+    let text = read_text(alloc, reader, form.most_bytes())?;
+    match first_fault(form, text.as_slice()) {
         Some(fault) => Err(fault),
         None => Ok(text),
     }

@@ -126,7 +126,7 @@ fn values_of<A: Allocator + Copy>(
 }
 
 /// Reads the values of the command of this name strictly. `matches` holds the texts given under the names of its words.
-/// The name is that of one of the six commands.
+/// The name is that of one of the commands.
 ///
 /// Nodes, numbers and counts are decimal without a sign or leading zero and within their limits, a time is
 /// `yyyy/mm/dd-hh:mm:ss`, and lists are joined by single commas. A margin that isn't given is 0, a limit on hops that

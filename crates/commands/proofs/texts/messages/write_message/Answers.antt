@@ -18,6 +18,12 @@ returns-in-CannotOpenRequests g c = rw c.in-CannotOpenRequests.is c.write_text-i
 pub returns-in-RequestsRead : goal.returns-in-RequestsRead
 returns-in-RequestsRead g c = rw c.in-RequestsRead.is c.write_text-in-RequestsRead.ensures
 
+pub returns-in-CannotOpenLists : goal.returns-in-CannotOpenLists
+returns-in-CannotOpenLists g c = rw c.in-CannotOpenLists.is c.write_text-in-CannotOpenLists.ensures
+
+pub returns-in-ListsRead : goal.returns-in-ListsRead
+returns-in-ListsRead g c = rw c.in-ListsRead.is c.write_text-in-ListsRead.ensures
+
 pub returns-in-Write : goal.returns-in-Write
 returns-in-Write g c = rw c.in-Write.is c.write_text-in-Write.ensures
 

@@ -5,7 +5,7 @@ use Rattle.commands.proofs.words.requests.first_fault.Given as goal
 abbrev pub invariant-loop-line : goal.invariant-loop-line
 invariant-loop-line l = record {
   few : l.number ≤ 1000001;
-  same : fault_of (requests_from l.number (lines_in l.rest)) ≡ fault_of (requests_from 1 (lines_in l.text));
+  same : fault_of (requests_from l.form l.number (lines_in l.rest)) ≡ fault_of (requests_from l.form 1 (lines_in l.text));
 }
 
 abbrev pub decreases-loop-line : goal.decreases-loop-line

@@ -2,7 +2,6 @@ use Rattle.std.proofs.Common.{◌≡◌, ◌≤◌, List, [], ℕ, length, take,
 use Rattle.std.proofs.lemmas.Grind.{common_steps}
 use Rattle.std.specs.Io.KnownBytes.{Consumes}
 use Rattle.sabr_plan.proofs.Consumed.{Consumes-append}
-use Rattle.commands.specs.words.Requests.{most_bytes}
 use Rattle.commands.proofs.words.requests.read_text.Goals as goal
 
 whole : (n : ℕ) (text : List ℕ) → length text ≤ n → text ≡ take n text
@@ -13,7 +12,7 @@ returns-in-Ok-eq0 g c =
     let h = c.in-Ok-eq0.ensures in
     let text = c.loop-buffer.text.items in
     let read = subst (λ (bs : List ℕ). Consumes (g.R.Read.input c.args.reader.now).remaining (g.R.Read.input c.read.new.self).remaining bs) (append-nil text) (Consumes-append _ _ _ text [] c.loop-buffer.invariant.read (rw c.in-Ok-eq0.field-0-test at h.bytes.0)) in
-    (text, read, (whole most_bytes text (omega (arith, c.len.ensures, c.loop-buffer-test.true)), omega (arith, h.count, c.loop-buffer.invariant.fine), inl (h.bytes.1 c.in-Ok-eq0.field-0-test (omega (arith, c.read.auto.buf)))))
+    (text, read, (whole c.args.most text (omega (arith, c.len.ensures, c.loop-buffer-test.true)), omega (arith, h.count, c.loop-buffer.invariant.fine), inl (h.bytes.1 c.in-Ok-eq0.field-0-test (omega (arith, c.read.auto.buf)))))
 
 pub returns-in_default : goal.returns-in_default
 returns-in_default g c =

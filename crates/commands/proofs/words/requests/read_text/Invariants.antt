@@ -1,6 +1,5 @@
 use Rattle.std.proofs.Common.{◌≡◌, ◌-◌, length}
 use Rattle.std.specs.Io.KnownBytes.{Consumes}
-use Rattle.commands.specs.words.Requests.{most_bytes}
 use Rattle.commands.proofs.words.requests.read_text.Given as goal
 
 abbrev pub invariant-loop-buffer : goal.invariant-loop-buffer
@@ -10,4 +9,4 @@ invariant-loop-buffer g l = record {
 }
 
 abbrev pub decreases-loop-buffer : goal.decreases-loop-buffer
-decreases-loop-buffer g l = most_bytes - length l.text.items
+decreases-loop-buffer g l = l.most - length l.text.items

@@ -1,7 +1,7 @@
 use Rattle.std.proofs.Common.{arith}
 use Rattle.std.proofs.KnownBytes.{Appends-kept}
 use Rattle.commands.proofs.RunLemmas.PageTexts.{flush_failed}
-use Rattle.commands.proofs.runs.many.send_answers.Goals as goal
+use Rattle.commands.proofs.runs.lines.send_answers.Goals as goal
 
 pub returns-in_default : goal.returns-in_default
 returns-in_default g c =
