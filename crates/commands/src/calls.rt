@@ -11,9 +11,7 @@ use crate::files::{
     make_session, open_lists, open_plan, open_requests, open_session, remove_unless_done,
     session_out,
 };
-use crate::runs::{
-    run_check, run_explain, run_first, run_follow, run_many, run_next, run_verify,
-};
+use crate::runs::{run_check, run_explain, run_first, run_follow, run_many, run_next, run_verify};
 use crate::status::Status;
 use crate::words::read_values;
 use clap::ArgMatches;

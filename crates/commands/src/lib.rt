@@ -20,9 +20,7 @@ pub use headline::{
 };
 pub use program::run_words;
 pub use rows::explanations_of_plan_a;
-pub use runs::{
-    run_check, run_explain, run_first, run_follow, run_many, run_next, run_verify,
-};
+pub use runs::{run_check, run_explain, run_first, run_follow, run_many, run_next, run_verify};
 pub use status::Status;
 pub use texts::tell;
 pub use words::{ValueFault, ValueName, Values, read_values};
