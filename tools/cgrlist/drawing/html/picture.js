@@ -159,10 +159,22 @@ class Crowd {
   }
 }
 
+const ROUND = 12; // a bar that is wider has round corners
 const FILLS = { plain: "bar", used: "used", lost: "calm" };
 const EDGES = { plain: ["edge", 1], lost: ["bad", 1.5] };
 
 function paintBar(left, right, y, kind) {
+  if (kind === "plain" && right - left < ROUND) paintNarrowBar(left, right, y);
+  else paintWideBar(left, right, y, kind);
+}
+
+// There may be thousands of these in view, so they are painted without paths.
+function paintNarrowBar(left, right, y) {
+  fillBox(ink.edge, left, y, right - left, BAR);
+  fillBox(ink.bar, left + 1, y + 1, right - left - 2, BAR - 2);
+}
+
+function paintWideBar(left, right, y, kind) {
   const width = Math.max(right - left - 1, 1.5);
   paper.fillStyle = ink[FILLS[kind]];
   paper.beginPath();
