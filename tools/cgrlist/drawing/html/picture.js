@@ -330,7 +330,7 @@ function turnTo(piece, turns) {
   paper.lineTo(x, from.y);
   paper.lineTo(x, y - bend * down);
   paper.quadraticCurveTo(x, y, x + bend, y);
-  paper.lineTo(Math.max(send, x), y);
+  paper.lineTo(send, y);
   traced.push({ ...tracedPiece(piece, x, x, true), low, high }, tracedPiece(piece, x, send, true));
 }
 
