@@ -77,6 +77,10 @@ pub record NodeLinks : Type 0 where
   pub links : List Link
   pub passes : List Pass
 
+-- how many links so many nodes have
+abbrev pub links_in : List NodeLinks → ℕ
+links_in linked = sum_by (λ s. length s.links) linked
+
 -- a link as its receiver sees it: the index of its sender in the table, and its passes
 pub record SentLink : Type 0 where
   pub sender : ℕ

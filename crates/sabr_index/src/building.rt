@@ -1,8 +1,8 @@
 //! How the links of each node are built.
 
-ghost use Rattle.std.specs.Prelude.{◌≡◌, ◌<◌, ◌^◌, ℕ, IfOk, MatchOption, length, map, slice_index};
+ghost use Rattle.std.specs.Prelude.{◌≡◌, ◌<◌, ◌≤◌, ◌^◌, ℕ, IfOk, MatchOption, length, map, slice_index};
 ghost use Rattle.sabr_index.specs.Grouping.{AreByNode, AreStanding, numbers_of_places};
-ghost use Rattle.sabr_index.specs.Links.{AreLinksOf};
+ghost use Rattle.sabr_index.specs.Links.{AreLinksOf, links_in};
 ghost use Rattle.sabr_index.specs.Linking.{AreSent, HasNoLight, IsContactPass, IsBounded, AreBounded, ArePassesOf, AreLinked};
 
 use crate::bounds::order_passes;
@@ -10,7 +10,7 @@ use crate::link::{Link, Pass};
 use crate::order::ContactOrder;
 use crate::rows::write_links;
 use crate::table::{KeptLinks, LinkTable};
-use sabr_model::{Plan, as_u16};
+use sabr_model::Plan;
 use std::alloc::{AllocError, Allocator};
 
 /// Makes the links of each node of the table.
@@ -22,6 +22,7 @@ pub fn link_nodes<A: Allocator + Copy>(
     requires { AreByNode plan.now.plan plan.now.table order.places.items order.senders.lasts.items order.senders.befores.items }
     ensures linked { IfOk result (λ t. AreLinked plan.now t) }
     ensures as_many { IfOk result (λ t. length t ≡ length plan.now.table) }
+    ensures few { IfOk result (λ t. links_in t < 2 ^ 16) }
 {
     let count = plan.nodes();
     let mut table = LinkTable::with_capacity(alloc, count)?;
@@ -45,8 +46,11 @@ fn links_at<A: Allocator + Copy>(
     places: &[u16],
     written: &mut Vec<Link, A>,
 ) -> Result<KeptLinks<A>, AllocError>
-    requires { AreStanding plan.now.plan.contacts order.now.places.items places.now }
-    ensures { IfOk result (λ s. (node : ℕ) → AreSent plan.now.plan node (numbers_of_places plan.now.plan.contacts order.now.places.items places.now) → AreLinksOf plan.now node s.links.items s.passes.items) }
+    requires there { AreStanding plan.now.plan.contacts order.now.places.items places.now }
+    requires nodes { length plan.now.table < 2 ^ 16 }
+    requires few { length places.now < 2 ^ 16 }
+    ensures links { IfOk result (λ s. (node : ℕ) → AreSent plan.now.plan node (numbers_of_places plan.now.plan.contacts order.now.places.items places.now) → AreLinksOf plan.now node s.links.items s.passes.items) }
+    ensures no_more { IfOk result (λ s. length s.links.items ≤ length places.now) }
 {
     let mut passes = passes_at(alloc, plan, order, places)?;
     order_passes(&mut passes);
@@ -63,11 +67,11 @@ fn passes_at<A: Allocator + Copy>(
     order: &ContactOrder<A>,
     places: &[u16],
 ) -> Result<Vec<Pass, A>, AllocError>
-    requires { AreStanding plan.now.plan.contacts order.now.places.items places.now }
+    requires there { AreStanding plan.now.plan.contacts order.now.places.items places.now }
+    requires nodes { length plan.now.table < 2 ^ 16 }
     ensures are { IfOk result (λ v. ArePassesOf plan.now (numbers_of_places plan.now.plan.contacts order.now.places.items places.now) v.items) }
     ensures bounded { IfOk result (λ v. AreBounded v.items) }
 {
-    as_u16(plan.nodes())?;
     let mut passes = Vec::with_capacity(alloc, places.len())?;
     for place in places {
         if let Some(pass) = pass_of(plan, order.places[*place as usize] as usize) {

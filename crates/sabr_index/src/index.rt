@@ -1,6 +1,6 @@
 //! The index of a plan.
 
-ghost use Rattle.std.specs.Prelude.{◌≡◌, ◌<◌, ℕ, Some, IfOk, length, slice_get};
+ghost use Rattle.std.specs.Prelude.{◌≡◌, ◌<◌, ◌^◌, ℕ, Some, IfOk, length, slice_get};
 ghost use Rattle.sabr_model.specs.plan.ContactEnds.{AreEnds};
 ghost use Rattle.sabr_model.specs.plan.Tabled.{IsTabled};
 ghost use Rattle.sabr_index.specs.Links.{AreLinksOf, AreLinksTo};
@@ -58,6 +58,7 @@ impl<'p, A: Allocator + Copy> Index<'p, A> {
     /// Makes the index of a plan whose contacts have these ends.
     fn with_ends(alloc: A, plan: &'p Plan<A>, ends: &[Ends]) -> Result<Index<'p, A>, NoMemory>
         requires tabled { IsTabled plan.now }
+        requires few { length plan.now.table < 2 ^ 16 }
         requires ends { AreEnds plan.now.table plan.now.plan.contacts ends.now }
         ensures { IfOk result (λ i. i ≡ plan.now) }
     {

@@ -1,11 +1,10 @@
 //! The links over passes that are in order of their receivers.
 
-ghost use Rattle.std.specs.Prelude.{◌≡◌, ◌+◌, ◌-◌, ◌<◌, ◌≤◌, ℕ, OnOk, length, slice_index_or};
+ghost use Rattle.std.specs.Prelude.{◌≡◌, ◌+◌, ◌-◌, ◌^◌, ◌<◌, ◌≤◌, ℕ, OnOk, length, slice_index_or};
 ghost use Rattle.sabr_index.specs.declared.link.Pass.{Pass};
 ghost use Rattle.sabr_index.specs.Linking.{AreRows};
 
 use crate::link::{Link, LinkBounds, Pass};
-use sabr_model::as_u16;
 use std::alloc::{AllocError, Allocator};
 
 /// Writes the links over passes: one over each row of passes to one receiver.
@@ -13,10 +12,11 @@ pub fn write_links<A: Allocator + Copy>(
     passes: &[Pass],
     links: &mut Vec<Link, A>,
 ) -> Result<(), AllocError>
-    ensures { OnOk result (AreRows passes.now links.new.items (length passes.now)) }
+    requires { length passes.now < 2 ^ 16 }
+    ensures rows { OnOk result (AreRows passes.now links.new.items (length passes.now)) }
+    ensures few { OnOk result (length links.new.items ≤ length passes.now) }
 {
     links.clear();
-    as_u16(passes.len())?;
     let mut first = 0;
     while first < passes.len() {
         let end = end_of_row(passes, first);

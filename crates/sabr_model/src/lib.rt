@@ -34,7 +34,7 @@ pub use limits::{LAST_TIME, MOST_AVOIDED, MOST_HOPS, MOST_LIGHT, MOST_MARGIN, MO
 pub use node_list::NodeList;
 pub use numbers::Numbers;
 pub use opening::Opening;
-pub use plan::{Ends, Plan, arrive, as_u16, comes_by};
+pub use plan::{Ends, Plan, arrive, comes_by};
 pub use request::Request;
 pub use request_values::RequestValues;
 pub use route::Route;

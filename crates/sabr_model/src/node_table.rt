@@ -1,15 +1,15 @@
 //! The table of nodes: for each node, the numbers of the contacts that it sends.
 
-ghost use Rattle.std.specs.Prelude.{◌≡◌, ℕ, ◌==◌, ◌<◌, ◌≤◌, ◌+◌, ◌∷◌, ◌++◌, Some, None, is_some, IsTrue, map, find, not, ◌&&◌, ◌||◌, filter, nat_eq, slice_get, IfOk, OnOk, OnErr, IsOk, if◌then◌else◌};
+ghost use Rattle.std.specs.Prelude.{◌≡◌, ℕ, ◌==◌, ◌<◌, ◌≤◌, ◌+◌, ◌∷◌, ◌++◌, Some, None, is_some, IsTrue, map, find, not, ◌&&◌, ◌||◌, filter, nat_eq, slice_get, IfOk, OnOk, OnErr, IsOk, length, if◌then◌else◌};
 ghost use Rattle.std.specs.Option.{option_map};
 ghost use Rattle.indexmap.specs.IndexMap.{IsUnique, get, keys, spare};
 ghost use Rattle.std.specs.List.{list_any};
-ghost use Rattle.sabr_model.specs.plan.Plan.{rises_above};
+ghost use Rattle.sabr_model.specs.plan.Plan.{rises_above, most_records};
 ghost use Rattle.sabr_model.specs.plan.Table.{without_number, list_at, with_number, with_node, with_ends, KeepsPlaces, IsTableOf};
 ghost use Rattle.sabr_model.specs.plan.ContactEnds.{AreEndsOf, AreEnds};
 
 use crate::contact::Contact;
-use crate::plan::ends::{Ends, as_u16};
+use crate::plan::ends::Ends;
 use indexmap::IndexMap;
 use std::alloc::{AllocError, Allocator};
 use std::hash::{BuildHasherDefault, FoldHasher};
@@ -154,6 +154,7 @@ pub fn table_of<A: Allocator + Copy>(
     alloc: A,
     contacts: &[Contact],
 ) -> Result<(NodeTable<A>, Vec<Ends, A>), AllocError>
+    requires { length contacts.now ≤ most_records }
     ensures table { IfOk result (λ t. IsTableOf contacts.now t.0) }
     ensures ends { IfOk result (λ t. AreEnds (keys t.0) contacts.now t.1.items) }
 {
@@ -170,8 +171,8 @@ pub fn table_of<A: Allocator + Copy>(
         let found = note_contact(alloc, &mut table, contact, guess)?;
         note_guess(&mut guesses, contact.from, guess.0, found.0);
         note_guess(&mut guesses, contact.to, guess.1, found.1);
-        let from = as_u16(found.0)?;
-        let to = as_u16(found.1)?;
+        let from = found.0 as u16;
+        let to = found.1 as u16;
         ends.push(Ends { from, to })?;
     }
     Ok((table, ends))

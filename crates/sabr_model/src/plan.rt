@@ -21,7 +21,7 @@ use crate::contact::{Contact, Range};
 use crate::node_table::NodeTable;
 use crate::openings::Openings;
 pub use arriving::arrive;
-pub use ends::{Ends, as_u16};
+pub use ends::Ends;
 use indexmap::IndexMap;
 use light_times::LightTimes;
 pub use ranges::comes_by;

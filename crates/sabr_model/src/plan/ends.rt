@@ -1,6 +1,6 @@
 //! The ends of contacts, as indexes in the table of nodes.
 
-ghost use Rattle.std.specs.Prelude.{◌≡◌, ◌<◌, Some, IfOk, IsTrue, length, slice_get, slice_index_or};
+ghost use Rattle.std.specs.Prelude.{◌≡◌, ◌<◌, Some, IsTrue, length, slice_get, slice_index_or};
 ghost use Rattle.indexmap.specs.IndexMap.{keys};
 ghost use Rattle.sabr_model.specs.plan.Plan.{has};
 ghost use Rattle.sabr_model.specs.plan.Known.{BeginEnds};
@@ -8,9 +8,9 @@ ghost use Rattle.sabr_model.specs.plan.Known.{BeginEnds};
 use super::Plan;
 use crate::contact::Contact;
 use crate::node_table::NodeTable;
-use std::alloc::{AllocError, Allocator};
+use std::alloc::Allocator;
 
-/// The indexes of a contact's sender and receiver in the table of nodes.
+/// The indexes of a contact's sender and receiver in the table of nodes, which has at most 40000 nodes.
 #[derive(Clone, Copy)]
 pub struct Ends {
     pub from: u16,
@@ -47,15 +47,4 @@ fn index_of<A: Allocator + Copy>(table: &NodeTable<A>, node: u64) -> usize
     ensures { slice_get (keys table.now) result ≡ Some node }
 {
     table.get_index_of(&node).unwrap_or(0)
-}
-
-/// A number that takes no more than 16 bits, as each of a plan's nodes and contacts has. A greater one is refused as
-/// memory is.
-pub fn as_u16(number: usize) -> Result<u16, AllocError>
-    ensures { IfOk result (λ n. n ≡ number) }
-{
-    if number > u16::MAX as usize {
-        return Err(AllocError);
-    }
-    Ok(number as u16)
 }

@@ -1,7 +1,7 @@
 //! The nodes of a plan, each by its index in the table, and the contacts that a node sends.
 
-ghost use Rattle.std.specs.Prelude.{◌≡◌, ◌<◌, ℕ, Some, None, MatchOption, IsFalse, length, map, slice_get, slice_index, slice_index_or};
-ghost use Rattle.sabr_model.specs.plan.Plan.{contact_named, has};
+ghost use Rattle.std.specs.Prelude.{◌≡◌, ◌<◌, ◌≤◌, ◌*◌, ℕ, Some, None, MatchOption, IsFalse, length, map, slice_get, slice_index, slice_index_or};
+ghost use Rattle.sabr_model.specs.plan.Plan.{contact_named, has, most_records};
 ghost use Rattle.sabr_model.specs.plan.Table.{sent_by, node_count};
 ghost use Rattle.sabr_model.specs.plan.Tabled.{IsTabled, IsHopOf, IsHopNamed};
 
@@ -17,6 +17,7 @@ impl<A: Allocator + Copy> Plan<A> {
         ensures value { result ≡ node_count self.now.plan.contacts }
         ensures table { result ≡ length self.now.table }
         ensures tabled { IsTabled self.now }
+        ensures few { result ≤ 2 * most_records }
     {
         self.table.len()
     }

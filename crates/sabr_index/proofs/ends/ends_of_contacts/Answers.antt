@@ -12,7 +12,7 @@ ends_of_contact-requires-clause-from g c =
     let k = c.loop-contact.contact-index in
     let d : Contact = record { number = 0; from = 0; to = 0; start = 0; end = 0; rate = 0 } in
     let there = sender_there p.plan.contacts k d (subst (λ (cs : List Contact). k < length cs) c.contacts-contacts.ensures.value c.loop-contact-test.true) in
-    subst (λ (cs : List Contact). has (get_or cs k d).from p.table ≡ true) (sym c.contacts-contacts.ensures.value) (c.requires.nodes (get_or p.plan.contacts k d).from ∙ there)
+    subst (λ (cs : List Contact). has (get_or cs k d).from p.table ≡ true) (sym c.contacts-contacts.ensures.value) (c.requires.tabled.nodes (get_or p.plan.contacts k d).from ∙ there)
 
 pub ends_of_contact-requires-clause-to : goal.ends_of_contact-requires-clause-to
 ends_of_contact-requires-clause-to g c =
@@ -20,7 +20,7 @@ ends_of_contact-requires-clause-to g c =
     let k = c.loop-contact.contact-index in
     let d : Contact = record { number = 0; from = 0; to = 0; start = 0; end = 0; rate = 0 } in
     let there = receiver_there p.plan.contacts k d (subst (λ (cs : List Contact). k < length cs) c.contacts-contacts.ensures.value c.loop-contact-test.true) in
-    subst (λ (cs : List Contact). has (get_or cs k d).to p.table ≡ true) (sym c.contacts-contacts.ensures.value) (c.requires.nodes (get_or p.plan.contacts k d).to ∙ there)
+    subst (λ (cs : List Contact). has (get_or cs k d).to p.table ≡ true) (sym c.contacts-contacts.ensures.value) (c.requires.tabled.nodes (get_or p.plan.contacts k d).to ∙ there)
 
 pub returns : goal.returns
 returns g c =
@@ -33,8 +33,8 @@ pub loop-contact-preserved : goal.loop-contact-preserved
 loop-contact-preserved g c =
     let many = c.loop-contact.invariant.as_many in
     let none : Contact = record { number = 0; from = 0; to = 0; start = 0; end = 0; rate = 0 } in
-    let here : AreEndsOf c.args.plan.now.table (get_or c.contacts-contacts.result.now (length c.loop-contact.ends.items) none) c.in_ok-both.both = rw many c.in_ok-both.ensures in
+    let here : AreEndsOf c.args.plan.now.table (get_or c.contacts-contacts.result.now (length c.loop-contact.ends.items) none) c.ends_of_contact-both.result = rw many c.ends_of_contact-both.ensures in
     record {
       as_many = grind (arith, common_steps);
-      each = rw (c.in_ok-push.ensures.items, ← many) (beside_more (AreEndsOf c.args.plan.now.table) c.contacts-contacts.result.now c.loop-contact.ends.items none c.in_ok-both.both (omega (arith, many)) (λ k d e lt. c.loop-contact.invariant.each k d e (omega (arith, lt, many))) here);
+      each = rw (c.in_ok-push.ensures.items, ← many) (beside_more (AreEndsOf c.args.plan.now.table) c.contacts-contacts.result.now c.loop-contact.ends.items none c.ends_of_contact-both.result (omega (arith, many)) (λ k d e lt. c.loop-contact.invariant.each k d e (omega (arith, lt, many))) here);
     }

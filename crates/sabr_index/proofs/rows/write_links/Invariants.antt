@@ -6,6 +6,7 @@ abbrev pub invariant-loop-first : goal.invariant-loop-first
 invariant-loop-first g l = record {
   within : l.first ≤ length l.passes;
   rows : AreRows l.passes l.links.items l.first;
+  few : length l.links.items ≤ l.first;
 }
 
 abbrev pub decreases-loop-first : goal.decreases-loop-first

@@ -1,11 +1,15 @@
-use Rattle.std.proofs.Common.{◌+◌, ap, ◌∙◌}
+use Rattle.std.proofs.Common.{◌+◌, ap, ◌∙◌, arith}
 use Rattle.sabr_index.proofs.SenderLemmas.{have_receivers}
 use Rattle.sabr_index.proofs.index.Index.with_ends.Goals as goal
 
 pub incoming_links-requires : goal.incoming_links-requires
 incoming_links-requires g c =
     let made = c.in_ok-linked.ensures {u = tt} in
-    have_receivers c.args.plan.now c.in_ok-linked.linked made.linked made.as_many
+    record {
+      receivers = have_receivers c.args.plan.now c.in_ok-linked.linked made.linked made.as_many;
+      nodes = omega (arith, made.as_many, c.requires.few);
+      few = made.few;
+    }
 
 pub invariant_of-result : goal.invariant_of-result
 invariant_of-result g c =

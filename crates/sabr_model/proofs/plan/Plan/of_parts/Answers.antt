@@ -1,4 +1,4 @@
-use Rattle.std.proofs.Common.{◌≤◌, List, subst, sym}
+use Rattle.std.proofs.Common.{◌≤◌, List, length, subst, sym}
 use Rattle.std.proofs.lemmas.Bool.{both_ways}
 use Rattle.std.specs.List.{AllByRecursion}
 use Rattle.indexmap.specs.IndexMap.{keys}
@@ -11,7 +11,13 @@ use Rattle.sabr_model.specs.plan.ContactEnds.{AreEnds}
 use Rattle.sabr_model.specs.plan.Known.{BeginLights}
 use Rattle.sabr_model.proofs.PlanLemmas.RangeKeys.{range_list}
 use Rattle.sabr_model.proofs.PlanLemmas.KnownLemmas.{all_ends}
+use Rattle.sabr_model.proofs.PlanLemmas.Limits.{few_contacts}
 use Rattle.sabr_model.proofs.plan.Plan.of_parts.Goals as goal
+
+pub table_of-requires : goal.table_of-requires
+table_of-requires g c =
+    let p : ContactPlan = record { contacts = c.args.contacts.items; ranges = c.args.ranges.items; greatest = c.args.greatest } in
+    subst (λ (cs : List Contact). length cs ≤ 20000) (sym c.deref.ensures.value) (few_contacts p c.requires)
 
 pub lights_of-requires : goal.lights_of-requires
 lights_of-requires g c =

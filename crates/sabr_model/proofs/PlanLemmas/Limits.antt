@@ -1,0 +1,47 @@
+-- How many contacts and nodes a plan has at most.
+use Rattle.std.proofs.Common.{◌≡◌, ℕ, ◌+◌, ◌≤◌, true, ltb, List, [], ◌∷◌, length, map, refl, arith}
+use Rattle.std.specs.Prelude.{nat_eq, Vec}
+use Rattle.std.specs.List.{AllByRecursion}
+use Rattle.std.proofs.lemmas.Bool.{and_parts, ltb-true}
+use Rattle.std.proofs.lemmas.Map.Entries.{length-keys_of}
+use Rattle.std.proofs.lemmas.Map.Made.{distinct_count-le}
+use Rattle.indexmap.specs.IndexMap.{IndexMap, keys}
+use Rattle.sabr_model.specs.declared.contact.Contact.{Contact}
+use Rattle.sabr_model.specs.plan.Plan.{ContactPlan, IsPlan, most_records, rises_above}
+use Rattle.sabr_model.specs.plan.Table.{ends_of, node_count, IsTableOf}
+use Rattle.sabr_model.proofs.PlanLemmas.TableLemmas.{counts_nodes}
+
+-- no more numbers that rise than lie between two bounds
+rise_within : (low top : ℕ) (cs : List Contact) → low ≤ top → rises_above low (map (λ c. c.number) cs) ≡ true → AllByRecursion (λ c. c.number ≤ top) cs → low + length cs ≤ top
+rise_within low top [] le rises all = omega (arith, le)
+rise_within low top (c ∷ cs) le rises all =
+    let parts = and_parts (ltb low c.number) (rises_above c.number (map (λ d. d.number) cs)) rises in
+    let above = ltb-true low c.number parts.0 in
+    let rest = rise_within c.number top cs all.0 parts.1 all.1 in
+    omega (arith, above, rest)
+
+-- the contacts
+pub few_contacts : (p : ContactPlan) → IsPlan p → length p.contacts ≤ most_records
+few_contacts p plan =
+    let within = rise_within 0 p.greatest p.contacts (omega arith) plan.numbers_rise plan.numbers_given in
+    let given = plan.count in
+    omega (arith, within, given)
+
+two_ends : (cs : List Contact) → length (ends_of cs) ≡ length cs + length cs
+two_ends [] = refl
+two_ends (c ∷ cs) = let rest = two_ends cs in omega (arith, rest)
+
+-- their nodes
+pub few_nodes : (cs : List Contact) → length cs ≤ most_records → node_count cs ≤ 40000
+few_nodes cs few =
+    let within = distinct_count-le nat_eq (ends_of cs) in
+    let ends = two_ends cs in
+    omega (arith, within, ends, few)
+
+-- the nodes of their table
+pub few_keys : {S A : Type 0} (cs : List Contact) (table : IndexMap ℕ (Vec ℕ A) S) → IsTableOf cs table → length cs ≤ most_records → length (keys table) ≤ 40000
+few_keys cs table h few =
+    let counted = counts_nodes cs table h in
+    let within = few_nodes cs few in
+    let entries = length-keys_of table.entries in
+    omega (arith, counted, within, entries)
