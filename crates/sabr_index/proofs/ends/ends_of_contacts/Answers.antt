@@ -6,16 +6,16 @@ use Rattle.sabr_model.specs.plan.ContactEnds.{AreEnds, AreEndsOf}
 use Rattle.sabr_model.proofs.PlanLemmas.KnownLemmas.{beside_more, sender_there, receiver_there}
 use Rattle.sabr_index.proofs.ends.ends_of_contacts.Goals as goal
 
-pub ends_of_contact-requires-clause-from : goal.ends_of_contact-requires-clause-from
-ends_of_contact-requires-clause-from g c =
+pub ends_of_contact-both-requires-clause-from : goal.ends_of_contact-both-requires-clause-from
+ends_of_contact-both-requires-clause-from g c =
     let p = c.args.plan.now in
     let k = c.loop-contact.contact-index in
     let d : Contact = record { number = 0; from = 0; to = 0; start = 0; end = 0; rate = 0 } in
     let there = sender_there p.plan.contacts k d (subst (λ (cs : List Contact). k < length cs) c.contacts-contacts.ensures.value c.loop-contact-test.true) in
     subst (λ (cs : List Contact). has (get_or cs k d).from p.table ≡ true) (sym c.contacts-contacts.ensures.value) (c.requires.tabled.nodes (get_or p.plan.contacts k d).from ∙ there)
 
-pub ends_of_contact-requires-clause-to : goal.ends_of_contact-requires-clause-to
-ends_of_contact-requires-clause-to g c =
+pub ends_of_contact-both-requires-clause-to : goal.ends_of_contact-both-requires-clause-to
+ends_of_contact-both-requires-clause-to g c =
     let p = c.args.plan.now in
     let k = c.loop-contact.contact-index in
     let d : Contact = record { number = 0; from = 0; to = 0; start = 0; end = 0; rate = 0 } in
