@@ -231,7 +231,7 @@ echo "$*" >>"{room.path}/asked"
 case $* in
 first*) printf '%s\\n' '1 delivery 2030/01/01-00:00:07 hops 1 entry 2 until 2030/01/01-00:01:00 contacts 1' more ;;
 next*) echo end ;;
-explain*) cat "{routes}" ;;
+follow*) sed 's/^/list /' "${{!#}}" | tee -a "{room.path}/asked" && cat "{routes}" ;;
 esac
 """)
     ends = room.stub("ends", "#!/bin/sh\necho end\n")
@@ -243,8 +243,11 @@ esac
     first = asked("--count 1")
     yield "the first routes", room.draw(["--plan", plan, "--explained", routes]), lambda: first.out
     yield "a hint", "timeline: hint: 1 of 3 contacts have no light time, so no route takes them\n", lambda: first.err
-    yield ("what was asked", f"first --plan {plan} {request} --count 1\nexplain {request} --contacts 1",
-           lambda: re.sub("explain --plan [^ ]*", "explain", lines_with("^(?!follow --help$)", room.read("asked"))))
+    yield ("what was asked", f"""\
+first --plan {plan} {request} --count 1
+follow --plan {plan} --lists
+list 1 1 2 2030/01/01-00:00:00 5 20000
+""", lambda: re.sub("--lists .*", "--lists", room.read("asked")))
     report = room.file("report.txt", ROUTES.splitlines()[1].replace("delivery", "4 delivery", 1) + "\n")
     for title, wanted, *words in (
         ("the routes of a report", ROUTE_1.replace("1", "4", 1), ["--report", report]),
@@ -294,7 +297,7 @@ case $* in
 check*) echo ok ;;
 first*) grep '^d contact' "$3" | tail -n 1 >"{room.path}/deleted"
     echo '1 delivery 2030/01/01-06:27:22 hops 3 entry 21 until 2030/01/01-03:19:00 contacts 5 12 2' && echo more ;;
-explain*) sed -n 5,8p examples/relay-routes.txt ;;
+follow*) sed 's/^/list /' "${{!#}}" && sed -n 5,8p examples/relay-routes.txt ;;
 esac
 """)
     words = ["--without 11 --plan examples/relay.txt --from 31 --to 1 --at 2030/01/01-00:45:00 --count 1 --program", [program]]
