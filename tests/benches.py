@@ -9,7 +9,7 @@ import subprocess
 import tempfile
 from functools import partial
 
-from checking import TOP, Broken, Check
+from checking import TOP, Check
 
 SECONDS = 600
 OVER_A = ["--plan", f"{TOP}/examples/a.txt", "--from", "1", "--to", "3", "--at", "2030/01/01-00:00:00"]
@@ -84,8 +84,6 @@ def refusals(program):
 
 
 def checks(asked):
-    if asked.rows:
-        raise Broken("benches has no rows")
     programs = {crate: asked.program(crate) for crate in ("cgrlist", "bench")}
     rows = list(ROWS)
     rows += COUNTED if shutil.which("valgrind") else []
