@@ -3,7 +3,6 @@ place of the program."""
 
 import json
 import os
-import pty
 import re
 import shutil
 import signal
@@ -394,19 +393,7 @@ esac
     words = [f"{TOP}/tools/report", "--program", slow, *request, "--by", f"{DAY}-01:00:00"]
 
     def on_a_terminal():
-        with open(os.devnull, "rb") as nothing:
-            master, terminal = pty.openpty()
-            with subprocess.Popen(words, stdin=nothing, stdout=terminal, stderr=terminal, cwd=TOP) as ran:
-                os.close(terminal)
-                text = b""
-                while True:
-                    try:
-                        text += os.read(master, 4096)
-                    except OSError:  # it has ended
-                        break
-                ran.wait(SECONDS)
-            os.close(master)
-        return parts_of(r"report: [^\r\n]*", text.decode())
+        return parts_of(r"report: [^\r\n]*", room.on_a_terminal(words, "shown"))
 
     yield "how far it is", f"report: 1 routes of 1 looked at, the last delivers at {DAY}-00:00:02", on_a_terminal
     os.mkdir(f"{room.path}/tmp")

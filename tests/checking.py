@@ -1,6 +1,7 @@
 """What the parts of tests/run share: checks with names, the rows that are asked for, and how a failure is told."""
 
 import os
+import pty
 import re
 import shlex
 import subprocess
@@ -145,7 +146,7 @@ class Room:
         return self.file(name, text, 0o755)
 
     def read(self, name):
-        with open(f"{self.path}/{name}", encoding="utf-8", errors="replace") as file:
+        with open(f"{self.path}/{name}", encoding="utf-8", errors="replace", newline="") as file:
             return file.read()
 
     def run(self, *words, given="", at=TOP, out=subprocess.PIPE, **further):
@@ -154,6 +155,20 @@ class Room:
         how = {"cwd": at, "env": {**os.environ, **further}, "input": given.encode(), "stdout": out, "stderr": subprocess.PIPE}
         ran = subprocess.run(words, timeout=SECONDS, **how)
         return Ran(ran.returncode, *((it or b"").decode(errors="replace") for it in (ran.stdout, ran.stderr)))
+
+    def on_a_terminal(self, words, name, at=TOP, **further):
+        """What words print on a terminal of their own, which also goes to a file as it comes."""
+        own, terminal = pty.openpty()
+        how = {"cwd": at, "env": {**os.environ, **further}, "stdin": subprocess.DEVNULL, "stdout": terminal, "stderr": terminal}
+        with subprocess.Popen(words, **how), open(f"{self.path}/{name}", "wb", buffering=0) as file:
+            os.close(terminal)
+            try:
+                while file.write(os.read(own, 4096)):
+                    pass
+            except OSError:
+                pass  # nothing has the terminal open any more
+        os.close(own)
+        return self.read(name)
 
 
 def compared(title, wanted, act, given):
