@@ -72,9 +72,6 @@ class Tools(Room):
         return parts_of("^report: hint: (.*)", self.told("report --count 1 --plan", [plan], *words))
 
 
-# ---- The latest second ------------------------------------------------------------------------------------------
-
-
 def latest(second, route):
     return f"latest {DAY}-{second}\n1 delivery {DAY}-{route}"
 
@@ -132,9 +129,6 @@ def latest_seconds(room):
         yield title, wanted, room.told, "latest --plan", [plan], words, *further
 
 
-# ---- What the program refuses, and words ------------------------------------------------------------------------
-
-
 def refusal(tool):
     """What is told of the plan `bad`."""
     return f"""\
@@ -178,9 +172,6 @@ def refusals(room):
     raves = room.stub("raves", "#!/bin/sh\necho 1 delivery\n")
     yield ("what is no report is no answer", "latest: this is no line of a report: 1 delivery\nstatus 2",
            lambda: room.from_a(f"--by {DAY}-00:00:00", by=raves))
-
-
-# ---- Reports ----------------------------------------------------------------------------------------------------
 
 
 def reports(room):
@@ -266,9 +257,6 @@ entry 3 until {DAY}-00:01:30 contacts 3\nstatus 1", room.told, *following, "2030
         "bash -c", ['tools/report "$@" 2>&1 | sed 1q'], "report --plan examples/a.txt --report", [long]).all()[:14])
 
 
-# ---- Times and names on the command line ------------------------------------------------------------------------
-
-
 def times_and_names(room):
     best = """\
 rank  delivery              hops  until                 contacts  nodes
@@ -306,9 +294,6 @@ latest 2030-01-01T03:18:59Z
         yield at, True, is_now, at, seconds
 
 
-# ---- Hops and room ----------------------------------------------------------------------------------------------
-
-
 def hops_and_room(room):
     """Contact 4 sends 4000 bytes a second for 4800 s, contact 11 62500 for 5400 s. Contact 2 sends 2500000 from the arrival
     over contact 11 at 02:47:19 to 08:30:00, which is 20561 s."""
@@ -341,9 +326,6 @@ rank,hop,contact,from,to,send,arrive,room
     ):
         yield title, wanted, lambda: (lambda it: (it["entry"], it["nodes"], it["room"]))(
             as_json(room.file("great.txt", changed), "--at 2030-01-01 --count 1"))
-
-
-# ---- All routes by a time, and distinct ones --------------------------------------------------------------------
 
 
 def many_routes(room):
@@ -397,22 +379,27 @@ esac
 
     yield "how far it is", f"report: 1 routes of 1 looked at, the last delivers at {DAY}-00:00:02", on_a_terminal
     os.mkdir(f"{room.path}/tmp")
-    if os.path.exists(f"{room.path}/next-begins"):
-        os.remove(f"{room.path}/next-begins")
 
-    def ended():
-        further = {**os.environ, "SLEEP": "9", "TMPDIR": f"{room.path}/tmp"}
-        with subprocess.Popen(words, stdin=subprocess.DEVNULL, stdout=subprocess.DEVNULL, env=further) as ran:
+    def ended_by(number):
+        """Its status, what it prints and tells, and the files that it leaves, if a signal ends it while the next page is made."""
+        if os.path.exists(f"{room.path}/next-begins"):
+            os.remove(f"{room.path}/next-begins")
+        how = {"stdin": subprocess.DEVNULL, "stdout": subprocess.PIPE, "stderr": subprocess.PIPE, "text": True}
+        with subprocess.Popen(words, env={**os.environ, "SLEEP": "9", "TMPDIR": f"{room.path}/tmp"}, **how) as ran:
             while not os.path.exists(f"{room.path}/next-begins") and ran.poll() is None:
                 time.sleep(0.1)
-            ran.send_signal(signal.SIGTERM)
-        return ran.returncode
+            ran.send_signal(number)
+            return ran.wait(SECONDS), ran.stdout.read(), ran.stderr.read(), os.listdir(f"{room.path}/tmp")
 
-    yield "it is ended", -signal.SIGTERM, ended
-    yield "and leaves no file", [], os.listdir, f"{room.path}/tmp"
-
-
-# ---- A planner's questions --------------------------------------------------------------------------------------
+    ended = ended_by(signal.SIGTERM)
+    yield "it is ended", -signal.SIGTERM, lambda: ended[0]
+    yield "and leaves no file", [], lambda: ended[3]
+    status, shown, told, left = ended_by(signal.SIGINT)
+    yield "by the keyboard: the routes so far are shown", (-signal.SIGINT, f"   1  {DAY}-00:00:02"), \
+        lambda: (status, shown.splitlines()[1][:25])
+    goes_on = "report: this command goes on after the routes that were looked at: cgrlist next --plan"
+    yield ("and the session is kept, to go on from", f"{goes_on} {twelve} --session {room.path}/tmp/{''.join(left)} --count 10000\n",
+           lambda: told)
 
 
 def a_planners_questions(room):
@@ -484,8 +471,6 @@ def plans_compared(room):
     yield "a contact that came", ["came"], lambda: re.findall(r"^ *(\S+) +\S+ +31 +\S+ +21 ", compared(new), re.M)
     yield "the same plan", "contacts: 20 stay, 0 came, 0 went, 0 changed", compared, "examples/relay.txt"
 
-
-# ---- Many requests ----------------------------------------------------------------------------------------------
 
 REQUESTS = f"""\
 # from to at
@@ -578,9 +563,6 @@ done
             r"\nstatus \d+$", "", room.of_requests("31 1 2030-01-01\n", by=other, ANSWER=answer))
 
 
-# ---- Hints ------------------------------------------------------------------------------------------------------
-
-
 def hints(room):
     relay, a = read("examples/relay.txt"), read("examples/a.txt")
     dark = room.file("dark.txt", lines_with("^(?!.*( 1 12 1$| 12 1 3$))", relay) + "\n")
@@ -622,9 +604,6 @@ def hints(room):
     for path, why in ((room.path, "Is a directory"), ("/none.txt", MISSING)):
         yield (f"a plan that can't be read: {why}", f"report: {path}: {why}\nstatus 5",
                room.told, "report --from 1 --to 3 --at 2030-01-01 --count 1 --plan", [path])
-
-
-# ---- The program of a clone -------------------------------------------------------------------------------------
 
 
 def programs_of_clones(room):
