@@ -6,17 +6,20 @@
 
 Makes the plans of families.py, builds the yardstick with cargo, and PROGRAM, if it isn't given, with `./cgrlist --prove`.
 Each of the 24 questions is asked for each count. The first table has instructions, counted by callgrind, some runs at a
-time; a busy machine has the same as a quiet one. The second has processor time, the best of some runs in turns, for which
+time; a busy machine has the same as a quiet one. What was counted is kept in FOLDER by the checksums of program and plan, so
+that the yardstick's runs are counted once. The second table has processor time, the best of some runs in turns, for which
 the machine has to be quiet; --repeats 0 leaves it out. The last row is the geometric mean. Status 1: a run failed, or two
 reports differ, byte for byte.
 """
 import argparse
 import concurrent.futures
+import hashlib
 import json
 import math
 import os
 import subprocess
 import sys
+import threading
 
 import families
 import instructions
@@ -54,6 +57,38 @@ def programs_of(given):
     return measure.programs_of(given)
 
 
+class Counted:
+    """What was counted: of each run its millions of instructions, its status, and the checksum of its report."""
+
+    def __init__(self, folder):
+        self.path, self.lock, self.sums = os.path.join(folder, "counted.json"), threading.Lock(), {}
+        self.runs = {}
+        if os.path.exists(self.path):
+            with open(self.path, encoding="ascii") as file:
+                self.runs = json.load(file)
+
+    def sum_of(self, path):
+        """The checksum of a file, which is read once."""
+        if path not in self.sums:
+            with open(path, "rb") as file:
+                self.sums[path] = hashlib.sha256(file.read()).hexdigest()
+        return self.sums[path]
+
+    def count(self, words, most_seconds):
+        key = " ".join(self.sum_of(word) if os.path.isfile(word) else word for word in words)
+        if key not in self.runs:
+            answer = measure.run(words, most_seconds)
+            report = hashlib.sha256(answer.text).hexdigest()
+            run = [instructions.count(words, most_seconds), answer.status, report]
+            if run[0] is None:
+                return run
+            with self.lock:
+                self.runs[key] = run
+                with open(self.path, "w", encoding="ascii") as file:
+                    json.dump(self.runs, file, indent=0)
+        return self.runs[key]
+
+
 class Run:
     """A question for a count, and how its runs by both programs went: each figure is the first one's by the second's."""
 
@@ -62,10 +97,10 @@ class Run:
         self.millions = self.processor = (None, None)
         self.is_alike = False
 
-    def count_with(self, programs, most_seconds):
-        self.millions = [instructions.count(it.words(self.question), most_seconds) for it in programs]
-        answers = [measure.run(it.words(self.question), most_seconds) for it in programs]
-        self.is_alike = all(it.is_good() and it.text == answers[0].text for it in answers)
+    def count_with(self, programs, counts, most_seconds):
+        counted = [counts.count(it.words(self.question), most_seconds) for it in programs]
+        self.millions = [millions for millions, _, _ in counted]
+        self.is_alike = all((status, report) == (0, counted[0][2]) for _, status, report in counted)
         return self
 
     def time_with(self, programs, repeats, most_seconds):
@@ -88,8 +123,9 @@ def asked(questions, given, counts, further=()):
 
 def counted(runs, programs, given):
     """The runs with their instructions, several at a time."""
+    counts = Counted(given.out)
     with concurrent.futures.ThreadPoolExecutor(given.jobs) as pool:
-        return list(pool.map(lambda run: run.count_with(programs, given.most_seconds), runs))
+        return list(pool.map(lambda run: run.count_with(programs, counts, given.most_seconds), runs))
 
 
 def ratio(pair):

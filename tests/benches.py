@@ -5,13 +5,10 @@ count instructions need valgrind, and those that build the yardstick need cargo:
 """
 
 import shutil
-import subprocess
 import tempfile
-from functools import partial
 
-from checking import TOP, Broken, Check
+from checking import TOP, Room, checks_of
 
-SECONDS = 600
 OVER_A = ["--plan", f"{TOP}/examples/a.txt", "--from", "1", "--to", "3", "--at", "2030/01/01-00:00:00"]
 
 # Of each: what it shows, the script, its words, which columns of its rows are looked at, and what they must be.
@@ -52,44 +49,33 @@ def cells_in(text, columns):
     return [" ".join(row[column] for column in columns) for row in data if columns]
 
 
-def made(script, words, programs):
-    """How a script ended, in a folder of its own."""
-    program = [] if script == "plans.py" else [programs["bench" if script in ("searching.py", "sessions.py") else "cgrlist"]]
-    words = [programs.get(word, word) for word in words]
-    with tempfile.TemporaryDirectory() as folder:
-        how = {"cwd": folder, "stdin": subprocess.DEVNULL, "capture_output": True, "text": True, "timeout": SECONDS}
-        return subprocess.run([f"{TOP}/bench/{script}", *program, *words], **how)
+class Benches(Room):
+    def __init__(self, asked):
+        super().__init__()
+        self.programs = {crate: asked.program(crate) for crate in ("cgrlist", "bench")}
+
+    def made(self, script, words, columns):
+        """A script's status, the cells of those columns, and what it tells if it fails, in a folder of its own."""
+        crate = "bench" if script in ("searching.py", "sessions.py") else "cgrlist"
+        program = [] if script == "plans.py" else [self.programs[crate]]
+        with tempfile.TemporaryDirectory(dir=self.path) as folder:
+            ran = self.run([f"{TOP}/bench/{script}", *program, *(self.programs.get(it, it) for it in words)], at=folder)
+        return ran.status, cells_in(ran.out, columns), ran.err if ran.status else ""
 
 
-def failure_of(row, programs):
-    """How a script failed, which is empty if it passed."""
-    about, script, words, columns, wanted = row
-    ran = made(script, words, programs)
-    found = cells_in(ran.stdout, columns)
-    if ran.returncode == 0 and found == wanted:
-        yield ""
-        return
-    yield f"FAILED: {about}: {script} {' '.join(words)}\nwanted {wanted}, found {found}, status {ran.returncode}\n{ran.stderr}"
+def scripts(room):
+    rows = ROWS + (COUNTED if shutil.which("valgrind") else [])
+    for about, script, words, columns, wanted in rows + (BESIDE if shutil.which("valgrind") and shutil.which("cargo") else []):
+        yield about, (0, wanted, ""), room.made, script, words, columns
 
 
-def refusals(program):
-    """Words that name no bench."""
-    asked = ["1", "3", "2030/01/01-00:00:00", "3"]
-    path = f"{TOP}/examples/a.txt"
-    for words in ([], ["searches", "settled", path, *asked], ["search", "other", path, *asked], ["search", "settled", path],
-                  ["session", path, *asked], ["session", "prove", path, path], ["session", "verify", path]):
-        ran = subprocess.run([program, *words], stdin=subprocess.DEVNULL, capture_output=True, text=True, timeout=SECONDS)
-        is_refused = (ran.returncode, ran.stdout) == (2, "")
-        yield "" if is_refused else f"FAILED: a bench is named by {words}: status {ran.returncode}, out {ran.stdout}"
+def refusals(room):
+    asked, path = "1 3 2030/01/01-00:00:00 3", f"{TOP}/examples/a.txt"
+    for words in ("", f"searches settled {path} {asked}", f"search other {path} {asked}", f"search settled {path}",
+                  f"session {path} {asked}", f"session prove {path} {path}", f"session verify {path}"):
+        ran = room.run([room.programs["bench"]], words)
+        yield f"no bench is named by '{words.replace(TOP, '')}'", (2, ""), lambda: (ran.status, ran.out)
 
 
 def checks(asked):
-    if asked.rows:
-        raise Broken("benches has no rows")
-    programs = {crate: asked.program(crate) for crate in ("cgrlist", "bench")}
-    rows = list(ROWS)
-    rows += COUNTED if shutil.which("valgrind") else []
-    rows += BESIDE if shutil.which("valgrind") and shutil.which("cargo") else []
-    for row in rows:
-        yield Check(f"benches -k '{row[0]}'", partial(failure_of, row, programs), row[0])
-    yield Check("benches -k 'no bench'", partial(refusals, programs["bench"]), "no bench is named by other words")
+    return checks_of("benches", Benches(asked), [scripts, refusals])

@@ -1,14 +1,21 @@
 """What the parts of tests/run share: checks with names, the rows that are asked for, and how a failure is told."""
 
 import os
+import pty
+import re
+import shlex
+import subprocess
 import sys
+import tempfile
 import unittest
 from dataclasses import dataclass, field
+from functools import partial
 
 from trial import TOP, Broken, compiled
 
 SHOWN = 10  # failures that are shown of one name
 SEEN = "shown already"  # a failure that is counted alone
+SECONDS = 600
 
 
 @dataclass
@@ -101,3 +108,93 @@ class Tally(unittest.TestResult):
         test.failed += 1
         if test.failed <= SHOWN and told != SEEN:
             print(f"{told}\nalone: tests/run {test.id()}{self.further}", flush=True)
+
+
+# ---- Checks of commands -----------------------------------------------------------------------------------------
+
+
+@dataclass(frozen=True)
+class Ran:
+    """How a command ended."""
+
+    status: int
+    out: str
+    err: str
+
+    def all(self):
+        """What it printed, its messages, and its status if that isn't 0."""
+        return f"{self.out}{self.err}{f'status {self.status}' if self.status else ''}".rstrip("\n")
+
+
+class Room:
+    """A folder for the files of some checks, and the commands that these run from the top of the clone."""
+
+    def __init__(self):
+        self.scratch = tempfile.TemporaryDirectory()
+        self.path = self.scratch.name
+
+    def file(self, name, text="", mode=0o644):
+        """The path of a new file with this text."""
+        path = f"{self.path}/{name}"
+        with open(path, "wb") as file:
+            file.write(text if isinstance(text, bytes) else text.encode())
+        os.chmod(path, mode)
+        return path
+
+    def stub(self, name, text):
+        """The path of a new command."""
+        return self.file(name, text, 0o755)
+
+    def read(self, name):
+        with open(f"{self.path}/{name}", encoding="utf-8", errors="replace", newline="") as file:
+            return file.read()
+
+    def run(self, *words, given="", at=TOP, out=subprocess.PIPE, **further):
+        """Runs words, which a text may hold with blanks between, with a text on standard input and further variables."""
+        words = [it for word in words for it in (shlex.split(word) if isinstance(word, str) else word)]
+        how = {"cwd": at, "env": {**os.environ, **further}, "input": given.encode(), "stdout": out, "stderr": subprocess.PIPE}
+        ran = subprocess.run(words, timeout=SECONDS, **how)
+        return Ran(ran.returncode, *((it or b"").decode(errors="replace") for it in (ran.stdout, ran.stderr)))
+
+    def on_a_terminal(self, words, name, at=TOP, **further):
+        """What words print on a terminal of their own, which also goes to a file as it comes."""
+        own, terminal = pty.openpty()
+        how = {"cwd": at, "env": {**os.environ, **further}, "stdin": subprocess.DEVNULL, "stdout": terminal, "stderr": terminal}
+        with subprocess.Popen(words, **how), open(f"{self.path}/{name}", "wb", buffering=0) as file:
+            os.close(terminal)
+            try:
+                while file.write(os.read(own, 4096)):
+                    pass
+            except OSError:
+                pass  # nothing has the terminal open any more
+        os.close(own)
+        return self.read(name)
+
+
+def compared(title, wanted, act, given):
+    """How what a check found isn't what it wanted, which is empty if it is."""
+    found = act(*given)
+    yield "" if found == wanted else f"FAILED: {title}: wanted\n{wanted}\nfound\n{found}"
+
+
+def checks_of(part, room, sections):
+    """The checks of some sections. Each gives for a check its title, what is wanted, what finds it, and what that is given."""
+    with room.scratch:
+        for section in sections:
+            for title, wanted, act, *given in section(room):
+                yield Check(f"{part} -k {shlex.quote(title)}", partial(compared, title, wanted, act, given), title)
+
+
+def parts_of(pattern, text):
+    """What a pattern finds in a text, a line each."""
+    return "\n".join(re.findall(pattern, text, re.M))
+
+
+def lines_with(pattern, text):
+    """The lines in which a pattern is found."""
+    return "\n".join(line for line in text.splitlines() if re.search(pattern, line))
+
+
+def last_of(text):
+    """The last line."""
+    return text.rstrip("\n").rpartition("\n")[2]

@@ -28,7 +28,7 @@ from collections import Counter
 from dataclasses import dataclass, field
 from functools import partial
 
-from checking import Broken, Check
+from checking import Check
 from oracle import NO_LIMIT, Bad, Listing, Plan, Request, Route, spelled, time_text
 from steps import answers_of as answers_to
 
@@ -642,8 +642,6 @@ def failures_of_counts(counts, leasts):
 
 def cases_of(asked):
     """The cases that are asked for, with what is said over them."""
-    if asked.rows:
-        raise Broken("drawn has no rows")
     drawn = [*map(drawn_case, range(DRAWN) if asked.seed is None else [asked.seed])]
     others = [*map(worked_case, range(WORKED_OUT)), long_case()] if asked.seed is None else []
     cases = [case for case in drawn + others if asked.text in case.title]

@@ -48,12 +48,6 @@ def _built(script):
     return BUILT
 
 
-@functools.lru_cache(maxsize=None)
-def _has_follow(path):
-    """Whether a program has the command follow."""
-    return "Usage: cgrlist follow" in _ran([path, "follow", "--help"])[2]
-
-
 def _ran(words):
     """Runs the program: its status, and what it prints on standard output and standard error."""
     how = {"stdout": subprocess.PIPE, "stderr": subprocess.PIPE, "text": True, "errors": "replace"}
@@ -103,10 +97,8 @@ class Program:
     def follow(self, lists):
         """What lists of contacts do, each with its request: for each a route with its hops, or a `Fault`."""
         lists = list(lists)
+        parts = [lists[start : start + LISTS] for start in range(0, len(lists), LISTS)]
         with threads() as pool:
-            if not _has_follow(self.path):
-                return list(pool.map(lambda it: self._explained(*it), lists))
-            parts = [lists[start : start + LISTS] for start in range(0, len(lists), LISTS)]
             return [told for part in pool.map(self._followed, parts) for told in part]
 
     def with_hops(self, answers):
@@ -147,10 +139,6 @@ class Program:
         lines = [f"{','.join(map(str, contacts))} {request.line()}" for contacts, request in lists]
         return map(followed, self._over_lines("follow", "--lists", lines))
 
-    def _explained(self, contacts, request):
-        words = [*request.words(), "--contacts", ",".join(map(str, contacts))]
-        return followed(self.run("explain", *words, also=1).split("\n")[:-1])
-
     def _over_lines(self, command, option, lines, *words, but=None):
         """The parts of what a command answers to a file of lines, a part for each; None if its status is that one."""
         file = scratch()
@@ -165,16 +153,16 @@ class Program:
             raise Refused(f"cgrlist {command} answers {len(parts)} of {len(lines)} lines")
         return parts
 
-    def run(self, command, *words, but=None, also=0):
-        """What a command prints on standard output, with status 0 or another one; None with the status `but`."""
+    def run(self, command, *words, but=None):
+        """What a command prints on standard output; None if its status is `but`."""
         status, said, told = _ran([self.path, command, "--plan", self.plan_file, *words])
         if status and status == but:
             return None
         if status < 0:
             raise Refused(f"cgrlist {command} was ended by signal {-status}", 128 - status)
-        if status == 1 != also:
+        if status == 1:
             raise Refused(f"cgrlist {command} answers: {[*said.splitlines(), 'no'][-1]}")
-        if status not in (0, also):
+        if status:
             found = hints.of_refusal(self.plan_file, told) if status == PLAN_STATUS else ()
             raise Refused(told, status, is_told=True, hints=found)
         sys.stderr.write(told)

@@ -10,7 +10,8 @@ use sabr_index::{Index, Pass};
 use sabr_model::{HopFault, Plan, Reached, Request, follow_hop};
 use std::alloc::Allocator;
 
-/// How many passes of the last contact's link are tried, the last first.
+/// How many passes of the last contact's link are tried, the last first. Not varied in measurements. To vary it:
+/// `bench/figures.py --counts 1 --only cube,walker-66-20000,relay-mars-20000`.
 const MOST_PASSES: usize = 8;
 
 /// The numbers of a route before its last one, where they lead, the last, and numbers that may not take its place.

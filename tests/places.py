@@ -1,7 +1,4 @@
-#!/usr/bin/env python3
 """Checks that what the documents name is there.
-
-    tests/places [CLONE]                CLONE: the folder whose documents are looked at; this clone if not given
 
 In docs/proofs.md a table's row is about the crate that it names first, as `crate::call`. In the last cell of such a row,
 `proofs/..` and `specs/..` must be files or folders of that crate. A bare name there must be a lemma file of it or of a
@@ -15,15 +12,15 @@ In docs/architecture.md the table of crates must name for each crate the kit's l
 have an empty first cell must name each file of `src/` or `specs/` that has such a word in its code or its definitions, and
 not only in comments, imports and contracts.
 
-docs/definitions.md must name each spec file. The last line is 'N passed, M failed'.
+docs/definitions.md must name each spec file.
 """
 
 import glob
 import os
 import re
-import sys
 
-TOP = os.path.dirname(os.path.dirname(os.path.realpath(__file__)))
+from checking import TOP, Check
+
 PROOFS = "docs/proofs.md"
 ARCHITECTURE = "docs/architecture.md"
 DEFINITIONS = "docs/definitions.md"
@@ -182,18 +179,7 @@ def looked_at(top):
         yield DEFINITIONS, 1, "" if name in named else f"doesn't name the spec file {name}"
 
 
-def main():
-    top = os.path.realpath(sys.argv[1]) if len(sys.argv) > 1 else TOP
-    passed = failed = 0
-    for document, number, wrong in looked_at(top):
-        if wrong:
-            failed += 1
-            print(f"FAILED: {document}:{number} {wrong}")
-        else:
-            passed += 1
-    print(f"places: {passed} passed, {failed} failed")
-    return 1 if failed or not passed else 0
-
-
-if __name__ == "__main__":
-    sys.exit(main())
+def checks(_):
+    for document, number, wrong in looked_at(TOP):
+        place = f"{document}:{number}"
+        yield Check(f"places -k {place}", lambda: [f"FAILED: {place} {wrong}" if wrong else ""])

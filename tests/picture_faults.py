@@ -1,7 +1,4 @@
-#!/usr/bin/env python3
-"""Looks for faults in a picture that tools/timeline drew: prints each, and at the end what was compared.
-
-    tests/picture_faults PICTURE FIRST LAST          FIRST and LAST: the times between which it was drawn
+"""Looks for faults in a picture that tools/timeline drew.
 
 Each line and bar must lie where the times of its title are on a linear scale. Ticks must be labelled with their times.
 Labels must not overlap, nor bars in a row, nor the hops of two routes, nor their lines that change rows. Colours must
@@ -9,7 +6,6 @@ stand out from the background in light and in dark.
 """
 
 import re
-import sys
 import xml.etree.ElementTree as tree
 from datetime import datetime
 from itertools import combinations
@@ -145,16 +141,11 @@ def colour_faults(root):
                 yield f"{name} has a contrast of {least:.2f} in {surroundings} surroundings"
 
 
-def main():
-    root = tree.parse(sys.argv[1]).getroot()
+def looked_at(text, first, last):
+    """A line for each fault of a picture that was drawn between two times, and at the end what was compared."""
+    root = tree.fromstring(text)
     drawn = {name: of_class(root, name) for name in ("tick", "bar", "hop", "wait")}
-    scale = Scale(drawn["tick"], *sys.argv[2:])
+    scale = Scale(drawn["tick"], first, last)
     faults = [*tick_faults(scale, root, drawn["tick"]), *bar_faults(scale, drawn["bar"])]
     faults += [*hop_faults(scale, drawn["hop"]), *wait_faults(scale, drawn["wait"]), *colour_faults(root)]
-    for fault in faults:
-        print(fault)
-    print(", ".join(f"{len(of)} {name}s" for name, of in drawn.items()))
-
-
-if __name__ == "__main__":
-    main()
+    return "\n".join([*faults, ", ".join(f"{len(of)} {name}s" for name, of in drawn.items())])

@@ -1,0 +1,636 @@
+"""Tries the tools that ask the program: over the worked plans, with answers that were worked out by hand, and over stubs in
+place of the program."""
+
+import json
+import os
+import re
+import shutil
+import signal
+import subprocess
+import time
+from collections import Counter
+from datetime import datetime, timezone
+from itertools import groupby
+
+from checking import SECONDS, TOP, Room, checks_of, last_of, lines_with, parts_of
+
+DAY = "2030/01/01"
+NAMES = "# the names of the nodes\n31 lander\n22 relay high\n"
+TIMES = "a time is 2031/03/03-01:00:00, 2031-03-03T01:00:00Z, 2031-03-03 01:00, 2031-062, now or now+2h"
+HEAD = "rank  delivery             hops  until                contacts  nodes"
+FIRST = f"""\
+1 delivery {DAY}-00:00:15 hops 2 entry 2 until {DAY}-00:01:40 contacts 1 4
+2 delivery {DAY}-00:00:25 hops 2 entry 2 until {DAY}-00:01:00 contacts 1 2
+more
+"""
+NEXT = f"3 delivery {DAY}-00:01:30 hops 1 entry 3 until {DAY}-00:01:30 contacts 3\nend\n"
+CUT = "the report is cut: its last line is neither 'more' nor 'end'"
+MISSING = "No such file or directory"
+
+
+def read(path):
+    with open(f"{TOP}/{path}", encoding="utf-8") as file:
+        return file.read()
+
+
+def routes_in(text):
+    """How many routes a table has, the last rank, and the last line."""
+    ranks = re.findall(r"^ +(\d+) ", text, re.M)
+    return len(ranks), ranks[-1] if ranks else "", last_of(text)
+
+
+class Tools(Room):
+    def __init__(self, program):
+        super().__init__()
+        self.program = program
+        self.names = ["--names", self.file("names", NAMES)]
+
+    def ask(self, words, *further, by=None, **how):
+        """Runs a tool, with which the words begin."""
+        tool, _, words = words.partition(" ")
+        return self.run(f"tools/{tool} --program", [by or self.program], words, *further, **how)
+
+    def told(self, *words, **further):
+        """What a tool prints, its messages and its status."""
+        return self.ask(*words, **further).all()
+
+    def from_a(self, *words, **further):
+        return self.told("latest --plan examples/a.txt --from 1 --to 3", *words, **further)
+
+    def from_lander(self, *words, **further):
+        return self.told("report --plan examples/relay.txt --from 31 --to 1", *words, **further)
+
+    def read_report(self, given, *words, plan="examples/a.txt"):
+        """A report that is read stands alone: no program is asked."""
+        return self.told("report --report /dev/stdin --plan", [plan], *words, given=given, by="/nowhere")
+
+    def of_requests(self, given, *words, **further):
+        return self.told("report --plan examples/relay.txt --requests - --count 1", *words, given=given, **further)
+
+    def hinted(self, plan, *words):
+        """The hints about a plan and a request."""
+        return parts_of("^report: hint: (.*)", self.told("report --count 1 --plan", [plan], *words))
+
+
+def latest(second, route):
+    return f"latest {DAY}-{second}\n1 delivery {DAY}-{route}"
+
+
+def none_by(second):
+    return f"none: the best delivery is {DAY}-{second}\nstatus 1"
+
+
+def latest_seconds(room):
+    """In examples/a.txt, from 1 to 3, a bundle that is at node 1 at second t is at node 3
+        by contacts 1 4   at t + 15            if t < 100, when contact 1 ends
+        by contacts 1 2   at max(t + 15, 25)   if t + 10 < 60, when contact 2 ends
+        by contact 3      at max(t, 50) + 40   if t < 90, when contact 3 ends;
+    of those that arrive together, contacts 1 2 come first."""
+    by_4, by_2 = f"hops 2 entry 2 until {DAY}-00:01:40 contacts 1 4", f"hops 2 entry 2 until {DAY}-00:01:00 contacts 1 2"
+    for title, wanted, words in (
+        ("the deadline is a second too early", none_by("00:00:15"), f"--by {DAY}-00:00:14"),
+        ("a delivery at the deadline counts", latest("00:00:00", f"00:00:15 {by_4}"), f"--by {DAY}-00:00:15"),
+        ("the deadline decides", latest("00:01:00", f"00:01:15 {by_4}"), f"--by {DAY}-00:01:15"),
+        ("the end of contact 1 decides", latest("00:01:39", f"00:01:54 {by_4}"), "--by 9998/12/31-23:59:59"),
+        ("a deadline long before the plan", none_by("00:00:15"), "--by 1970/01/01-00:00:00"),
+        ("contact 3 alone, a second too early", none_by("00:01:30"), f"--max-hops 1 --by {DAY}-00:01:29"),
+        ("contact 3 alone", latest("00:00:50", f"00:01:30 hops 1 entry 3 until {DAY}-00:01:30 contacts 3"),
+         f"--avoid 2 --by {DAY}-00:01:30"),
+        # With a quarter more, 10 seconds of light are 13 and 5 are 7: contacts 1 4 deliver at t + 20.
+        ("a margin", latest("00:00:55", f"00:01:15 {by_4}"), f"--margin-ppm 250000 --by {DAY}-00:01:15"),
+        ("the first second that is asked for", latest("00:00:25", f"00:00:40 {by_2}"), f"--after {DAY}-00:00:25 --by {DAY}-00:00:40"),
+        ("after that there is none", none_by("00:00:41"), f"--after {DAY}-00:00:26 --by {DAY}-00:00:40"),
+        ("no second is asked for", none_by("00:01:05"), f"--after {DAY}-00:00:50 --by {DAY}-00:00:40"),
+    ):
+        yield title, wanted, room.from_a, words
+    # If light takes no time, the deadline itself is in time.
+    near = room.file("near.txt", f"@ {DAY}-00:00:00\na range +0 +100 1 2 0\na contact +0 +100 1 2 1\n")
+    # Without contact 4, contacts 1 2 are left: the last second is 49, and `until` is second 60.
+    lost = room.file("lost.txt", f"{read('examples/a.txt')}d contact +0 2 3\n")
+    # In examples/relay.txt the last pass of the lander that reaches Earth by 06:27:22 ends at 05:12:00. A command that goes
+    # to the lander by 18:00 is a second of light before contact 19 ends at 14:10:00: at the latest sent at 14:09:58.
+    for title, wanted, plan, words, *further in (
+        ("no route", "none: there is no route\nlatest: hint: node 9 is in no contact of the plan\nstatus 1", "examples/a.txt",
+         f"--from 9 --to 3 --by {DAY}-23:00:00"),
+        ("the deadline itself", latest("00:00:50", f"00:00:50 hops 1 entry 2 until {DAY}-00:01:40 contacts 1"), near,
+         f"--from 1 --to 2 --by {DAY}-00:00:50"),
+        ("until is later", latest("00:00:49", f"00:01:04 {by_2}"), lost, f"--from 1 --to 3 --by {DAY}-00:01:10"),
+        ("the latest second without a contact", latest("00:00:49", f"00:01:04 {by_2}"), "examples/a.txt",
+         f"--from 1 --to 3 --without 4 --by {DAY}-00:01:10"),
+        ("the deadline decides there, too", latest("00:00:48", f"00:01:03 {by_2}"), lost, f"--from 1 --to 3 --by {DAY}-00:01:03"),
+        ("from the lander, with names",
+         latest("05:11:59", f"06:27:22 hops 3 entry 21 until {DAY}-05:12:00 contacts 6 12 2\nlander > 21 > 12 > 1"),
+         "examples/relay.txt", f"--from 31 --to 1 --by {DAY}-06:27:22", room.names),
+        ("to the lander", latest("14:09:58", f"17:26:01 hops 3 entry 11 until {DAY}-14:10:00 contacts 3 19 21"),
+         "examples/relay.txt", f"--from 1 --to 31 --by {DAY}-18:00:00"),
+        ("a hint of latest", "none: there is no route\nlatest: hint: node 9 is in no contact of the plan\nstatus 1",
+         "examples/a.txt", "--from 1 --to 9 --by 2030-01-02"),
+    ):
+        yield title, wanted, room.told, "latest --plan", [plan], words, *further
+
+
+def refusal(tool):
+    """What is told of the plan `bad`."""
+    return f"""\
+cgrlist: plan line 1: NoReference
+{tool}: hint: plan line 1 is: a range +0 +10 1 2 1
+{tool}: hint: put a line '@ TIME' in front, with the time from which relative times count
+status 3"""
+
+
+def refusals(room):
+    bad, report = room.file("bad.txt", "a range +0 +10 1 2 1\n"), f"--from 1 --to 2 --at {DAY}-00:00:00 --count 1"
+    yield "a plan that is refused", refusal("latest"), room.told, "latest --plan", [bad], f"--from 1 --to 2 --by {DAY}-00:00:00"
+    yield "and for a report", refusal("report"), room.told, "report --plan", [bad], report
+    yield ("a plan that is refused is refused by the program", refusal("report"),
+           room.told, "report --plan", [bad], report, "--without 1")
+    requests = room.file("requests", REQUESTS)
+    yield ("a plan is refused once", refusal("report"),
+           room.told, "report --plan", [bad], "--count 1 --requests", [requests], room.names)
+    yield ("no request", "cgrlist: request: SameNode\nstatus 2",
+           room.told, f"latest --plan examples/a.txt --from 1 --to 1 --by {DAY}-00:00:00")
+    yield ("no plan", f"latest: /nowhere: {MISSING}\nstatus 5",
+           room.told, f"latest --plan /nowhere --from 1 --to 3 --by {DAY}-00:00:00")
+    for by in ("2030/1/1-00:00:00", "1969/12/31-23:59:59", "9999/01/01-00:00:00", "2030-01-01T00", "2030-02-29", "2030-366",
+               "2030-000", "2030-01-01T00:00+1", "2030-01/01", "now+2", "now+99999999h"):
+        yield (f"no deadline: {by}", f"latest: argument --by: no time of the years 1970 to 9998: {by}; {TIMES}; see --help\nstatus 2",
+               room.from_a, "--by", by)
+    names = room.file("bad-names", "lander 31\n")
+    yield ("bad names are no answer", "latest: names line 1: it doesn't begin with a node's number: lander 31\nstatus 2",
+           room.from_a, f"--by {DAY}-00:01:00 --names", [names])
+    yield ("words that are missing", "report: these words are missing: --at, --count or --by; see --help\nstatus 2",
+           room.told, "report --plan examples/a.txt --from 1 --to 3")
+    programs = (
+        ("a program that fails", "cgrlist: no memory\nstatus 6", room.stub("fails", '#!/bin/sh\necho "cgrlist: no memory" >&2\nexit 6\n')),
+        ("a program that is ended", "TOOL: cgrlist first was ended by signal 9\nstatus 137", room.stub("dies", "#!/bin/sh\nkill -9 $$\n")),
+        ("no program", "TOOL: there is no program: looked for /none\nstatus 125", "/none"),
+    )
+    for tool, words in (("latest", f"--by {DAY}-00:00:00"), ("report", f"--at {DAY}-00:00:00 --count 1")):
+        for title, wanted, program in programs:
+            ask = f"{tool} --plan examples/a.txt --from 1 --to 3 {words}"
+            yield f"{tool}: {title}", wanted.replace("TOOL", tool), lambda: room.told(ask, by=program)
+    raves = room.stub("raves", "#!/bin/sh\necho 1 delivery\n")
+    yield ("what is no report is no answer", "latest: this is no line of a report: 1 delivery\nstatus 2",
+           lambda: room.from_a(f"--by {DAY}-00:00:00", by=raves))
+
+
+def reports(room):
+    """The routes from the lander that examples/README.md works out, with the nodes of their contacts in the plan."""
+    through_11 = f"   4  {DAY}-15:17:21     3  {DAY}-03:19:00  5 13 1    31 > 21 > 11 > 1"
+    yield "a table", f"""\
+{HEAD}
+   1  {DAY}-02:47:22     3  {DAY}-02:20:00  4 11 2    31 > 22 > 12 > 1
+   2  {DAY}-06:27:22     3  {DAY}-03:19:00  5 12 2    31 > 21 > 12 > 1
+more""", room.from_lander, f"--at {DAY}-00:45:00 --count 2"
+    yield ("the end, and names", f"{HEAD}\n   1  {DAY}-20:37:21     3  {DAY}-17:34:00  9 15 1    lander > 21 > 11 > 1\nend",
+           room.from_lander, f"--at {DAY}-16:00:00 --count 10", room.names)
+    yield ("through a node, of those that were asked for",
+           f"{HEAD}\n{through_11}\n   5  {DAY}-15:17:21     3  {DAY}-05:12:00  6 13 1    31 > 21 > 11 > 1\nmore",
+           room.from_lander, f"--at {DAY}-00:45:00 --count 5 --via 11")
+    yield "for spreadsheets, with room", """\
+rank,delivery,hops,entry,until,contacts,nodes,room
+1,2030-01-01 02:47:22,3,relay high,2030-01-01 02:20:00,4 11 2,lander > relay high > 12 > 1,19200000
+2,2030-01-01 06:27:22,3,21,2030-01-01 03:19:00,5 12 2,lander > 21 > 12 > 1,138240000""", \
+        room.from_lander, f"--at {DAY}-00:45:00 --count 2 --csv --room", room.names
+    yield "for scripts", """\
+{"routes": [
+  {"rank": 1, "delivery": "2030-01-01T20:37:21Z", "hops": 3, "entry": 21, "until": "2030-01-01T17:34:00Z", \
+"contacts": [9, 15, 1], "nodes": [31, 21, 11, 1], "room": 122880000}],
+ "names": {"31": "lander"},
+ "looked_at": 1,
+ "end": true}""", room.from_lander, f"--at {DAY}-16:00:00 --count 10 --json --room", room.names
+    asked = [f"report --plan examples/relay.txt --from 31 --to 1 --at {DAY}-{at} --count 2 --json" for at in ("00:45:00", "17:34:00")]
+    yield ("it is JSON", [(2, False), (0, True)],
+           lambda: [(len(it["routes"]), it["end"]) for it in (json.loads(room.ask(words).out) for words in asked)])
+    yield ("no route", f"rank  delivery  hops  until  contacts  nodes\nend\n\
+report: hint: nothing leaves node 31 after {DAY}-17:34:00: its last contact ends at {DAY}-17:34:00",
+           room.from_lander, f"--at {DAY}-17:34:00 --count 2")
+    yield ("without two contacts", f"{HEAD}\n{through_11.replace('4', '1', 1)}\nmore",
+           room.from_lander, f"--at {DAY}-00:45:00 --count 1 --without 12,11")
+    for title, wanted, words in (
+        ("a node that is none", "argument --via: no node's number: relay; see --help\nstatus 2", "--via relay"),
+        ("no contacts", "argument --without: no numbers of contacts, joined by commas: 1,; see --help\nstatus 2", "--without 1,"),
+        ("a contact that isn't there to be lost", "the plan has no contact 8\nstatus 1", "--without 8"),
+        ("an option that is given twice", "argument --count: it is given twice; see --help\nstatus 2", "--count 1"),
+    ):
+        yield title, f"report: {wanted}", room.from_lander, f"--at {DAY}-00:45:00 --count 1", words
+
+
+def reports_that_are_read(room):
+    row_1 = f"   1  {DAY}-00:00:15     2  {DAY}-00:01:40  1 4       1 > 2 > 3"
+    row_3 = f"   3  {DAY}-00:01:30     1  {DAY}-00:01:30  3         1 > 3"
+    pages, lost = FIRST.replace("more\n", "") + NEXT, room.file("lost.txt", f"{read('examples/a.txt')}d contact +0 2 3\n")
+    paged = FIRST + NEXT
+    yield ("two pages", f"{HEAD}\n{row_1}\n   2  {DAY}-00:00:25     2  {DAY}-00:01:00  1 2       1 > 2 > 3\n{row_3}\nend",
+           room.read_report, paged)
+    yield "those of a report with no contact in common", f"""\
+{HEAD}
+{row_1}
+{row_3}
+end
+report: 2 routes are shown of 3 looked at""", room.read_report, paged, "--distinct contacts"
+    for title, wanted, given, *words in (
+        ("a page that is cut", f"{CUT}\nstatus 1", FIRST.replace("more\n", "")),
+        ("nothing", f"{CUT}\nstatus 1", ""),
+        ("no report", "this is no line of a report: refused: Empty\nstatus 1", "refused: Empty\n"),
+        ("a time that is none", "this is no time of a report: 2030/13/01-00:01:30\nstatus 1", NEXT.replace(f"{DAY}-", "2030/13/01-")),
+        ("a report of a plan that has lost a contact", "the plan has no contact 4\nstatus 1", FIRST, "--without 4"),
+        ("a report and a count", "--report takes the place of --count and --by; see --help\nstatus 2", "", "--count 1"),
+        ("hops of a report need its request", "these words of the report's request are missing: --to, --at; see --help\nstatus 2",
+         "", "--from 1 --hops"),
+    ):
+        yield title, f"report: {wanted}", room.read_report, given, *words
+    for title, wanted, plan in (
+        ("a contact that is not there", "the plan has no contact 4\nstatus 1", lost),
+        ("another plan", "route 1 isn't one of this plan: its contacts don't go from node to node\nstatus 1", "examples/relay.txt"),
+    ):
+        yield title, f"report: {wanted}", lambda: room.read_report(FIRST, plan=plan)
+    following = ["report --plan examples/a.txt --from 1 --to 3 --hops --report", [room.file("next", NEXT)], "--at"]
+    yield ("hops of a report", f"{HEAD}\n{row_3}\n      hop 1  contact 3  1 > 3  send {DAY}-00:00:50  arrive {DAY}-00:01:30\nend",
+           room.told, *following, "2030-01-01")
+    yield ("another request", f"report: route 3 isn't one of this request: cgrlist explain says delivery {DAY}-00:01:31 hops 1 \
+entry 3 until {DAY}-00:01:30 contacts 3\nstatus 1", room.told, *following, "2030-01-01T00:00:51Z")
+    yield ("room is a choice", "rank,delivery,hops,entry,until,contacts,nodes\n3,2030-01-01 00:01:30,1,3,2030-01-01 00:01:30,3,1 > 3",
+           room.read_report, NEXT, "--csv")
+    long = room.file("long", FIRST.splitlines()[0].join(["", "\n"]) * 10000 + "end\n")
+    yield ("a reader that goes away is no failure", "rank  delivery", lambda: room.run(
+        "bash -c", ['tools/report "$@" 2>&1 | sed 1q'], "report --plan examples/a.txt --report", [long]).all()[:14])
+
+
+def times_and_names(room):
+    best = """\
+rank  delivery              hops  until                 contacts  nodes
+   1  2030-01-01T02:47:22Z     3  2030-01-01T02:20:00Z  4 11 2    lander > relay high > 12 > 1
+more"""
+    for at in (f"{DAY}-00:45:00", "2030-01-01T00:45:00Z", "2030-01-01", "2030-01-01 00:45:00", "2030-01-01T00:45",
+               "2030-001T00:45:00Z", "2030-01-01T02:15:00+01:30", "2029-365T23:45-0100"):
+        yield (f"at {at}, and names for nodes", best, room.told,
+               "report --plan examples/relay.txt --from lander --to 1 --count 1 --iso --at", [at], room.names)
+    yield ("through a node with a name", best, room.from_lander, "--at 2030-01-01 --count 1 --via 'relay high' --iso", room.names)
+    names = room.file("short", "21 low\n22 high\n")
+    yield "not over a node with a name", """\
+latest 2030-01-01T03:18:59Z
+1 delivery 2030-01-01T06:27:22Z hops 3 entry 21 until 2030-01-01T03:19:00Z contacts 5 12 2
+31 > low > 12 > 1""", room.told, "latest --plan examples/relay.txt --from 31 --to 1 --by 2030-01-01T06:27:22Z --max-hops 3 \
+        --after 2030-01-01 --avoid high,11 --without 6 --iso --names", [names]
+    yield ("no name", "report: argument --to: no node's number and no name: earth; see --help\nstatus 2",
+           room.told, "report --plan examples/relay.txt --from 31 --to earth --at 2030-01-01 --count 1", room.names)
+    for name in ("22", "a>b", "a,b"):
+        why = "its name is the number of another node" if name == "22" else "its name has '>' or ',', which join nodes"
+        yield (f"a name that is refused: {name}", f"report: names line 1: {why}: 31 {name}\nstatus 1",
+               room.from_lander, f"--at {DAY}-00:45:00 --count 1 --names", [room.file("refused", f"31 {name}\n")])
+    # A contact from yesterday to tomorrow, over which light takes no time.
+    begin = datetime.fromtimestamp(int(time.time()) - 86400, timezone.utc)
+    plan = room.file("now.txt", f"@ {begin:%Y/%m/%d-%H:%M:%S}\na range +0 +1 1 2 0\na contact +0 +172800 1 2 1\n")
+
+    def is_now(at, seconds):
+        """Whether what is delivered at once is delivered now, but for so many seconds."""
+        before = int(time.time())
+        text = room.told("report --from 1 --to 2 --count 1 --iso --plan", [plan], f"--at {at}")
+        told = datetime.strptime(re.search(r"\n +1 +(\S*)", text)[1], "%Y-%m-%dT%H:%M:%SZ").replace(tzinfo=timezone.utc)
+        return before <= told.timestamp() - seconds <= time.time()
+
+    for at, seconds in (("now", 0), ("now+90s", 90), ("now+30m", 1800), ("now-2h", -7200)):
+        yield at, True, is_now, at, seconds
+
+
+def hops_and_room(room):
+    """Contact 4 sends 4000 bytes a second for 4800 s, contact 11 62500 for 5400 s. Contact 2 sends 2500000 from the arrival
+    over contact 11 at 02:47:19 to 08:30:00, which is 20561 s."""
+    asked = [f"--at {DAY}-00:45:00 --count 1 --hops --room", room.names]
+    yield "hops and room", f"""\
+rank  delivery             hops  until                    room  contacts  nodes
+   1  {DAY}-02:47:22     3  {DAY}-02:20:00  19200000  4 11 2    lander > relay high > 12 > 1
+      hop 1  contact 4   lander > relay high  send {DAY}-01:00:00  arrive {DAY}-01:00:01  room 19200000
+      hop 2  contact 11  relay high > 12      send {DAY}-02:30:00  arrive {DAY}-02:47:19  room 337500000
+      hop 3  contact 2   12 > 1               send {DAY}-02:47:19  arrive {DAY}-02:47:22  room 51402500000
+more""", room.from_lander, *asked
+    yield "hops for spreadsheets", """\
+rank,hop,contact,from,to,send,arrive,room
+1,1,4,lander,relay high,2030-01-01 01:00:00,2030-01-01 01:00:01,19200000
+1,2,11,relay high,12,2030-01-01 02:30:00,2030-01-01 02:47:19,337500000
+1,3,2,12,1,2030-01-01 02:47:19,2030-01-01 02:47:22,51402500000""", room.from_lander, *asked, "--csv"
+
+    def as_json(plan, *words):
+        text = room.ask("report --from 1 --to 3 --json --room --plan", [plan], *words).out
+        return json.loads(text)["routes"][-1]
+
+    hop = {"contact": 3, "from": 1, "to": 3, "send": "2030-01-01T00:00:50Z", "arrive": "2030-01-01T00:02:00Z", "room": 40000}
+    yield ("hops for scripts", [hop],
+           lambda: as_json("examples/a.txt", f"--at {DAY}-00:00:00 --count 3 --margin-ppm 750000 --hops")["path"])
+    # Readers of JSON round numbers above 2^53 - 1 = 9007199254740991. Here node 2 becomes such a one, and then a rate.
+    great, plan = "9007199254740992", read("examples/a.txt")
+    for title, changed, wanted in (
+        ("great nodes are texts", re.sub("(?m) 2 ", f" {great} ", plan), (great, ["1", great, "3"], 100000)),
+        ("great rooms are texts", re.sub("(?m)1 2 1000$", "1 2 90071992547410", plan), (2, [1, 2, 3], "190000")),
+    ):
+        yield title, wanted, lambda: (lambda it: (it["entry"], it["nodes"], it["room"]))(
+            as_json(room.file("great.txt", changed), "--at 2030-01-01 --count 1"))
+
+
+def many_routes(room):
+    """Twelve contacts from 1 to 2 and twelve from 2 to 3, each a route with each: i and j start at 10 i and 10 j, so the
+    bundle arrives at max(10 i + 1, 10 j) + 1. These 144 routes are more than a page."""
+    twelve = room.file("twelve.txt", f"@ {DAY}-00:00:00\na range +0 +1000 1 2 1\na range +0 +1000 2 3 1\n" + "".join(
+        f"a contact +{at} +1000 {link} 10\n" for at in range(0, 120, 10) for link in ("1 2", "2 3")))
+    request = ["--plan", twelve, "--from", "1", "--to", "3", "--at", f"{DAY}-00:00:00"]
+
+    def from_twelve(*words):
+        return room.told("report", request, *words)
+
+    for title, wanted, by in (
+        ("none by a time", (0, "", "more"), f"{DAY}-00:00:01"),
+        ("the first by a time", (1, "1", "more"), f"{DAY}-00:00:02"),
+        ("all by a time, on two pages", (132, "132", "more"), f"{DAY}-00:01:51"),
+        ("all", (144, "144", "end"), "2030-01-01T00:01:52Z"),
+    ):
+        yield title, wanted, lambda: routes_in(from_twelve("--by", by))
+    # Each distinct route is asked for by itself, over the plan without what the ones before it have, so it has no rank.
+    one = f"{HEAD}\n   -  {DAY}-00:00:02     2  {DAY}-00:16:40  1 2       1 > 2 > 3\nend"
+    yield "one with these nodes", one, from_twelve, "--distinct nodes --count 2"
+    yield ("one with this entry", ["-", "end"],
+           lambda: (lambda rows: [rows[1].split()[0], rows[-1]])(from_twelve("--distinct entry --count 1").splitlines()))
+
+    def in_common():
+        told = json.loads(room.ask("report", request, "--distinct contacts --count 13 --json").out)
+        return len(told["routes"]), Counter(it for route in told["routes"] for it in route["contacts"]).most_common(1)[0][1], told["looked_at"]
+
+    yield "twelve with no contact in common", (12, 1, 12), in_common
+    yield ("more may be there", (11, "more"),
+           lambda: (lambda text: (len(lines_with("^ ", text).splitlines()), last_of(text)))(from_twelve("--distinct contacts --count 11")))
+    yield ("enough are looked at", "report: 1 routes are shown of 50 looked at; --look N looks at more",
+           lambda: last_of(from_twelve("--distinct entry --via 2 --count 2 --look 50")))
+    yield ("through a node, and distinct", (1, "4", True), lambda: (lambda text: (*routes_in(text)[:2], "\nmore" in text))(
+        room.from_lander(f"--at {DAY}-00:45:00 --via 11 --distinct nodes --count 1")))
+
+    # A terminal is told how far a slow run is. A run that is ended leaves no file.
+    slow = room.stub("slow", f"""#!/bin/sh
+for last; do :; done
+: >"$last"
+case $1 in
+first) echo '1 delivery {DAY}-00:00:02 hops 2 entry 2 until {DAY}-00:16:40 contacts 1 2' && echo more && sleep 1.1 ;;
+next) : >"{room.path}/next-begins"; [ -z "$SLEEP" ] || exec sleep $SLEEP; echo end ;;
+esac
+""")
+    words = [f"{TOP}/tools/report", "--program", slow, *request, "--by", f"{DAY}-01:00:00"]
+
+    def on_a_terminal():
+        return parts_of(r"report: [^\r\n]*", room.on_a_terminal(words, "shown"))
+
+    yield "how far it is", f"report: 1 routes of 1 looked at, the last delivers at {DAY}-00:00:02", on_a_terminal
+    os.mkdir(f"{room.path}/tmp")
+
+    def ended_by(number):
+        """Its status, what it prints and tells, and the files that it leaves, if a signal ends it while the next page is made."""
+        if os.path.exists(f"{room.path}/next-begins"):
+            os.remove(f"{room.path}/next-begins")
+        how = {"stdin": subprocess.DEVNULL, "stdout": subprocess.PIPE, "stderr": subprocess.PIPE, "text": True}
+        with subprocess.Popen(words, env={**os.environ, "SLEEP": "9", "TMPDIR": f"{room.path}/tmp"}, **how) as ran:
+            while not os.path.exists(f"{room.path}/next-begins") and ran.poll() is None:
+                time.sleep(0.1)
+            ran.send_signal(number)
+            return ran.wait(SECONDS), ran.stdout.read(), ran.stderr.read(), os.listdir(f"{room.path}/tmp")
+
+    ended = ended_by(signal.SIGTERM)
+    yield "it is ended", -signal.SIGTERM, lambda: ended[0]
+    yield "and leaves no file", [], lambda: ended[3]
+    status, shown, told, left = ended_by(signal.SIGINT)
+    yield "by the keyboard: the routes so far are shown", (-signal.SIGINT, f"   1  {DAY}-00:00:02"), \
+        lambda: (status, shown.splitlines()[1][:25])
+    goes_on = "report: this command goes on after the routes that were looked at: cgrlist next --plan"
+    yield ("and the session is kept, to go on from", f"{goes_on} {twelve} --session {room.path}/tmp/{''.join(left)} --count 10000\n",
+           lambda: told)
+
+
+def a_planners_questions(room):
+    """Without contact 4 or 11 the bundle takes contacts 5 12 2 and is four hours less 20 minutes later, without contact 2
+    it goes by the northern station: 15:17:21 - 02:47:22 = 12:29:59. Contacts 5 and 12 aren't in the best route."""
+    morning = f"--at {DAY}-00:45:00"
+    yield "lost contacts", """\
+lost,link,delivery,later,contacts,nodes
+4,31 > 22,2030-01-01 06:27:22,13200,5 12 2,31 > 21 > 12 > 1
+11,22 > 12,2030-01-01 06:27:22,13200,5 12 2,31 > 21 > 12 > 1
+2,12 > 1,2030-01-01 15:17:21,44999,5 13 1,31 > 21 > 11 > 1
+5,31 > 21,2030-01-01 02:47:22,0,4 11 2,31 > 22 > 12 > 1
+12,21 > 12,2030-01-01 02:47:22,0,4 11 2,31 > 22 > 12 > 1""", room.from_lander, morning, "--count 2 --lost --csv"
+    near = room.file("near.txt", f"@ {DAY}-00:00:00\na range +0 +100 1 2 0\na contact +0 +100 1 2 1\n")
+    yield ("nothing is left", "lost  link   delivery  later  contacts  nodes\n   1  1 > 2",
+           room.told, "report --plan", [near], f"--from 1 --to 2 --at {DAY}-00:00:00 --count 1 --lost")
+    choices = room.file("choices", f"""\
+# what a router chose
+4,11,2
+5 13 1
+1,3
+31>22@2030-01-01T01:00:00Z,22 > 12@{DAY}-02:30:00,12>1@2030-01-01
+""")
+    yield "a router's choices", f"""\
+line  rank  delivery             later  contacts  fault
+   2     1  {DAY}-02:47:22      0  4 11 2
+   3     4  {DAY}-15:17:21  44999  5 13 1
+   4                                    1 3       hop 1: NotChained
+   5     1  {DAY}-02:47:22      0  4 11 2""", room.from_lander, morning, "--choices", [choices]
+    yield ("a choice that is none", "report: choices line 1: the plan has no contact with these nodes and that start: 31>22@2030-01-02\n\
+status 1", lambda: room.from_lander(morning, "--choices /dev/stdin", given="31>22@2030-01-02\n"))
+
+    def column(number, *words):
+        rows = room.from_lander(morning, "--csv", *words).splitlines()
+        return [row.split(",")[number - 1] for row in rows if row[:1].isdigit()]
+
+    # Contact 4 ends at 02:20:00, and nothing else is missed by then; contact 5 ends at 03:19:00.
+    yield "until when to send", ["2030-01-01 02:19:59", "2030-01-01 03:18:59"], column, 6, "--count 2 --send-by"
+    yield "only what fits", ["2", "3"], column, 1, "--count 3 --fits 19200001"
+    yield "by a time, but not all", (2, "more"), lambda: routes_in(room.from_lander(morning, f"--by {DAY}-16:00:00 --count 2"))[::2]
+    # In a.txt contacts 1 4 take t + 15, contacts 1 2 the same from second 10 to 49 and come first, and 25 before.
+    yield "a timetable", """\
+from,to,delivery,last_delivery,contacts,nodes
+2030-01-01 00:00:00,2030-01-01 00:00:09,2030-01-01 00:00:15,2030-01-01 00:00:24,1 4,1 > 2 > 3
+2030-01-01 00:00:10,2030-01-01 00:00:49,2030-01-01 00:00:25,2030-01-01 00:01:04,1 2,1 > 2 > 3
+2030-01-01 00:00:50,2030-01-01 00:01:39,2030-01-01 00:01:05,2030-01-01 00:01:54,1 4,1 > 2 > 3
+2030-01-01 00:01:40,2030-01-01 00:02:00,,,,""", lambda: lines_with("^(?!.*told up)", room.told(
+        "timetable --plan examples/a.txt --from 1 --to 3 --between 2030-01-01 2030-01-01T00:02:00Z --csv"))
+
+    def each_second():
+        """How many seconds in turn have the same best route, if each is asked for by itself."""
+        seconds = "".join(f"1 3 {DAY}-00:{at // 60:02}:{at % 60:02}\n" for at in range(100))
+        words = [room.program, "many --plan examples/a.txt --count 1 --requests", [room.file("seconds", seconds)]]
+        return [(len(list(same)), contacts) for contacts, same in groupby(re.findall(" contacts (.*)", room.run(*words).out))]
+
+    yield "it tells each second", [(10, "1 4"), (40, "1 2"), (50, "1 4")], each_second
+
+
+def plans_compared(room):
+    relay = read("examples/relay.txt")
+    changed = lines_with(r"^(?!a contact \+23400 \+39600)", relay) + "\na contact +3600 +8400 31 21 9\n"
+    new = room.file("new.txt", re.sub("(?m)62500$", "62501", changed))
+
+    def compared(plan, *words):
+        return room.told("compare", *words, ["examples/relay.txt", plan])
+
+    yield ("two plans", compared(new).partition("\n")[0], lambda: compared(
+        new, f"--from 31 --to 1 --at 2030-01-01T00:45:00Z --count 5").partition("\n")[0])
+    yield "a contact that came", ["came"], lambda: re.findall(r"^ *(\S+) +\S+ +31 +\S+ +21 ", compared(new), re.M)
+    yield "the same plan", "contacts: 20 stay, 0 came, 0 went, 0 changed", compared, "examples/relay.txt"
+
+
+REQUESTS = f"""\
+# from to at
+lander 1 2030-01-01T16:00:00Z
+
+31 1 {DAY}-23:00:00
+1 relay high {DAY}-13:00:00
+"""
+
+
+def many_requests(room):
+    requests = room.file("requests", REQUESTS)
+    hint = f"report: hint: nothing leaves node 31 lander after {DAY}-23:00:00: its last contact ends at {DAY}-17:34:00"
+
+    def many(*words):
+        return room.told("report --plan examples/relay.txt --count 1 --requests", [requests], room.names, *words)
+
+    yield "a table for each", f"""\
+request from lander to 1 at {DAY}-16:00:00
+{HEAD}
+   1  {DAY}-20:37:21     3  {DAY}-17:34:00  9 15 1    lander > 21 > 11 > 1
+end
+
+request from lander to 1 at {DAY}-23:00:00
+rank  delivery  hops  until  contacts  nodes
+end
+
+request from 1 to relay high at {DAY}-13:00:00
+{HEAD}
+   1  {DAY}-13:17:21     2  {DAY}-13:30:00  3 18      1 > 11 > relay high
+more
+{hint}""", many
+    yield "a line for each", f"""\
+source,destination,at,rank,delivery,hops,entry,until,contacts,nodes,room
+lander,1,2030-01-01 16:00:00,1,2030-01-01 20:37:21,3,21,2030-01-01 17:34:00,9 15 1,lander > 21 > 11 > 1,122880000
+lander,1,2030-01-01 23:00:00,,,,,,,,
+1,relay high,2030-01-01 13:00:00,1,2030-01-01 13:17:21,2,11,2030-01-01 13:30:00,3 18,1 > 11 > relay high,3598000
+{hint}""", many, "--csv --room"
+    as_json = ["report --plan examples/relay.txt --count 1 --json --requests", [requests], room.names]
+    yield ("an object for each", ["31 1 2030-01-01T16:00:00Z 1 True", "31 1 2030-01-01T23:00:00Z 0 True", "1 22 2030-01-01T13:00:00Z 1 False"],
+           lambda: [" ".join(map(str, [*it["request"].values(), len(it["routes"]), it["end"]]))
+                    for it in map(json.loads, room.ask(*as_json).out.splitlines())])
+    yield ("from standard input, each by a time", 2, lambda: room.told(
+        f"report --plan examples/relay.txt --requests - --by {DAY}-03:00:00",
+        given="31 1 2030-01-01\n31 1 2030-01-01T01:00:00Z\n").count(" 4 11 2 "))
+    for line, why in (
+        ("31 1", "it has fewer than three words: from to at"), ("31 1 noon", "no time of the years 1970 to 9998: noon"),
+        ("31 earth 2030-01-01", "it names no two nodes"), ("31 2030-01-01", "it has fewer than three words: from to at"),
+    ):
+        yield (f"a bad line: {line}", f"report: requests line 2: {why}: {line}\nstatus 2",
+               room.of_requests, f"31 1 2030-01-01\n{line}\n")
+    yield ("a request that is refused: those before it are answered",
+           "more\ncgrlist: request: SameNode\nreport: requests line 2: it is refused\nstatus 2",
+           lambda: room.of_requests("31 1 2030-01-01\n1 1 2030-01-01\n").split("\n", 3)[3])
+    for limit, why in (("--margin-ppm 1000001", "bad --margin-ppm"), ("--max-hops 0", "bad --max-hops"),
+                       ("--avoid 31", "request: BadAvoid"), ("--margin-ppm '0 4'", "bad --margin-ppm")):
+        yield (f"a limit that is refused: {limit}", f"cgrlist: {why}\nreport: requests line 1: it is refused\nstatus 2",
+               room.of_requests, "31 1 2030-01-01\n", limit)
+    yield ("a bad count", "cgrlist: bad --count\nstatus 2",
+           lambda: room.told("report --plan examples/relay.txt --requests - --count 0", given="31 1 2030-01-01\n"))
+    yield ("limits of each", f"""\
+   1  {DAY}-15:17:23     3  {DAY}-03:19:00  5 13 1    31 > 21 > 11 > 1
+   1  {DAY}-20:37:23     3  {DAY}-17:34:00  9 15 1    31 > 21 > 11 > 1""",
+           lambda: lines_with(" 31 > ", room.of_requests(f"31 1 {DAY}-00:45:00\n31 1 {DAY}-16:00:00\n",
+                                                         "--margin-ppm 224 --max-hops 3 --avoid 12")))
+    yield ("a line with limits", f"   1  {DAY}-15:17:21     3  {DAY}-03:19:00  5 13 1    31 > 21 > 11 > 1",
+           lambda: lines_with(" 31 > ", room.of_requests(f"31 1 {DAY}-00:45:00 0 3 12\n")))
+    seconds = "".join(f"31 1 {DAY}-00:{minute}:{second}\n" for minute in range(10, 60) for second in range(10, 60))
+    yield ("many requests are shared among processors", (2500, 2500),
+           lambda: (lambda text: (text.count("request "), text.count(" 4 11 2 ")))(room.of_requests(seconds)))
+    yield ("no requests", "report: there is no request in /dev/null\nstatus 2",
+           room.told, "report --plan examples/relay.txt --requests /dev/null --count 1")
+    yield ("requests and a request", "report: --requests takes the place of --from, --to, --at and --report; see --help\nstatus 2",
+           many, "--to 1")
+    # The stub waits until two of it run.
+    meets = room.stub("meets", f"""#!/bin/sh
+[ $1 = check ] && exit
+: >"{room.path}/met.$$"
+for turn in 1 2 3 4 5 6 7 8 9; do
+    [ $(ls "{room.path}"/met.* | wc -l) = 2 ] && sed 's/^/request /; a end' "$5" && exit
+    sleep 0.1
+done
+""")
+    if os.cpu_count() > 1:
+        yield ("as many at a time as there are processors", 2,
+               lambda: len(lines_with("end", room.of_requests("31 1 2030-01-01\n1 31 2030-01-01\n", by=meets)).splitlines()))
+    other = room.stub("other", '#!/bin/sh\n[ $1 = check ] || echo "$ANSWER"\n')
+    for answer, why in (("", "cgrlist many answers 0 of 1 lines"), ("end", "this is no answer to a request: end"), ("request 31 1", CUT)):
+        yield f"answers that are none: {answer}", f"report: {why}", lambda: re.sub(
+            r"\nstatus \d+$", "", room.of_requests("31 1 2030-01-01\n", by=other, ANSWER=answer))
+
+
+def hints(room):
+    relay, a = read("examples/relay.txt"), read("examples/a.txt")
+    dark = room.file("dark.txt", lines_with("^(?!.*( 1 12 1$| 12 1 3$))", relay) + "\n")
+    lightless = room.file("lightless.txt", lines_with("^(?!.*range)", a) + "\n")
+    for title, wanted, plan, words in (
+        ("nothing to hint at", "", "examples/relay.txt", "--from 31 --to 1 --at 2030-01-01"),
+        ("nodes that are nowhere", "\n".join(f"node {it} is in no contact of the plan" for it in (32, 13, 14)),
+         "examples/relay.txt", "--from 31 --to 32 --at 2030-01-01 --avoid 13 --via 14"),
+        ("a time after the plan", "at 2031-01-01T00:00:00Z the plan's last contact has ended, at 2030-01-02T00:00:00Z",
+         "examples/relay.txt", "--from 31 --to 1 --at 2031-01-01 --iso"),
+        ("a second before the end", "", "examples/relay.txt", f"--from 11 --to 1 --at {DAY}-23:59:59"),
+        ("nothing leaves", f"nothing leaves node 31 after {DAY}-17:34:00: its last contact ends at {DAY}-17:34:00",
+         "examples/relay.txt", f"--from 31 --to 1 --at {DAY}-17:34:00"),
+        ("nothing ever leaves", "nothing leaves node 3: it sends in no contact", "examples/a.txt", "--from 3 --to 1 --at 2030-01-01"),
+        ("a contact without light", "1 of 20 contacts have no light time, so no route takes them",
+         dark, "--from 31 --to 1 --at 2030-01-01"),
+        ("no light", "no contact of the plan has a light time, so there is no route: it needs lines 'a range'",
+         lightless, "--from 1 --to 3 --at 2030-01-01"),
+        ("no contact", "the plan has no contacts", "/dev/null", "--from 1 --to 3 --at 2030-01-01"),
+    ):
+        yield title, wanted, room.hinted, plan, words
+    yield ("many hints", "hint: and 2 more", lambda: parts_of("hint: and.*", room.of_requests(
+        "".join(f"{it} 1 2030-01-01\n" for it in range(101, 113)))))
+
+    # What the hints say takes the bytes off.
+    def hint_of(plan):
+        return room.hinted(plan, "--from 1 --to 3 --at 2030-01-01")
+
+    crlf, mark = room.file("crlf plan.txt", a.replace("\n", "\r\n")), room.file("mark.txt", "\ufeff" + a)
+    for title, plan, wanted in (
+        ("CR and LF", crlf, f"plan line 1 and 7 more lines end with CR and LF; sed -i 's/\\r$//' '{crlf}' takes the CR off"),
+        ("a byte order mark", mark,
+         f"plan line 1 begins with a byte order mark; sed -i '1s/^\\xEF\\xBB\\xBF//' {mark} takes it off"),
+    ):
+        hint = hint_of(plan)
+        yield title, wanted, hint_of, plan
+        room.run("bash -c", [hint.partition("; ")[2].partition(" takes")[0]])
+        yield f"it is off: {title}", a, room.read, os.path.basename(plan)
+    for path, why in ((room.path, "Is a directory"), ("/none.txt", MISSING)):
+        yield (f"a plan that can't be read: {why}", f"report: {path}: {why}\nstatus 5",
+               room.told, "report --from 1 --to 3 --at 2030-01-01 --count 1 --plan", [path])
+
+
+def programs_of_clones(room):
+    """The clone's script is told to start no trial; what it says is told, and its status kept. If the built program is there
+    and current, it is asked itself."""
+    clone = f"{room.path}/clone"
+    os.makedirs(f"{clone}/crates/cgrlist/out")
+    shutil.copytree(f"{TOP}/tools", f"{clone}/tools")
+    room.stub("clone/cgrlist", """#!/bin/sh
+[ "$CGRLIST_TRIAL" = no ] && [ ! -e "$0.current" ] || exit 2
+echo "cgrlist: the proved program comes first" >&2; exit 125
+""")
+
+    def in_clone():
+        words = "--plan examples/a.txt --from 1 --to 3 --at 2030-01-01 --count 1"
+        shown = room.run([f"{clone}/tools/report"], words).all()
+        return shown if shown.startswith("cgrlist") else last_of(shown)
+
+    first = "cgrlist: the proved program comes first\nstatus 125"
+    yield "no trial is started", first, in_clone
+    os.symlink(room.program, f"{clone}/crates/cgrlist/out/cgrlist")
+    yield "nor an old program", first, in_clone
+    room.file("clone/cgrlist.current")
+    yield "the built program", "more", in_clone
+
+
+def checks(asked):
+    return checks_of("answers", Tools(asked.program("cgrlist")), [
+        latest_seconds, refusals, reports, reports_that_are_read, times_and_names, hops_and_room, many_routes,
+        a_planners_questions, plans_compared, many_requests, hints, programs_of_clones])

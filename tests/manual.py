@@ -1,0 +1,48 @@
+"""Holds the manual pages to what mandoc asks of them, if mandoc is there. That of the program has each fault and each message
+of the tables in docs/formats.md. Those of the tools are what tools/manual_pages makes of their help."""
+
+import re
+import shutil
+
+from checking import TOP, Room, checks_of, lines_with, parts_of
+
+TOOLS = [f"cgrlist-{name}.1" for name in ("compare", "from-ionrc", "latest", "report", "timeline", "timetable")]
+# Pages that aren't installed aren't found, and the version stands in .Os, where mandoc wants none in a system's own.
+NO_FAULT = " referenced manual not found: | explicitly specified: Os "
+
+
+def read(name):
+    with open(f"{TOP}/docs/{name}", encoding="utf-8") as file:
+        return file.read()
+
+
+def of_the_program(room):
+    if shutil.which("mandoc"):
+        yield "mandoc has nothing to say", "", lambda: lines_with(
+            f"^(?!.*({NO_FAULT}))", room.run("mandoc -T lint", [f"docs/{name}" for name in ["cgrlist.1", *TOOLS]]).out)
+    else:
+        print("manual: mandoc is left out, it is not here")
+    page, formats = read("cgrlist.1"), read("formats.md")
+    cells = parts_of(r"^\| (`[A-Z][a-z][A-Za-z]+`(?:, `[A-Z][A-Za-z]+`)*)", formats)
+    messages = re.findall(r"^\| `cgrlist: .*", formats, re.M)
+    for what, names, least in (
+        ("fault", set(re.findall("[A-Z][A-Za-z]+", cells)), 21),
+        ("message", {it for it in re.findall("cgrlist: [^`]+", "\n".join(messages)) if not re.search("REASON|FAULT", it)}, 9),
+    ):
+        yield f"there are {what}s", True, lambda: len(names) >= least
+        yield f"each {what} has its place", [], lambda: [it for it in sorted(names) if not re.search(rf"\b{re.escape(it)}\b", page)]
+
+
+def of_the_tools(room):
+    room.run("tools/manual_pages", [room.path])
+    for name in TOOLS:
+        page = read(name)
+        yield f"{name} is what tools/manual_pages makes", page, room.read, name
+        lines = "\n".join(line for line in page.splitlines() if '.\\"' not in line)
+        yield f"{name} names installed commands", "", parts_of, r"(?:tools/|\.\.?/)[a-z_]+", lines
+        yield (f"{name} has what is asked of a page", "NAME\nSYNOPSIS\nDESCRIPTION\nEXIT STATUS\nSEE ALSO",
+               parts_of, r"^\.Sh (NAME|SYNOPSIS|DESCRIPTION|EXIT STATUS|SEE ALSO)$", page)
+
+
+def checks(_):
+    return checks_of("manual", Room(), [of_the_program, of_the_tools])
