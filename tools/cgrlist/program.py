@@ -19,7 +19,7 @@ CLONE = os.path.dirname(os.path.dirname(os.path.dirname(os.path.realpath(__file_
 SCRIPT = os.path.join(CLONE, "cgrlist")
 BUILT = os.path.join(CLONE, "crates/cgrlist/out/cgrlist")  # what the script runs if it is current
 MOST = 10000  # routes that the program gives at a time
-LISTS = 2000  # of contacts that a run follows, so that several processors share many
+LISTS = 2500  # of contacts that a run follows, so that several processors share many
 
 _PROCESSES = threading.BoundedSemaphore(processors())  # no more of them run at a time
 _WITHOUT_TRIAL = {**os.environ, "CGRLIST_TRIAL": "no"}  # the clone's script then runs the proved program or none
