@@ -5,8 +5,8 @@ import itertools
 import json
 from dataclasses import dataclass
 
-from .tables import Columns, csv_line
-from .times import iso_text
+from .tables import Columns, csv_lines
+from .times import iso_text, kept
 
 TIMES = ("delivery", "until", "send_by")  # the fields that are times
 EXACT = 2**53 - 1  # up to here, numbers of JSON are read exactly everywhere
@@ -126,15 +126,15 @@ def csv_text(answers, form):
     If answers have requests, each line begins with its request, and an answer without a route has a line, too.
     """
     fields = form.fields(HOP_FIELDS if form.with_hops else FIELDS)
+    rows_of = (hop_rows_of if form.with_hops else route_rows_of)(form, fields)
     for place, (request, listing) in enumerate(answers):
         cells = request_cells(request, form) if request else []
         if not place:
-            yield csv_line([*(REQUEST_FIELDS if request else ()), *fields])
+            yield csv_lines([[*(REQUEST_FIELDS if request else ()), *fields]])
         for block in listing.blocks():
-            rows = hop_rows(block, form) if form.with_hops else map(form.texts, block)
-            yield "".join(csv_line([*cells, *(row[field] for field in fields)]) for row in rows)
+            yield csv_lines([*cells, *row] for row in rows_of(block))
         if cells and not listing.shown:
-            yield csv_line([*cells, *([""] * len(fields))])
+            yield csv_lines([[*cells, *([""] * len(fields))]])
 
 
 def request_cells(request, form):
@@ -142,14 +142,20 @@ def request_cells(request, form):
     return [form.names.of(request.source), form.names.of(request.destination), form.time_text(request.at)]
 
 
-def hop_rows(routes, form):
-    """What is told of each hop of routes, under the names of its fields."""
-    for route in routes:
-        for place, hop in enumerate(route.hops, 1):
-            sender, receiver = map(form.names.of, hop.link)
-            times = {"send": form.time_text(hop.send), "arrive": form.time_text(hop.arrive)}
-            room = form.plan.room_of(hop) if form.with_room else None
-            yield {"rank": route.rank, "hop": place, "contact": hop.contact, "from": sender, "to": receiver, **times, "room": room}
+def route_rows_of(form, fields):
+    """A function that gives the cells of routes."""
+    return lambda routes: ([texts[field] for field in fields] for texts in map(form.texts, routes))
+
+
+def hop_rows_of(form, _):
+    """A function that gives the cells of each hop of routes. Those after the hop's place are the same in many of them."""
+
+    @kept
+    def cells(hop):
+        room = [form.plan.room_of(hop)] if form.with_room else []
+        return [hop.contact, *map(form.names.of, hop.link), form.time_text(hop.send), form.time_text(hop.arrive), *room]
+
+    return lambda routes: ([it.rank, place, *cells(hop)] for it in routes for place, hop in enumerate(it.hops, 1))
 
 
 # ---- JSON -------------------------------------------------------------------------------------------------------
