@@ -28,9 +28,9 @@ pub fn next_goes_on()
 {}
 
 /// Shows that runs of the program list a plan page by page: a run `first` that keeps its session, and then runs `next`,
-/// each over the session text that the one before wrote. Over one plan text, and with readers and writers that know
-/// their bytes, the runs that end with [`Status::Done`](crate::Status::Done) write the reports of the first routes of
-/// the list, each from where the one before ended.
+/// each over the session text that the one before wrote. Over one plan text, the runs that end with
+/// [`Status::Done`](crate::Status::Done) write the reports of the first routes of the list, each from where the one
+/// before ended.
 pub fn runs_in_turn()
     ensures { RunsInTurn }
 {}
@@ -42,17 +42,16 @@ pub fn runs_go_on()
     ensures { RunsGoOn }
 {}
 
-/// Shows that a run `many` answers each request as a run `first` does. Over one plan text, and with readers and writers
-/// that know their bytes, if it ends with [`Status::Done`](crate::Status::Done), it writes for each request in order its
-/// line and then the bytes that a run `first` for that request and count writes as its report, whether that run keeps
-/// its session or not.
+/// Shows that a run `many` answers each request as a run `first` does. Over one plan text, if it ends with
+/// [`Status::Done`](crate::Status::Done), it writes for each request in order its line and then the bytes that a run
+/// `first` for that request and count writes as its report, whether that run keeps its session or not.
 pub fn many_answers_as_first()
     ensures { ManyAnswersAsFirst }
 {}
 
-/// Shows that a run `follow` answers each list as a run `explain` does. Over one plan text, and with readers and writers
-/// that know their bytes, if it ends with [`Status::Done`](crate::Status::Done), it writes for each list in order its
-/// line and then the bytes that a run `explain` for these contacts and that request writes, if that ends with yes or no.
+/// Shows that a run `follow` answers each list as a run `explain` does. Over one plan text, if it ends with
+/// [`Status::Done`](crate::Status::Done), it writes for each list in order its line and then the bytes that a run
+/// `explain` for these contacts and that request writes, if that ends with yes or no.
 pub fn follow_answers_as_explain()
     ensures { FollowAnswersAsExplain }
 {}

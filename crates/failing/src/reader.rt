@@ -1,8 +1,8 @@
 //! A reader that returns its bytes in pieces.
 
-ghost use Rattle.std.specs.Prelude.{◌≡◌, ◌<◌, ◌≤◌, Some, take, length};
+ghost use Rattle.std.specs.Prelude.{◌≡◌, ◌<◌, ◌≤◌, Some, [], false, take, length};
 
-use sabr_model::{Failed, GhostCount, Read};
+use sabr_model::{Failed, GhostBytes, GhostCount, GhostFlag, Read};
 
 /// What a reader returns after all its bytes.
 #[derive(Clone, Copy, Debug, PartialEq, Eq)]
@@ -22,6 +22,10 @@ pub struct PieceReader<'a> {
     piece: usize,
     /// What comes after the bytes.
     end: End,
+    /// The bytes that it returned, for proofs alone.
+    given: GhostBytes,
+    /// Whether its last answer told the end, for proofs alone.
+    ended: GhostFlag,
     /// How often it failed, for proofs alone.
     failures: GhostCount,
     ghost gives: { 0 < piece },
@@ -32,12 +36,16 @@ impl<'a> PieceReader<'a> {
     pub fn new(bytes: &'a [u8], piece: usize, end: End) -> PieceReader<'a>
         requires { 0 < piece }
         ensures bytes { result.bytes.now ≡ bytes.now }
+        ensures given { result.given.bytes ≡ [] }
+        ensures ended { result.ended.is_up ≡ false }
         ensures failures { result.failures.count ≡ 0 }
     {
         PieceReader {
             bytes,
             piece,
             end,
+            given: GhostBytes::new(),
+            ended: GhostFlag::down(),
             failures: GhostCount::new(),
         }
     }
@@ -47,6 +55,8 @@ impl<'a> PieceReader<'a> {
         requires limit { limit ≤ length bytes.now }
         requires piece { 0 < piece }
         ensures bytes { result.bytes.now ≡ take limit bytes.now }
+        ensures given { result.given.bytes ≡ [] }
+        ensures ended { result.ended.is_up ≡ false }
         ensures failures { result.failures.count ≡ 0 }
     {
         PieceReader::new(&bytes[..limit], piece, End::Fails)
@@ -54,9 +64,10 @@ impl<'a> PieceReader<'a> {
 }
 
 impl<'a> Read for PieceReader<'a> {
-    ghost input = { λ reader. record { remaining = Some reader.bytes.now; failures = reader.failures.count } };
+    ghost input = { λ reader. record { remaining = Some reader.bytes.now; given = reader.given.bytes; ended = reader.ended.is_up; failures = reader.failures.count } };
 
     fn read(&mut self, buf: &mut [u8]) -> Result<usize, Failed> {
+        self.ended = GhostFlag::down();
         if self.bytes.is_empty() && self.end == End::Fails {
             self.failures.add();
             return Err(Failed);
@@ -65,6 +76,10 @@ impl<'a> Read for PieceReader<'a> {
         let (given, rest) = self.bytes.split_at(count);
         buf[..count].copy_from_slice(given);
         self.bytes = rest;
+        self.given.append(given);
+        if count == 0 && !buf.is_empty() {
+            self.ended = GhostFlag::up();
+        }
         Ok(count)
     }
 }

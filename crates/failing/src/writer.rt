@@ -67,7 +67,7 @@ impl<A: Allocator + Copy> LimitedWriter<A> {
 }
 
 impl<A: Allocator + Copy> Write for LimitedWriter<A> {
-    ghost output = { λ writer. record { contents = Some writer.held.items; failures = writer.failures.count; flushed = writer.is_flushed } };
+    ghost output = { λ writer. record { contents = Some writer.held.items; taken = writer.held.items; failures = writer.failures.count; flushed = writer.is_flushed } };
 
     fn write(&mut self, buf: &[u8]) -> Result<usize, Failed> {
         self.is_flushed = false;

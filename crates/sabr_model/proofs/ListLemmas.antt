@@ -10,3 +10,4 @@ pub mod Different
 pub mod Rises
 pub mod CountWalks
 pub mod WrittenTexts
+pub mod ReadTexts

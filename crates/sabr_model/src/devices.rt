@@ -1,6 +1,5 @@
 //! Readers and writers whose contracts state which bytes move and how often a device has failed.
 
-mod flush_mark;
 mod std_device;
 mod text;
 mod traits;

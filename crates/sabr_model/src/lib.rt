@@ -5,7 +5,9 @@ mod contact;
 mod devices;
 mod fault;
 mod following;
+mod ghost_bytes;
 mod ghost_count;
+mod ghost_flag;
 mod hop;
 mod laws;
 mod limits;
@@ -25,7 +27,9 @@ pub use contact::{Contact, Range};
 pub use devices::{Device, Failed, Read, Write, WriteFault, write_text};
 pub use fault::{AddFault, HopFault, NoMemory, RequestError};
 pub use following::{Reached, follow, follow_behind, follow_hop};
+pub use ghost_bytes::GhostBytes;
 pub use ghost_count::GhostCount;
+pub use ghost_flag::GhostFlag;
 pub use hop::Hop;
 pub use laws::{
     candidates_hold_each_once, every_way_is_listed, faults_tell_routes, law1, law2, law3,

@@ -11,7 +11,6 @@ pub mod Lines
 pub mod Outcomes
 pub mod Held
 pub mod Feeds
-pub mod Consumed
 pub mod ReadSoFar
 pub mod CanonicalLines
 pub mod Leaving

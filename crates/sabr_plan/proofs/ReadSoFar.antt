@@ -1,44 +1,43 @@
 -- What reading leaves, call by call.
 use Rattle.std.proofs.Common.{◌≡◌, ℕ, ◌+◌, Bool, true, List, [], ◌++◌, ◌⊎◌, inl, inr, sym, ap, ◌∙◌, append_assoc, Result, Ok, Err, IfErr}
-use Rattle.std.specs.Io.KnownBytes.{Consumes, IsAtEnd}
-use Rattle.sabr_model.specs.Devices.{Input}
+use Rattle.sabr_model.specs.Devices.{Input, Gives, HasEnded}
 use Rattle.sabr_model.specs.plan.Plan.{TabledPlan}
 use Rattle.sabr_plan.specs.declared.fault.PlanFault.{PlanFault}
 use Rattle.sabr_plan.specs.declared.fault.PlanKind.TheVariants as kind
 use Rattle.sabr_plan.specs.Reading.{plan_of}
 use Rattle.sabr_plan.specs.Feeding.{Fed, nothing_fed, outcome, Answers}
 use Rattle.sabr_plan.specs.PlanRead.{ReadsPlan}
-use Rattle.sabr_plan.proofs.Consumed.{Consumes-append, Consumes-nil}
+use Rattle.sabr_model.proofs.ListLemmas.ReadTexts.{Gives-nil, Gives-append}
 use Rattle.sabr_plan.proofs.Outcomes.{plan_of-outcome}
 use Rattle.sabr_plan.proofs.SpelledPlans.{ended_not_read}
 
 -- these bytes were read, and whatever follows them, the text comes to the same
 pub record HasRead (old new : Input) (feed : Fed) : Type 0 where
   pub given : List ℕ
-  pub consumed : Consumes old.remaining new.remaining given
+  pub gives : Gives old given new
   pub same : (more : List ℕ) (ended : Bool) → plan_of (given ++ more) ended ≡ outcome feed more ended
 
 -- nothing was read at first
 pub nothing_was_read : (old : Input) (feed : Fed) → feed ≡ nothing_fed → HasRead old old feed
 nothing_was_read old feed e = record {
   given = [];
-  consumed = Consumes-nil old.remaining;
+  gives = Gives-nil old;
   same = λ more ended. plan_of-outcome more ended ∙ ap (λ s. outcome s more ended) (sym e);
 }
 
 -- a piece more
-pub piece_was_read : (old mid new : Input) (feed next : Fed) (piece : List ℕ) → HasRead old mid feed → Consumes mid.remaining new.remaining piece → ((more : List ℕ) (ended : Bool) → outcome feed (piece ++ more) ended ≡ outcome next more ended) → HasRead old new next
-piece_was_read old mid new feed next piece was consumed same = record {
+pub piece_was_read : (old mid new : Input) (feed next : Fed) (piece : List ℕ) → HasRead old mid feed → Gives mid piece new → ((more : List ℕ) (ended : Bool) → outcome feed (piece ++ more) ended ≡ outcome next more ended) → HasRead old new next
+piece_was_read old mid new feed next piece was gives same = record {
   given = was.given ++ piece;
-  consumed = Consumes-append old.remaining mid.remaining new.remaining was.given piece was.consumed consumed;
+  gives = Gives-append old mid new was.given piece was.gives gives;
   same = λ more ended. ap (λ s. plan_of s ended) (append_assoc was.given piece more) ∙ was.same (piece ++ more) ended ∙ same more ended;
 }
 
 -- the reader ended
-pub text_ended : (old mid new : Input) (feed : Fed) (answer : Result TabledPlan PlanFault) → HasRead old mid feed → Consumes mid.remaining new.remaining [] → IsAtEnd new.remaining → new.failures ≡ old.failures → Answers (outcome feed [] true) answer → ReadsPlan old answer new
-text_ended old mid new feed answer was consumed end fine answers = record {
+pub text_ended : (old mid new : Input) (feed : Fed) (answer : Result TabledPlan PlanFault) → HasRead old mid feed → Gives mid [] new → HasEnded new → new.failures ≡ old.failures → Answers (outcome feed [] true) answer → ReadsPlan old answer new
+text_ended old mid new feed answer was gives end fine answers = record {
   given = was.given ++ [];
-  consumed = Consumes-append old.remaining mid.remaining new.remaining was.given [] was.consumed consumed;
+  gives = Gives-append old mid new was.given [] was.gives gives;
   told = inl (end, fine, rw (was.same [] true) answers);
 }
 
@@ -47,10 +46,10 @@ refused_so old mid feed piece f was (inl memory) = inl memory
 refused_so old mid feed piece f was (inr refused) = inr (λ more ended. ap (λ s. plan_of s ended) (append_assoc was.given piece more) ∙ was.same (piece ++ more) ended ∙ refused more ended)
 
 -- a piece is refused
-pub piece_refused : (old mid new : Input) (feed : Fed) (piece : List ℕ) (f : PlanFault) → HasRead old mid feed → Consumes mid.remaining new.remaining piece → new.failures ≡ old.failures → (f.kind ≡ kind.NoMemory) ⊎ ((more : List ℕ) (ended : Bool) → outcome feed (piece ++ more) ended ≡ Err f) → ReadsPlan old (Err f) new
-piece_refused old mid new feed piece f was consumed fine refused = record {
+pub piece_refused : (old mid new : Input) (feed : Fed) (piece : List ℕ) (f : PlanFault) → HasRead old mid feed → Gives mid piece new → new.failures ≡ old.failures → (f.kind ≡ kind.NoMemory) ⊎ ((more : List ℕ) (ended : Bool) → outcome feed (piece ++ more) ended ≡ Err f) → ReadsPlan old (Err f) new
+piece_refused old mid new feed piece f was gives fine refused = record {
   given = was.given ++ piece;
-  consumed = Consumes-append old.remaining mid.remaining new.remaining was.given piece was.consumed consumed;
+  gives = Gives-append old mid new was.given piece was.gives gives;
   told = inr (inr (fine, refused_so old mid feed piece f was refused));
 }
 

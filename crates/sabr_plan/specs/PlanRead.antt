@@ -1,7 +1,6 @@
 -- What reading a plan leaves.
 use Rattle.std.specs.Prelude.{◌≡◌, ℕ, ◌+◌, Bool, true, false, List, ◌++◌, Result, Ok, Err, ◌⊎◌}
-use Rattle.std.specs.Io.KnownBytes.{Consumes, IsAtEnd}
-use Rattle.sabr_model.specs.Devices.{Input}
+use Rattle.sabr_model.specs.Devices.{Input, Gives, HasEnded}
 use Rattle.sabr_model.specs.plan.Plan.{TabledPlan}
 use Rattle.sabr_plan.specs.Reading.{plan_of}
 use Rattle.sabr_plan.specs.Feeding.{Answers}
@@ -10,7 +9,7 @@ use Rattle.sabr_plan.specs.declared.fault.PlanKind.TheVariants.{NoMemory, Read}
 
 -- the reader ended after these bytes, and they are the text
 abbrev pub EndsText : Input → List ℕ → Result TabledPlan PlanFault → Input → Type 0
-EndsText old given answer new = IsAtEnd new.remaining × (new.failures ≡ old.failures) × Answers (plan_of given true) answer
+EndsText old given answer new = HasEnded new × (new.failures ≡ old.failures) × Answers (plan_of given true) answer
 
 -- the reader failed after these bytes, which have no bad line
 abbrev pub BreaksText : Input → List ℕ → Result TabledPlan PlanFault → Input → Type 0
@@ -26,5 +25,5 @@ RefusesText old given (Err f) new =
 -- these bytes were read, and the answer is that of their text
 pub record ReadsPlan (old : Input) (answer : Result TabledPlan PlanFault) (new : Input) : Type 0 where
   pub given : List ℕ
-  pub consumed : Consumes old.remaining new.remaining given
+  pub gives : Gives old given new
   pub told : EndsText old given answer new ⊎ (BreaksText old given answer new ⊎ RefusesText old given answer new)

@@ -1,7 +1,6 @@
 -- What reading a session text leaves.
 use Rattle.std.specs.Prelude.{◌≡◌, ◌≢◌, ℕ, ◌+◌, Bool, true, false, List, ◌++◌, Result, Ok, Err, ◌⊎◌}
-use Rattle.std.specs.Io.KnownBytes.{Consumes, IsAtEnd}
-use Rattle.sabr_model.specs.Devices.{Input}
+use Rattle.sabr_model.specs.Devices.{Input, Gives, HasEnded}
 use Rattle.sabr_model.specs.plan.Plan.{TabledPlan}
 use Rattle.sabr_plan.specs.Canonical.{digest_of}
 use Rattle.sabr_frontier.specs.session.Session.{Seen}
@@ -16,7 +15,7 @@ said_over plan bytes ended = said_of plan.plan (digest_of plan.plan) bytes ended
 
 -- the reader ended after these bytes, and they are the text
 abbrev pub EndsText : TabledPlan → Input → List ℕ → Result Seen SessionFault → Input → Type 0
-EndsText plan old given answer new = IsAtEnd new.remaining × (new.failures ≡ old.failures) × IsSessionFrom plan (said_over plan given true) answer
+EndsText plan old given answer new = HasEnded new × (new.failures ≡ old.failures) × IsSessionFrom plan (said_over plan given true) answer
 
 -- the reader failed after these bytes, which have no fault
 abbrev pub BreaksText : TabledPlan → Input → List ℕ → Result Seen SessionFault → Input → Type 0
@@ -32,5 +31,5 @@ RefusesText plan old given (Err f) new =
 -- these bytes were read, and the answer is that of their text
 pub record ReadsSession (plan : TabledPlan) (old : Input) (answer : Result Seen SessionFault) (new : Input) : Type 0 where
   pub given : List ℕ
-  pub consumed : Consumes old.remaining new.remaining given
+  pub gives : Gives old given new
   pub told : EndsText plan old given answer new ⊎ (BreaksText plan old given answer new ⊎ RefusesText plan old given answer new)

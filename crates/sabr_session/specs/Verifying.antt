@@ -1,7 +1,6 @@
 -- Which bytes are the text of a place in the list of all routes, and what verifying a text leaves.
 use Rattle.std.specs.Prelude.{◌≡◌, ◌≢◌, ℕ, ◌+◌, ◌≤◌, Bool, false, IsTrue, ◌↔◌, ◌⊎◌, List, ◌++◌, length, Result, Ok, Err}
-use Rattle.std.specs.Io.KnownBytes.{Consumes, IsAtEnd}
-use Rattle.sabr_model.specs.Devices.{Input}
+use Rattle.sabr_model.specs.Devices.{Input, Gives, HasEnded}
 use Rattle.sabr_model.specs.plan.Plan.{ContactPlan}
 use Rattle.sabr_model.specs.routes.Arrival.{RouteRequest}
 use Rattle.sabr_model.specs.routes.Asking.{IsRequest}
@@ -24,7 +23,7 @@ pub record IsSessionText (p : ContactPlan) (bytes : List ℕ) : Type 0 where
 
 -- the reader ended after these bytes: yes exactly if they are such a text, or memory was refused
 abbrev pub EndsVerified : ContactPlan → Input → List ℕ → Result Bool SessionFault → Input → Type 0
-EndsVerified p old given (Ok placed) new = IsAtEnd new.remaining × (new.failures ≡ old.failures) × (IsTrue placed ↔ IsSessionText p given)
+EndsVerified p old given (Ok placed) new = HasEnded new × (new.failures ≡ old.failures) × (IsTrue placed ↔ IsSessionText p given)
 EndsVerified p old given (Err f) new = (new.failures ≡ old.failures) × (f ≡ NoMemory)
 
 -- the reader failed after these bytes, which have no fault
@@ -45,5 +44,5 @@ RefusesVerified p old given (Err f) new = (new.failures ≡ old.failures) × (f 
 -- these bytes were read, and the answer is that to their text
 pub record VerifiesText (p : ContactPlan) (old : Input) (answer : Result Bool SessionFault) (new : Input) : Type 0 where
   pub given : List ℕ
-  pub consumed : Consumes old.remaining new.remaining given
+  pub gives : Gives old given new
   pub told : EndsVerified p old given answer new ⊎ (BreaksVerified p old given answer new ⊎ RefusesVerified p old given answer new)

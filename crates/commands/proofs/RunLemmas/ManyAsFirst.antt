@@ -1,7 +1,7 @@
 -- One run over many lines writes what runs of their own for each of them report.
 use Rattle.std.proofs.Common.{◌≡◌, ℕ, Bool, true, List, [], ◌∷◌, ◌++◌, Option, Some, None, Result, Ok, Err, refl, sym, ap, subst, ◌∙◌, inl, inr}
-use Rattle.std.specs.Io.KnownBytes.{Consumes}
-use Rattle.sabr_model.specs.Devices.{Input, Output}
+use Rattle.sabr_model.specs.Devices.{Input, Output, IsTextOf, TakesAll}
+use Rattle.sabr_model.proofs.ListLemmas.ReadTexts.{begins_with}
 use Rattle.sabr_model.specs.plan.Plan.{ContactPlan, TabledPlan}
 use Rattle.sabr_model.specs.routes.Arrival.{RouteRequest}
 use Rattle.sabr_plan.specs.Reading.{plan_of}
@@ -19,34 +19,28 @@ use Rattle.commands.specs.words.Requests.{ReadsRequests, RequestLine, requests_o
 use Rattle.commands.specs.runs.Runs.{first_report, status_at}
 use Rattle.commands.specs.runs.SessionRuns.{WritesFirstPage, WritesPage}
 use Rattle.commands.specs.runs.Many.{ReadsRequestsOver, WritesAll, WritesAnswers, answers_text, body_text, form_of, heading}
-use Rattle.commands.specs.runs.RunsInTurn.{Takes}
 use Rattle.commands.specs.runs.ManyAsFirst.{IsAlone, IsFirstReport, IsExplained, IsReport, AreReports, IsMany, AnswersAsAlone, ManyAnswersAsFirst, FollowAnswersAsExplain, reports_of}
-use Rattle.commands.proofs.RunLemmas.NextPages.{none_more}
 use Rattle.commands.proofs.RunLemmas.RunsInTurn.{never_done, plan_read, taken}
 
-consumed_front : (text given : List ℕ) (rest : Option (List ℕ)) → Consumes (Some text) rest given → (more : List ℕ) × (text ≡ given ++ more)
-consumed_front text given None bad = absurd bad
-consumed_front text given (Some more) is = (more, is)
-
 -- of a reader that has the text of lines, these are read
-requests_read : (form : LineForm) (text : List ℕ) (xs ys : List RequestLine) (reader reader₁ : Input) → requests_of form text ≡ Ok xs → reader.remaining ≡ Some text → ReadsRequests form reader (Ok ys) reader₁ → ys ≡ xs
+requests_read : (form : LineForm) (text : List ℕ) (xs ys : List RequestLine) (reader reader₁ : Input) → requests_of form text ≡ Ok xs → IsTextOf reader text reader₁ → ReadsRequests form reader (Ok ys) reader₁ → ys ≡ xs
 requests_read form text xs ys reader reader₁ spelled has h = elim h.told [
   | inl (end, fine, answer) ↦
-      let all = none_more text h.given reader₁.remaining (rw has at h.consumed) end in
+      let all = (begins_with reader reader₁ text h.given has h.gives).all end in
       let told : requests_of form text ≡ Ok ys = subst (λ b. requests_of form b ≡ Ok ys) all answer in
       cc
   | inr (inl (count, bad)) ↦ cc (bad)
   | inr (inr (fine, inl bad)) ↦ cc (bad)
   | inr (inr (fine, inr answer)) ↦
-      let more = consumed_front text h.given reader₁.remaining (rw has at h.consumed) in
-      let told : requests_of form text ≡ Ok ys = subst (λ b. requests_of form b ≡ Ok ys) (sym more.1) (answer more.0) in
+      let more = begins_with reader reader₁ text h.given has h.gives in
+      let told : requests_of form text ≡ Ok ys = subst (λ b. requests_of form b ≡ Ok ys) more.parts (answer more.rest) in
       cc
 ]
 
 module _ (plan : List ℕ) (p : ContactPlan) (spelled : plan_of plan true ≡ Ok p) where
   -- a first run that is done reports the first page
   page_taken : (q : ContactPlan) (keep : Bool) (written report : List ℕ) (place : RouteRequest × State) (end : Result (Unit {0}) Failure) (out out₁ session session₁ : Output) → status_at end ≡ status.Done
-      → Takes out report out₁ → WritesPage keep q written place end out out₁ session session₁ → report ≡ written
+      → TakesAll out report out₁ → WritesPage keep q written place end out out₁ session session₁ → report ≡ written
   page_taken q keep written report place (Err f) out out₁ session session₁ done takes w = absurd (never_done f done)
   page_taken q keep written report place (Ok u) out out₁ session session₁ done takes w = taken out written report out₁ w.0.0 takes
 

@@ -1,7 +1,7 @@
 -- A next run over the session text of a place writes the page from there on.
-use Rattle.std.proofs.Common.{◌≡◌, ℕ, ◌+◌, ◌≤◌, Bool, true, false, List, ◌++◌, length, map, append-nil, refl, sym, ap, subst, ◌∙◌, ◌⊎◌, inl, inr, Option, Some, None, Result, Ok, Err}
-use Rattle.std.specs.Io.KnownBytes.{Consumes, IsAtEnd}
-use Rattle.sabr_model.specs.Devices.{Input, Output}
+use Rattle.std.proofs.Common.{◌≡◌, ℕ, ◌+◌, ◌≤◌, Bool, true, false, List, ◌++◌, length, map, refl, sym, ap, subst, ◌∙◌, ◌⊎◌, inl, inr, Result, Ok, Err}
+use Rattle.sabr_model.specs.Devices.{Input, Output, IsTextOf}
+use Rattle.sabr_model.proofs.ListLemmas.ReadTexts.{begins_with}
 use Rattle.sabr_model.specs.plan.Plan.{ContactPlan, TabledPlan, IsPlan}
 use Rattle.sabr_model.specs.routes.Arrival.{RouteRequest}
 use Rattle.sabr_model.specs.routes.Asking.{IsRequest}
@@ -26,15 +26,6 @@ use Rattle.commands.specs.texts.Messages.{failure_of_session}
 use Rattle.commands.specs.runs.SessionRuns.{WritesNextPage, WritesPage, next_report, report_after, place_of}
 use Rattle.commands.specs.runs.NextPage.{place_after, report_from, KeepsPlace, WritesPageFrom, NextGoesOn}
 use Rattle.commands.proofs.RunLemmas.RunsFollow.{next_within, text_begins}
-
--- of a reader that has these bytes, what was read is a beginning of them, and all of them if it ended
-some_more : (bytes given : List ℕ) (left : Option (List ℕ)) → Consumes (Some bytes) left given → (more : List ℕ) × (given ++ more ≡ bytes)
-some_more bytes given None taken = absurd taken
-some_more bytes given (Some more) taken = (more, sym taken)
-
-pub none_more : (bytes given : List ℕ) (left : Option (List ℕ)) → Consumes (Some bytes) left given → IsAtEnd left → given ≡ bytes
-none_more bytes given None taken end = absurd taken
-none_more bytes given (Some more) taken end = sym (append-nil given) ∙ ap (λ b. given ++ b) (sym end) ∙ sym taken
 
 -- a session that was read over a plan is over that plan
 pub is_over_plan : (plan : TabledPlan) (old : Input) (s : Seen) (new : Input) → ReadsSession plan old (Ok s) new → s.plan ≡ plan
@@ -71,21 +62,21 @@ module _ (p : TabledPlan) (bytes : List ℕ) (good : IsPlan p.plan) (text : IsSe
   all_read : (given : List ℕ) (answer : Result (RouteRequest × State) SessionFault) → given ≡ bytes → ComesTo p.plan (said_over p given true) answer → answer ≡ Ok place
   all_read given answer all is = one_place answer (subst (λ b. IsSessionOf p.plan (digest_of p.plan) b true answer) all is)
 
-  is_read_to : (reader : Input) (resumed : Result Seen SessionFault) (reader₁ : Input) → reader.remaining ≡ Some bytes → ReadsSession p reader resumed reader₁ → IsReadTo reader.failures (place_of resumed) reader₁.failures
+  is_read_to : (reader : Input) (resumed : Result Seen SessionFault) (reader₁ : Input) → IsTextOf reader bytes reader₁ → ReadsSession p reader resumed reader₁ → IsReadTo reader.failures (place_of resumed) reader₁.failures
   is_read_to reader (Ok s) reader₁ has h = elim h.told [
-    | inl (end, fine, from) ↦ let is = all_read h.given (Ok (s.request, s.state)) (none_more bytes h.given reader₁.remaining (rw has at h.consumed) end) from.1 in cc
+    | inl (end, fine, from) ↦ let is = all_read h.given (Ok (s.request, s.state)) ((begins_with reader reader₁ bytes h.given has h.gives).all end) from.1 in cc
     | inr (inl broken) ↦ absurd broken
     | inr (inr refused) ↦ absurd refused
   ]
   is_read_to reader (Err f) reader₁ has h = elim h.told [
     | inl (end, fine, inl memory) ↦ inl memory
-    | inl (end, fine, inr is) ↦ let other = all_read h.given (Err f) (none_more bytes h.given reader₁.remaining (rw has at h.consumed) end) is in absurd cc
+    | inl (end, fine, inr is) ↦ let other = all_read h.given (Err f) ((begins_with reader reader₁ bytes h.given has h.gives).all end) is in absurd cc
     | inr (inl (failed, is, broken)) ↦ inr (is, failed)
     | inr (inr (fine, inl memory)) ↦ inl memory
     | inr (inr (fine, inr (not_read, refused))) ↦
-        let more = some_more bytes h.given reader₁.remaining (rw has at h.consumed) in
-        let is : ComesTo p.plan (said_over p (h.given ++ more.0) true) (Err f) = subst (λ (o : Result Said SessionFault). ComesTo p.plan o (Err f)) (sym (refused more.0 true)) refl in
-        let other = all_read (h.given ++ more.0) (Err f) more.1 is in
+        let more = begins_with reader reader₁ bytes h.given has h.gives in
+        let is : ComesTo p.plan (said_over p (h.given ++ more.rest) true) (Err f) = subst (λ (o : Result Said SessionFault). ComesTo p.plan o (Err f)) (sym (refused more.rest true)) refl in
+        let other = all_read (h.given ++ more.rest) (Err f) more.parts is in
         absurd cc
   ]
 

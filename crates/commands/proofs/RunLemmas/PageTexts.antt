@@ -1,9 +1,8 @@
 -- What a page leaves on its two writers, from what each step of writing it left.
 use Rattle.std.proofs.Common.{◌≡◌, ℕ, ◌+◌, Bool, List, [], map, refl, sym, ap, ◌∙◌, append-nil}
 use Rattle.std.specs.Prelude.{is_some}
-use Rattle.std.specs.Io.KnownBytes.{Keeps}
-use Rattle.std.proofs.KnownBytes.{Appends-kept}
-use Rattle.sabr_model.specs.Devices.{Output, Written, WrittenInPart}
+use Rattle.sabr_model.specs.Devices.{Output, TakesNone, Written, WrittenInPart}
+use Rattle.sabr_model.proofs.ListLemmas.WrittenTexts.{Takes-kept}
 use Rattle.sabr_model.specs.routes.Record.{RouteRecord, record_of}
 use Rattle.sabr_frontier.specs.listing.Listing.{steps, next_route}
 use Rattle.sabr_frontier.specs.session.Session.{Seen}
@@ -13,8 +12,8 @@ use Rattle.sabr_session.specs.SessionText.{text_of}
 use Rattle.commands.specs.runs.SessionRuns.{next_report}
 
 -- a text was written, and then its flush failed
-pub flush_failed : (a b c : Output) (text : List ℕ) → Written a text b → Keeps b.contents c.contents → c.failures ≡ b.failures + 1 → WrittenInPart a text c
-flush_failed a b c text p q e = ((text, ([], sym (append-nil text)), Appends-kept a.contents b.contents c.contents text p.0 q), e ∙ ap (λ j. j + 1) p.1)
+pub flush_failed : (a b c : Output) (text : List ℕ) → Written a text b → TakesNone b c → c.failures ≡ b.failures + 1 → WrittenInPart a text c
+flush_failed a b c text p q e = ((text, ([], sym (append-nil text)), Takes-kept a b c text p.0 q), e ∙ ap (λ j. j + 1) p.1)
 
 -- the report of a page, from the session before it
 pub report_of_page : (s : Seen) (k : ℕ) (routes : List RouteRecord) (rank : ℕ) (more : Bool)

@@ -1,7 +1,8 @@
 -- Runs in turn write the listing page by page.
 use Rattle.std.proofs.Common.{◌≡◌, ◌≢◌, ℕ, ◌+◌, Bool, true, false, List, [], ◌∷◌, ◌++◌, length, length-append, append-nil, append_assoc, arith, refl, sym, ap, subst, ◌∙◌, inl, inr, Some, Result, Ok, Err}
 use Rattle.std.proofs.lemmas.List.{append_cancel_left}
-use Rattle.sabr_model.specs.Devices.{Input, Output, Written}
+use Rattle.sabr_model.specs.Devices.{Input, Output, IsTextOf, TakesAll, Written}
+use Rattle.sabr_model.proofs.ListLemmas.ReadTexts.{all_taken, begins_with}
 use Rattle.sabr_model.specs.plan.Plan.{ContactPlan, TabledPlan, IsPlan}
 use Rattle.sabr_model.specs.routes.Arrival.{RouteRequest}
 use Rattle.sabr_model.specs.routes.Asking.{IsRequest}
@@ -20,11 +21,11 @@ use Rattle.commands.specs.runs.Runs.{status_at}
 use Rattle.commands.specs.runs.SessionRuns.{ReadsOldSession, WritesFirstPage, WritesNextPage, WritesPage, place_of}
 use Rattle.commands.specs.runs.EveryRun.{IsAt, from_text}
 use Rattle.commands.specs.runs.NextPage.{place_after, report_from, WritesPageFrom, GoesOnFrom}
-use Rattle.commands.specs.runs.RunsInTurn.{Run, Takes, IsDone, IsFirst, IsNext, AreNext, IsPage, ArePages, RunsInTurn}
+use Rattle.commands.specs.runs.RunsInTurn.{Run, IsDone, IsFirst, IsNext, AreNext, IsPage, ArePages, RunsInTurn}
 use Rattle.commands.specs.runs.RunsGoOn.{asked_of, text_left, pages_given, GoOnFrom, RunsGoOn}
 use Rattle.commands.proofs.RunLemmas.RunsFollow.{next_within, pages_joined}
 use Rattle.commands.proofs.RunLemmas.SessionPages.{none_before, first_from}
-use Rattle.commands.proofs.RunLemmas.NextPages.{none_more, place_kept, next_goes_on}
+use Rattle.commands.proofs.RunLemmas.NextPages.{place_kept, next_goes_on}
 
 -- no failure ends as done
 pub never_done : (f : Failure) → status_of f ≢ status.Done
@@ -48,15 +49,15 @@ never_done failure.Write e = cc
 never_done failure.NoMemory e = cc
 never_done failure.NotUtf8 e = cc
 
--- a writer that knows its bytes took the text that was written
-pub taken : (old : Output) (text bytes : List ℕ) (new : Output) → Written old text new → Takes old bytes new → bytes ≡ text
-taken old text bytes new written (before, was, is) = append_cancel_left before bytes text (rw (was, is) at written.0)
+-- a writer took the text that was written
+pub taken : (old : Output) (text bytes : List ℕ) (new : Output) → Written old text new → TakesAll old bytes new → bytes ≡ text
+taken old text bytes new written takes = all_taken old new bytes text takes written.0
 
--- of a reader that has the text of a plan, that plan is read
-pub plan_read : (plan : List ℕ) (p : ContactPlan) (reader : Input) (t : TabledPlan) (reader₁ : Input) → plan_of plan true ≡ Ok p → reader.remaining ≡ Some plan → ReadsPlan reader (Ok t) reader₁ → t.plan ≡ p
+-- of a reader whose text is that of a plan, that plan is read
+pub plan_read : (plan : List ℕ) (p : ContactPlan) (reader : Input) (t : TabledPlan) (reader₁ : Input) → plan_of plan true ≡ Ok p → IsTextOf reader plan reader₁ → ReadsPlan reader (Ok t) reader₁ → t.plan ≡ p
 plan_read plan p reader t reader₁ spelled has h = elim h.told [
   | inl (end, fine, answer) ↦
-      let all = none_more plan h.given reader₁.remaining (rw has at h.consumed) end in
+      let all = (begins_with reader reader₁ plan h.given has h.gives).all end in
       let told : plan_of plan true ≡ Ok t.plan = subst (λ b. plan_of b true ≡ Ok t.plan) all answer in
       cc
   | inr (inl broken) ↦ absurd broken

@@ -1,8 +1,7 @@
 -- What reading a text of requests leaves.
 use Rattle.std.proofs.Common.{◌≡◌, ℕ, ◌≤◌, List, length, take, refl, sym, ap, ◌∙◌, ◌⊎◌, inl, inr, Result, Ok, Err, None, Some}
 use Rattle.std.proofs.lemmas.List.{take-append-le}
-use Rattle.std.specs.Io.KnownBytes.{Consumes, IsAtEnd}
-use Rattle.sabr_model.specs.Devices.{Input}
+use Rattle.sabr_model.specs.Devices.{Input, Gives, HasEnded}
 use Rattle.commands.specs.declared.words.requests_fault.RequestsFault.{RequestsFault}
 use Rattle.commands.specs.declared.words.requests_fault.RequestsFault.TheVariants.{Line, Read, NoMemory}
 use Rattle.commands.specs.declared.words.line_form.LineForm.{LineForm}
@@ -10,23 +9,23 @@ use Rattle.commands.specs.declared.words.requests_fault.RequestKind.{RequestKind
 use Rattle.commands.specs.words.Requests.{Asked, RequestLine, ReadsRequests, StopsReading, fault_of, lines_in, most_bytes, put_first, requests_from, requests_of}
 
 -- a reader failed, or memory was refused
-pub not_read : (form : LineForm) (old new : Input) (given : List ℕ) (f : RequestsFault) → Consumes old.remaining new.remaining given → StopsReading old f new → ReadsRequests form old (Err f) new
-not_read form old new given (Line n kind) consumed h = absurd h
-not_read form old new given Read consumed h = record { given = given; consumed = consumed; told = inr (inl (h, refl)) }
-not_read form old new given NoMemory consumed h = record { given = given; consumed = consumed; told = inr (inr (h, inl refl)) }
+pub not_read : (form : LineForm) (old new : Input) (given : List ℕ) (f : RequestsFault) → Gives old given new → StopsReading old f new → ReadsRequests form old (Err f) new
+not_read form old new given (Line n kind) gives h = absurd h
+not_read form old new given Read gives h = record { given = given; gives = gives; told = inr (inl (h, refl)) }
+not_read form old new given NoMemory gives h = record { given = given; gives = gives; told = inr (inr (h, inl refl)) }
 
 -- the lines that were read are those of the text
-pub lines_read : (form : LineForm) (old new : Input) (given text : List ℕ) → Consumes old.remaining new.remaining given → text ≡ take (most_bytes form) given → new.failures ≡ old.failures
-    → IsAtEnd new.remaining ⊎ (most_bytes form ≤ length given) → ReadsRequests form old (requests_from form 1 (lines_in text)) new
+pub lines_read : (form : LineForm) (old new : Input) (given text : List ℕ) → Gives old given new → text ≡ take (most_bytes form) given → new.failures ≡ old.failures
+    → HasEnded new ⊎ (most_bytes form ≤ length given) → ReadsRequests form old (requests_from form 1 (lines_in text)) new
 unfolding requests_of
-lines_read form old new given text consumed is fine (inl end) = record {
+lines_read form old new given text gives is fine (inl end) = record {
   given = given;
-  consumed = consumed;
+  gives = gives;
   told = inl (end, fine, ap (λ t. requests_from form 1 (lines_in t)) (sym is));
 }
-lines_read form old new given text consumed is fine (inr long) = record {
+lines_read form old new given text gives is fine (inr long) = record {
   given = given;
-  consumed = consumed;
+  gives = gives;
   told = inr (inr (fine, inr (λ more. ap (λ t. requests_from form 1 (lines_in t)) (take-append-le (most_bytes form) given more long ∙ sym is))));
 }
 

@@ -1,6 +1,6 @@
 -- Many lines answered in one run, beside a run of its own for each of them.
-use Rattle.std.specs.Prelude.{◌≡◌, ℕ, Bool, true, List, [], ◌∷◌, ◌++◌, Some, Result, Ok}
-use Rattle.sabr_model.specs.Devices.{Input, Output}
+use Rattle.std.specs.Prelude.{◌≡◌, ℕ, Bool, true, List, [], ◌∷◌, ◌++◌, Result, Ok}
+use Rattle.sabr_model.specs.Devices.{Input, Output, IsTextOf, TakesAll}
 use Rattle.sabr_model.specs.plan.Plan.{ContactPlan, TabledPlan}
 use Rattle.sabr_model.specs.routes.Arrival.{RouteRequest}
 use Rattle.sabr_plan.specs.Reading.{plan_of}
@@ -15,7 +15,6 @@ use Rattle.commands.specs.texts.Explanation.{WritesExplanation}
 use Rattle.commands.specs.words.Requests.{RequestLine, requests_of}
 use Rattle.commands.specs.runs.Runs.{status_at}
 use Rattle.commands.specs.runs.Many.{ReadsRequestsOver, WritesAnswers, form_of, heading}
-use Rattle.commands.specs.runs.RunsInTurn.{Takes}
 use Rattle.commands.specs.runs.SessionRuns.{WritesFirstPage}
 
 -- the run over readers of these texts, of a plan and of lines, where it did what was asked of it, and its writer took
@@ -24,18 +23,18 @@ pub record IsMany (plan text : List ℕ) (kind : AnswerKind) (bytes : List ℕ) 
   pub reader : Input
   pub planned : Result TabledPlan PlanFault
   pub reader₁ : Input
-  pub has : reader.remaining ≡ Some plan
+  pub has : IsTextOf reader plan reader₁
   pub reads : ReadsPlan reader planned reader₁
   pub asked : Input
   pub requested : Result (List RequestLine) RequestsFault
   pub asked₁ : Input
-  pub asks : asked.remaining ≡ Some text
+  pub asks : IsTextOf asked text asked₁
   pub reads_asked : ReadsRequestsOver (form_of kind) planned asked requested asked₁
   pub end : Result (Unit {0}) Failure
   pub done : status_at end ≡ status.Done
   pub out : Output
   pub out₁ : Output
-  pub takes : Takes out bytes out₁
+  pub takes : TakesAll out bytes out₁
   pub writes : WritesAnswers planned requested kind end out out₁
 
 -- a run over a reader of this plan text, of which the writer took this report and nothing else
@@ -43,11 +42,11 @@ pub record IsAlone (plan report : List ℕ) : Type 0 where
   pub reader : Input
   pub planned : Result TabledPlan PlanFault
   pub reader₁ : Input
-  pub has : reader.remaining ≡ Some plan
+  pub has : IsTextOf reader plan reader₁
   pub reads : ReadsPlan reader planned reader₁
   pub out : Output
   pub out₁ : Output
-  pub takes : Takes out report out₁
+  pub takes : TakesAll out report out₁
 
 -- it is a first run for this request, with this count, that ends with status 0; it keeps its session or not
 pub record IsFirstReport (plan : List ℕ) (r : RouteRequest) (count : ℕ) (report : List ℕ) : Type 0 where

@@ -1,6 +1,6 @@
 -- What a run `next` leaves over the session text of a place of the listing.
-use Rattle.std.specs.Prelude.{◌≡◌, ℕ, ◌+◌, nat_lt, Bool, IsTrue, ◌⊎◌, List, length, map, Some, Result, Ok, Err, IfOk}
-use Rattle.sabr_model.specs.Devices.{Input, Output}
+use Rattle.std.specs.Prelude.{◌≡◌, ℕ, ◌+◌, nat_lt, Bool, IsTrue, ◌⊎◌, List, length, map, Result, Ok, Err, IfOk}
+use Rattle.sabr_model.specs.Devices.{Input, Output, IsTextOf}
 use Rattle.sabr_model.specs.plan.Plan.{ContactPlan, TabledPlan, IsPlan}
 use Rattle.sabr_model.specs.routes.Arrival.{RouteRequest}
 use Rattle.sabr_model.specs.routes.Listing.{routes, page_of}
@@ -34,11 +34,11 @@ abbrev pub WritesPageFrom : Bool → ContactPlan → RouteRequest → ℕ → �
 WritesPageFrom keep p r i count end old new old₁ new₁ =
     WritesPage keep p (report_from p r i count) (r, state_at p r (place_after p r i count)) end old new old₁ new₁ × KeepsPlace keep p r (place_after p r i count) end
 
--- a reader has these bytes and no others: whatever is read of it, a next run leaves the page from place i on; or the
+-- a reader's text is these bytes: whatever is read of it, a next run leaves the page from place i on; or the
 -- reader failed, and nothing is written
 abbrev pub GoesOnFrom : TabledPlan → RouteRequest → ℕ → List ℕ → Type 0
 GoesOnFrom p r i bytes =
-    (reader : Input) (resumed : Result Seen SessionFault) (reader₁ : Input) → reader.remaining ≡ Some bytes → ReadsOldSession (Ok p) reader resumed reader₁
+    (reader : Input) (resumed : Result Seen SessionFault) (reader₁ : Input) → IsTextOf reader bytes reader₁ → ReadsOldSession (Ok p) reader resumed reader₁
     → (keep : Bool) (count : ℕ) (end : Result (Unit {0}) Failure) (old new old₁ new₁ : Output) → WritesNextPage (Ok p) (place_of resumed) keep count end old new old₁ new₁
     → WritesPageFrom keep p.plan r i count end old new old₁ new₁
     ⊎ ((reader₁.failures ≡ reader.failures + 1) × (end ≡ Err failure.SessionRead) × (new ≡ old) × (new₁ ≡ old₁))

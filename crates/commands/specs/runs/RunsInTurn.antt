@@ -1,6 +1,6 @@
 -- Runs of the program in turn: a first run, and then next runs, each over the session text that the one before wrote.
-use Rattle.std.specs.Prelude.{◌≡◌, ℕ, ◌+◌, Bool, true, List, [], ◌∷◌, ◌++◌, Some, Result, Ok}
-use Rattle.sabr_model.specs.Devices.{Input, Output}
+use Rattle.std.specs.Prelude.{◌≡◌, ℕ, ◌+◌, Bool, true, List, [], ◌∷◌, ◌++◌, Result, Ok}
+use Rattle.sabr_model.specs.Devices.{Input, Output, IsTextOf, TakesAll}
 use Rattle.sabr_model.specs.plan.Plan.{ContactPlan, TabledPlan}
 use Rattle.sabr_model.specs.routes.Arrival.{RouteRequest}
 use Rattle.sabr_model.specs.routes.Asking.{IsRequest}
@@ -23,25 +23,21 @@ pub record Run : Type 0 where
   pub report : List ℕ
   pub text : List ℕ
 
--- a writer that knows its bytes took these and no others
-abbrev pub Takes : Output → List ℕ → Output → Type 0
-Takes old bytes new = (before : List ℕ) × (old.contents ≡ Some before) × (new.contents ≡ Some (before ++ bytes))
-
 -- the run over a reader of this plan text and over two writers, where it did what was asked of it
 pub record IsDone (plan : List ℕ) (run : Run) : Type 0 where
   pub reader : Input
   pub planned : Result TabledPlan PlanFault
   pub reader₁ : Input
-  pub has : reader.remaining ≡ Some plan
+  pub has : IsTextOf reader plan reader₁
   pub reads : ReadsPlan reader planned reader₁
   pub end : Result (Unit {0}) Failure
   pub done : status_at end ≡ status.Done
   pub out : Output
   pub out₁ : Output
-  pub takes_report : Takes out run.report out₁
+  pub takes_report : TakesAll out run.report out₁
   pub session : Output
   pub session₁ : Output
-  pub takes_text : Takes session run.text session₁
+  pub takes_text : TakesAll session run.text session₁
 
 -- it is a first run for this request that keeps its session
 abbrev pub IsFirst : List ℕ → RouteRequest → Run → Type 0
@@ -53,7 +49,7 @@ pub record IsNext (plan text : List ℕ) (keep : Bool) (run : Run) : Type 0 wher
   pub reader : Input
   pub resumed : Result Seen SessionFault
   pub reader₁ : Input
-  pub has : reader.remaining ≡ Some text
+  pub has : IsTextOf reader text reader₁
   pub reads : ReadsOldSession is_done.planned reader resumed reader₁
   pub writes : WritesNextPage is_done.planned (place_of resumed) keep run.count is_done.end is_done.out is_done.out₁ is_done.session is_done.session₁
 

@@ -1,7 +1,6 @@
 -- What a text of requests or of lists says: one a line, each word read as strictly as the option of its name.
 use Rattle.std.specs.Prelude.{◌≡◌, ℕ, ◌+◌, ◌≤◌, nat_lt, ◌⊎◌, List, [], ◌∷◌, ◌++◌, length, take, option_map, Result, Ok, Err, if◌then◌else◌}
-use Rattle.std.specs.Io.KnownBytes.{Consumes, IsAtEnd}
-use Rattle.sabr_model.specs.Devices.{Input}
+use Rattle.sabr_model.specs.Devices.{Input, Gives, HasEnded}
 use Rattle.std.specs.declared.option.Option.{Option}
 use Rattle.std.specs.declared.option.Option.TheVariants.{Some, None}
 use Rattle.sabr_model.specs.routes.Arrival.{RouteRequest}
@@ -162,7 +161,7 @@ fault_of (Err fault) = Some fault
 
 -- what reading a text of such lines leaves: the reader ended after these bytes, and they are the text
 abbrev pub EndsRequests : LineForm → Input → List ℕ → Result (List RequestLine) RequestsFault → Input → Type 0
-EndsRequests form old given answer new = IsAtEnd new.remaining × (new.failures ≡ old.failures) × (requests_of form given ≡ answer)
+EndsRequests form old given answer new = HasEnded new × (new.failures ≡ old.failures) × (requests_of form given ≡ answer)
 
 -- the reader failed after these bytes
 abbrev pub BreaksRequests : Input → List ℕ → Result (List RequestLine) RequestsFault → Input → Type 0
@@ -176,7 +175,7 @@ RefusesRequests form old given answer new =
 -- these bytes were read, and the answer is that of their text
 pub record ReadsRequests (form : LineForm) (old : Input) (answer : Result (List RequestLine) RequestsFault) (new : Input) : Type 0 where
   pub given : List ℕ
-  pub consumed : Consumes old.remaining new.remaining given
+  pub gives : Gives old given new
   pub told : EndsRequests form old given answer new ⊎ (BreaksRequests old given answer new ⊎ RefusesRequests form old given answer new)
 
 -- bytes aren't read to their end: the reader failed, or memory was refused
@@ -188,7 +187,7 @@ StopsReading old (Line n kind) new = ⊥
 -- what reading bytes leaves: all that there are, or as many as are looked at
 abbrev pub GivesText : {T : Type 0} → ℕ → (T → List ℕ) → Input → List ℕ → Result T RequestsFault → Input → Type 0
 GivesText most bytes old given (Ok text) new =
-    (bytes text ≡ take most given) × (new.failures ≡ old.failures) × (IsAtEnd new.remaining ⊎ (most ≤ length given))
+    (bytes text ≡ take most given) × (new.failures ≡ old.failures) × (HasEnded new ⊎ (most ≤ length given))
 GivesText most bytes old given (Err fault) new = StopsReading old fault new
 
 -- the lines of a text ask this, and none is bad

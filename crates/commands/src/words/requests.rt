@@ -1,7 +1,7 @@
 //! A text of requests or of lists: reading it whole, and judging its lines.
 
 ghost use Rattle.std.specs.Prelude.{◌≡◌, ◌<◌, ◌≤◌, ◌∷◌, [], length, List, Result, MatchOption, MatchResult, IfNone, IfSome, Err, ℕ};
-ghost use Rattle.std.specs.Io.KnownBytes.{Consumes};
+ghost use Rattle.sabr_model.specs.Devices.{Gives};
 ghost use Rattle.commands.specs.words.Requests.{GivesText, HasRequests, ReadsRequests, RequestLine, asked_at, asked_in, fault_of, lines_in, most_requests, requests_from};
 ghost use Rattle.commands.specs.declared.words.requests_fault.RequestsFault.{RequestsFault};
 
@@ -82,7 +82,7 @@ fn read_text<R: Read, A: Allocator + Copy>(
     reader: &mut R,
     most: usize,
 ) -> Result<Vec<u8, A>, RequestsFault>
-    ensures { (given : List ℕ) × Consumes (R.input reader.old).remaining (R.input reader.new).remaining given
+    ensures { (given : List ℕ) × Gives (R.input reader.old) given (R.input reader.new)
         × GivesText most (λ text. text.items) (R.input reader.old) given result (R.input reader.new) }
 {
     let mut buffer = [0u8; PIECE_BYTES];

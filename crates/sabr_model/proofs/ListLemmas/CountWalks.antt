@@ -9,8 +9,10 @@ pub use types.Kit.{‵, raw, ◌⊛◌, ◌$◌, ◌∵◌, !, qed, done, move, 
 pub use types.Run.{enter, of_opd, unit_lit, no_more, returns}
 pub use types.ByLocal.{alloc_all, pass_all, free_all, look_at, sets}
 pub use denote.Ref.{MutRef, mut_vals, mut_Tells}
+pub use denote.Slice.{ShrSlice, shr_slice_vals, shr_slice_Tells}
+pub use denote.Exit.{yes}
 pub use denote.Signature.{plain}
 pub use denote.Steps.{nothing, owned, opens, closes}
 pub use denote.Triple.Entry.{on_entry}
-pub use denote.Triple.Walked.{Stays, walk_of, says, stay_ref, Goes-ref, ends_at}
+pub use denote.Triple.Walked.{Stays, walk_of, says, stay_ref, Goes-ref, stay_none_slice, Goes-none_slice, ends_at}
 pub use types.Part.{agg}

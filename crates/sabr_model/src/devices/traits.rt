@@ -1,8 +1,8 @@
 //! The traits of a reader and of a writer.
 
-ghost use Rattle.std.specs.Prelude.{◌≡◌, ◌+◌, ◌≤◌, length, IfOk, IsTrue};
-ghost use Rattle.std.specs.Io.KnownBytes.{Keeps, ReadConsumes, WriteAppends};
-ghost use Rattle.sabr_model.specs.Devices.{Input, Output, call_faults, write_faults};
+ghost use Rattle.std.specs.Prelude.{◌≡◌, ◌+◌, ◌≤◌, ◌<◌, length, IfOk, IsTrue};
+ghost use Rattle.std.specs.Io.KnownBytes.{IsAtEnd};
+ghost use Rattle.sabr_model.specs.Devices.{Input, Output, ReadGives, TakesNone, WriteTakes, call_faults, tells_end, write_faults};
 
 /// The one error of a device.
 #[derive(Clone, Copy, Debug, PartialEq, Eq)]
@@ -10,7 +10,8 @@ pub struct Failed;
 
 /// A reader of bytes.
 ///
-/// A contract sees the bytes that are left, if the reader knows them, and the count of its failures.
+/// A contract sees all bytes that were given, whether the last read told the end, and the count of the reader's
+/// failures. It also sees the bytes that are left, if the reader knows them.
 pub trait Read {
     /// What a contract sees of the reader.
     ghost input: { Self → Input };
@@ -21,14 +22,16 @@ pub trait Read {
     /// `Failed` moves no byte and counts as one failure; nothing else counts.
     fn read(&mut self, buf: &mut [u8]) -> Result<usize, Failed>
         ensures bound { IfOk result (λ n. n ≤ length buf.new) }
-        ensures bytes { ReadConsumes (input self.old).remaining (input self.new).remaining result buf.new }
+        ensures bytes { ReadGives (input self.old) result buf.new (input self.new) }
+        ensures end { (input self.new).ended ≡ tells_end result buf.new }
+        ensures left { IfOk result (λ n. n ≡ 0 → 0 < length buf.new → IsAtEnd (input self.new).remaining) }
         ensures count { (input self.new).failures ≡ (input self.old).failures + call_faults result };
 }
 
 /// A writer of bytes.
 ///
-/// A contract sees the bytes that were taken, if the writer knows them, and the count of its failures. It also sees
-/// whether all bytes that were taken were flushed.
+/// A contract sees all bytes that were taken, the count of the writer's failures, and whether all bytes that were taken
+/// were flushed. It also sees the bytes that the writer holds, if it knows them.
 pub trait Write {
     /// What a contract sees of the writer. `flushed` is known after a `flush` that returned `Ok`, until the next call.
     ghost output: { Self → Output };
@@ -39,12 +42,12 @@ pub trait Write {
     /// else counts.
     fn write(&mut self, buf: &[u8]) -> Result<usize, Failed>
         ensures bound { IfOk result (λ n. n ≤ length buf.now) }
-        ensures bytes { WriteAppends (output self.old).contents (output self.new).contents result buf.now }
+        ensures bytes { WriteTakes (output self.old) result buf.now (output self.new) }
         ensures count { (output self.new).failures ≡ (output self.old).failures + write_faults result buf.now };
 
     /// Passes on what the writer may still hold back. `Failed` counts as one failure.
     fn flush(&mut self) -> Result<(), Failed>
-        ensures bytes { Keeps (output self.old).contents (output self.new).contents }
+        ensures bytes { TakesNone (output self.old) (output self.new) }
         ensures count { (output self.new).failures ≡ (output self.old).failures + call_faults result }
         ensures mark { IfOk result (λ _. IsTrue (output self.new).flushed) };
 }

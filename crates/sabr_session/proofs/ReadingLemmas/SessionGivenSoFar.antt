@@ -1,10 +1,9 @@
 -- What reading a session text leaves, call by call.
 use Rattle.std.proofs.Common.{◌≡◌, ◌≢◌, ℕ, ◌+◌, Bool, true, false, List, [], ◌++◌, ◌⊎◌, inl, inr, sym, ap, ◌∙◌, refl, append_assoc, Result, Ok, Err, IfOk, IfErr}
-use Rattle.std.specs.Io.KnownBytes.{Consumes, IsAtEnd}
-use Rattle.sabr_model.specs.Devices.{Input}
+use Rattle.sabr_model.specs.Devices.{Input, Gives, HasEnded}
+use Rattle.sabr_model.proofs.ListLemmas.ReadTexts.{Gives-nil, Gives-append}
 use Rattle.sabr_model.specs.plan.Plan.{TabledPlan}
 use Rattle.sabr_plan.specs.Canonical.{digest_of}
-use Rattle.sabr_plan.proofs.Consumed.{Consumes-append, Consumes-nil}
 use Rattle.sabr_frontier.specs.session.Session.{Seen}
 use Rattle.sabr_session.specs.declared.session_fault.SessionFault.{SessionFault}
 use Rattle.sabr_session.specs.declared.session_fault.SessionFault.TheVariants as fault
@@ -17,7 +16,7 @@ use Rattle.sabr_session.proofs.ReadingLemmas.NeverRead.{text_not_read}
 -- these bytes were read of a text over the plan that wasn't refused, and whatever comes after them, it comes to the same
 pub record HasGiven (plan : TabledPlan) (calls : ℕ) (old new : Input) (t : OpenText) : Type 0 where
   pub given : List ℕ
-  pub consumed : Consumes old.remaining new.remaining given
+  pub gives : Gives old given new
   pub over : t.plan ≡ plan
   pub counted : t.calls ≡ calls
   pub same : (more : List ℕ) (ended : Bool) → said_over plan (given ++ more) ended ≡ outcome_of t more ended
@@ -32,7 +31,7 @@ HasFed plan calls old new (Err f) = ⊥
 pub nothing_given : (plan : TabledPlan) (calls : ℕ) (old : Input) (feed : Result OpenText SessionFault) → feed ≡ Ok (opened_over plan calls) → HasFed plan calls old old feed
 nothing_given plan calls old feed is = rw is (record {
   given = [];
-  consumed = Consumes-nil old.remaining;
+  gives = Gives-nil old;
   over = refl;
   counted = refl;
   same = λ more ended. said_of-outcome plan.plan (digest_of plan.plan) more ended;
@@ -41,12 +40,12 @@ nothing_given plan calls old feed is = rw is (record {
 
 -- one more piece
 pub piece_given : {U : Type 0} (plan : TabledPlan) (calls : ℕ) (old mid new : Input) (feed next : Result OpenText SessionFault) (piece : List ℕ) (u : U)
-    → HasFed plan calls old mid feed → Consumes mid.remaining new.remaining piece → IsFed {U = U} feed piece (Ok u) next → HasFed plan calls old new next
-piece_given plan calls old mid new (Err f) next piece u was consumed fed = absurd was
-piece_given plan calls old mid new (Ok t) (Err f) piece u was consumed fed = absurd fed
-piece_given plan calls old mid new (Ok t) (Ok s) piece u was consumed fed = record {
+    → HasFed plan calls old mid feed → Gives mid piece new → IsFed {U = U} feed piece (Ok u) next → HasFed plan calls old new next
+piece_given plan calls old mid new (Err f) next piece u was gives fed = absurd was
+piece_given plan calls old mid new (Ok t) (Err f) piece u was gives fed = absurd fed
+piece_given plan calls old mid new (Ok t) (Ok s) piece u was gives fed = record {
   given = was.given ++ piece;
-  consumed = Consumes-append old.remaining mid.remaining new.remaining was.given piece was.consumed consumed;
+  gives = Gives-append old mid new was.given piece was.gives gives;
   over = fed.plan ∙ was.over;
   counted = fed.calls ∙ was.counted;
   same = λ more ended. ap (λ bytes. said_over plan bytes ended) (append_assoc was.given piece more) ∙ was.same (piece ++ more) ended ∙ fed.same more ended;
@@ -55,11 +54,11 @@ piece_given plan calls old mid new (Ok t) (Ok s) piece u was consumed fed = reco
 
 -- a piece is refused
 pub piece_refused : (plan : TabledPlan) (calls : ℕ) (old mid new : Input) (feed next : Result OpenText SessionFault) (piece : List ℕ) (f : SessionFault)
-    → HasFed plan calls old mid feed → Consumes mid.remaining new.remaining piece → new.failures ≡ old.failures → IsFed {U = Unit {0}} feed piece (Err f) next → ReadsSession plan old (Err f) new
-piece_refused plan calls old mid new (Err g) next piece f was consumed fine fed = absurd was
-piece_refused plan calls old mid new (Ok t) next piece f was consumed fine fed = record {
+    → HasFed plan calls old mid feed → Gives mid piece new → new.failures ≡ old.failures → IsFed {U = Unit {0}} feed piece (Err f) next → ReadsSession plan old (Err f) new
+piece_refused plan calls old mid new (Err g) next piece f was gives fine fed = absurd was
+piece_refused plan calls old mid new (Ok t) next piece f was gives fine fed = record {
   given = was.given ++ piece;
-  consumed = Consumes-append old.remaining mid.remaining new.remaining was.given piece was.consumed consumed;
+  gives = Gives-append old mid new was.given piece was.gives gives;
   told = inr (inr (fine, for_good fed.1));
 }
   where
@@ -70,11 +69,11 @@ piece_refused plan calls old mid new (Ok t) next piece f was consumed fine fed =
 
 -- the reader ended
 pub reader_ended : (plan : TabledPlan) (calls : ℕ) (old mid new : Input) (feed : Result OpenText SessionFault) (answer : Result Seen SessionFault)
-    → HasFed plan calls old mid feed → Consumes mid.remaining new.remaining [] → IsAtEnd new.remaining → new.failures ≡ old.failures → IsFinished feed answer → ReadsSession plan old answer new
-reader_ended plan calls old mid new (Err f) answer was consumed end fine finished = absurd was
-reader_ended plan calls old mid new (Ok t) answer was consumed end fine finished = record {
+    → HasFed plan calls old mid feed → Gives mid [] new → HasEnded new → new.failures ≡ old.failures → IsFinished feed answer → ReadsSession plan old answer new
+reader_ended plan calls old mid new (Err f) answer was gives end fine finished = absurd was
+reader_ended plan calls old mid new (Ok t) answer was gives end fine finished = record {
   given = was.given ++ [];
-  consumed = Consumes-append old.remaining mid.remaining new.remaining was.given [] was.consumed consumed;
+  gives = Gives-append old mid new was.given [] was.gives gives;
   told = inl (end, fine, rw (was.same [] true, ← was.over) finished);
 }
 

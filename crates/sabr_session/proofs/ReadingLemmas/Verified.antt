@@ -90,7 +90,7 @@ module _ (p : ContactPlan) (good : IsPlan p) where
 module _ (plan : TabledPlan) (good : IsPlan plan.plan) (old new : Input) where
   -- a session was read, and certified
   pub session_verified : (s : Seen) → ReadsSession plan old (Ok s) new → IsRequest s.request → (said_yes : Bool) → (said_yes ≡ true ↔ s.state ≡ state_at s.plan.plan s.request s.state.emitted) → VerifiesText plan.plan old (Ok said_yes) new
-  session_verified s h asked said_yes placed = record { given = h.given; consumed = h.consumed; told = by_end h.told }
+  session_verified s h asked said_yes placed = record { given = h.given; gives = h.gives; told = by_end h.told }
     where
       by_end : EndsText plan old h.given (Ok s) new ⊎ (BreaksText plan old h.given (Ok s) new ⊎ RefusesText plan old h.given (Ok s) new)
           → EndsVerified plan.plan old h.given (Ok said_yes) new ⊎ (BreaksVerified plan.plan old h.given (Ok said_yes) new ⊎ RefusesVerified plan.plan old h.given (Ok said_yes) new)
@@ -110,7 +110,7 @@ module _ (plan : TabledPlan) (good : IsPlan plan.plan) (old new : Input) where
 
   -- reading was refused
   pub fault_verified : (f : SessionFault) → ReadsSession plan old (Err f) new → (f ≡ Read → ⊥) → (f ≡ NoMemory → ⊥) → VerifiesText plan.plan old (Ok false) new
-  fault_verified f h other known = record { given = h.given; consumed = h.consumed; told = by_end h.told }
+  fault_verified f h other known = record { given = h.given; gives = h.gives; told = by_end h.told }
     where
       by_end : EndsText plan old h.given (Err f) new ⊎ (BreaksText plan old h.given (Err f) new ⊎ RefusesText plan old h.given (Err f) new)
           → EndsVerified plan.plan old h.given (Ok false) new ⊎ (BreaksVerified plan.plan old h.given (Ok false) new ⊎ RefusesVerified plan.plan old h.given (Ok false) new)
@@ -126,7 +126,7 @@ module _ (plan : TabledPlan) (good : IsPlan plan.plan) (old new : Input) where
 
   -- the reader failed
   pub break_verified : (f : SessionFault) → ReadsSession plan old (Err f) new → f ≡ Read → VerifiesText plan.plan old (Err Read) new
-  break_verified f h is = record { given = h.given; consumed = h.consumed; told = by_end h.told }
+  break_verified f h is = record { given = h.given; gives = h.gives; told = by_end h.told }
     where
       by_end : EndsText plan old h.given (Err f) new ⊎ (BreaksText plan old h.given (Err f) new ⊎ RefusesText plan old h.given (Err f) new)
           → EndsVerified plan.plan old h.given (Err Read) new ⊎ (BreaksVerified plan.plan old h.given (Err Read) new ⊎ RefusesVerified plan.plan old h.given (Err Read) new)

@@ -1,6 +1,7 @@
 -- One piece after another, to the end of the text or its first bad line.
 use Rattle.std.proofs.Common.{refl, arith}
 use Rattle.std.proofs.lemmas.Result.{err_from_is_err_and}
+use Rattle.sabr_model.proofs.ListLemmas.ReadTexts.{end_told}
 use Rattle.sabr_plan.proofs.ReadSoFar.{nothing_was_read, piece_was_read, text_ended, piece_refused, read_failed}
 use Rattle.sabr_plan.proofs.read.read_plan.Goals as goal
 
@@ -10,13 +11,13 @@ loop-feed-init g c = record { read = nothing_was_read _ c.new-feed.result c.new-
 pub returns-in-Ok-eq0-clause-read : goal.returns-in-Ok-eq0-clause-read
 returns-in-Ok-eq0-clause-read g c =
     let h = c.in-Ok-eq0.ensures in
-    text_ended _ _ _ c.loop-feed.feed c.finish.result c.loop-feed.invariant.read (rw c.in-Ok-eq0.field-0-test at h.bytes.0) (h.bytes.1 c.in-Ok-eq0.field-0-test (omega (arith, c.read.auto.buf))) (omega (arith, h.count, c.loop-feed.invariant.fine)) c.finish.ensures
+    text_ended _ _ _ c.loop-feed.feed c.finish.result c.loop-feed.invariant.read (rw c.in-Ok-eq0.field-0-test at h.bytes) (end_told _ _ (g.R.Read.input c.read.new.self) h.end h.left c.in-Ok-eq0.field-0-test (omega (arith, c.read.auto.buf))) (omega (arith, h.count, c.loop-feed.invariant.fine)) c.finish.ensures
 
 pub loop-feed-preserved : goal.loop-feed-preserved
 loop-feed-preserved g c =
     let h = c.in-Ok.ensures in
     record {
-      read = piece_was_read _ _ _ c.loop-feed.feed c.feed.new.self _ c.loop-feed.invariant.read h.bytes.0 c.in_ok-feed-in-Ok.ensures.fed;
+      read = piece_was_read _ _ _ c.loop-feed.feed c.feed.new.self _ c.loop-feed.invariant.read h.bytes c.in_ok-feed-in-Ok.ensures.fed;
       fine = omega (arith, h.count, c.loop-feed.invariant.fine);
     }
 
@@ -24,7 +25,7 @@ pub returns-in_err-feed-in-Ok-clause-read : goal.returns-in_err-feed-in-Ok-claus
 returns-in_err-feed-in-Ok-clause-read g c =
     let p = err_from_is_err_and c.from_residual.result c.from_residual.ensures.1 in
     let h = c.in-Ok.ensures in
-    rw (p.1, p.2) (piece_refused _ _ _ c.loop-feed.feed _ c.in_err-feed-in-Ok.field-0.0 c.loop-feed.invariant.read h.bytes.0 (omega (arith, h.count, c.loop-feed.invariant.fine)) c.in_err-feed-in-Ok.ensures.fed)
+    rw (p.1, p.2) (piece_refused _ _ _ c.loop-feed.feed _ c.in_err-feed-in-Ok.field-0.0 c.loop-feed.invariant.read h.bytes (omega (arith, h.count, c.loop-feed.invariant.fine)) c.in_err-feed-in-Ok.ensures.fed)
 
 pub returns-in-Ok-eq0-clause-failed : goal.returns-in-Ok-eq0-clause-failed
 returns-in-Ok-eq0-clause-failed g c = read_failed _ c.finish.result _ (returns-in-Ok-eq0-clause-read g c)

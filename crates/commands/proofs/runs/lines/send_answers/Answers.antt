@@ -1,5 +1,5 @@
 use Rattle.std.proofs.Common.{arith}
-use Rattle.std.proofs.KnownBytes.{Appends-kept}
+use Rattle.sabr_model.proofs.ListLemmas.WrittenTexts.{Takes-kept}
 use Rattle.commands.proofs.RunLemmas.PageTexts.{flush_failed}
 use Rattle.commands.proofs.runs.lines.send_answers.Goals as goal
 
@@ -13,5 +13,5 @@ pub returns : goal.returns
 returns g c =
     let (xs, is, written) = rw c.new.ensures at (c.in_ok-answered.ensures {u = tt}) in
     let flushed = c.in-Ok.ensures {u = tt} in
-    let all = Appends-kept (g.O.Write.output c.args.out.now).contents (g.O.Write.output c.answer_all-answered.new.out).contents (g.O.Write.output c.flush.new.self).contents _ written.0 flushed.bytes in
+    let all = Takes-kept (g.O.Write.output c.args.out.now) (g.O.Write.output c.answer_all-answered.new.out) (g.O.Write.output c.flush.new.self) _ written.0 flushed.bytes in
     (xs, is, ((all, omega (arith, flushed.count, written.1)), flushed.mark))

@@ -1,7 +1,7 @@
 use Rattle.std.proofs.Common.{◌≡◌, ◌≤◌, List, [], ℕ, length, take, append-nil, subst, inl, arith, ◌++◌}
 use Rattle.std.proofs.lemmas.Grind.{common_steps}
-use Rattle.std.specs.Io.KnownBytes.{Consumes}
-use Rattle.sabr_plan.proofs.Consumed.{Consumes-append}
+use Rattle.sabr_model.specs.Devices.{Gives}
+use Rattle.sabr_model.proofs.ListLemmas.ReadTexts.{Gives-append, end_told}
 use Rattle.commands.proofs.words.requests.read_text.Goals as goal
 
 whole : (n : ℕ) (text : List ℕ) → length text ≤ n → text ≡ take n text
@@ -11,10 +11,10 @@ pub returns-in-Ok-eq0 : goal.returns-in-Ok-eq0
 returns-in-Ok-eq0 g c =
     let h = c.in-Ok-eq0.ensures in
     let text = c.loop-buffer.text.items in
-    let read = subst (λ (bs : List ℕ). Consumes (g.R.Read.input c.args.reader.now).remaining (g.R.Read.input c.read.new.self).remaining bs) (append-nil text) (Consumes-append _ _ _ text [] c.loop-buffer.invariant.read (rw c.in-Ok-eq0.field-0-test at h.bytes.0)) in
-    (text, read, (whole c.args.most text (omega (arith, c.len.ensures, c.loop-buffer-test.true)), omega (arith, h.count, c.loop-buffer.invariant.fine), inl (h.bytes.1 c.in-Ok-eq0.field-0-test (omega (arith, c.read.auto.buf)))))
+    let read = subst (λ (bs : List ℕ). Gives (g.R.Read.input c.args.reader.now) bs (g.R.Read.input c.read.new.self)) (append-nil text) (Gives-append (g.R.Read.input c.args.reader.now) (g.R.Read.input c.loop-buffer.reader) (g.R.Read.input c.read.new.self) text [] c.loop-buffer.invariant.read (rw c.in-Ok-eq0.field-0-test at h.bytes)) in
+    (text, read, (whole c.args.most text (omega (arith, c.len.ensures, c.loop-buffer-test.true)), omega (arith, h.count, c.loop-buffer.invariant.fine), inl (end_told _ _ (g.R.Read.input c.read.new.self) h.end h.left c.in-Ok-eq0.field-0-test (omega (arith, c.read.auto.buf)))))
 
 pub returns-in_default : goal.returns-in_default
 returns-in_default g c =
     let h = c.in-Ok.ensures in
-    (c.loop-buffer.text.items ++ _, Consumes-append _ _ _ c.loop-buffer.text.items _ c.loop-buffer.invariant.read h.bytes.0, omega (arith, h.count, c.loop-buffer.invariant.fine))
+    (c.loop-buffer.text.items ++ _, Gives-append (g.R.Read.input c.args.reader.now) (g.R.Read.input c.loop-buffer.reader) (g.R.Read.input c.read.new.self) c.loop-buffer.text.items _ c.loop-buffer.invariant.read h.bytes, omega (arith, h.count, c.loop-buffer.invariant.fine))

@@ -1,10 +1,10 @@
 use Rattle.std.proofs.Common.{◌≡◌, ◌-◌, length}
-use Rattle.std.specs.Io.KnownBytes.{Consumes}
+use Rattle.sabr_model.specs.Devices.{Gives}
 use Rattle.commands.proofs.words.requests.read_text.Given as goal
 
 abbrev pub invariant-loop-buffer : goal.invariant-loop-buffer
 invariant-loop-buffer g l = record {
-  read : Consumes (g.R.Read.input l.initial.reader).remaining (g.R.Read.input l.reader).remaining l.text.items;
+  read : Gives (g.R.Read.input l.initial.reader) l.text.items (g.R.Read.input l.reader);
   fine : (g.R.Read.input l.reader).failures ≡ (g.R.Read.input l.initial.reader).failures;
 }
 

@@ -1,11 +1,11 @@
 use Rattle.std.proofs.Common.{length, ◌-◌, ◌≡◌, ◌≤◌, take}
-use Rattle.std.specs.Io.KnownBytes.{Appends}
+use Rattle.sabr_model.specs.Devices.{Takes}
 use Rattle.sabr_model.proofs.devices.text.write_text.Given as goal
 
 abbrev pub invariant-loop-at : goal.invariant-loop-at
 invariant-loop-at g l = record {
   in_range : l.at ≤ length l.text;
-  written : Appends (g.W.Write.output l.initial.writer).contents (g.W.Write.output l.writer).contents (take l.at l.text);
+  written : Takes (g.W.Write.output l.initial.writer) (take l.at l.text) (g.W.Write.output l.writer);
   fine : (g.W.Write.output l.writer).failures ≡ (g.W.Write.output l.initial.writer).failures;
 }
 
