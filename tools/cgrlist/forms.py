@@ -126,13 +126,13 @@ def csv_text(answers, form):
     If answers have requests, each line begins with its request, and an answer without a route has a line, too.
     """
     fields = form.fields(HOP_FIELDS if form.with_hops else FIELDS)
-    rows_of = (hop_rows_of if form.with_hops else route_rows_of)(form, fields)
+    text_of = (hops_text_of if form.with_hops else routes_text_of)(form, fields)
     for place, (request, listing) in enumerate(answers):
         cells = request_cells(request, form) if request else []
         if not place:
             yield csv_lines([[*(REQUEST_FIELDS if request else ()), *fields]])
         for block in listing.blocks():
-            yield csv_lines([*cells, *row] for row in rows_of(block))
+            yield text_of(block, cells)
         if cells and not listing.shown:
             yield csv_lines([[*cells, *([""] * len(fields))]])
 
@@ -142,20 +142,25 @@ def request_cells(request, form):
     return [form.names.of(request.source), form.names.of(request.destination), form.time_text(request.at)]
 
 
-def route_rows_of(form, fields):
-    """A function that gives the cells of routes."""
-    return lambda routes: ([texts[field] for field in fields] for texts in map(form.texts, routes))
+def routes_text_of(form, fields):
+    """A function that gives the lines of routes, each after some cells."""
+    return lambda routes, cells: csv_lines([*cells, *(it[field] for field in fields)] for it in map(form.texts, routes))
 
 
-def hop_rows_of(form, _):
-    """A function that gives the cells of each hop of routes. Those after the hop's place are the same in many of them."""
+def hops_text_of(form, _):
+    """The same of each hop of routes. Many of them share a hop, and what its line ends with is made once."""
 
     @kept
-    def cells(hop):
+    def rest(hop):
         room = [form.plan.room_of(hop)] if form.with_room else []
-        return [hop.contact, *map(form.names.of, hop.link), form.time_text(hop.send), form.time_text(hop.arrive), *room]
+        times = form.time_text(hop.send), form.time_text(hop.arrive)
+        return csv_lines([[hop.contact, *map(form.names.of, hop.link), *times, *room]])
 
-    return lambda routes: ([it.rank, place, *cells(hop)] for it in routes for place, hop in enumerate(it.hops, 1))
+    def text(routes, cells):
+        before = csv_lines([[*cells, ""]])[:-1] if cells else ""
+        return "".join(f"{before}{it.rank or ''},{at},{rest(hop)}" for it in routes for at, hop in enumerate(it.hops, 1))
+
+    return text
 
 
 # ---- JSON -------------------------------------------------------------------------------------------------------

@@ -98,6 +98,7 @@ class Plan:
             number: Contact(number, start, end, sender, receiver, rate, self._ranges.light(sender, receiver, start))
             for (start, sender, receiver), (number, end, rate) in self._standing.items()
         }
+        del self._standing, self._ranges
 
     @classmethod
     def from_file(cls, path, names=None):

@@ -48,12 +48,12 @@ def _built(script):
     return BUILT
 
 
-def _ran(words):
-    """Runs the program: its status, and what it prints on standard output and standard error."""
+def _ran(words, files=()):
+    """Runs the program, which may read some open files: its status, and what it prints on standard output and error."""
     how = {"stdout": subprocess.PIPE, "stderr": subprocess.PIPE, "text": True, "errors": "replace"}
     with _PROCESSES:
         try:
-            process = subprocess.Popen(words, env=_WITHOUT_TRIAL, **how)
+            process = subprocess.Popen(words, env=_WITHOUT_TRIAL, pass_fds=files, **how)
         except OSError as error:
             raise Refused(f"cannot start {words[0]}: {error.strerror}", START_STATUS) from error
         Tool.children.add(process)
@@ -140,11 +140,10 @@ class Program:
 
     def _over_lines(self, command, option, lines, *words, but=None):
         """The parts of what a command answers to a file of lines, a part for each; None if its status is that one."""
-        file = scratch()
-        with open(file, "w", encoding="utf-8") as written:
-            written.writelines(f"{line}\n" for line in lines)
-        told = self.run(command, option, file, *words, but=but)
-        os.unlink(file)
+        with open(os.memfd_create("cgrlist"), "w", encoding="utf-8") as file:  # in memory, whatever ends the run
+            file.writelines(f"{line}\n" for line in lines)
+            file.flush()
+            told = self.run(command, option, f"/dev/fd/{file.fileno()}", *words, but=but, files=[file.fileno()])
         if told is None:
             return None
         parts = parts_of(told, {"many": "request ", "follow": "list "}[command])
@@ -152,9 +151,9 @@ class Program:
             raise Refused(f"cgrlist {command} answers {len(parts)} of {len(lines)} lines")
         return parts
 
-    def run(self, command, *words, but=None):
+    def run(self, command, *words, but=None, files=()):
         """What a command prints on standard output; None if its status is `but`."""
-        status, said, told = _ran([self.path, command, "--plan", self.plan_file, *words])
+        status, said, told = _ran([self.path, command, "--plan", self.plan_file, *words], files)
         if status and status == but:
             return None
         if status < 0:

@@ -33,7 +33,7 @@ def scratch():
     """The path of a new file, in a folder that goes when the process ends."""
     with Tool.lock:
         Tool.folder = Tool.folder or tempfile.TemporaryDirectory(prefix="cgrlist-")
-    return os.path.join(Tool.folder.name, str(next(Tool.counted)))
+    return os.path.join(Tool.folder.name, f"{os.getpid()}-{next(Tool.counted)}")  # a worker may have its parent's folder
 
 
 def lines_of(path):

@@ -11,6 +11,7 @@ A tool reads its words and what they ask for as follows; a bad word is refused i
 import argparse
 import functools
 import re
+from concurrent.futures import ThreadPoolExecutor
 from pathlib import Path
 
 from . import hints
@@ -150,6 +151,7 @@ class Asked:
         if Path(self.words.plan).is_fifo():
             raise Refused("the plan is a pipe: the program has to read it again, so give it as a file")
         hints.check_file(self.words.plan)
+        self._reading  # begins now, beside the program's first run
         program = Program(program_path(self.words.program), self.words.plan)
         if not self.words.without:
             return program
@@ -166,9 +168,13 @@ class Asked:
         """The contacts that are lost."""
         return [self._whole_plan.contact(number) for number in self.words.without or ()]
 
-    @functools.cached_property
+    @property
     def _whole_plan(self):
-        return Plan.from_file(self.words.plan, self.names)
+        return self._reading.result()
+
+    @functools.cached_property
+    def _reading(self):
+        return ThreadPoolExecutor(1).submit(Plan.from_file, self.words.plan, self.names)
 
     @property
     def plan_after_check(self):
