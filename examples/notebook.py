@@ -35,8 +35,8 @@ print("The best route by when the bundle is at the lander:")
 for it in cgrlist.timetable(plan, asked, "2030-01-01T06:00:00Z"):
     print(time_text(it.first), "to", time_text(it.last), "contacts", *it.route.contacts)
 
-print("A request for each hour, on two processors:")
-hours = [cgrlist.request(plan, "lander", "control", asked.at + 3600 * hour) for hour in range(24)]
+print("A request for each minute of a day, on two processors:")
+minutes = [cgrlist.request(plan, "lander", "control", asked.at + 60 * minute) for minute in range(1440)]
 with ProcessPoolExecutor(2) as workers:
-    answers = list(cgrlist.many(plan, hours, 1, workers))
+    answers = list(cgrlist.many(plan, minutes, 1, workers))
 print(sum(1 for it in answers if it.routes), "of", len(answers), "have a route")

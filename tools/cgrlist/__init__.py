@@ -95,7 +95,9 @@ def losses(plan, asked, routes):
 
 
 def timetable(plan, asked, last):
-    """The stretches of time, from a request's second to a last one, with the best route of each, as an iterator."""
+    """The stretches of time, from a request's second to a last one, with the best route of each, as an iterator. Each takes
+    two runs of the program for each halving of the span, some 40 for a day.
+    """
     return stretches(program_over(plan), asked, second_of(last))
 
 

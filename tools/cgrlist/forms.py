@@ -5,8 +5,8 @@ import itertools
 import json
 from dataclasses import dataclass
 
-from .tables import Columns, csv_line
-from .times import iso_text
+from .tables import Columns, csv_lines
+from .times import iso_text, kept
 
 TIMES = ("delivery", "until", "send_by")  # the fields that are times
 EXACT = 2**53 - 1  # up to here, numbers of JSON are read exactly everywhere
@@ -126,15 +126,15 @@ def csv_text(answers, form):
     If answers have requests, each line begins with its request, and an answer without a route has a line, too.
     """
     fields = form.fields(HOP_FIELDS if form.with_hops else FIELDS)
+    text_of = (hops_text_of if form.with_hops else routes_text_of)(form, fields)
     for place, (request, listing) in enumerate(answers):
         cells = request_cells(request, form) if request else []
         if not place:
-            yield csv_line([*(REQUEST_FIELDS if request else ()), *fields])
+            yield csv_lines([[*(REQUEST_FIELDS if request else ()), *fields]])
         for block in listing.blocks():
-            rows = hop_rows(block, form) if form.with_hops else map(form.texts, block)
-            yield "".join(csv_line([*cells, *(row[field] for field in fields)]) for row in rows)
+            yield text_of(block, cells)
         if cells and not listing.shown:
-            yield csv_line([*cells, *([""] * len(fields))])
+            yield csv_lines([[*cells, *([""] * len(fields))]])
 
 
 def request_cells(request, form):
@@ -142,14 +142,25 @@ def request_cells(request, form):
     return [form.names.of(request.source), form.names.of(request.destination), form.time_text(request.at)]
 
 
-def hop_rows(routes, form):
-    """What is told of each hop of routes, under the names of its fields."""
-    for route in routes:
-        for place, hop in enumerate(route.hops, 1):
-            sender, receiver = map(form.names.of, hop.link)
-            times = {"send": form.time_text(hop.send), "arrive": form.time_text(hop.arrive)}
-            room = form.plan.room_of(hop) if form.with_room else None
-            yield {"rank": route.rank, "hop": place, "contact": hop.contact, "from": sender, "to": receiver, **times, "room": room}
+def routes_text_of(form, fields):
+    """A function that gives the lines of routes, each after some cells."""
+    return lambda routes, cells: csv_lines([*cells, *(it[field] for field in fields)] for it in map(form.texts, routes))
+
+
+def hops_text_of(form, _):
+    """The same of each hop of routes. Many of them share a hop, and what its line ends with is made once."""
+
+    @kept
+    def rest(hop):
+        room = [form.plan.room_of(hop)] if form.with_room else []
+        times = form.time_text(hop.send), form.time_text(hop.arrive)
+        return csv_lines([[hop.contact, *map(form.names.of, hop.link), *times, *room]])
+
+    def text(routes, cells):
+        before = csv_lines([[*cells, ""]])[:-1] if cells else ""
+        return "".join(f"{before}{it.rank or ''},{at},{rest(hop)}" for it in routes for at, hop in enumerate(it.hops, 1))
+
+    return text
 
 
 # ---- JSON -------------------------------------------------------------------------------------------------------

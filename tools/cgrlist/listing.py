@@ -123,7 +123,7 @@ def asked_again(program, plan, request, distinct):
             yield Answer((), True, request)
             return
         route = plan.with_nodes(page.routes[0])
-        yield Answer((replace(route, rank=None),), False, request)
+        yield Answer((route.having(rank=None),), False, request)
         if not taken.isdisjoint(DISTINCT[distinct](route)):
             raise Refused("the program lists a route over what was taken out of the plan")
         taken.update(DISTINCT[distinct](route))

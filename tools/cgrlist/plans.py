@@ -3,7 +3,7 @@
 import bisect
 import copy
 from collections import defaultdict
-from dataclasses import dataclass, replace
+from typing import NamedTuple
 
 from .errors import PLAN_STATUS, Refused
 from .names import Names
@@ -11,8 +11,7 @@ from .times import seconds_of, time_text
 from .tool import lines_of, scratch
 
 
-@dataclass(frozen=True)
-class Contact:
+class Contact(NamedTuple):
     """A contact that stands, with the light time in force when it starts; None if there is none."""
 
     number: int
@@ -95,7 +94,11 @@ class Plan:
                 message = f"plan line {place} can't be read: does cgrlist check accept this plan?"
                 raise Refused(message, PLAN_STATUS) from error
         self._ranges.sort()
-        self._numbered = {it.number: it for it in map(self._with_light, self._standing.values())}
+        self._numbered = {
+            number: Contact(number, start, end, sender, receiver, rate, self._ranges.light(sender, receiver, start))
+            for (start, sender, receiver), (number, end, rate) in self._standing.items()
+        }
+        del self._standing, self._ranges
 
     @classmethod
     def from_file(cls, path, names=None):
@@ -132,11 +135,11 @@ class Plan:
 
     def with_nodes(self, route):
         """A route with its nodes; refused if it can't be one of this plan."""
-        nodes = self.nodes_of(route.contacts)
-        links = [self.contact(number).link for number in route.contacts]
-        if links != list(zip(nodes, nodes[1:])) or route.entry != nodes[1]:
+        path = [self.contact(number) for number in route.contacts]
+        senders, receivers = [it.sender for it in path], [it.receiver for it in path]
+        if senders[1:] != receivers[:-1] or route.entry != receivers[0]:
             raise Refused(f"route {route.rank} isn't one of this plan: its contacts don't go from node to node")
-        return replace(route, nodes=nodes)
+        return route.having(nodes=(senders[0], *receivers))
 
     def room_of(self, hop):
         """The bytes that a hop's contact can send from the hop's sending on."""
@@ -161,9 +164,6 @@ class Plan:
 
         return showing.plan_svg(self)
 
-    def _with_light(self, it):
-        return replace(it, light=self._ranges.light(it.sender, it.receiver, it.start))
-
     def _time(self, word):
         return self._reference + int(word) if word.startswith("+") else seconds_of(word)
 
@@ -172,19 +172,13 @@ class Plan:
             return
         if words[0] == "@":
             self._reference = seconds_of(words[1])
-            return
-        take = {
-            ("a", "contact"): self._add_contact,
-            ("a", "range"): self._add_range,
-            ("d", "contact"): self._delete_contact,
-            ("d", "range"): self._delete_range,
-        }[words[0], words[1]]
-        take(self._time(words[2]), words[3:])
+        else:
+            _TAKES[words[0], words[1]](self, self._time(words[2]), words[3:])
 
     def _add_contact(self, start, words):
         self._given += 1
         end, (sender, receiver, rate) = self._time(words[0]), map(int, words[1:])
-        self._standing[start, sender, receiver] = Contact(self._given, start, end, sender, receiver, rate)
+        self._standing[start, sender, receiver] = self._given, end, rate
 
     def _add_range(self, start, words):
         one, other, light = map(int, words[1:])
@@ -195,6 +189,14 @@ class Plan:
 
     def _delete_range(self, start, words):
         self._ranges.delete((int(words[0]), int(words[1])), start)
+
+
+_TAKES = {  # what takes a line, by its first words
+    ("a", "contact"): Plan._add_contact,
+    ("a", "range"): Plan._add_range,
+    ("d", "contact"): Plan._delete_contact,
+    ("d", "range"): Plan._delete_range,
+}
 
 
 def with_lines(file, lines):

@@ -13,13 +13,13 @@ from . import hints
 from .errors import PLAN_STATUS, REQUESTS_STATUS, START_STATUS, Refused
 from .plans import with_lines
 from .routes import Fault, followed, parts_of, whole_report_of
-from .tool import Tool, processors, scratch, threads
+from .tool import Tool, in_order, processors, scratch
 
 CLONE = os.path.dirname(os.path.dirname(os.path.dirname(os.path.realpath(__file__))))  # if the package stands in one
 SCRIPT = os.path.join(CLONE, "cgrlist")
 BUILT = os.path.join(CLONE, "crates/cgrlist/out/cgrlist")  # what the script runs if it is current
 MOST = 10000  # routes that the program gives at a time
-LISTS = 2000  # of contacts that a run follows, so that several processors share many
+LISTS = 2500  # of contacts that a run follows, so that several processors share many
 
 _PROCESSES = threading.BoundedSemaphore(processors())  # no more of them run at a time
 _WITHOUT_TRIAL = {**os.environ, "CGRLIST_TRIAL": "no"}  # the clone's script then runs the proved program or none
@@ -48,12 +48,12 @@ def _built(script):
     return BUILT
 
 
-def _ran(words):
-    """Runs the program: its status, and what it prints on standard output and standard error."""
+def _ran(words, files=()):
+    """Runs the program, which may read some open files: its status, and what it prints on standard output and error."""
     how = {"stdout": subprocess.PIPE, "stderr": subprocess.PIPE, "text": True, "errors": "replace"}
     with _PROCESSES:
         try:
-            process = subprocess.Popen(words, env=_WITHOUT_TRIAL, **how)
+            process = subprocess.Popen(words, env=_WITHOUT_TRIAL, pass_fds=files, **how)
         except OSError as error:
             raise Refused(f"cannot start {words[0]}: {error.strerror}", START_STATUS) from error
         Tool.children.add(process)
@@ -97,9 +97,8 @@ class Program:
     def follow(self, lists):
         """What lists of contacts do, each with its request: for each a route with its hops, or a `Fault`."""
         lists = list(lists)
-        parts = [lists[start : start + LISTS] for start in range(0, len(lists), LISTS)]
-        with threads() as pool:
-            return [told for part in pool.map(self._followed, parts) for told in part]
+        parts = (lists[start : start + LISTS] for start in range(0, len(lists), LISTS))
+        return [told for part in in_order(self._followed, parts) for told in part]
 
     def with_hops(self, answers):
         """Answers with the hops of their routes; refused if a request makes another one of a route's contacts."""
@@ -111,7 +110,7 @@ class Program:
         lists = [(route.contacts, it.request) for it in answers for route in it.routes]
         untils = [route.until for it in answers for route in it.routes]
         seconds = iter(self.latest(lists, untils, lambda place, at, told: not isinstance(told, Fault)))
-        return [replace(it, routes=tuple(replace(route, send_by=next(seconds)) for route in it.routes)) for it in answers]
+        return [replace(it, routes=tuple(route.having(send_by=next(seconds)) for route in it.routes)) for it in answers]
 
     def latest(self, lists, lasts, holds):
         """For each of some lists of contacts with its request: the last second, of those from the request's on and up to
@@ -137,15 +136,14 @@ class Program:
 
     def _followed(self, lists):
         lines = [f"{','.join(map(str, contacts))} {request.line()}" for contacts, request in lists]
-        return map(followed, self._over_lines("follow", "--lists", lines))
+        return [*map(followed, self._over_lines("follow", "--lists", lines))]
 
     def _over_lines(self, command, option, lines, *words, but=None):
         """The parts of what a command answers to a file of lines, a part for each; None if its status is that one."""
-        file = scratch()
-        with open(file, "w", encoding="utf-8") as written:
-            written.writelines(f"{line}\n" for line in lines)
-        told = self.run(command, option, file, *words, but=but)
-        os.unlink(file)
+        with open(os.memfd_create("cgrlist"), "w", encoding="utf-8") as file:  # in memory, whatever ends the run
+            file.writelines(f"{line}\n" for line in lines)
+            file.flush()
+            told = self.run(command, option, f"/dev/fd/{file.fileno()}", *words, but=but, files=[file.fileno()])
         if told is None:
             return None
         parts = parts_of(told, {"many": "request ", "follow": "list "}[command])
@@ -153,9 +151,9 @@ class Program:
             raise Refused(f"cgrlist {command} answers {len(parts)} of {len(lines)} lines")
         return parts
 
-    def run(self, command, *words, but=None):
+    def run(self, command, *words, but=None, files=()):
         """What a command prints on standard output; None if its status is `but`."""
-        status, said, told = _ran([self.path, command, "--plan", self.plan_file, *words])
+        status, said, told = _ran([self.path, command, "--plan", self.plan_file, *words], files)
         if status and status == but:
             return None
         if status < 0:
@@ -194,7 +192,7 @@ class Pages:
 
 def _as_listed(route, told):
     """A listed route with the hops that were told of its contacts."""
-    found = told.text if isinstance(told, Fault) else told.text()
-    if found != route.text():
+    if isinstance(told, Fault) or told.told != route.told:
+        found = told.text if isinstance(told, Fault) else told.text()
         raise Refused(f"route {route.rank} isn't one of this request: cgrlist explain says {found}")
-    return replace(route, hops=told.hops)
+    return route.having(hops=told.hops)

@@ -21,10 +21,10 @@ class Columns:
         return ["  ".join(side(word, width) for (side, width), word in zip(pad, row)).rstrip() for row in rows]
 
 
-def csv_line(cells):
-    """Cells as a line of comma-separated values."""
+def csv_lines(rows):
+    """Rows of cells as lines of comma-separated values."""
     text = io.StringIO()
-    csv.writer(text, lineterminator="\n").writerow(cells)
+    csv.writer(text, lineterminator="\n").writerows(rows)
     return text.getvalue()
 
 
@@ -52,7 +52,7 @@ class Table:
 
     def csv(self):
         """Comma-separated values below the names of the fields."""
-        return "".join(map(csv_line, [self.sides, *self.rows]))
+        return csv_lines([self.sides, *self.rows])
 
     def json(self):
         """An object on a line for each row."""

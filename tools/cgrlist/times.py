@@ -19,16 +19,21 @@ _NOW = re.compile(r"now(?:([+-]\d{1,12})([smhd]))?", re.ASCII)
 _UNITS = {"s": 1, "m": 60, "h": 3600, "d": DAY, None: 1}
 _ORIGIN = date(1970, 1, 1).toordinal()
 
+# Routes share most of their times, so what was read or spelled before is kept, up to so many of it.
+KEPT = 16384
+kept = functools.lru_cache(maxsize=KEPT)
+
 
 # ---- Reading ----------------------------------------------------------------------------------------------------
 
 
-@functools.lru_cache(maxsize=4096)
+@kept
 def _day(text):
     """The second at which a day begins."""
     return (date(*map(int, text.split("/"))).toordinal() - _ORIGIN) * DAY
 
 
+@kept
 def seconds_of(text):
     """Reads `yyyy/mm/dd-hh:mm:ss`, as the program writes times; ValueError if it is spelled otherwise."""
     found = _TIME.fullmatch(text)
@@ -81,17 +86,20 @@ def date_of(second):
     return EPOCH + timedelta(seconds=second)
 
 
+@kept
 def time_text(second):
     """Spells a second as `yyyy/mm/dd-hh:mm:ss`."""
     it = date_of(second)
     return f"{it.year:04}/{it.month:02}/{it.day:02}-{it.hour:02}:{it.minute:02}:{it.second:02}"
 
 
+@kept
 def iso_text(second):
     """Spells a second as `yyyy-mm-ddThh:mm:ssZ`."""
     return date_of(second).strftime("%Y-%m-%dT%H:%M:%SZ")
 
 
+@kept
 def sheet_text(second):
     """Spells a second as spreadsheets do, `yyyy-mm-dd hh:mm:ss`."""
     return f"{date_of(second):%Y-%m-%d %H:%M:%S}"

@@ -55,7 +55,7 @@ def stretches(program, request, last):
         else:
             yield Stretch(at, flat, route)
             if flat + 1 < beaten:
-                yield Stretch(flat + 1, beaten - 1, replace(route, delivery=route.delivery + 1), rises=True)
+                yield Stretch(flat + 1, beaten - 1, route.having(delivery=route.delivery + 1), rises=True)
         at = beaten
 
 

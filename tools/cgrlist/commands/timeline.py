@@ -167,7 +167,7 @@ def routes_of(asked):
 
 def ranked(routes):
     """Routes with ranks: those in the list of all, or if these aren't known, their places here."""
-    return [replace(route, rank=route.rank or place) for place, route in enumerate(routes, 1)]
+    return [route.having(rank=route.rank or place) for place, route in enumerate(routes, 1)]
 
 
 def given_report(path, request):

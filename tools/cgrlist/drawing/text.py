@@ -1,5 +1,6 @@
 """What tools/timeline prints as text: the picture with characters, and the list of contacts."""
 
+from ..tables import Table
 from .axis import Axis
 from .scene import columns_of
 
@@ -92,18 +93,9 @@ def route_label(route):
 
 def list_text(scene, with_names):
     """Each contact that the rows show, by its number: nodes, start, end, light time, and names if they are wanted."""
-    contacts = [it for row in scene.rows for windows in row.strips for it in windows]
-    contacts.sort(key=lambda it: it.number)
-    rows = [["contact", "from", "to", "start", "end", "light"], *(list_row(it, scene.time_text) for it in contacts)]
-    widths = [max(map(len, column)) for column in zip(*rows)]
-    lines = ["  ".join(word.rjust(width) for word, width in zip(row, widths)) for row in rows]
-    if with_names:
-        links = ["nodes", *(scene.label(it.link, ">") for it in contacts)]
-        lines = [f"{line}  {link}" for line, link in zip(lines, links)]
-    return "\n".join([*lines, ""])
-
-
-def list_row(it, time_text):
-    """The words of a contact's line."""
-    light = "-" if it.light is None else str(it.light)
-    return [str(it.number), str(it.sender), str(it.receiver), time_text(it.start), time_text(it.end), light]
+    sides = dict.fromkeys(("contact", "from", "to", "start", "end", "light"), str.rjust)
+    rows = []
+    for it in sorted((it for row in scene.rows for windows in row.strips for it in windows), key=lambda it: it.number):
+        times, light = map(scene.time_text, (it.start, it.end)), "-" if it.light is None else it.light
+        rows.append([it.number, *it.link, *times, light, *([scene.label(it.link, ">")] if with_names else [])])
+    return Table({**sides, **({"nodes": str.ljust} if with_names else {})}, rows).text()

@@ -140,7 +140,7 @@ function letGo(event) {
 function click(event) {
   const isTouch = event.pointerType === "touch", what = whatIsAt(event.offsetX, event.offsetY);
   const isTold = !isTouch || (what && what.contact === chosen.contact);
-  showTip(what, event.clientX, event.clientY, isTouch);
+  showTip(what, event.clientX, event.clientY, isTouch ? "Tap again" : "Click");
   chosen.contact = what?.contact ?? null;
   if (!what) {
     if (chosen.route !== null) single(chosen.route);
@@ -196,9 +196,9 @@ map.onpointerup = map.onpointercancel = () => {
 const ZOOM = 1.4;
 const scrollBy = (pixels) => (scroller.scrollTop += pixels);
 const KEYS = {
-  "+": () => zoom(1 / ZOOM),
-  "=": () => zoom(1 / ZOOM),
-  "-": () => zoom(ZOOM),
+  "+": () => zoomAtCursor(1 / ZOOM),
+  "=": () => zoomAtCursor(1 / ZOOM),
+  "-": () => zoomAtCursor(ZOOM),
   0: showRoutes,
   9: showPlan,
   Home: showRoutes,
@@ -216,6 +216,7 @@ const KEYS = {
 chart.onkeydown = (event) => {
   if (event.ctrlKey || event.metaKey || event.altKey || !KEYS[event.key]) return;
   event.preventDefault();
+  hideTip();
   KEYS[event.key](event);
 };
 
@@ -236,6 +237,13 @@ function startOver() {
   Object.assign(chosen, { route: null, lost: null, contact: null });
   shows.node = null;
   change();
+}
+
+// The cursor's contact stays where it is, if it is in view, and its tip with it.
+function zoomAtCursor(factor) {
+  const start = known.start[chosen.contact], isInView = view.first <= start && start <= view.last;
+  zoom(factor, isInView ? start : undefined);
+  if (isInView) tipAtCursor(chosen.contact);
 }
 
 function loseAtCursor() {
@@ -286,5 +294,5 @@ function tipAtCursor(contact) {
   const place = placeOf(contact), canvas = chart.getBoundingClientRect();
   if (chosen.contact !== contact || !place || document.activeElement !== chart) return;
   const x = Math.min(Math.max(place.left, size.left), size.width - 40);
-  showTip({ contact }, canvas.left + x, canvas.top + AXIS + place.top - scroller.scrollTop + BAR);
+  showTip({ contact }, canvas.left + x, canvas.top + AXIS + place.top - scroller.scrollTop + BAR, "Enter");
 }

@@ -46,7 +46,7 @@ function prepareButtons() {
   const passed = new Set(routes.flatMap((route) => route.hops.map((hop) => linkOf[hop.contact]))).size;
   byId("some").textContent = `Route links (${passed})`;
   byId("all").textContent = `All links (${links.length})`;
-  byId("some").disabled = !passed;
+  byId("some").disabled = byId("fit").disabled = !passed;
   const isSome = known.linksAtFirst === "some" || (known.linksAtFirst === null && links.length > MANY);
   shows.links = passed && isSome ? "some" : "all";
   const does = {

@@ -49,12 +49,12 @@ function headOfContact(contact) {
   return `Contact ${known.number[contact]}${missing.has(contact) || contact === chosen.lost ? ", lost" : ""}`;
 }
 
-function contactTip(contact, isTouch) {
+function contactTip(contact, act) {
   const pairs = aboutContact(contact).flatMap((pair) => [element("dt", {}, pair[0]), element("dd", {}, pair[1])]);
   const parts = [element("h3", {}, headOfContact(contact)), element("dl", {}, ...pairs)];
   if (canBeLost(contact)) {
     const told = contact === chosen.lost ? "it isn't lost" : "what if it is lost?";
-    parts.push(element("div", { class: "do" }, `${isTouch ? "Tap again" : "Click"}: ${told}`));
+    parts.push(element("div", { class: "do" }, `${act}: ${told}`));
   }
   return parts;
 }
@@ -94,11 +94,11 @@ function lostButton(route, contact) {
 
 // ---- The tip at the mouse, or at the contact that has the cursor ----
 
-function showTip(what, x, y, isTouch = false) {
+function showTip(what, x, y, act = "Click") {
   const tip = byId("tip");
   tip.hidden = !what;
   if (!what) return;
-  tip.replaceChildren(...(what.contact !== undefined ? contactTip(what.contact, isTouch) : routeTip(what)));
+  tip.replaceChildren(...(what.contact !== undefined ? contactTip(what.contact, act) : routeTip(what)));
   const { width, height } = tip.getBoundingClientRect();
   const isBelow = y + 18 + height < innerHeight;
   tip.style.left = `${Math.max(6, Math.min(x + 14, innerWidth - width - 6))}px`;
@@ -122,7 +122,7 @@ function headOfList() {
   if (isLosing()) return bestThen() ? "The best route then, and those before" : "The routes before";
   if (!routes.length) return request ? "No route" : "No request: the plan alone";
   const told = count(routes.length, "route");
-  return routes.length > HUES ? `${told}; the first ${HUES} and one singled out are drawn` : told;
+  return routes.length > HUES ? `${told}; the first ${HUES} are drawn, and one that is singled out` : told;
 }
 
 function card(route) {
@@ -142,13 +142,14 @@ function isOpenCard(route) {
 
 function cardButton(route, isOpen) {
   const about = { class: "route", "data-key": `route ${route.place}`, "aria-expanded": isOpen };
-  const click = isShownRoute(route) ? { onclick: () => single(route.place) } : {};
+  const onfocus = ({ target }) => target.matches(":focus-visible") && glance(route.place);
+  const acts = { onclick: () => single(route.place), onfocus, onblur: () => glance(null) };
   const start = request ? request.at : route.hops[0].send;
   const took = `${count(route.hops.length, "hop")} in ${durationText(route.delivery - start)}`;
   const until = `until ${timeBeside(route.until, route.delivery)}`;
   return element(
     "button",
-    { ...about, ...click },
+    { ...about, ...(isShownRoute(route) ? acts : {}) },
     element("span", { class: "rank", "aria-label": titleOf(route) }, route.label),
     element("span", { class: "delivery" }, timeText(route.delivery)),
     element("span", { class: "late" }, lateText(route)),
