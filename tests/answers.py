@@ -324,8 +324,8 @@ rank,hop,contact,from,to,send,arrive,room
         ("great nodes are texts", re.sub("(?m) 2 ", f" {great} ", plan), (great, ["1", great, "3"], 100000)),
         ("great rooms are texts", re.sub("(?m)1 2 1000$", "1 2 90071992547410", plan), (2, [1, 2, 3], "190000")),
     ):
-        yield title, wanted, lambda: (lambda it: (it["entry"], it["nodes"], it["room"]))(
-            as_json(room.file("great.txt", changed), "--at 2030-01-01 --count 1"))
+        route = as_json(room.file("great.txt", changed), "--at 2030-01-01 --count 1")
+        yield title, wanted, lambda: (route["entry"], route["nodes"], route["room"])
 
 
 def many_routes(room):
@@ -348,20 +348,19 @@ def many_routes(room):
     # Each distinct route is asked for by itself, over the plan without what the ones before it have, so it has no rank.
     one = f"{HEAD}\n   -  {DAY}-00:00:02     2  {DAY}-00:16:40  1 2       1 > 2 > 3\nend"
     yield "one with these nodes", one, from_twelve, "--distinct nodes --count 2"
-    yield ("one with this entry", ["-", "end"],
-           lambda: (lambda rows: [rows[1].split()[0], rows[-1]])(from_twelve("--distinct entry --count 1").splitlines()))
+    yield "one with this entry", "   - \nend", lambda: parts_of("^   - |^end", from_twelve("--distinct entry --count 1"))
 
     def in_common():
         told = json.loads(room.ask("report", request, "--distinct contacts --count 13 --json").out)
         return len(told["routes"]), Counter(it for route in told["routes"] for it in route["contacts"]).most_common(1)[0][1], told["looked_at"]
 
     yield "twelve with no contact in common", (12, 1, 12), in_common
-    yield ("more may be there", (11, "more"),
-           lambda: (lambda text: (len(lines_with("^ ", text).splitlines()), last_of(text)))(from_twelve("--distinct contacts --count 11")))
+    eleven = from_twelve("--distinct contacts --count 11")
+    yield "more may be there", (11, "more"), lambda: (eleven.count("\n  "), last_of(eleven))
     yield ("enough are looked at", "report: 1 routes are shown of 50 looked at; --look N looks at more",
            lambda: last_of(from_twelve("--distinct entry --via 2 --count 2 --look 50")))
-    yield ("through a node, and distinct", (1, "4", True), lambda: (lambda text: (*routes_in(text)[:2], "\nmore" in text))(
-        room.from_lander(f"--at {DAY}-00:45:00 --via 11 --distinct nodes --count 1")))
+    through = room.from_lander(f"--at {DAY}-00:45:00 --via 11 --distinct nodes --count 1")
+    yield "through a node, and distinct", (1, "4", True), lambda: (*routes_in(through)[:2], "\nmore" in through)
 
     # A terminal is told how far a slow run is. A run that is ended leaves no file.
     slow = room.stub("slow", f"""#!/bin/sh
@@ -539,8 +538,8 @@ lander,1,2030-01-01 23:00:00,,,,,,,,
     yield ("a line with limits", f"   1  {DAY}-15:17:21     3  {DAY}-03:19:00  5 13 1    31 > 21 > 11 > 1",
            lambda: lines_with(" 31 > ", room.of_requests(f"31 1 {DAY}-00:45:00 0 3 12\n")))
     seconds = "".join(f"31 1 {DAY}-00:{minute}:{second}\n" for minute in range(10, 60) for second in range(10, 60))
-    yield ("many requests are shared among processors", (2500, 2500),
-           lambda: (lambda text: (text.count("request "), text.count(" 4 11 2 ")))(room.of_requests(seconds)))
+    shared = room.of_requests(seconds)
+    yield "many requests are shared among processors", (2500, 2500), lambda: (shared.count("request "), shared.count(" 4 11 2 "))
     yield ("no requests", "report: there is no request in /dev/null\nstatus 2",
            room.told, "report --plan examples/relay.txt --requests /dev/null --count 1")
     yield ("requests and a request", "report: --requests takes the place of --from, --to, --at and --report; see --help\nstatus 2",

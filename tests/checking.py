@@ -10,6 +10,7 @@ import tempfile
 import unittest
 from dataclasses import dataclass, field
 from functools import partial
+from typing import NamedTuple
 
 from trial import TOP, Broken, compiled
 
@@ -113,8 +114,7 @@ class Tally(unittest.TestResult):
 # ---- Checks of commands -----------------------------------------------------------------------------------------
 
 
-@dataclass(frozen=True)
-class Ran:
+class Ran(NamedTuple):
     """How a command ended."""
 
     status: int

@@ -285,9 +285,10 @@ for ((rank = 1; rank <= 1053; rank++)); do
 done
 echo more
 """)
+    ran = asked("--count 1053", by=lists)
     yield "too many routes", (2, "first\n", "timeline: there are 1053 routes, and a picture of 20000 px has room for 1052: a smaller \
 --count, --via and --distinct choose fewer; --all draws them"), lambda: (
-        lambda ran: (ran.status, room.read("listed"), lines_with("^(?!.*hint)", ran.err)))(asked("--count 1053", by=lists))
+        ran.status, room.read("listed"), lines_with("^(?!.*hint)", ran.err))
 
 
 def lost_contacts(room):
@@ -368,8 +369,8 @@ routes; --all draws it so", many),
         (1, "the plan is a pipe: the program has to read it again, so give it as a file",
          "--plan /dev/stdin", request, "--count 1 --program", [program]),
     ):
-        ran = (lambda: room.run("tools/timeline", *words, given=PLAN))
-        yield f"refused: {message}, {len(words)}", (status, "", f"timeline: {message}\n"), lambda: (lambda it: (it.status, it.out, it.err))(ran())
+        wanted = (status, "", f"timeline: {message}\n")
+        yield f"refused: {message}, {len(words)}", wanted, lambda: room.run("tools/timeline", *words, given=PLAN)
     yield "refused: what the program refuses", """\
 cgrlist: plan line 3: NoReference
 timeline: hint: plan line 3 is: a range +0 +100 2 1 9
