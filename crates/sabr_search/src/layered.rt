@@ -117,7 +117,7 @@ impl<A: Allocator + Copy> Layered<A> {
         prefix: &[u32],
         excluded: Excluded<'_>,
     ) -> Result<Option<Route<A>>, NoMemory>
-        requires fits { IsTrue (is_prefix index.now.plan request.now part.prefix.now) }
+        requires fits { IsTrue (is_prefix index.now.plan request.now prefix.now) }
         requires few { looks_taken self.old.looks ≤ length index.now.plan.contacts }
         ensures least { IfOk result (IsLeast index.now.plan request.now prefix.now excluded.entry.numbers.now) }
         ensures bound { looks_taken self.new.looks ≤ (3 * node_count index.now.plan.contacts + 1) * length index.now.plan.contacts }

@@ -173,7 +173,7 @@ impl<A: Allocator + Copy> Settled<A> {
         prefix: &[u32],
         excluded: Excluded<'_>,
     ) -> Result<Option<Route<A>>, NoMemory>
-        requires fits { IsTrue (is_prefix index.now.plan request.now part.prefix.now) }
+        requires fits { IsTrue (is_prefix index.now.plan request.now prefix.now) }
         requires few { looks_taken self.old.looks ≤ length index.now.plan.contacts }
         requires kept { IsKept index.now request.now kept.old }
         ensures least { IfOk result (IsLeast index.now.plan request.now prefix.now excluded.entry.numbers.now) }

@@ -42,7 +42,7 @@ pub struct Task<'a, A: Allocator + Copy> {
 
 impl<'a, A: Allocator + Copy> Model for Task<'a, A> {
     ghost use Rattle.std.specs.Prelude.{◌≡◌, true};
-        ghost use Rattle.sabr_search.specs.questions.Task.{SearchTask};
+    ghost use Rattle.sabr_search.specs.questions.Task.{SearchTask};
 
     ghost Value = { SearchTask };
 

@@ -1,5 +1,5 @@
 -- What holds for the question of each part.
-use Rattle.std.proofs.Common.{◌≡◌, ◌≢◌, inl, inr, ℕ, Bool, true, false, eqb, ◌||◌, List, Some, slice_get, slice_index_or, ap, sym, subst, ◌∙◌, arith}
+use Rattle.std.proofs.Common.{◌≡◌, ◌≢◌, inl, inr, ℕ, Bool, true, false, eqb, ◌||◌, List, Some, slice_get, slice_index_or, ap, sym, subst, ◌∙◌, arith, slice_index}
 use Rattle.std.proofs.lemmas.Bool.{cases_eq}
 use Rattle.sabr_model.specs.plan.Plan.{has}
 use Rattle.sabr_model.specs.routes.Route.{receivers}

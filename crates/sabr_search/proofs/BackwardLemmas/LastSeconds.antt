@@ -241,21 +241,21 @@ late_for task whole late are = record {
       ]);
 }
 
--- so these are the costs, if they are what is less than `never`
-pub costs_for : (task : SearchTask) → IsWhole task → (near costs : List ℕ) → AreTaken (IsNearBy task) task near → ((k : ℕ) → slice_index costs k ≡ never - slice_index_or near k never) → ((k : ℕ) → slice_index near k ≤ never) → AreCostsFor (tabled_of task) task.request costs
-costs_for task whole near costs are turned below = record {
+-- so these are the costs: with how near each node is they make `never`
+pub costs_for : (task : SearchTask) → IsWhole task → (near costs : List ℕ) → AreTaken (IsNearBy task) task near → ((k : ℕ) → k < length near → slice_index costs k + slice_index near k ≡ never) → AreCostsFor (tabled_of task) task.request costs
+costs_for task whole near costs are turned = record {
   goal = λ g at.
       (let same : g ≡ task.goal = whole.is.nodes.apart g task.goal task.request.destination at whole.goal_is in
-      omega (arith, turned g, ap (slice_index near) same, are.goal, read_or near g (omega (arith, are.many, slice_get_within task.table g task.request.destination at))));
+      omega (arith, turned g (omega (arith, are.many, slice_get_within task.table g task.request.destination at)), ap (slice_index near) same, are.goal));
   steps = λ n u t w b g between since.
       (let w_in : w < length task.table = slice_get_within task.table w g.contact.to g.receiver in
       let u_in : u < length task.table = slice_get_within task.table u g.contact.from g.sender in
       let step : Takes task n u t w b = whole_step task whole n u t w b g in
-      let is_w = read_or near w (omega (arith, are.many, w_in)) in
-      let is_u = read_or near u (omega (arith, are.many, u_in)) in
+      let of_w = turned w (omega (arith, are.many, w_in)) in
+      let of_u = turned u (omega (arith, are.many, u_in)) in
       elim (cases_lt 0 (slice_index near w)) [
-        | inr le ↦ omega (arith, turned u, turned w, le, is_w, is_u, arrives_later task.plan task.request t g.contact b g.arrives)
-        | inl some ↦ omega (arith, turned u, turned w, is_w, is_u, below u, below w, are.over w w_in some n u t b step (whole.shuts u between.node between.stands ∙ between.unshut) (other_node task whole u between) since)
+        | inr le ↦ omega (arith, of_w, of_u, le, arrives_later task.plan task.request t g.contact b g.arrives)
+        | inl some ↦ omega (arith, of_w, of_u, are.over w w_in some n u t b step (whole.shuts u between.node between.stands ∙ between.unshut) (other_node task whole u between) since)
       ]);
 }
 

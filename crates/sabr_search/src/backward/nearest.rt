@@ -1,7 +1,7 @@
 //! For each node, what a way to the destination costs, by the bounds of links alone: from the goal backward over the whole graph.
 
 ghost use Rattle.sabr_index.specs.Links.{SentLink};
-ghost use Rattle.std.specs.Prelude.{◌≡◌, ◌≢◌, ℕ, ◌+◌, ◌-◌, ◌≤◌, ◌<◌, [], Some, IfOk, OnOk, IsTrue, false, length, slice_get, slice_index, slice_index_or};
+ghost use Rattle.std.specs.Prelude.{◌≡◌, ◌≢◌, ℕ, ◌+◌, ◌≤◌, ◌<◌, [], Some, IfOk, OnOk, IsTrue, false, length, slice_get, slice_index, slice_index_or};
 ghost use Rattle.sabr_search.specs.questions.Task.{IsTask, Takes, never};
 ghost use Rattle.sabr_search.specs.questions.Linked.{AreSendersAt, HasNumber};
 ghost use Rattle.sabr_search.specs.questions.FirstSteps.{tabled_of};
@@ -120,12 +120,20 @@ impl<A: Allocator + Copy> Latest<A> {
     }
 }
 
+/// Returns the seconds of a way, by how near it makes its node.
+fn seconds_for(near: u64) -> u64
+    ensures { result + near ≡ never }
+{
+    NEVER - near
+}
+
 /// Turns how near each node is, `NEVER` less the seconds of a way, into these seconds.
 fn turn<A: Allocator + Copy>(seconds: &mut Vec<u64, A>)
-    ensures { (k : ℕ) → slice_index seconds.new.items k ≡ never - slice_index_or seconds.old.items k never }
+    ensures { (k : ℕ) → k < length seconds.old.items → slice_index seconds.new.items k + slice_index seconds.old.items k ≡ never }
 {
     for place in 0..seconds.len() {
-        seconds[place] = NEVER - seconds[place];
+        let near = seconds[place];
+        seconds[place] = seconds_for(near);
     }
 }
 

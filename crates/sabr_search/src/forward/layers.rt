@@ -296,10 +296,11 @@ impl<A: Allocator + Copy> Layers<A> {
                     hops: hop + 1,
                 };
             }
+            let end = self.reached.len();
             if best.delivery <= lower {
                 return Ok(Some(best));
             }
-            if self.reached.len() == begin {
+            if end == begin {
                 return Ok(Some(best));
             }
             first = begin;

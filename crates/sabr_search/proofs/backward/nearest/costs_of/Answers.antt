@@ -8,4 +8,4 @@ pub returns-then-not-all : goal.returns-then-not-all
 returns-then-not-all g c = record { costs = no_costs _ _ _ c.new.ensures.items }
 
 pub returns : goal.returns
-returns g c = record { costs = costs_for c.args.task.now c.requires.whole _ _ (c.in_ok-all.ensures.taken c.if-not-all.false) c.turn.ensures ? }
+returns g c = record { costs = costs_for c.args.task.now c.requires.whole _ _ (c.in_ok-all.ensures.taken c.if-not-all.false) c.turn.ensures }

@@ -38,7 +38,7 @@ loop-link-preserved-then-before-from g c =
         | inl before ↦ so_far.least j x n w b before at has s admits
         | inr same ↦
             (let to = link.to c.requires.task n c.args.from.at w b (link.own j x n at same has) s in
-            absurd (omega (arith, (takes_timely task c.requires.task.nodes).later n c.args.from.node c.args.from.at w b s, (c.before-before.ensures b).1 (rw to at admits), c.if-before-from.true)))
+            absurd (omega (arith, (takes_timely task c.requires.task.nodes).later n c.args.from.node c.args.from.at w b s, (c.deadline-before.ensures b).1 (rw to at admits), c.if-before-from.true)))
       ];
     }
 
@@ -57,14 +57,14 @@ loop-link-preserved g c =
       chosen = elim over.sound [
         | inl same ↦ rw same so_far.chosen
         | inr found ↦
-            chosen_from task own.ends.items own.entries.items c.args.hops c.requires.open c.args.from.node c.args.from.at l.receiver c.before-before.result (λ b less. (c.before-before.ensures b).0 less) c.least_over-least.result found
+            chosen_from task own.ends.items own.entries.items c.args.hops c.requires.open c.args.from.node c.args.from.at l.receiver c.deadline-before.result (λ b less. (c.deadline-before.ensures b).0 less) c.least_over-least.result found
       ];
       least = λ j x n w b less at has s admits. elim (last_or_before j c.loop-link.link-index less) [
         | inl before ↦ over.lower n (so_far.least j x n w b before at has s admits)
         | inr same ↦
             (let has' = link.own j x n at same has in
             let to = link.to c.requires.task n c.args.from.at w b has' s in
-            over.full n w b has' s ((c.before-before.ensures b).1 (rw to at admits)))
+            over.full n w b has' s ((c.deadline-before.ensures b).1 (rw to at admits)))
       ];
     }
 

@@ -2,7 +2,7 @@ use Rattle.std.proofs.Common.{◌≡◌, ◌+◌, [], ◌∷◌, inl, inr, lengt
 use Rattle.sabr_search.specs.layers.Made.{AreMade}
 use Rattle.sabr_search.proofs.ForwardLemmas.MadeLayers.{layers_first, best_within, least_within, made_lists, made_sources, made_next, made_all, spent_more, spent_fewer, none_more}
 use Rattle.sabr_search.proofs.forward.layers.Layers.make.Given.{Over}
-use Rattle.sabr_search.proofs.forward.layers.Layers.make.Goals.{After-if-delivery-best, then-delivery-best, else-delivery-best}
+use Rattle.sabr_search.proofs.forward.layers.Layers.make.Goals.{After-len-end, then-delivery-best, else-delivery-best}
 use Rattle.sabr_search.proofs.forward.layers.Layers.make.Goals as goal
 
 pub loop-hop-init : goal.loop-hop-init
@@ -15,30 +15,30 @@ loop-hop-init g c =
     }
 
 pub next_layer-requires-clause-sources : goal.next_layer-requires-clause-sources
-next_layer-requires-clause-sources g c = made_sources c.args.task.now c.requires.task c.loop-hop.hop c.loop-hop.first _ _ _ _ c.loop-hop.best c.loop-hop.invariant.layers c.len-begin.ensures
+next_layer-requires-clause-sources g c = made_sources c.args.task.now c.requires.task c.loop-hop.hop c.loop-hop.first _ _ _ _ c.loop-hop.best c.loop-hop.invariant.layers (omega (arith, c.len-begin.ensures, c.loop-hop.self.reached.ok.0))
 
 pub next_layer-requires-clause-lists : goal.next_layer-requires-clause-lists
-next_layer-requires-clause-lists g c = made_lists c.args.task.now c.requires.task c.loop-hop.hop c.loop-hop.first _ _ _ _ c.loop-hop.best c.loop-hop.invariant.layers c.len-begin.ensures
+next_layer-requires-clause-lists g c = made_lists c.args.task.now c.requires.task c.loop-hop.hop c.loop-hop.first _ _ _ _ c.loop-hop.best c.loop-hop.invariant.layers (omega (arith, c.len-begin.ensures, c.loop-hop.self.reached.ok.0))
 
 -- one layer more
-made : (g : Over) (c : After-if-delivery-best g) → AreMade c.args.task.now (c.loop-hop.hop + 1) c.len-begin.result c.next_layer.new.self.arrival.items c.next_layer.new.self.place.items c.next_layer.new.self.reached.items c.if-delivery-best.best
+made : (g : Over) (c : After-len-end g) → AreMade c.args.task.now (c.loop-hop.hop + 1) c.len-begin.result c.next_layer.new.self.arrival.items c.next_layer.new.self.place.items c.next_layer.new.self.reached.items c.if-delivery-best.best
 made g c =
-    made_next c.args.task.now c.requires.task c.loop-hop.hop c.loop-hop.first c.len-begin.result _ _ _ c.loop-hop.best c.loop-hop.invariant.layers c.len-begin.ensures _ _ _ c.in_ok-delivery.delivery c.in_ok-delivery.ensures.lowered c.in_ok-delivery.ensures.known c.if-delivery-best.best
+    made_next c.args.task.now c.requires.task c.loop-hop.hop c.loop-hop.first c.len-begin.result _ _ _ c.loop-hop.best c.loop-hop.invariant.layers (omega (arith, c.len-begin.ensures, c.loop-hop.self.reached.ok.0)) _ _ _ c.in_ok-delivery.delivery c.in_ok-delivery.ensures.lowered c.in_ok-delivery.ensures.known c.if-delivery-best.best
     (elim c.if-delivery-best.branch [ then-delivery-best w ↦ inl (w.if-delivery-best.true, w.best-is) | else-delivery-best w ↦ inr (w.if-delivery-best.false, w.best-is) ])
 
 pub returns-then-best-lower-clause-best : goal.returns-then-best-lower-clause-best
 returns-then-best-lower-clause-best g c =
-    best_within c.args.task.now (c.loop-hop.hop + 1) _ _ _ _ _ (made g (goal.at.returns-then-best-lower-clause-best g c).After-if-delivery-best).2 c.args.hops (omega arith) (λ ns e le way. omega (arith, c.requires.lower ns e way, c.if-best-lower.true))
+    best_within c.args.task.now (c.loop-hop.hop + 1) _ _ _ _ _ (made g (goal.at.returns-then-best-lower-clause-best g c).After-len-end).2 c.args.hops (omega arith) (λ ns e le way. omega (arith, c.requires.lower ns e way, c.if-best-lower.true))
 
-pub returns-then-len-begin-clause-best : goal.returns-then-len-begin-clause-best
-returns-then-len-begin-clause-best g c =
-    let made = made g (goal.at.returns-then-len-begin-clause-best g c).After-if-delivery-best in
+pub returns-then-end-begin-clause-best : goal.returns-then-end-begin-clause-best
+returns-then-end-begin-clause-best g c =
+    let made = made g (goal.at.returns-then-end-begin-clause-best g c).After-len-end in
     best_within c.args.task.now (c.loop-hop.hop + 1) _ _ _ _ _ made.2 c.args.hops (omega arith)
-    (λ ns e le way. made_all c.args.task.now c.requires.task (c.loop-hop.hop + 1) c.len-begin.result _ _ _ c.if-delivery-best.best made (omega (arith, c.len.ensures, c.if-len-begin.true)) ns e way)
+    (λ ns e le way. made_all c.args.task.now c.requires.task (c.loop-hop.hop + 1) c.len-begin.result _ _ _ c.if-delivery-best.best made (omega (arith, c.len-end.ensures, c.next_layer.new.self.reached.ok.0, c.if-end-begin.true)) ns e way)
 
 pub loop-hop-preserved : goal.loop-hop-preserved
 loop-hop-preserved g c = record {
-  layers = made g (goal.at.loop-hop-preserved g c).After-if-delivery-best;
+  layers = made g (goal.at.loop-hop-preserved g c).After-len-end;
   counted = omega (arith, c.next_layer.ensures.looks, c.loop-hop.invariant.counted);
   sooner = c.if-best-lower.false;
 }
@@ -60,8 +60,8 @@ returns-in_err-delivery-clause-counted g c = spent_more _ _ _ _ _ _ c.loop-hop-t
 pub returns-then-best-lower-clause-counted : goal.returns-then-best-lower-clause-counted
 returns-then-best-lower-clause-counted g c = spent_more _ _ _ _ _ _ c.loop-hop-test.true c.loop-hop.invariant.counted c.next_layer.ensures.looks
 
-pub returns-then-len-begin-clause-counted : goal.returns-then-len-begin-clause-counted
-returns-then-len-begin-clause-counted g c = spent_more _ _ _ _ _ _ c.loop-hop-test.true c.loop-hop.invariant.counted c.next_layer.ensures.looks
+pub returns-then-end-begin-clause-counted : goal.returns-then-end-begin-clause-counted
+returns-then-end-begin-clause-counted g c = spent_more _ _ _ _ _ _ c.loop-hop-test.true c.loop-hop.invariant.counted c.next_layer.ensures.looks
 
 pub returns-clause-counted : goal.returns-clause-counted
 returns-clause-counted g c = spent_fewer _ _ _ _ _ (omega arith) c.loop-hop.invariant.counted

@@ -1,4 +1,4 @@
-use Rattle.std.proofs.Common.{◌≡◌, ℕ, ◌+◌, ◌-◌, ◌<◌, ◌≤◌, Some, length, slice_set, slice_get, true}
+use Rattle.std.proofs.Common.{◌≡◌, ℕ, ◌+◌, ◌-◌, ◌<◌, ◌≤◌, Some, length, slice_set, slice_get, true, slice_index}
 use Rattle.sabr_index.specs.declared.link.Link.{Link}
 use Rattle.sabr_search.specs.questions.Task.{Takes}
 use Rattle.sabr_search.specs.layers.Lists.{IsKnown}

@@ -1,4 +1,4 @@
-use Rattle.std.proofs.Common.{◌≡◌, ℕ, ◌-◌, ◌<◌, Some, slice_get, slice_set, true}
+use Rattle.std.proofs.Common.{◌≡◌, ℕ, ◌-◌, ◌<◌, Some, slice_get, slice_set, true, slice_index}
 use Rattle.sabr_search.specs.declared.visit.Visit.{Visit}
 use Rattle.sabr_search.specs.layers.Lists.{IsKnown}
 use Rattle.sabr_search.specs.layers.Settling.{AreSettling, IsFallen}
