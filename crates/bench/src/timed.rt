@@ -3,7 +3,7 @@
 use crate::watch::Watch;
 use sabr_index::Index;
 use sabr_model::{NoMemory, Plan, Request, Route};
-use sabr_search::{BestOf, Kept, Part};
+use sabr_search::{BestOf, Excluded, Kept, Part};
 use std::alloc::Allocator;
 use std::cell::Cell;
 use std::time::Clock;
@@ -78,15 +78,18 @@ impl<'s, R: Clock, A: Allocator + Copy, B: BestOf<A>> BestOf<A> for Timed<'s, R,
         answer
     }
 
-    fn best_rising(
+    fn best_beside(
         &mut self,
         kept: &mut Kept<A>,
         index: &Index<'_, A>,
         request: &Request,
-        part: Part<'_>,
+        prefix: &[u32],
+        excluded: Excluded<'_>,
     ) -> Result<Option<Route<A>>, NoMemory> {
         let begin = self.watch.nanoseconds();
-        let answer = self.finder.best_rising(kept, index, request, part);
+        let answer = self
+            .finder
+            .best_beside(kept, index, request, prefix, excluded);
         self.add(begin, self.finder.looks());
         answer
     }

@@ -20,11 +20,11 @@ use crate::answers::lists::Lists;
 use crate::answers::payoff::Payoff;
 use crate::answers::wide::shut_one;
 use crate::backward::least_way::FoundWay;
-use crate::backward::pick::Standing;
 use crate::course::shut::Shut;
 use crate::links::looks::Looks;
 use crate::question::Question;
 use crate::task::Task;
+use crate::visit::Visit;
 use sabr_model::NoMemory;
 use std::alloc::{Allocator, Global};
 use std::mem::replace;
@@ -92,7 +92,7 @@ pub struct Lookup {
 #[derive(Drop)]
 pub struct Answer<A: Allocator + Copy = Global> {
     /// Where the search started, and when.
-    pub from: Standing,
+    pub from: Visit,
     /// How many hops were left.
     pub left: usize,
     /// The numbers that no way takes first, the nodes that were shut, and the least way.
@@ -177,7 +177,7 @@ impl<A: Allocator + Copy> Answer<A> {
         requires some { 0 < length self.now.lists.way }
         ensures { IsTrue result → Leads (Takes task.now) task.now.start task.now.at self.now.lists.way task.now.goal self.now.delivery }
     {
-        let mut from = Standing {
+        let mut from = Visit {
             node: task.start(),
             at: task.at(),
         };
@@ -465,7 +465,7 @@ impl<A: Allocator + Copy> Answers<A> {
     {
         let mut lists = replace(&mut self.spare, Lists::new(self.alloc));
         lists.set(task.excluded(), task.shut_nodes(), &found.numbers)?;
-        let from = Standing {
+        let from = Visit {
             node: task.start(),
             at: task.at(),
         };

@@ -1,6 +1,6 @@
 //! From the goal backward: layers by hops, the last seconds, and the least numbers that they leave.
 
-mod deadlines;
+pub mod deadlines;
 pub mod from_goal;
 pub mod latest;
 pub mod least_way;

@@ -1,7 +1,6 @@
 //! The law of finders: the least route of a part.
 
 ghost use Rattle.std.specs.Prelude.{◌≡◌, ℕ, ◌+◌, ◌*◌, ◌≤◌, IfOk, IsTrue, length};
-ghost use Rattle.std.specs.List.Sorted.{IsStrictlyIncreasing};
 ghost use Rattle.sabr_search.specs.questions.Part.{IsLeast};
 ghost use Rattle.sabr_search.specs.answers.Kept.{IsKept};
 ghost use Rattle.sabr_model.specs.routes.Route.{is_prefix};
@@ -9,6 +8,7 @@ ghost use Rattle.sabr_model.specs.plan.Table.{node_count};
 ghost use Rattle.sabr_search.specs.questions.Told.{hops_told};
 
 use crate::kept::Kept;
+use crate::links::finger::Excluded;
 use crate::part::Part;
 use sabr_index::Index;
 use sabr_model::{NoMemory, Plan, Request, Route};
@@ -54,42 +54,23 @@ pub trait BestOf<A: Allocator + Copy>: Drop {
         kept: &mut Kept<A>,
         index: &Index<'_, A>,
         request: &Request,
-        part: Part<'_>,
+        prefix: &[u32],
+        excluded: Excluded<'_>,
     ) -> Result<Option<Route<A>>, NoMemory>
-        requires fits { IsTrue (is_prefix index.now.plan request.now part.prefix.now) }
+        requires fits { IsTrue (is_prefix index.now.plan request.now prefix.now) }
         requires kept { IsKept index.now request.now kept.old }
-        ensures least { IfOk result (IsLeast index.now.plan request.now part.entry.prefix.now part.entry.excluded.now) }
+        ensures least { IfOk result (IsLeast index.now.plan request.now prefix.now excluded.entry.numbers.now) }
         ensures bound { looks_of self.new ≤ (3 * node_count index.now.plan.contacts + 1) * length index.now.plan.contacts }
         ensures counted { IfOk result (λ answer. hops_told answer ≤ looks_of self.new) }
         ensures called { calls_of self.new ≡ calls_of self.old + 1 }
         ensures kept { IsKept index.now request.now kept.new }
     {
         let _kept = kept;
+        let part = Part {
+            prefix,
+            excluded: excluded.numbers,
+        };
         self.best(index.plan(), request, part)
-    }
-
-    /// Does the same for a part whose excluded numbers rise, so that nobody has to go over them to know it.
-    ///
-    /// # Errors
-    ///
-    /// [`NoMemory`] where a growth was refused. The finder and what is kept can be used again.
-    fn best_rising(
-        &mut self,
-        kept: &mut Kept<A>,
-        index: &Index<'_, A>,
-        request: &Request,
-        part: Part<'_>,
-    ) -> Result<Option<Route<A>>, NoMemory>
-        requires fits { IsTrue (is_prefix index.now.plan request.now part.prefix.now) }
-        requires rising { IsStrictlyIncreasing part.excluded.now }
-        requires kept { IsKept index.now request.now kept.old }
-        ensures least { IfOk result (IsLeast index.now.plan request.now part.entry.prefix.now part.entry.excluded.now) }
-        ensures bound { looks_of self.new ≤ (3 * node_count index.now.plan.contacts + 1) * length index.now.plan.contacts }
-        ensures counted { IfOk result (λ answer. hops_told answer ≤ looks_of self.new) }
-        ensures called { calls_of self.new ≡ calls_of self.old + 1 }
-        ensures kept { IsKept index.now request.now kept.new }
-    {
-        self.best_beside(kept, index, request, part)
     }
 
     /// How many looks the last call of `best` took, each a use of a contact's record; 0 before the first call. Bounds beside

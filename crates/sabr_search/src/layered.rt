@@ -9,13 +9,14 @@ ghost use Rattle.sabr_search.specs.questions.Task.{IsAsked};
 ghost use Rattle.sabr_search.specs.layers.Late.{AreArrivals};
 ghost use Rattle.sabr_search.specs.questions.Told.{hops_told, looks_taken};
 
+use crate::backward::deadlines::Deadlines;
 use crate::backward::from_goal::Aim;
 use crate::backward::since::Since;
 use crate::best::BestOf;
 use crate::course::Course;
 use crate::forward::layers::Layers;
 use crate::kept::Kept;
-use crate::links::finger::{Excluded, rises};
+use crate::links::finger::Excluded;
 use crate::links::looks::Looks;
 use crate::part::Part;
 use crate::question::Question;
@@ -23,45 +24,6 @@ use crate::task::Task;
 use sabr_index::Index;
 use sabr_model::{GhostCount, NoMemory, Plan, Request, Route, Told};
 use std::alloc::{Allocator, Global};
-
-impl<A: Allocator + Copy> Layers<A> {
-    /// The least route after the prefix, by layers alone. No way comes to a node before the second in `since`.
-    fn least_after(
-        &mut self,
-        since: &[u64],
-        task: &Task<'_, A>,
-        looks: &mut Looks,
-        prefix: &[u32],
-        told: Told,
-    ) -> Result<Option<Route<A>>, NoMemory>
-        requires asked { IsAsked task.now prefix.now }
-        requires told { told ≡ told_of task.now.plan prefix.now }
-        requires few { looks_taken looks.old ≤ 2 * length task.now.plan.contacts }
-        requires arrivals { AreArrivals task.now since.now }
-        ensures least { IfOk result (IsLeast task.now.plan task.now.request prefix.now task.now.excluded) }
-        ensures bound { looks_taken looks.new ≤ (3 * length task.now.table + 1) * length task.now.plan.contacts }
-        ensures counted { IfOk result (λ answer. hops_told answer ≤ looks_taken looks.new) }
-    {
-        let asked = Question { task, prefix, told };
-        let since = Since::of(since);
-        let mut first = Vec::new(self.alloc);
-        let whole = task.first_steps(looks, &mut first)?;
-        if !whole {
-            unreachable!();
-        }
-        let aim = Aim {
-            task,
-            since: &since,
-            first: &first,
-            delivery: 0,
-        };
-        let found = self.least_within(&aim, looks, asked.left())?;
-        let Some(way) = found else {
-            unreachable!();
-        };
-        asked.route(self.alloc, looks, &way.numbers, way.delivery)
-    }
-}
 
 /// A finder that makes layers forward for the least delivery, layers backward for its route, and then picks the least
 /// numbers from the front.
@@ -71,8 +33,10 @@ impl<A: Allocator + Copy> Layers<A> {
 pub struct Layered<A: Allocator + Copy = Global> {
     /// The allocator of the buffers.
     alloc: A,
-    /// Layers forward and backward.
+    /// Layers forward.
     layers: Layers<A>,
+    /// Layers backward.
+    deadlines: Deadlines<A>,
     /// For each node, when the search starts.
     since: Vec<u64, A>,
     /// The looks that the last call left.
@@ -90,6 +54,7 @@ impl<A: Allocator + Copy> Layered<A> {
         Layered {
             alloc,
             layers: Layers::new(alloc),
+            deadlines: Deadlines::new(alloc),
             since: Vec::new(alloc),
             looks: Looks::many(),
             calls: GhostCount::new(),
@@ -105,16 +70,56 @@ impl<A: Allocator + Copy> Layered<A> {
         self.looks = looks;
     }
 
+    /// The least route after the prefix, by layers alone. No way comes to a node before its second in `since`.
+    fn least_after(
+        &mut self,
+        task: &Task<'_, A>,
+        prefix: &[u32],
+        told: Told,
+    ) -> Result<Option<Route<A>>, NoMemory>
+        requires asked { IsAsked task.now prefix.now }
+        requires told { told ≡ told_of task.now.plan prefix.now }
+        requires few { looks_taken self.old.looks ≤ 2 * length task.now.plan.contacts }
+        requires arrivals { AreArrivals task.now self.old.since.items }
+        ensures least { IfOk result (IsLeast task.now.plan task.now.request prefix.now task.now.excluded) }
+        ensures bound { looks_taken self.new.looks ≤ (3 * length task.now.table + 1) * length task.now.plan.contacts }
+        ensures counted { IfOk result (λ answer. hops_told answer ≤ looks_taken self.new.looks) }
+        ensures calls { self.new.calls ≡ self.old.calls }
+    {
+        let asked = Question { task, prefix, told };
+        let since = Since::of(&self.since);
+        let mut first = Vec::new(self.alloc);
+        let whole = task.first_steps(&mut self.looks, &mut first)?;
+        if !whole {
+            unreachable!();
+        }
+        let aim = Aim {
+            task,
+            since: &since,
+            first: &first,
+            delivery: 0,
+        };
+        let left = asked.left();
+        let found = self
+            .deadlines
+            .least_within(&mut self.layers, &aim, &mut self.looks, left)?;
+        let Some(way) = found else {
+            unreachable!();
+        };
+        asked.route(self.alloc, &mut self.looks, &way.numbers, way.delivery)
+    }
+
     /// Finds the least route of a part.
     fn find(
         &mut self,
         index: &Index<'_, A>,
         request: &Request,
-        part: Part<'_>,
+        prefix: &[u32],
+        excluded: Excluded<'_>,
     ) -> Result<Option<Route<A>>, NoMemory>
-        requires fits { IsTrue (is_prefix index.now.plan request.now part.prefix.now) }
+        requires fits { IsTrue (is_prefix index.now.plan request.now prefix.now) }
         requires few { looks_taken self.old.looks ≤ length index.now.plan.contacts }
-        ensures least { IfOk result (IsLeast index.now.plan request.now part.entry.prefix.now part.entry.excluded.now) }
+        ensures least { IfOk result (IsLeast index.now.plan request.now prefix.now excluded.entry.numbers.now) }
         ensures bound { looks_taken self.new.looks ≤ (3 * node_count index.now.plan.contacts + 1) * length index.now.plan.contacts }
         ensures counted { IfOk result (λ answer. hops_told answer ≤ looks_taken self.new.looks) }
         ensures calls { self.new.calls ≡ self.old.calls }
@@ -124,16 +129,11 @@ impl<A: Allocator + Copy> Layered<A> {
         let Some(mut course) = opened else {
             return Ok(None);
         };
-        let stop = course.go(&mut self.looks, plan, request, part.prefix)?;
-        let in_order = rises(part.excluded);
-        let excluded = Excluded {
-            numbers: part.excluded,
-            rising: in_order,
-        };
+        let stop = course.go(&mut self.looks, plan, request, prefix)?;
         let task = Task::new(index, request, &course, excluded, stop);
         self.since.clear();
         self.since.resize(plan.nodes(), task.at())?;
-        self.layers.least_after(&self.since, &task, &mut self.looks, part.prefix, stop.told)
+        self.least_after(&task, prefix, stop.told)
     }
 }
 
@@ -152,7 +152,12 @@ impl<A: Allocator + Copy> BestOf<A> for Layered<A> {
         let Ok(index) = Index::new(self.alloc, plan) else {
             return Err(NoMemory);
         };
-        self.find(&index, request, part)
+        self.find(
+            &index,
+            request,
+            part.prefix,
+            Excluded::of(part.excluded),
+        )
     }
 
     fn best_beside(
@@ -160,11 +165,12 @@ impl<A: Allocator + Copy> BestOf<A> for Layered<A> {
         kept: &mut Kept<A>,
         index: &Index<'_, A>,
         request: &Request,
-        part: Part<'_>,
+        prefix: &[u32],
+        excluded: Excluded<'_>,
     ) -> Result<Option<Route<A>>, NoMemory> {
         let _kept = kept;
         self.begin(Looks::many());
-        self.find(index, request, part)
+        self.find(index, request, prefix, excluded)
     }
 
     fn looks(&self) -> u64 {

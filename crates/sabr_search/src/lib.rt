@@ -17,11 +17,13 @@ mod reach;
 mod search;
 mod settled;
 mod task;
+mod visit;
 
 pub use best::BestOf;
 pub use fitting::fits;
 pub use kept::Kept;
 pub use laws::answers_stay;
 pub use layered::Layered;
+pub use links::finger::Excluded;
 pub use part::Part;
 pub use settled::Settled;

@@ -6,7 +6,7 @@ ghost use Rattle.sabr_model.specs.routes.Arrival.{RouteRequest};
 ghost use Rattle.sabr_search.specs.layers.Reach.{IsReach};
 
 use crate::backward::latest::latest_of;
-use crate::backward::nearest::nearest_of;
+use crate::backward::nearest::costs_of;
 use crate::course::Course;
 use crate::forward::soonest::soonest_of;
 use crate::links::finger::Excluded;
@@ -21,8 +21,8 @@ use std::alloc::Allocator;
 pub struct Reach<A: Allocator + Copy> {
     /// For each node, a second from which on no way leads to the destination; none is known after the list's end.
     pub late: Vec<u64, A>,
-    /// For each node, `NEVER` less the least seconds of a way to the destination; `NEVER` after the list's end.
-    pub near: Vec<u64, A>,
+    /// For each node, the least seconds of a way to the destination; 0 after the list's end.
+    pub costs: Vec<u64, A>,
     /// For each node, the hops of such a way, as far as the list goes.
     pub hops: Vec<u64, A>,
     /// For each node, a second before which no way from the source comes there; 0 after the list's end.
@@ -36,7 +36,7 @@ impl<A: Allocator + Copy> Reach<A> {
     {
         Reach {
             late: Vec::new(alloc),
-            near: Vec::new(alloc),
+            costs: Vec::new(alloc),
             hops: Vec::new(alloc),
             soon: Vec::new(alloc),
         }
@@ -65,11 +65,11 @@ impl<A: Allocator + Copy> Reach<A> {
         let task = Task::new(index, request, &course, excluded, source);
         let late = latest_of(alloc, &task, looks)?;
         let mut hops = Vec::new(alloc);
-        let near = nearest_of(alloc, &task, &mut hops)?;
+        let costs = costs_of(alloc, &task, &mut hops)?;
         let soon = soonest_of(alloc, &task, looks, &late)?;
         Ok(Reach {
             late,
-            near,
+            costs,
             hops,
             soon,
         })

@@ -6,15 +6,16 @@ ghost use Rattle.sabr_search.specs.answers.KeptAnswers.{IsFoundWay};
 ghost use Rattle.sabr_search.specs.layers.Late.{AreSince};
 ghost use Rattle.sabr_search.specs.layers.Settling.{IsBound};
 
+use crate::backward::deadlines::Deadlines;
 use crate::backward::from_goal::Aim;
 use crate::backward::least_way::FoundWay;
-use crate::backward::pick::Standing;
 use crate::backward::since::Since;
 use crate::forward::layers::Layers;
 use crate::forward::settling::{Forward, Settling};
 use crate::links::looks::Looks;
 use crate::reach::Reach;
 use crate::task::Task;
+use crate::visit::Visit;
 use sabr_model::NoMemory;
 use std::alloc::Allocator;
 
@@ -24,11 +25,13 @@ pub struct Search<A: Allocator + Copy> {
     /// The allocator of the buffers and routes.
     pub alloc: A,
     /// Where the first steps come to, and when.
-    first: Vec<Standing, A>,
+    first: Vec<Visit, A>,
     /// Nodes in order of arrival and of what the goal costs from there.
     settling: Settling<A>,
-    /// Layers backward, and forward.
+    /// Layers forward, within a limit on hops.
     layers: Layers<A>,
+    /// Layers backward.
+    deadlines: Deadlines<A>,
 }
 
 impl<A: Allocator + Copy> Search<A> {
@@ -39,6 +42,7 @@ impl<A: Allocator + Copy> Search<A> {
             first: Vec::new(alloc),
             settling: Settling::new(alloc),
             layers: Layers::new(alloc),
+            deadlines: Deadlines::new(alloc),
         }
     }
 
@@ -53,7 +57,7 @@ impl<A: Allocator + Copy> Search<A> {
         hops: usize,
     ) -> Result<Option<FoundWay<A>>, NoMemory>
         requires task { IsTask task.now }
-        requires bound { IsBound task.now reach.now.late.items reach.now.near.items }
+        requires bound { IsBound task.now reach.now.late.items reach.now.costs.items }
         requires soon { AreSince task.now reach.now.soon.items }
         requires nodes { hops ≤ most_nodes }
         ensures counted { looks.old.left ≤ looks.new.left + (3 * hops + 1) * length task.now.plan.contacts }
@@ -64,7 +68,7 @@ impl<A: Allocator + Copy> Search<A> {
         let forward = Forward {
             task,
             late: &reach.late,
-            near: &reach.near,
+            costs: &reach.costs,
             hops: &reach.hops,
         };
         let reached = self.settling.run(&forward, looks, &mut self.first)?;
@@ -77,7 +81,7 @@ impl<A: Allocator + Copy> Search<A> {
         let since = Since {
             nodes: task.shut().len(),
             arrival: &self.settling.arrival,
-            near: &reach.near,
+            costs: &reach.costs,
             soon: &reach.soon,
             delivery: first.delivery,
         };
@@ -88,8 +92,10 @@ impl<A: Allocator + Copy> Search<A> {
             delivery: first.delivery,
         };
         if first.hops > hops {
-            return self.layers.least_within(&aim, looks, hops);
+            return self
+                .deadlines
+                .least_within(&mut self.layers, &aim, looks, hops);
         }
-        self.layers.least_by(&aim, looks, hops)
+        self.deadlines.least_by(&aim, looks, hops)
     }
 }

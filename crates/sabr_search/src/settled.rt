@@ -1,7 +1,6 @@
 //! The finder that settles nodes first, and then makes only the layers that the least route needs.
 
 ghost use Rattle.std.specs.Prelude.{◌≡◌, ◌≤◌, ◌+◌, ◌*◌, IfOk, IfSome, IsTrue, length};
-ghost use Rattle.std.specs.List.Sorted.{IsStrictlyIncreasing};
 ghost use Rattle.sabr_model.specs.routes.Asking.{most_hops};
 ghost use Rattle.sabr_model.specs.routes.Route.{is_prefix};
 ghost use Rattle.sabr_model.specs.routes.Telling.{told_of};
@@ -20,7 +19,7 @@ use crate::answers::wide::shut_few;
 use crate::backward::least_way::FoundWay;
 use crate::best::BestOf;
 use crate::kept::Kept;
-use crate::links::finger::{Excluded, rises};
+use crate::links::finger::Excluded;
 use crate::links::looks::Looks;
 use crate::part::Part;
 use crate::question::Question;
@@ -77,7 +76,7 @@ impl<A: Allocator + Copy> Search<A> {
         looks: &mut Looks,
     ) -> Result<FoundWay<A>, NoMemory>
         requires asked { IsAsked asked.now.task.now asked.now.prefix.now }
-        requires bound { IsBound asked.now.task.now reach.now.late.items reach.now.near.items }
+        requires bound { IsBound asked.now.task.now reach.now.late.items reach.now.costs.items }
         requires soon { AreSince asked.now.task.now reach.now.soon.items }
         requires few { looks_taken looks.old ≤ 2 * length asked.now.task.now.plan.contacts }
         ensures bound { looks_taken looks.new ≤ 3 * length asked.now.task.now.table * length asked.now.task.now.plan.contacts }
@@ -165,42 +164,36 @@ impl<A: Allocator + Copy> Settled<A> {
         self.looks = looks;
     }
 
-    /// Finds the least route of a part, by what is kept or else by a search. `in_order` says that the excluded numbers
-    /// are known to rise.
+    /// Finds the least route of a part, by what is kept or else by a search.
     fn find(
         &mut self,
         kept: &mut Kept<A>,
         index: &Index<'_, A>,
         request: &Request,
-        part: Part<'_>,
-        in_order: bool,
+        prefix: &[u32],
+        excluded: Excluded<'_>,
     ) -> Result<Option<Route<A>>, NoMemory>
-        requires fits { IsTrue (is_prefix index.now.plan request.now part.prefix.now) }
+        requires fits { IsTrue (is_prefix index.now.plan request.now prefix.now) }
         requires few { looks_taken self.old.looks ≤ length index.now.plan.contacts }
-        requires rising { IsTrue in_order → IsStrictlyIncreasing part.excluded.now }
         requires kept { IsKept index.now request.now kept.old }
-        ensures least { IfOk result (IsLeast index.now.plan request.now part.entry.prefix.now part.entry.excluded.now) }
+        ensures least { IfOk result (IsLeast index.now.plan request.now prefix.now excluded.entry.numbers.now) }
         ensures bound { looks_taken self.new.looks ≤ (3 * node_count index.now.plan.contacts + 1) * length index.now.plan.contacts }
         ensures counted { IfOk result (λ answer. hops_told answer ≤ looks_taken self.new.looks) }
         ensures calls { self.new.calls ≡ self.old.calls }
         ensures kept { IsKept index.now request.now kept.new }
-        ensures cut { IfOk result (IsCut index.now.plan request.now.max_hops part.entry.prefix.now (looks_taken self.new.looks)) }
+        ensures cut { IfOk result (IsCut index.now.plan request.now.max_hops prefix.now (looks_taken self.new.looks)) }
     {
         let plan = index.plan();
         let taken = kept.take_course(self.alloc, plan, request)?;
         let Some(mut course) = taken else {
             return Ok(None);
         };
-        let stop = course.go(&mut self.looks, plan, request, part.prefix)?;
+        let stop = course.go(&mut self.looks, plan, request, prefix)?;
         kept.open(&mut self.looks, index, request);
-        let excluded = Excluded {
-            numbers: part.excluded,
-            rising: in_order,
-        };
         let task = Task::new(index, request, &course, excluded, stop);
         let answer = self
             .search
-            .least_beside(kept, &task, &mut self.looks, part.prefix, stop.told);
+            .least_beside(kept, &task, &mut self.looks, prefix, stop.told);
         kept.course = Some(course);
         answer
     }
@@ -229,7 +222,8 @@ impl<A: Allocator + Copy> BestOf<A> for Settled<A> {
             return Err(NoMemory);
         };
         let mut kept = Kept::new(self.alloc);
-        self.find(&mut kept, &index, request, part, rises(part.excluded))
+        let excluded = Excluded::of(part.excluded);
+        self.find(&mut kept, &index, request, part.prefix, excluded)
     }
 
     fn best_beside(
@@ -237,40 +231,20 @@ impl<A: Allocator + Copy> BestOf<A> for Settled<A> {
         kept: &mut Kept<A>,
         index: &Index<'_, A>,
         request: &Request,
-        part: Part<'_>,
+        prefix: &[u32],
+        excluded: Excluded<'_>,
     ) -> Result<Option<Route<A>>, NoMemory>
-        requires fits { IsTrue (is_prefix index.now.plan request.now part.prefix.now) }
+        requires fits { IsTrue (is_prefix index.now.plan request.now prefix.now) }
         requires kept { IsKept index.now request.now kept.old }
-        ensures least { IfOk result (IsLeast index.now.plan request.now part.entry.prefix.now part.entry.excluded.now) }
+        ensures least { IfOk result (IsLeast index.now.plan request.now prefix.now excluded.entry.numbers.now) }
         ensures bound { looks_taken self.new.looks ≤ (3 * node_count index.now.plan.contacts + 1) * length index.now.plan.contacts }
         ensures counted { IfOk result (λ answer. hops_told answer ≤ looks_taken self.new.looks) }
         ensures called { self.new.calls.count ≡ self.old.calls.count + 1 }
         ensures kept { IsKept index.now request.now kept.new }
-        ensures cut { IfOk result (IsCut index.now.plan request.now.max_hops part.entry.prefix.now (looks_taken self.new.looks)) }
+        ensures cut { IfOk result (IsCut index.now.plan request.now.max_hops prefix.now (looks_taken self.new.looks)) }
     {
         self.begin(Looks::many());
-        self.find(kept, index, request, part, rises(part.excluded))
-    }
-
-    fn best_rising(
-        &mut self,
-        kept: &mut Kept<A>,
-        index: &Index<'_, A>,
-        request: &Request,
-        part: Part<'_>,
-    ) -> Result<Option<Route<A>>, NoMemory>
-        requires fits { IsTrue (is_prefix index.now.plan request.now part.prefix.now) }
-        requires rising { IsStrictlyIncreasing part.excluded.now }
-        requires kept { IsKept index.now request.now kept.old }
-        ensures least { IfOk result (IsLeast index.now.plan request.now part.entry.prefix.now part.entry.excluded.now) }
-        ensures bound { looks_taken self.new.looks ≤ (3 * node_count index.now.plan.contacts + 1) * length index.now.plan.contacts }
-        ensures counted { IfOk result (λ answer. hops_told answer ≤ looks_taken self.new.looks) }
-        ensures called { self.new.calls.count ≡ self.old.calls.count + 1 }
-        ensures kept { IsKept index.now request.now kept.new }
-        ensures cut { IfOk result (IsCut index.now.plan request.now.max_hops part.entry.prefix.now (looks_taken self.new.looks)) }
-    {
-        self.begin(Looks::many());
-        self.find(kept, index, request, part, true)
+        self.find(kept, index, request, prefix, excluded)
     }
 
     fn looks(&self) -> u64 {

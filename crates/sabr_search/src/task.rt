@@ -1,7 +1,6 @@
 //! What a search asks, which doesn't change while it runs, and the arrival over one contact.
 
 ghost use Rattle.std.specs.Prelude.{◌≡◌, ℕ, ◌≤◌, ◌<◌, ◌+◌, ◌*◌, ◌^◌, Some, IfSome, IfNone, IsTrue, false, true, length};
-ghost use Rattle.std.specs.List.Sorted.{IsStrictlyIncreasing};
 ghost use Rattle.sabr_model.specs.routes.Arrival.{cost};
 ghost use Rattle.sabr_model.specs.plan.Plan.{has, most_light};
 ghost use Rattle.sabr_model.specs.routes.Hops.{hop_arrival, IsSmall};
@@ -11,11 +10,11 @@ ghost use Rattle.sabr_search.specs.questions.FirstSteps.{tabled_of};
 ghost use Rattle.sabr_search.specs.answers.KeptAnswers.{AreListed, Arrives};
 ghost use Rattle.sabr_search.specs.questions.Linked.{AreLinksAt, AreSendersAt};
 
-use crate::backward::pick::Standing;
-use crate::course::shut::Shut;
 use crate::course::{Course, Stop};
+use crate::course::shut::Shut;
 use crate::links::finger::{Excluded, Finger};
 use crate::links::looks::Looks;
+use crate::visit::Visit;
 use sabr_index::{Index, Links, Pass, Senders};
 use sabr_model::{Hop, Plan, Request};
 use std::alloc::Allocator;
@@ -32,9 +31,7 @@ pub struct Task<'a, A: Allocator + Copy> {
     /// For each node, whether it is shut.
     shut: &'a Shut<A>,
     /// The numbers that no way takes first.
-    excluded: &'a [u32],
-    /// Whether these are known to rise.
-    in_order: bool,
+    excluded: Excluded<'a>,
     /// The index of the node at which the search starts.
     start: usize,
     /// The index of the destination.
@@ -45,14 +42,11 @@ pub struct Task<'a, A: Allocator + Copy> {
 
 impl<'a, A: Allocator + Copy> Model for Task<'a, A> {
     ghost use Rattle.std.specs.Prelude.{◌≡◌, true};
-    ghost use Rattle.std.specs.List.Sorted.{IsStrictlyIncreasing};
     ghost use Rattle.sabr_search.specs.questions.Task.{SearchTask};
 
     ghost Value = { SearchTask };
 
-    ghost view = { λ a. record { plan = a.index.now.plan; request = a.request.now; table = a.index.now.table; shut = a.shut.now; excluded = a.excluded.now; start = a.start; goal = a.goal; at = a.at } };
-
-    ghost invariant = { λ a. a.in_order ≡ true → IsStrictlyIncreasing a.excluded.now };
+    ghost view = { λ a. record { plan = a.index.now.plan; request = a.request.now; table = a.index.now.table; shut = a.shut.now; excluded = a.excluded.numbers.now; start = a.start; goal = a.goal; at = a.at } };
 }
 
 impl<'a, A: Allocator + Copy> Task<'a, A> {
@@ -64,15 +58,13 @@ impl<'a, A: Allocator + Copy> Task<'a, A> {
         excluded: Excluded<'a>,
         stop: Stop,
     ) -> Task<'a, A>
-        requires { IsTrue excluded.rising → IsStrictlyIncreasing excluded.numbers.now }
         ensures { result ≡ task_of index.now request.now course.now.shut excluded.entry.numbers.now stop.node stop.at course.now.goal }
     {
         Task {
             index,
             request,
             shut: &course.shut,
-            excluded: excluded.numbers,
-            in_order: excluded.rising,
+            excluded,
             start: stop.node,
             goal: course.goal,
             at: stop.at,
@@ -90,7 +82,6 @@ impl<'a, A: Allocator + Copy> Task<'a, A> {
             request: self.request,
             shut,
             excluded: self.excluded,
-            in_order: self.in_order,
             start: self.start,
             goal: self.goal,
             at: self.at,
@@ -168,7 +159,7 @@ impl<'a, A: Allocator + Copy> Task<'a, A> {
     pub fn excluded(&self) -> &[u32]
         ensures { result.now ≡ self.now.excluded }
     {
-        self.excluded
+        self.excluded.numbers
     }
 
     /// Returns where a contact leads that is taken at this second, and when, if it leads to an open node in time: one
@@ -180,7 +171,7 @@ impl<'a, A: Allocator + Copy> Task<'a, A> {
         number: u32,
         at: u64,
         passed: &mut usize,
-    ) -> Option<Standing>
+    ) -> Option<Visit>
         requires task { IsTask self.now }
         requires few { 0 < looks.old.left }
         ensures looks { looks.old.left ≡ looks.new.left + 1 }
@@ -192,7 +183,7 @@ impl<'a, A: Allocator + Copy> Task<'a, A> {
             return None;
         }
         let at = hop.arrive(self.request, at)?;
-        Some(Standing {
+        Some(Visit {
             node: hop.receiver,
             at,
         })
@@ -224,12 +215,7 @@ impl<'a, A: Allocator + Copy> Task<'a, A> {
         if node != self.start {
             return 0;
         }
-        finger.counts(
-            self.excluded,
-            self.in_order,
-            pass.number,
-            pass.in_row_behind as u32,
-        )
+        finger.counts(self.excluded, pass.number, pass.in_row_behind as u32)
     }
 
     /// Returns a light time with the margin, in seconds.

@@ -9,7 +9,7 @@ ghost use Rattle.sabr_frontier.specs.tree.Best.{IsBest};
 use crate::plan_request::PlanRequest;
 use sabr_index::Index;
 use sabr_model::{NoMemory, Plan, Request, Route};
-use sabr_search::{BestOf, Kept, Part};
+use sabr_search::{BestOf, Excluded, Kept};
 use std::alloc::{Allocator, Global};
 use std::marker::Model;
 
@@ -116,8 +116,11 @@ impl<'p, B: BestOf<A>, A: Allocator + Copy> Asker<'p, B, A> {
         ensures called { self.new.calls ≡ self.old.calls + 1 }
         ensures same { self.new.asked ≡ self.old.asked }
     {
-        let part = Part { prefix, excluded };
+        let excluded = Excluded {
+            numbers: excluded,
+            rising: true,
+        };
         self.finder
-            .best_rising(&mut self.kept, &self.index, &self.request, part)
+            .best_beside(&mut self.kept, &self.index, &self.request, prefix, excluded)
     }
 }

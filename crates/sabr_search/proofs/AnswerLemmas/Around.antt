@@ -1,11 +1,11 @@
 -- What holds for the question of each part.
-use Rattle.std.proofs.Common.{◌≡◌, ◌≢◌, inl, inr, ℕ, Bool, true, false, eqb, ◌||◌, List, Some, slice_get, slice_index_or, ap, sym, subst, ◌∙◌, arith}
+use Rattle.std.proofs.Common.{◌≡◌, ◌≢◌, inl, inr, ℕ, Bool, true, false, eqb, ◌||◌, List, Some, slice_get, slice_index_or, ap, sym, subst, ◌∙◌, arith, slice_index}
 use Rattle.std.proofs.lemmas.Bool.{cases_eq}
 use Rattle.sabr_model.specs.plan.Plan.{has}
 use Rattle.sabr_model.specs.routes.Route.{receivers}
 use Rattle.sabr_search.specs.questions.Task.{SearchTask, HasNodes, IsBehind, IsOfRequest, Takes, is_closed}
 use Rattle.sabr_search.specs.questions.FirstSteps.{tabled_of}
-use Rattle.sabr_search.specs.layers.Reach.{Goes, IsBetween, AreLateFor, AreNearFor, cost_to}
+use Rattle.sabr_search.specs.layers.Reach.{Goes, IsBetween, AreLateFor, AreCostsFor}
 use Rattle.sabr_search.specs.layers.Settling.{IsBound}
 use Rattle.sabr_search.proofs.WayLemmas.RoutesAndWays.{takes_timely}
 use Rattle.sabr_search.proofs.WayLemmas.Courses.{after_later}
@@ -38,15 +38,15 @@ goes_of task over n u t w b s = record {
 }
 
 -- what is known of the ways over the whole graph is so of a question's ways
-pub reach_bounds : (task : SearchTask) → HasNodes task.plan task.table → IsOfRequest task → (late near : List ℕ) → AreLateFor (tabled_of task) task.request late → AreNearFor (tabled_of task) task.request near → IsBound task late near
-reach_bounds task nodes over late near are_late are_near = record {
+pub reach_bounds : (task : SearchTask) → HasNodes task.plan task.table → IsOfRequest task → (late costs : List ℕ) → AreLateFor (tabled_of task) task.request late → AreCostsFor (tabled_of task) task.request costs → IsBound task late costs
+reach_bounds task nodes over late costs are_late are_costs = record {
   goal = are_late.goal task.goal over.goal_is;
   steps = λ n u t w b s open' other. are_late.steps n u t w b (goes_of task over n u t w b s) (between n u t w b s open' other);
-  there = omega (arith, are_near.goal task.goal over.goal_is);
+  there = omega (arith, are_costs.goal task.goal over.goal_is);
   since = over.since;
-  costs = λ n u t w b s open' since. elim (cases_eq u task.goal) [
-    | inl same ↦ omega (arith, ap (cost_to near) same, are_near.goal task.goal over.goal_is, (takes_timely task nodes).later n u t w b s)
-    | inr other ↦ omega (arith, (takes_timely task nodes).later n u t w b s, are_near.steps n u t w b (goes_of task over n u t w b s) (between n u t w b s open' other) since)
+  lowers = λ n u t w b s open' since. elim (cases_eq u task.goal) [
+    | inl same ↦ omega (arith, ap (slice_index costs) same, are_costs.goal task.goal over.goal_is, (takes_timely task nodes).later n u t w b s)
+    | inr other ↦ omega (arith, (takes_timely task nodes).later n u t w b s, are_costs.steps n u t w b (goes_of task over n u t w b s) (between n u t w b s open' other) since)
   ];
 }
   where

@@ -7,7 +7,7 @@ use Rattle.std.proofs.lemmas.Option.{slice_get-get_or, slice_get_within, get_or_
 use Rattle.sabr_model.specs.declared.contact.Contact.{Contact}
 use Rattle.sabr_model.specs.plan.Plan.{contact_named, has}
 use Rattle.sabr_search.specs.declared.answers.Answer.{Answer}
-use Rattle.sabr_search.specs.declared.backward.pick.Standing.{Standing}
+use Rattle.sabr_search.specs.declared.visit.Visit.{Visit}
 use Rattle.sabr_search.specs.questions.Ways.{Leads}
 use Rattle.sabr_search.specs.questions.Task.{SearchTask, Takes, IsTask}
 use Rattle.sabr_search.specs.layers.Picks.{IsLeastWay}
@@ -66,7 +66,7 @@ drop_at xs i within = grind (arith, common_steps)
 take_at : (xs : List ℕ) (i : ℕ) → i < length xs → take (i + 1) xs ≡ take i xs ++ slice_index xs i ∷ []
 take_at xs i within = grind (arith, common_steps)
 
-pub on_way_more : (task : SearchTask) → IsTask task → (way : List ℕ) (i u t : ℕ) → i < length way → IsOnWay task way i u t → (s : Standing) → Arrives task (slice_index way i) t s → IsOnWay task way (i + 1) s.node s.at
+pub on_way_more : (task : SearchTask) → IsTask task → (way : List ℕ) (i u t : ℕ) → i < length way → IsOnWay task way i u t → (s : Visit) → Arrives task (slice_index way i) t s → IsOnWay task way (i + 1) s.node s.at
 on_way_more task is way i u t within on s arrives =
     let n = slice_index way i in
     let rest : Leads (Joins task) u on.before (n ∷ drop (i + 1) way) on.goal on.end = subst (λ xs. Leads (Joins task) u on.before xs on.goal on.end) (drop_at way i within) on.rest in

@@ -3,7 +3,7 @@ use Rattle.std.proofs.Common.{◌≡◌, ◌≢◌, inl, inr, ℕ, zero, suc, �
 use Rattle.std.specs.Prelude.{◌↔◌}
 use Rattle.std.proofs.lemmas.Bool.{cases_eq, both_ways}
 use Rattle.std.proofs.lemmas.Grind.{common_steps}
-use Rattle.sabr_search.specs.declared.forward.layers.LayerEntry.{LayerEntry}
+use Rattle.sabr_search.specs.declared.backward.deadlines.Deadline.{Deadline}
 use Rattle.sabr_search.specs.questions.Ways.{Leads}
 use Rattle.sabr_search.specs.questions.Task.{SearchTask, Takes, IsTask}
 use Rattle.sabr_search.specs.layers.Deadlines.{IsInTime, IsApart, ArePointed}
@@ -42,41 +42,41 @@ set_other xs k j b other = grind (arith, common_steps)
 
 -- ---- a deadline that is looked up
 
-module _ (ends place : List ℕ) (reached : List LayerEntry) (hops : ℕ) (pointed : ArePointed ends place reached hops) (node p : ℕ) (is : p ≡ slice_index place node) where
+module _ (ends place : List ℕ) (entries : List Deadline) (hops : ℕ) (pointed : ArePointed ends place entries hops) (node p : ℕ) (is : p ≡ slice_index place node) where
   -- an entry of the node in the layer is the one that is named
-  entry_named : (a x : ℕ) (b : ℕ) → (e : IsInTime ends reached hops node b) → p ≡ e.2.0
-  entry_named a x b e = is ∙ pointed e.2.0 (record { node = node; arrival = e.0; deadline = e.1 }) e.2.1 e.2.2 e.2.3
+  entry_named : (b : ℕ) → (e : IsInTime ends entries hops node b) → p ≡ e.1.0
+  entry_named b e = is ∙ pointed e.1.0 (record { node = node; before = e.0 }) e.1.1 e.1.2 e.1.3
 
-  pub deadline_in : (e : LayerEntry) → slice_index ends hops ≤ p → p < slice_index ends (hops + 1) → slice_get reached p ≡ Some e → e.node ≡ node → (b : ℕ) → (b < e.deadline) ↔ IsInTime ends reached hops node b
+  pub deadline_in : (e : Deadline) → slice_index ends hops ≤ p → p < slice_index ends (hops + 1) → slice_get entries p ≡ Some e → e.node ≡ node → (b : ℕ) → (b < e.before) ↔ IsInTime ends entries hops node b
   deadline_in e above below at own b = (
-    λ less. (e.arrival, e.deadline, (p, above, below, at ∙ ap (λ k. Some (record { node = k; arrival = e.arrival; deadline = e.deadline })) own), less),
+    λ less. (e.before, (p, above, below, at ∙ ap (λ k. Some (record { node = k; before = e.before })) own), less),
     λ x.
-        (let named : Some e ≡ Some (record { node = node; arrival = x.0; deadline = x.1 }) = sym at ∙ ap (slice_get reached) (entry_named x.0 x.1 b x) ∙ x.2.3 in
-        let entry : e ≡ record { node = node; arrival = x.0; deadline = x.1 } = cc (named) in
-        omega (arith, x.3, ap (λ (y : LayerEntry). y.deadline) entry)),
+        (let named : Some e ≡ Some (record { node = node; before = x.0 }) = sym at ∙ ap (slice_get entries) (entry_named b x) ∙ x.1.3 in
+        let entry : e ≡ record { node = node; before = x.0 } = cc (named) in
+        omega (arith, x.2, ap (λ (y : Deadline). y.before) entry)),
   )
 
-  pub deadline_other : (e : LayerEntry) → slice_get reached p ≡ Some e → e.node ≢ node → (b : ℕ) → (b < 0) ↔ IsInTime ends reached hops node b
+  pub deadline_other : (e : Deadline) → slice_get entries p ≡ Some e → e.node ≢ node → (b : ℕ) → (b < 0) ↔ IsInTime ends entries hops node b
   deadline_other e at other b = (
     λ less. absurd (omega arith),
     λ x.
-        (let named : Some e ≡ Some (record { node = node; arrival = x.0; deadline = x.1 }) = sym at ∙ ap (slice_get reached) (entry_named x.0 x.1 b x) ∙ x.2.3 in
-        let entry : e ≡ record { node = node; arrival = x.0; deadline = x.1 } = cc (named) in
-        absurd (other (ap (λ (y : LayerEntry). y.node) entry))),
+        (let named : Some e ≡ Some (record { node = node; before = x.0 }) = sym at ∙ ap (slice_get entries) (entry_named b x) ∙ x.1.3 in
+        let entry : e ≡ record { node = node; before = x.0 } = cc (named) in
+        absurd (other (ap (λ (y : Deadline). y.node) entry))),
   )
 
 -- ---- pointing at a layer
 
 -- the places of the entries of a layer before p
-abbrev pub ArePointedTo : ℕ → ℕ → List ℕ → List LayerEntry → Type 0
-ArePointedTo first i place reached = (p : ℕ) (e : LayerEntry) → first ≤ p → p < i → slice_get reached p ≡ Some e → slice_index place e.node ≡ p
+abbrev pub ArePointedTo : ℕ → ℕ → List ℕ → List Deadline → Type 0
+ArePointedTo first i place entries = (p : ℕ) (e : Deadline) → first ≤ p → p < i → slice_get entries p ≡ Some e → slice_index place e.node ≡ p
 
-pub pointed_more : (ends place : List ℕ) (reached : List LayerEntry) (hops : ℕ) → IsApart ends reached hops → (i : ℕ) (e : LayerEntry) → slice_index ends hops ≤ i → i < slice_index ends (hops + 1) →
-    slice_get reached i ≡ Some e → e.node < length place → ArePointedTo (slice_index ends hops) i place reached → ArePointedTo (slice_index ends hops) (i + 1) (slice_set place e.node i) reached
-pointed_more ends place reached hops apart i e above below at inside so_far = λ p f low high here. elim (cases_eq p i) [
+pub pointed_more : (ends place : List ℕ) (entries : List Deadline) (hops : ℕ) → IsApart ends entries hops → (i : ℕ) (e : Deadline) → slice_index ends hops ≤ i → i < slice_index ends (hops + 1) →
+    slice_get entries i ≡ Some e → e.node < length place → ArePointedTo (slice_index ends hops) i place entries → ArePointedTo (slice_index ends hops) (i + 1) (slice_set place e.node i) entries
+pointed_more ends place entries hops apart i e above below at inside so_far = λ p f low high here. elim (cases_eq p i) [
   | inl same ↦
-      (let entry : f ≡ e = (let q : Some f ≡ Some e = sym here ∙ ap (slice_get reached) same ∙ at in cc (q)) in
-      ap (λ (y : LayerEntry). slice_index (slice_set place e.node i) y.node) entry ∙ set_here place e.node i inside ∙ sym same)
+      (let entry : f ≡ e = (let q : Some f ≡ Some e = sym here ∙ ap (slice_get entries) same ∙ at in cc (q)) in
+      ap (λ (y : Deadline). slice_index (slice_set place e.node i) y.node) entry ∙ set_here place e.node i inside ∙ sym same)
   | inr other ↦
       (let differ : f.node ≡ e.node → ⊥ = λ same. other (apart p i f e low above (omega arith) below here at same) in
       set_other place e.node f.node i differ ∙ so_far p f low (omega arith) here)

@@ -9,10 +9,10 @@ use Rattle.std.proofs.lemmas.List.{length-replicate}
 use Rattle.std.proofs.lemmas.Option.{slice_get_within}
 use Rattle.sabr_model.specs.plan.Plan.{TabledPlan, has}
 use Rattle.sabr_model.specs.routes.Arrival.{RouteRequest}
-use Rattle.sabr_search.specs.declared.forward.queue.Event.{Event}
+use Rattle.sabr_search.specs.declared.visit.Visit.{Visit}
 use Rattle.sabr_search.specs.questions.Task.{SearchTask, IsTask, IsBehind, Takes, never}
 use Rattle.sabr_search.specs.questions.FirstSteps.{tabled_of}
-use Rattle.sabr_search.specs.layers.Reach.{Goes, IsBetween, AreLateFor, AreNearFor}
+use Rattle.sabr_search.specs.layers.Reach.{Goes, IsBetween, AreLateFor, AreCostsFor}
 use Rattle.sabr_search.specs.layers.Latest.{IsWhole, IsBegun, IsLeftBy, IsTakenBy, IsNear, IsNearBy, AreRising, AreTaken}
 use Rattle.sabr_search.proofs.LinkLemmas.Arrivals.{arrives_later}
 use Rattle.sabr_index.specs.declared.link.Pass.{Pass}
@@ -36,16 +36,16 @@ flags_many : (xs : List Bool) (k : ℕ) (b : Bool) → length (slice_set xs k b)
 flags_many xs k b = grind (arith, common_steps)
 
 -- at first the goal alone waits
-pub first_rising : (P : List ℕ → ℕ → Type 0) (task : SearchTask) → IsTask task → (late : List ℕ) (taken : List Bool) (queue : List Event) → IsBegun task late taken queue → AreRising P task late taken queue (length task.table)
+pub first_rising : (P : List ℕ → ℕ → Type 0) (task : SearchTask) → IsTask task → (late : List ℕ) (taken : List Bool) (queue : List Visit) → IsBegun task late taken queue → AreRising P task late taken queue (length task.table)
 first_rising P task is late taken queue begun =
     let zeros : List ℕ = replicate (length task.shut) 0 in
-    let event : Event = record { at = 0; node = task.goal } in
+    let event : Visit = record { at = 0; node = task.goal } in
     let within : task.goal < length zeros = omega (arith, replicate_many (length task.shut) 0, is.as_many, is.goal_in) in
     record {
       many = ap length begun.late_is ∙ set_many zeros task.goal never ∙ replicate_many (length task.shut) 0 ∙ is.as_many;
       flags = ap length begun.taken_is ∙ length-replicate (length task.shut) false ∙ is.as_many;
       goal = ap (λ xs. slice_index xs task.goal) begun.late_is ∙ set_here zeros task.goal never within;
-      inside = All-permutation (λ (e : Event). e.node < length task.table) (event ∷ []) queue begun.waits (All-cons (λ (e : Event). e.node < length task.table) event [] is.goal_in (λ i d lt. absurd (omega (arith, lt))));
+      inside = All-permutation (λ (e : Visit). e.node < length task.table) (event ∷ []) queue begun.waits (All-cons (λ (e : Visit). e.node < length task.table) event [] is.goal_in (λ i d lt. absurd (omega (arith, lt))));
       waits = λ w w_in off some. elim (cases_eq w task.goal) [
         | inl same ↦ (event, Contains-permutation (event ∷ []) queue event begun.waits (0, omega arith, refl), sym same)
         | inr other ↦ absurd (omega (arith, some, ap (λ xs. slice_index xs w) begun.late_is, set_other zeros task.goal never w other, same_everywhere (length task.shut) 0 w))
@@ -61,7 +61,7 @@ late_rises late u last inside less k = elim (cases_eq k u) [
 ]
 
 -- a node may be left later, and waits
-module _ (P : List ℕ → ℕ → Type 0) (task : SearchTask) (late : List ℕ) (taken : List Bool) (queue queue' : List Event) (now last : ℕ) (event : Event) (was : AreRising P task late taken queue now)
+module _ (P : List ℕ → ℕ → Type 0) (task : SearchTask) (late : List ℕ) (taken : List Bool) (queue queue' : List Visit) (now last : ℕ) (event : Visit) (was : AreRising P task late taken queue now)
     (within : event.node < length task.table) (other : event.node ≢ task.goal) (less : slice_index late event.node < last) (moved : IsPermutation (event ∷ queue) queue') where
   abbrev u : ℕ
   u = event.node
@@ -74,7 +74,7 @@ module _ (P : List ℕ → ℕ → Type 0) (task : SearchTask) (late : List ℕ)
     many = set_many late u last ∙ was.many;
     flags = flags_many taken u false ∙ was.flags;
     goal = set_other late u last task.goal (λ same. other (sym same)) ∙ was.goal;
-    inside = All-permutation (λ (e : Event). e.node < length task.table) (event ∷ queue) queue' moved (All-cons (λ (e : Event). e.node < length task.table) event queue within was.inside);
+    inside = All-permutation (λ (e : Visit). e.node < length task.table) (event ∷ queue) queue' moved (All-cons (λ (e : Visit). e.node < length task.table) event queue within was.inside);
     waits = λ w w_in off some. elim (cases_eq w u) [
       | inl same ↦ (event, Contains-permutation (event ∷ queue) queue' event moved (0, omega arith, refl), sym same)
       | inr differ ↦
@@ -129,14 +129,14 @@ pub left_later : (task : SearchTask) (late late' : List ℕ) → ((k : ℕ) → 
 left_later task late late' rises u t left open' other = omega (arith, rises u, left open' other)
 
 -- a node that waits is taken out
-module _ (P : List ℕ → ℕ → Type 0) (task : SearchTask) (late : List ℕ) (taken : List Bool) (queue queue' : List Event) (e : Event) (was : AreRising P task late taken queue (length task.table)) (moved : IsPermutation queue (e ∷ queue')) where
+module _ (P : List ℕ → ℕ → Type 0) (task : SearchTask) (late : List ℕ) (taken : List Bool) (queue queue' : List Visit) (e : Visit) (was : AreRising P task late taken queue (length task.table)) (moved : IsPermutation queue (e ∷ queue')) where
   pub next_inside : e.node < length task.table
-  next_inside = All-head (λ (f : Event). f.node < length task.table) e queue' (All-permutation (λ (f : Event). f.node < length task.table) queue (e ∷ queue') moved was.inside)
+  next_inside = All-head (λ (f : Visit). f.node < length task.table) e queue' (All-permutation (λ (f : Visit). f.node < length task.table) queue (e ∷ queue') moved was.inside)
 
-  rest_inside : All (λ (f : Event). f.node < length task.table) queue'
-  rest_inside = All-tail (λ (f : Event). f.node < length task.table) e queue' (All-permutation (λ (f : Event). f.node < length task.table) queue (e ∷ queue') moved was.inside)
+  rest_inside : All (λ (f : Visit). f.node < length task.table) queue'
+  rest_inside = All-tail (λ (f : Visit). f.node < length task.table) e queue' (All-permutation (λ (f : Visit). f.node < length task.table) queue (e ∷ queue') moved was.inside)
 
-  rest_waits : (w : ℕ) → w ≢ e.node → w < length task.table → slice_index_or taken w false ≡ false → 0 < slice_index late w → (x : Event) × Contains queue' x × (x.node ≡ w)
+  rest_waits : (w : ℕ) → w ≢ e.node → w < length task.table → slice_index_or taken w false ≡ false → 0 < slice_index late w → (x : Visit) × Contains queue' x × (x.node ≡ w)
   rest_waits w other w_in off some =
       let waits = was.waits w w_in off some in
       let x = waits.0 in
@@ -177,7 +177,7 @@ module _ (P : List ℕ → ℕ → Type 0) (task : SearchTask) (late : List ℕ)
       past w same on = (let far : length (slice_set taken e.node true) ≤ w = omega (arith, flags_many taken e.node true, was.flags, same) in both_ways (slice_index_or (slice_set taken e.node true) w false) (grind (arith, common_steps, far)) on)
 
 -- all links to a node are taken
-pub finished : (P : List ℕ → ℕ → Type 0) (task : SearchTask) (late : List ℕ) (taken : List Bool) (queue : List Event) (now : ℕ) → AreRising P task late taken queue now → P late now → AreRising P task late taken queue (length task.table)
+pub finished : (P : List ℕ → ℕ → Type 0) (task : SearchTask) (late : List ℕ) (taken : List Bool) (queue : List Visit) (now : ℕ) → AreRising P task late taken queue now → P late now → AreRising P task late taken queue (length task.table)
 finished P task late taken queue now was taken_now = record {
   many = was.many;
   flags = was.flags;
@@ -191,7 +191,7 @@ finished P task late taken queue now was taken_now = record {
 }
 
 -- none waits any more
-pub all_taken : (P : List ℕ → ℕ → Type 0) (task : SearchTask) (late : List ℕ) (taken : List Bool) (queue : List Event) → AreRising P task late taken queue (length task.table) → queue ≡ [] → AreTaken P task late
+pub all_taken : (P : List ℕ → ℕ → Type 0) (task : SearchTask) (late : List ℕ) (taken : List Bool) (queue : List Visit) → AreRising P task late taken queue (length task.table) → queue ≡ [] → AreTaken P task late
 all_taken P task late taken queue was empty = record {
   many = was.many;
   goal = was.goal;
@@ -241,27 +241,27 @@ late_for task whole late are = record {
       ]);
 }
 
--- so this is how near the destination is
-pub near_for : (task : SearchTask) → IsWhole task → (near : List ℕ) → AreTaken (IsNearBy task) task near → AreNearFor (tabled_of task) task.request near
-near_for task whole near are = record {
+-- so these are the costs: with how near each node is they make `never`
+pub costs_for : (task : SearchTask) → IsWhole task → (near costs : List ℕ) → AreTaken (IsNearBy task) task near → ((k : ℕ) → k < length near → slice_index costs k + slice_index near k ≡ never) → AreCostsFor (tabled_of task) task.request costs
+costs_for task whole near costs are turned = record {
   goal = λ g at.
       (let same : g ≡ task.goal = whole.is.nodes.apart g task.goal task.request.destination at whole.goal_is in
-      omega (arith, ap (slice_index near) same, are.goal, read_or near g (omega (arith, are.many, slice_get_within task.table g task.request.destination at))));
+      omega (arith, turned g (omega (arith, are.many, slice_get_within task.table g task.request.destination at)), ap (slice_index near) same, are.goal));
   steps = λ n u t w b g between since.
       (let w_in : w < length task.table = slice_get_within task.table w g.contact.to g.receiver in
       let u_in : u < length task.table = slice_get_within task.table u g.contact.from g.sender in
       let step : Takes task n u t w b = whole_step task whole n u t w b g in
-      let is_w = read_or near w (omega (arith, are.many, w_in)) in
-      let is_u = read_or near u (omega (arith, are.many, u_in)) in
+      let of_w = turned w (omega (arith, are.many, w_in)) in
+      let of_u = turned u (omega (arith, are.many, u_in)) in
       elim (cases_lt 0 (slice_index near w)) [
-        | inr le ↦ omega (arith, le, is_w, is_u, arrives_later task.plan task.request t g.contact b g.arrives)
-        | inl some ↦ omega (arith, is_w, is_u, are.over w w_in some n u t b step (whole.shuts u between.node between.stands ∙ between.unshut) (other_node task whole u between) since)
+        | inr le ↦ omega (arith, of_w, of_u, le, arrives_later task.plan task.request t g.contact b g.arrives)
+        | inl some ↦ omega (arith, of_w, of_u, are.over w w_in some n u t b step (whole.shuts u between.node between.stands ∙ between.unshut) (other_node task whole u between) since)
       ]);
 }
 
 -- nothing is known of any node
-pub none_near : (p : TabledPlan) (r : RouteRequest) (near : List ℕ) → near ≡ [] → AreNearFor p r near
-none_near p r near empty = rw empty (record { goal = λ g at. refl; steps = λ n u t w b g between since. omega (arith, arrives_later p.plan r t g.contact b g.arrives) })
+pub no_costs : (p : TabledPlan) (r : RouteRequest) (costs : List ℕ) → costs ≡ [] → AreCostsFor p r costs
+no_costs p r costs empty = rw empty (record { goal = λ g at. refl; steps = λ n u t w b g between since. omega (arith, arrives_later p.plan r t g.contact b g.arrives) })
 
 pub none_late : (p : TabledPlan) (r : RouteRequest) (late : List ℕ) → late ≡ [] → AreLateFor p r late
 none_late p r late empty = rw empty (record {

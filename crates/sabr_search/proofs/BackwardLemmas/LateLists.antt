@@ -3,7 +3,7 @@ use Rattle.std.proofs.Common.{◌≡◌, ◌≢◌, ◌⊎◌, inl, inr, ℕ, ze
 use Rattle.std.proofs.lemmas.Bool.{cases_lt, cases_eq}
 use Rattle.std.proofs.lemmas.Grind.{common_steps}
 use Rattle.std.proofs.lemmas.Option.{slice_get_within}
-use Rattle.sabr_search.specs.declared.forward.layers.LayerEntry.{LayerEntry}
+use Rattle.sabr_search.specs.declared.backward.deadlines.Deadline.{Deadline}
 use Rattle.sabr_search.specs.questions.Task.{SearchTask, Takes, IsTask}
 use Rattle.sabr_search.specs.layers.Late.{InTimeFor, IsLateEntry, AreLate, IsNotedLate, IsToldLate}
 use Rattle.sabr_search.proofs.BackwardLemmas.Backward.{get_set_here, get_set_other, set_other}
@@ -50,11 +50,11 @@ take_push (suc k) (x ∷ xs) y le = ap (λ zs. x ∷ zs) (take_push k xs y (omeg
 pub set_many : {X : Type 0} (xs : List X) (k : ℕ) (b : X) → length (slice_set xs k b) ≡ length xs
 set_many xs k b = grind (arith, common_steps)
 
-module _ (task : SearchTask) (since : List ℕ) (first begin : ℕ) (late place : List ℕ) (reached : List LayerEntry) (was : AreLate task since first begin late place reached)
-    (u a x : ℕ) (inside : u < length task.table) (unshut : slice_index_or task.shut u false ≡ false) (other : u ≢ task.goal) (a_is : a ≡ slice_index since u) (later : slice_index late u < x)
-    (sound : (t : ℕ) → t < x → (n : ℕ) × (w : ℕ) × (b : ℕ) × Takes task n u t w b × InTimeFor reached first begin w b) where
-  abbrev f : LayerEntry
-  f = record { node = u; arrival = a; deadline = x }
+module _ (task : SearchTask) (first begin : ℕ) (late place : List ℕ) (entries : List Deadline) (was : AreLate task first begin late place entries)
+    (u x : ℕ) (inside : u < length task.table) (unshut : slice_index_or task.shut u false ≡ false) (other : u ≢ task.goal) (later : slice_index late u < x)
+    (sound : (t : ℕ) → t < x → (n : ℕ) × (w : ℕ) × (b : ℕ) × Takes task n u t w b × InTimeFor entries first begin w b) where
+  abbrev f : Deadline
+  f = record { node = u; before = x }
 
   now_late : slice_index (slice_set late u x) u ≡ x
   now_late = set_here late u x (omega (arith, was.many))
@@ -65,157 +65,157 @@ module _ (task : SearchTask) (since : List ℕ) (first begin : ℕ) (late place 
     | inr differs ↦ omega (arith, set_other late u k x differs)
   ]
 
-  new_entry : (e : LayerEntry) → e ≡ record { node = u; arrival = a; deadline = x } → IsLateEntry task since e
-  new_entry e is = rw is (record { inside = inside; unshut = unshut; other = other; soon = a_is; some = omega (arith, later) })
+  new_entry : (e : Deadline) → e ≡ record { node = u; before = x } → IsLateEntry task e
+  new_entry e is = rw is (record { inside = inside; unshut = unshut; other = other; some = omega (arith, later) })
 
   -- an entry of before or the new one is too late no later than its node
-  old_by : (p : ℕ) (e : LayerEntry) → slice_get reached p ≡ Some e → e.deadline ≤ slice_index (slice_set late u x) e.node
+  old_by : (p : ℕ) (e : Deadline) → slice_get entries p ≡ Some e → e.before ≤ slice_index (slice_set late u x) e.node
   old_by p e at = omega (arith, was.by p e at, late_rises e.node)
 
-  new_by : (e : LayerEntry) → e ≡ record { node = u; arrival = a; deadline = x } → e.deadline ≤ slice_index (slice_set late u x) e.node
+  new_by : (e : Deadline) → e ≡ record { node = u; before = x } → e.before ≤ slice_index (slice_set late u x) e.node
   new_by e is = rw is (omega (arith, now_late))
 
   module _ (some : 0 < slice_index late u) (above : begin ≤ slice_index place u) where
     -- what stands there
-    abbrev e0 : LayerEntry
-    e0 = record { node = u; arrival = (was.top u inside some).0; deadline = slice_index late u }
+    abbrev e0 : Deadline
+    e0 = record { node = u; before = slice_index late u }
 
-    e0_at : slice_get reached (slice_index place u) ≡ Some (record { node = u; arrival = (was.top u inside some).0; deadline = slice_index late u })
-    e0_at = (was.top u inside some).1
+    e0_at : slice_get entries (slice_index place u) ≡ Some (record { node = u; before = slice_index late u })
+    e0_at = was.top u inside some
 
-    at_within : slice_index place u < length reached
-    at_within = slice_get_within reached (slice_index place u) e0 e0_at
+    at_within : slice_index place u < length entries
+    at_within = slice_get_within entries (slice_index place u) e0 e0_at
 
-    in_time_changed : (w b : ℕ) → InTimeFor reached first begin w b → InTimeFor (slice_set reached (slice_index place u) (record { node = u; arrival = a; deadline = x })) first begin w b
-    in_time_changed w b t = (t.0, t.1, t.2, t.3, get_set_other reached (slice_index place u) t.0 (record { node = u; arrival = a; deadline = x }) (λ same. omega (arith, same, t.3)) ∙ t.4, t.5, t.6)
+    in_time_changed : (w b : ℕ) → InTimeFor entries first begin w b → InTimeFor (slice_set entries (slice_index place u) (record { node = u; before = x })) first begin w b
+    in_time_changed w b t = (t.0, t.1, t.2, t.3, get_set_other entries (slice_index place u) t.0 (record { node = u; before = x }) (λ same. omega (arith, same, t.3)) ∙ t.4, t.5, t.6)
 
-    pub changed_late : AreLate task since first begin (slice_set late u x) place (slice_set reached (slice_index place u) (record { node = u; arrival = a; deadline = x }))
+    pub changed_late : AreLate task first begin (slice_set late u x) place (slice_set entries (slice_index place u) (record { node = u; before = x }))
     changed_late = record {
       flags = was.flags;
       many = set_many late u x ∙ was.many;
       later = was.later;
-      begins = omega (arith, was.begins, set_many reached (slice_index place u) f);
+      begins = omega (arith, was.begins, set_many entries (slice_index place u) f);
       top = λ v less some. elim (cases_eq v u) [
-        | inl same ↦ rw (same, now_late) (a, get_set_here reached (slice_index place u) f at_within)
+        | inl same ↦ rw (same, now_late) (get_set_here entries (slice_index place u) f at_within)
         | inr differs ↦
             (let keeps : slice_index (slice_set late u x) v ≡ slice_index late v = set_other late u v x differs in
             let old = was.top v less (omega (arith, some, keeps)) in
-            let away : slice_index place v ≡ slice_index place u → ⊥ = λ same. differs (ap (λ (y : LayerEntry). y.node) (same_some (sym old.1 ∙ ap (slice_get reached) same ∙ e0_at))) in
-            rw keeps (old.0, get_set_other reached (slice_index place u) (slice_index place v) f away ∙ old.1))
+            let away : slice_index place v ≡ slice_index place u → ⊥ = λ same. differs (ap (λ (y : Deadline). y.node) (same_some (sym old ∙ ap (slice_get entries) same ∙ e0_at))) in
+            rw keeps (get_set_other entries (slice_index place u) (slice_index place v) f away ∙ old))
       ];
-      each = λ p e some at. elim (set_cases reached (slice_index place u) f p e at_within at) [
+      each = λ p e some at. elim (set_cases entries (slice_index place u) f p e at_within at) [
         | inl old ↦ was.each p e some old.1
         | inr here ↦ new_entry e here.1
       ];
-      by = λ p e at. elim (set_cases reached (slice_index place u) f p e at_within at) [
+      by = λ p e at. elim (set_cases entries (slice_index place u) f p e at_within at) [
         | inl old ↦ old_by p e old.1
         | inr here ↦ new_by e here.1
       ];
-      rising = λ p q e g some less at_p at_q same. elim (set_cases reached (slice_index place u) f p e at_within at_p) [
-        | inl old_p ↦ elim (set_cases reached (slice_index place u) f q g at_within at_q) [
+      rising = λ p q e g some less at_p at_q same. elim (set_cases entries (slice_index place u) f p e at_within at_p) [
+        | inl old_p ↦ elim (set_cases entries (slice_index place u) f q g at_within at_q) [
           | inl old_q ↦ was.rising p q e g some less old_p.1 old_q.1 same
           | inr here_q ↦
-              (let node : e.node ≡ e0.node = same ∙ ap (λ (y : LayerEntry). y.node) here_q.1 in
-              omega (arith, was.rising p (slice_index place u) e e0 some (omega (arith, here_q.0)) old_p.1 e0_at node, later, ap (λ (y : LayerEntry). y.deadline) here_q.1))
+              (let node : e.node ≡ e0.node = same ∙ ap (λ (y : Deadline). y.node) here_q.1 in
+              omega (arith, was.rising p (slice_index place u) e e0 some (omega (arith, here_q.0)) old_p.1 e0_at node, later, ap (λ (y : Deadline). y.before) here_q.1))
         ]
-        | inr here_p ↦ elim (set_cases reached (slice_index place u) f q g at_within at_q) [
+        | inr here_p ↦ elim (set_cases entries (slice_index place u) f q g at_within at_q) [
           | inl old_q ↦
-              (let g_node : g.node ≡ u = sym same ∙ ap (λ (y : LayerEntry). y.node) here_p.1 in
+              (let g_node : g.node ≡ u = sym same ∙ ap (λ (y : Deadline). y.node) here_p.1 in
               absurd (omega (arith, was.once q g (omega (arith, here_p.0)) old_q.1, ap (slice_index place) g_node, here_p.0)))
           | inr here_q ↦ absurd (omega (arith, here_p.0, here_q.0))
         ]
       ];
-      once = λ p e from at. elim (set_cases reached (slice_index place u) f p e at_within at) [
+      once = λ p e from at. elim (set_cases entries (slice_index place u) f p e at_within at) [
         | inl old ↦ was.once p e from old.1
-        | inr here ↦ ap (λ (y : LayerEntry). slice_index place y.node) here.1 ∙ sym here.0
+        | inr here ↦ ap (λ (y : Deadline). slice_index place y.node) here.1 ∙ sym here.0
       ];
-      sound = λ p e t from at less. elim (set_cases reached (slice_index place u) f p e at_within at) [
+      sound = λ p e t from at less. elim (set_cases entries (slice_index place u) f p e at_within at) [
         | inl old ↦ (let s = was.sound p e t from old.1 less in (s.0, s.1, s.2, s.3, in_time_changed s.1 s.2 s.4))
         | inr here ↦
-            (let s = sound t (omega (arith, less, ap (λ (y : LayerEntry). y.deadline) here.1)) in
+            (let s = sound t (omega (arith, less, ap (λ (y : Deadline). y.before) here.1)) in
             rw here.1 (s.0, s.1, s.2, s.3, in_time_changed s.1 s.2 s.4))
       ];
     }
 
   module _ (below : 0 < slice_index late u → slice_index place u < begin) where
-    in_time_pushed : (w b : ℕ) → InTimeFor reached first begin w b → InTimeFor (reached ++ record { node = u; arrival = a; deadline = x } ∷ []) first begin w b
-    in_time_pushed w b t = (t.0, t.1, t.2, t.3, get_push_before reached (record { node = u; arrival = a; deadline = x }) t.0 (slice_get_within reached t.0 t.1 t.4) ∙ t.4, t.5, t.6)
+    in_time_pushed : (w b : ℕ) → InTimeFor entries first begin w b → InTimeFor (entries ++ record { node = u; before = x } ∷ []) first begin w b
+    in_time_pushed w b t = (t.0, t.1, t.2, t.3, get_push_before entries (record { node = u; before = x }) t.0 (slice_get_within entries t.0 t.1 t.4) ∙ t.4, t.5, t.6)
 
-    place_many : length (slice_set place u (length reached)) ≡ length task.table
-    place_many = set_many place u (length reached) ∙ was.flags
+    place_many : length (slice_set place u (length entries)) ≡ length task.table
+    place_many = set_many place u (length entries) ∙ was.flags
 
-    place_here : slice_index (slice_set place u (length reached)) u ≡ length reached
-    place_here = set_here place u (length reached) (omega (arith, was.flags))
+    place_here : slice_index (slice_set place u (length entries)) u ≡ length entries
+    place_here = set_here place u (length entries) (omega (arith, was.flags))
 
-    pub pushed_late : AreLate task since first begin (slice_set late u x) (slice_set place u (length reached)) (reached ++ record { node = u; arrival = a; deadline = x } ∷ [])
+    pub pushed_late : AreLate task first begin (slice_set late u x) (slice_set place u (length entries)) (entries ++ record { node = u; before = x } ∷ [])
     pushed_late = record {
       flags = place_many;
       many = set_many late u x ∙ was.many;
       later = was.later;
-      begins = omega (arith, was.begins, length-append reached (f ∷ []));
+      begins = omega (arith, was.begins, length-append entries (f ∷ []));
       top = λ v less some. elim (cases_eq v u) [
-        | inl same ↦ rw (same, now_late, place_here) (a, get_push_here reached f)
+        | inl same ↦ rw (same, now_late, place_here) (get_push_here entries f)
         | inr differs ↦
             (let keeps : slice_index (slice_set late u x) v ≡ slice_index late v = set_other late u v x differs in
-            let stays : slice_index (slice_set place u (length reached)) v ≡ slice_index place v = set_other place u v (length reached) differs in
+            let stays : slice_index (slice_set place u (length entries)) v ≡ slice_index place v = set_other place u v (length entries) differs in
             let old = was.top v less (omega (arith, some, keeps)) in
-            rw (keeps, stays) (old.0, get_push_before reached f (slice_index place v) (slice_get_within reached (slice_index place v) (record { node = v; arrival = old.0; deadline = slice_index late v }) old.1) ∙ old.1))
+            rw (keeps, stays) (get_push_before entries f (slice_index place v) (slice_get_within entries (slice_index place v) (record { node = v; before = slice_index late v }) old) ∙ old))
       ];
-      each = λ p e some at. elim (push_cases reached f p e at) [
+      each = λ p e some at. elim (push_cases entries f p e at) [
         | inl old ↦ was.each p e some old.1
         | inr here ↦ new_entry e here.1
       ];
-      by = λ p e at. elim (push_cases reached f p e at) [
+      by = λ p e at. elim (push_cases entries f p e at) [
         | inl old ↦ old_by p e old.1
         | inr here ↦ new_by e here.1
       ];
-      rising = λ p q e g some less at_p at_q same. elim (push_cases reached f q g at_q) [
-        | inl old_q ↦ elim (push_cases reached f p e at_p) [
+      rising = λ p q e g some less at_p at_q same. elim (push_cases entries f q g at_q) [
+        | inl old_q ↦ elim (push_cases entries f p e at_p) [
           | inl old_p ↦ was.rising p q e g some less old_p.1 old_q.1 same
           | inr here_p ↦ absurd (omega (arith, here_p.0, old_q.0))
         ]
-        | inr here_q ↦ elim (push_cases reached f p e at_p) [
+        | inr here_q ↦ elim (push_cases entries f p e at_p) [
           | inl old_p ↦
-              (let e_node : e.node ≡ u = same ∙ ap (λ (y : LayerEntry). y.node) here_q.1 in
-              omega (arith, was.by p e old_p.1, ap (slice_index late) e_node, later, ap (λ (y : LayerEntry). y.deadline) here_q.1))
+              (let e_node : e.node ≡ u = same ∙ ap (λ (y : Deadline). y.node) here_q.1 in
+              omega (arith, was.by p e old_p.1, ap (slice_index late) e_node, later, ap (λ (y : Deadline). y.before) here_q.1))
           | inr here_p ↦ absurd (omega (arith, here_p.0, here_q.0))
         ]
       ];
-      once = λ p e from at. elim (push_cases reached f p e at) [
+      once = λ p e from at. elim (push_cases entries f p e at) [
         | inl old ↦ elim (cases_eq e.node u) [
           | inl same ↦
               (let entry = was.each p e (omega (arith, from, was.later)) old.1 in
               absurd (omega (arith, was.once p e from old.1, ap (slice_index place) same, below (omega (arith, entry.some, was.by p e old.1, ap (slice_index late) same)))))
-          | inr differs ↦ set_other place u e.node (length reached) differs ∙ was.once p e from old.1
+          | inr differs ↦ set_other place u e.node (length entries) differs ∙ was.once p e from old.1
         ]
-        | inr here ↦ ap (λ (y : LayerEntry). slice_index (slice_set place u (length reached)) y.node) here.1 ∙ place_here ∙ sym here.0
+        | inr here ↦ ap (λ (y : Deadline). slice_index (slice_set place u (length entries)) y.node) here.1 ∙ place_here ∙ sym here.0
       ];
-      sound = λ p e t from at less. elim (push_cases reached f p e at) [
+      sound = λ p e t from at less. elim (push_cases entries f p e at) [
         | inl old ↦ (let s = was.sound p e t from old.1 less in (s.0, s.1, s.2, s.3, in_time_pushed s.1 s.2 s.4))
         | inr here ↦
-            (let s = sound t (omega (arith, less, ap (λ (y : LayerEntry). y.deadline) here.1)) in
+            (let s = sound t (omega (arith, less, ap (λ (y : Deadline). y.before) here.1)) in
             rw here.1 (s.0, s.1, s.2, s.3, in_time_pushed s.1 s.2 s.4))
       ];
     }
 
   -- either way, what stood before the layer stays
-  pub late_noted : (place' : List ℕ) (reached' : List LayerEntry) → IsNotedLate late place reached begin u a x place' reached' → AreLate task since first begin (slice_set late u x) place' reached' × (take begin reached' ≡ take begin reached)
-  late_noted place' reached' (inl here) = rw (here.2, here.3) (changed_late here.0 here.1, take_set begin reached (slice_index place u) f here.1)
-  late_noted place' reached' (inr new) = rw (new.1, new.2) (pushed_late new.0, take_push begin reached f was.begins)
+  pub late_noted : (place' : List ℕ) (entries' : List Deadline) → IsNotedLate late place entries begin u x place' entries' → AreLate task first begin (slice_set late u x) place' entries' × (take begin entries' ≡ take begin entries)
+  late_noted place' entries' (inl here) = rw (here.2, here.3) (changed_late here.0 here.1, take_set begin entries (slice_index place u) f here.1)
+  late_noted place' entries' (inr new) = rw (new.1, new.2) (pushed_late new.0, take_push begin entries f was.begins)
 
 -- if a link can be left later than before, each second sooner than that has a step in time
-pub sound_back : (task : SearchTask) → IsTask task → (u to latest last before first begin : ℕ) (reached : List LayerEntry) →
+pub sound_back : (task : SearchTask) → IsTask task → (u to latest last before first begin : ℕ) (entries : List Deadline) →
     ((t : ℕ) → latest ≤ t → t < last → (b : ℕ) × (b < before) × (slice_index_or task.shut to false ≡ false → (n : ℕ) × Takes task n u t to b)) → latest < last → slice_index_or task.shut to false ≡ false →
-    ((b : ℕ) → b < before → InTimeFor reached first begin to b) → (t : ℕ) → t < last → (n : ℕ) × (w : ℕ) × (b : ℕ) × Takes task n u t w b × InTimeFor reached first begin w b
-sound_back task is u to latest last before first begin reached leaves later unshut given t less =
+    ((b : ℕ) → b < before → InTimeFor entries first begin to b) → (t : ℕ) → t < last → (n : ℕ) × (w : ℕ) × (b : ℕ) × Takes task n u t w b × InTimeFor entries first begin w b
+sound_back task is u to latest last before first begin entries leaves later unshut given t less =
     let s = leaves (last - 1) (omega arith) (omega arith) in
     let step = s.2 unshut in
     let sooner = (takes_timely task is.nodes).earlier step.0 u (last - 1) to s.0 t step.1 (omega arith) in
     (step.0, to, sooner.0, sooner.2, given sooner.0 (omega (arith, sooner.1, s.1)))
 
 -- what came before the layer is still there
-pub in_time_kept : (first begin : ℕ) (reached reached0 : List LayerEntry) → take begin reached ≡ take begin reached0 → (w b : ℕ) → InTimeFor reached0 first begin w b → InTimeFor reached first begin w b
-in_time_kept first begin reached reached0 kept w b t = (t.0, t.1, t.2, t.3, same_below begin reached0 reached (sym kept) t.0 t.1 t.3 t.4, t.5, t.6)
+pub in_time_kept : (first begin : ℕ) (entries reached0 : List Deadline) → take begin entries ≡ take begin reached0 → (w b : ℕ) → InTimeFor reached0 first begin w b → InTimeFor entries first begin w b
+in_time_kept first begin entries reached0 kept w b t = (t.0, t.1, t.2, t.3, same_below begin reached0 entries (sym kept) t.0 t.1 t.3 t.4, t.5, t.6)
 
 -- what the layers say of a step stays true
 pub told_rises : (task : SearchTask) (since late late1 : List ℕ) (u t : ℕ) → ((k : ℕ) → slice_index late k ≤ slice_index late1 k) → IsToldLate task since late u t → IsToldLate task since late1 u t

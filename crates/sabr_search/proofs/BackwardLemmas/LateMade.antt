@@ -3,9 +3,9 @@ use Rattle.std.proofs.Common.{◌≡◌, ◌≢◌, inl, inr, ℕ, zero, suc, �
 use Rattle.std.specs.Prelude.{IfSome}
 use Rattle.std.proofs.lemmas.Bool.{cases_lt, cases_eq}
 use Rattle.std.proofs.lemmas.Option.{slice_get_within}
-use Rattle.sabr_search.specs.declared.forward.layers.LayerEntry.{LayerEntry}
+use Rattle.sabr_search.specs.declared.backward.deadlines.Deadline.{Deadline}
 use Rattle.sabr_search.specs.questions.Task.{SearchTask, Takes, IsTask}
-use Rattle.sabr_search.specs.layers.Made.{Entry}
+use Rattle.sabr_search.specs.layers.Deadlines.{HasDeadline}
 use Rattle.sabr_search.specs.layers.Seconds.{AreNamed}
 use Rattle.sabr_search.specs.layers.Late.{InTimeFor, AreLate, AreTold, IsToldBy, AreLateLayers, IsMet}
 use Rattle.sabr_search.proofs.ForwardLemmas.LayerEntries.{same_below}
@@ -14,16 +14,16 @@ use Rattle.sabr_search.proofs.WayLemmas.RoutesAndWays.{same_some}
 use Rattle.sabr_search.proofs.ForwardLemmas.MadeLayers.{index_before, index_at, index_past, layer_of}
 
 -- an entry is the goal's, or one of another open node
-pub open_entry : (task : SearchTask) → IsTask task → (since : List ℕ) (first begin : ℕ) (late place : List ℕ) (reached : List LayerEntry) → AreLate task since first begin late place reached →
-    IfSome (slice_get reached 0) (λ e. e.node ≡ task.goal) → (p : ℕ) (e : LayerEntry) → slice_get reached p ≡ Some e → (e.node < length task.table) × (slice_index_or task.shut e.node false ≡ false)
-open_entry task is since first begin late place reached was goal_first zero e at =
+pub open_entry : (task : SearchTask) → IsTask task → (first begin : ℕ) (late place : List ℕ) (entries : List Deadline) → AreLate task first begin late place entries →
+    IfSome (slice_get entries 0) (λ e. e.node ≡ task.goal) → (p : ℕ) (e : Deadline) → slice_get entries p ≡ Some e → (e.node < length task.table) × (slice_index_or task.shut e.node false ≡ false)
+open_entry task is first begin late place entries was goal_first zero e at =
     let same : e.node ≡ task.goal = rw at at goal_first in
     (omega (arith, is.goal_in), ap (λ k. slice_index_or task.shut k false) same ∙ is.goal_open)
-open_entry task is since first begin late place reached was goal_first (suc p) e at = let one = was.each (suc p) e (omega arith) at in (one.inside, one.unshut)
+open_entry task is first begin late place entries was goal_first (suc p) e at = let one = was.each (suc p) e (omega arith) at in (one.inside, one.unshut)
 
 -- there is nothing after the end of a list
-pub nothing_past : (task : SearchTask) (since : List ℕ) (first begin first' begin' : ℕ) (late place : List ℕ) (reached : List LayerEntry) → AreLate task since first begin late place reached → begin' ≡ length reached → AreLate task since first' begin' late place reached
-nothing_past task since first begin first' begin' late place reached was all = record {
+pub nothing_past : (task : SearchTask) (first begin first' begin' : ℕ) (late place : List ℕ) (entries : List Deadline) → AreLate task first begin late place entries → begin' ≡ length entries → AreLate task first' begin' late place entries
+nothing_past task first begin first' begin' late place entries was all = record {
   flags = was.flags;
   many = was.many;
   later = omega (arith, was.later, was.begins);
@@ -32,31 +32,31 @@ nothing_past task since first begin first' begin' late place reached was all = r
   each = was.each;
   by = was.by;
   rising = was.rising;
-  once = λ p e from at. absurd (omega (arith, slice_get_within reached p e at));
-  sound = λ p e t from at less. absurd (omega (arith, slice_get_within reached p e at));
+  once = λ p e from at. absurd (omega (arith, slice_get_within entries p e at));
+  sound = λ p e t from at less. absurd (omega (arith, slice_get_within entries p e at));
 }
 
-module _ (task : SearchTask) (is : IsTask task) (since : List ℕ) (d left : ℕ) (ends late place : List ℕ) (reached : List LayerEntry) (made : AreLateLayers task since d left ends late place reached)
-    (ends' late' place' : List ℕ) (reached' : List LayerEntry)
-    (after : AreLate task since (slice_index ends left) (slice_index ends (left + 1)) late' place' reached')
-    (kept_all : take (slice_index ends (left + 1)) reached' ≡ take (slice_index ends (left + 1)) reached)
-    (told : AreTold task since reached (slice_index ends left) (slice_index ends (left + 1)) late')
-    (unmet : (w a x n b : ℕ) → Entry ends reached left w a x → b < x → Takes task n task.start task.at w b → ⊥)
-    (ends_is : ends' ≡ ends ++ length reached' ∷ []) where
+module _ (task : SearchTask) (is : IsTask task) (since : List ℕ) (d left : ℕ) (ends late place : List ℕ) (entries : List Deadline) (made : AreLateLayers task since d left ends late place entries)
+    (ends' late' place' : List ℕ) (entries' : List Deadline)
+    (after : AreLate task (slice_index ends left) (slice_index ends (left + 1)) late' place' entries')
+    (kept_all : take (slice_index ends (left + 1)) entries' ≡ take (slice_index ends (left + 1)) entries)
+    (told : AreTold task since entries (slice_index ends left) (slice_index ends (left + 1)) late')
+    (unmet : (w x n b : ℕ) → HasDeadline ends entries left w x → b < x → Takes task n task.start task.at w b → ⊥)
+    (ends_is : ends' ≡ ends ++ length entries' ∷ []) where
   end_before : (j : ℕ) → j ≤ left + 1 → slice_index ends' j ≡ slice_index ends j
-  end_before j le = ap (λ xs. slice_index xs j) ends_is ∙ index_before ends (length reached') j (omega (arith, made.many))
+  end_before j le = ap (λ xs. slice_index xs j) ends_is ∙ index_before ends (length entries') j (omega (arith, made.many))
 
-  last' : slice_index ends' (left + 1 + 1) ≡ length reached'
-  last' = ap (λ xs. slice_index xs (left + 1 + 1)) ends_is ∙ index_at ends (length reached') (left + 1 + 1) (omega (arith, made.many))
+  last' : slice_index ends' (left + 1 + 1) ≡ length entries'
+  last' = ap (λ xs. slice_index xs (left + 1 + 1)) ends_is ∙ index_at ends (length entries') (left + 1 + 1) (omega (arith, made.many))
 
   many' : length ends' ≡ left + 1 + 2
-  many' = omega (arith, ap length ends_is, length-append ends (length reached' ∷ []), made.many)
+  many' = omega (arith, ap length ends_is, length-append ends (length entries' ∷ []), made.many)
 
-  kept : (p : ℕ) (e : LayerEntry) → slice_get reached p ≡ Some e → slice_get reached' p ≡ Some e
-  kept p e at = same_below (slice_index ends (left + 1)) reached reached' (sym kept_all) p e (omega (arith, made.last_end, slice_get_within reached p e at)) at
+  kept : (p : ℕ) (e : Deadline) → slice_get entries p ≡ Some e → slice_get entries' p ≡ Some e
+  kept p e at = same_below (slice_index ends (left + 1)) entries entries' (sym kept_all) p e (omega (arith, made.last_end, slice_get_within entries p e at)) at
 
-  was : (p : ℕ) (e : LayerEntry) → p < length reached → slice_get reached' p ≡ Some e → slice_get reached p ≡ Some e
-  was p e less at = same_below (slice_index ends (left + 1)) reached' reached kept_all p e (omega (arith, made.last_end)) at
+  was : (p : ℕ) (e : Deadline) → p < length entries → slice_get entries' p ≡ Some e → slice_get entries p ≡ Some e
+  was p e less at = same_below (slice_index ends (left + 1)) entries' entries kept_all p e (omega (arith, made.last_end)) at
 
   ends_rise : (h m : ℕ) → h + 1 ≤ m → m ≤ left + 1 → slice_index ends (h + 1) ≤ slice_index ends m
   ends_rise h zero le top = absurd (omega arith)
@@ -65,33 +65,32 @@ module _ (task : SearchTask) (is : IsTask task) (since : List ℕ) (d left : ℕ
     | inr other ↦ rw (← add-one m) (omega (arith, ends_rise h m (omega arith) (omega arith), made.rising m (omega arith)))
   ]
 
-  entry_kept : (h v a x : ℕ) → Entry ends reached h v a x → Entry ends' reached' h v a x
-  entry_kept h v a x e = elim (cases_lt left h) [
-    | inr early ↦ (e.0, omega (arith, end_before h (omega arith), e.1), omega (arith, end_before (h + 1) (omega arith), e.2), kept e.0 (record { node = v; arrival = a; deadline = x }) e.3)
+  entry_kept : (h v x : ℕ) → HasDeadline ends entries h v x → HasDeadline ends' entries' h v x
+  entry_kept h v x e = elim (cases_lt left h) [
+    | inr early ↦ (e.0, omega (arith, end_before h (omega arith), e.1), omega (arith, end_before (h + 1) (omega arith), e.2), kept e.0 (record { node = v; before = x }) e.3)
     | inl late_is ↦ absurd (omega (arith, index_past ends (h + 1) (omega (arith, made.many)), e.2))
   ]
 
-  entry_was : (h v a x : ℕ) → h ≤ left → Entry ends' reached' h v a x → Entry ends reached h v a x
-  entry_was h v a x le e =
+  entry_was : (h v x : ℕ) → h ≤ left → HasDeadline ends' entries' h v x → HasDeadline ends entries h v x
+  entry_was h v x le e =
       let above : slice_index ends (h + 1) ≤ slice_index ends (left + 1) = ends_rise h (left + 1) (omega arith) (omega arith) in
       let below : e.0 < slice_index ends (h + 1) = omega (arith, end_before (h + 1) (omega arith), e.2) in
-      (e.0, omega (arith, end_before h (omega arith), e.1), below, was e.0 (record { node = v; arrival = a; deadline = x }) (omega (arith, made.last_end)) e.3)
+      (e.0, omega (arith, end_before h (omega arith), e.1), below, was e.0 (record { node = v; before = x }) (omega (arith, made.last_end)) e.3)
 
   -- an entry of the new layer
-  entry_new : (h v a x : ℕ) → h ≡ left + 1 → Entry ends' reached' h v a x → (p : ℕ) × (slice_index ends (left + 1) ≤ p) × (slice_get reached' p ≡ Some (record { node = v; arrival = a; deadline = x }))
-  entry_new h v a x here e = (e.0, omega (arith, end_before (left + 1) (omega arith), ap (slice_index ends') here, e.1), e.3)
+  entry_new : (h v x : ℕ) → h ≡ left + 1 → HasDeadline ends' entries' h v x → (p : ℕ) × (slice_index ends (left + 1) ≤ p) × (slice_get entries' p ≡ Some (record { node = v; before = x }))
+  entry_new h v x here e = (e.0, omega (arith, end_before (left + 1) (omega arith), ap (slice_index ends') here, e.1), e.3)
 
   -- an entry that a step of the new layer is in time for
-  entry_for : (h w b : ℕ) → h ≡ left → InTimeFor reached' (slice_index ends left) (slice_index ends (left + 1)) w b → (c : ℕ) × (y : ℕ) × Entry ends' reached' h w c y × (b < y)
+  entry_for : (h w b : ℕ) → h ≡ left → InTimeFor entries' (slice_index ends left) (slice_index ends (left + 1)) w b → (y : ℕ) × HasDeadline ends' entries' h w y × (b < y)
   entry_for h w b same t =
-      let e : LayerEntry = t.1 in (
-        e.arrival,
-        e.deadline,
-        (t.0, omega (arith, end_before left (omega arith), ap (slice_index ends') same, t.2), omega (arith, end_before (left + 1) (omega arith), ap (λ k. slice_index ends' (k + 1)) same, t.3), t.4 ∙ ap (λ k. Some (record { node = k; arrival = e.arrival; deadline = e.deadline })) t.5),
+      let e : Deadline = t.1 in (
+        e.before,
+        (t.0, omega (arith, end_before left (omega arith), ap (slice_index ends') same, t.2), omega (arith, end_before (left + 1) (omega arith), ap (λ k. slice_index ends' (k + 1)) same, t.3), t.4 ∙ ap (λ k. Some (record { node = k; before = e.before })) t.5),
         t.6,
       )
 
-  apart' : (h p q : ℕ) (e f : LayerEntry) → h ≤ left + 1 → slice_index ends' h ≤ p → slice_index ends' h ≤ q → p < slice_index ends' (h + 1) → q < slice_index ends' (h + 1) → slice_get reached' p ≡ Some e → slice_get reached' q ≡ Some f → e.node ≡ f.node → p ≡ q
+  apart' : (h p q : ℕ) (e f : Deadline) → h ≤ left + 1 → slice_index ends' h ≤ p → slice_index ends' h ≤ q → p < slice_index ends' (h + 1) → q < slice_index ends' (h + 1) → slice_get entries' p ≡ Some e → slice_get entries' q ≡ Some f → e.node ≡ f.node → p ≡ q
   apart' h p q e f le above_p above_q below_p below_q at_p at_q same = elim (cases_eq h (left + 1)) [
     | inl here ↦
         (let lower : slice_index ends' h ≡ slice_index ends (left + 1) = ap (slice_index ends') here ∙ end_before (left + 1) (omega arith) in
@@ -99,67 +98,67 @@ module _ (task : SearchTask) (is : IsTask task) (since : List ℕ) (d left : ℕ
     | inr other ↦
         (let early : h ≤ left = omega arith in
         let rise : slice_index ends (h + 1) ≤ slice_index ends (left + 1) = ends_rise h (left + 1) (omega arith) (omega arith) in
-        let one : slice_get reached p ≡ Some e = was p e (omega (arith, made.last_end, end_before (h + 1) (omega arith))) at_p in
-        let two : slice_get reached q ≡ Some f = was q f (omega (arith, made.last_end, end_before (h + 1) (omega arith))) at_q in
+        let one : slice_get entries p ≡ Some e = was p e (omega (arith, made.last_end, end_before (h + 1) (omega arith))) at_p in
+        let two : slice_get entries q ≡ Some f = was q f (omega (arith, made.last_end, end_before (h + 1) (omega arith))) at_q in
         made.apart h p q e f early (omega (arith, end_before h (omega arith))) (omega (arith, end_before h (omega arith))) (omega (arith, end_before (h + 1) (omega arith))) (omega (arith, end_before (h + 1) (omega arith))) one two same)
   ]
 
   rising' : (j : ℕ) → j ≤ left + 1 → slice_index ends' j ≤ slice_index ends' (j + 1)
   rising' j le = elim (cases_eq j (left + 1)) [
     | inl here ↦ (let lower : slice_index ends' j ≡ slice_index ends (left + 1) = ap (slice_index ends') here ∙ end_before (left + 1) (omega arith) in
-        let upper : slice_index ends' (j + 1) ≡ length reached' = ap (λ k. slice_index ends' (k + 1)) here ∙ last' in
+        let upper : slice_index ends' (j + 1) ≡ length entries' = ap (λ k. slice_index ends' (k + 1)) here ∙ last' in
         omega (arith, after.begins))
     | inr other ↦ omega (arith, end_before j le, end_before (j + 1) (omega arith), made.rising j (omega arith))
   ]
 
-  sound' : (h v a x t : ℕ) → h < left + 1 → Entry ends' reached' (h + 1) v a x → t < x → (n : ℕ) × (w : ℕ) × (b : ℕ) × (c : ℕ) × (y : ℕ) × Takes task n v t w b × Entry ends' reached' h w c y × (b < y)
-  sound' h v a x t less e by = elim (last_or_before h left less) [
+  sound' : (h v x t : ℕ) → h < left + 1 → HasDeadline ends' entries' (h + 1) v x → t < x → (n : ℕ) × (w : ℕ) × (b : ℕ) × (y : ℕ) × Takes task n v t w b × HasDeadline ends' entries' h w y × (b < y)
+  sound' h v x t less e by = elim (last_or_before h left less) [
     | inl before ↦
-        (let s = made.sound h v a x t before (entry_was (h + 1) v a x (omega arith) e) by in
-        (s.0, s.1, s.2, s.3, s.4, s.5, entry_kept h s.1 s.3 s.4 s.6, s.7))
+        (let s = made.sound h v x t before (entry_was (h + 1) v x (omega arith) e) by in
+        (s.0, s.1, s.2, s.3, s.4, entry_kept h s.1 s.3 s.5, s.6))
     | inr same ↦
-        (let new = entry_new (h + 1) v a x (omega arith) e in
-        let s = after.sound new.0 (record { node = v; arrival = a; deadline = x }) t new.1 new.2 by in
+        (let new = entry_new (h + 1) v x (omega arith) e in
+        let s = after.sound new.0 (record { node = v; before = x }) t new.1 new.2 by in
         let to = entry_for h s.1 s.2 same s.4 in
-        (s.0, s.1, s.2, to.0, to.1, s.3, to.2, to.3))
+        (s.0, s.1, s.2, to.0, s.3, to.1, to.2))
   ]
 
   -- the newest entry of a node that isn't too late yet
-  newest : (v t : ℕ) → v < length task.table → t < slice_index late' v → (i : ℕ) × (a : ℕ) × (x : ℕ) × (i ≤ left + 1) × Entry ends' reached' i v a x × (t < x)
+  newest : (v t : ℕ) → v < length task.table → t < slice_index late' v → (i : ℕ) × (x : ℕ) × (i ≤ left + 1) × HasDeadline ends' entries' i v x × (t < x)
   newest v t inside by =
       let on = after.top v inside (omega arith) in
       let p : ℕ = slice_index place' v in
-      let within : p < length reached' = slice_get_within reached' p (record { node = v; arrival = on.0; deadline = slice_index late' v }) on.1 in
+      let within : p < length entries' = slice_get_within entries' p (record { node = v; before = slice_index late' v }) on in
       let layer = layer_of ends' p (left + 1 + 1) (end_before 0 (omega arith) ∙ made.first_end) (omega (arith, last')) in
-      (layer.0, on.0, slice_index late' v, omega (arith, layer.1), (p, layer.2, layer.3, on.1), by)
+      (layer.0, slice_index late' v, omega (arith, layer.1), (p, layer.2, layer.3, on), by)
 
-  taken' : (j w a x n u t b : ℕ) → j < left + 1 → Entry ends' reached' j w a x → b < x → Takes task n u t w b → IsToldBy task since (Entry ends' reached') j u t
-  taken' j w a x n u t b less e by step = elim (last_or_before j left less) [
+  taken' : (j w x n u t b : ℕ) → j < left + 1 → HasDeadline ends' entries' j w x → b < x → Takes task n u t w b → IsToldBy task since (HasDeadline ends' entries') j u t
+  taken' j w x n u t b less e by step = elim (last_or_before j left less) [
     | inl before ↦ λ unshut other soon.
-        (let r = made.taken j w a x n u t b before (entry_was j w a x (omega arith) e) by step unshut other soon in
-        (r.0, r.1, r.2, r.3, entry_kept r.0 u r.1 r.2 r.4, r.5))
+        (let r = made.taken j w x n u t b before (entry_was j w x (omega arith) e) by step unshut other soon in
+        (r.0, r.1, r.2, entry_kept r.0 u r.1 r.3, r.4))
     | inr same ↦ λ unshut other soon.
-        (let old : Entry ends reached left w a x = entry_was left w a x (omega arith) (rw same at e) in
-        let now = told old.0 (record { node = w; arrival = a; deadline = x }) n u t b old.1 old.2 old.3 step by unshut other soon in
+        (let old : HasDeadline ends entries left w x = entry_was left w x (omega arith) (rw same at e) in
+        let now = told old.0 (record { node = w; before = x }) n u t b old.1 old.2 old.3 step by unshut other soon in
         let r = newest u t (slice_get_within task.table u step.contact.from step.sender) now in
-        (r.0, r.1, r.2, omega (arith, r.3), r.4, r.5))
+        (r.0, r.1, omega (arith, r.2), r.3, r.4))
   ]
 
-  unmet' : (j w a x n b : ℕ) → j < left + 1 → Entry ends' reached' j w a x → b < x → Takes task n task.start task.at w b → ⊥
-  unmet' j w a x n b less e by step = elim (last_or_before j left less) [
-    | inl before ↦ made.unmet j w a x n b before (entry_was j w a x (omega arith) e) by step
-    | inr same ↦ unmet w a x n b (entry_was left w a x (omega arith) (rw same at e)) by step
+  unmet' : (j w x n b : ℕ) → j < left + 1 → HasDeadline ends' entries' j w x → b < x → Takes task n task.start task.at w b → ⊥
+  unmet' j w x n b less e by step = elim (last_or_before j left less) [
+    | inl before ↦ made.unmet j w x n b before (entry_was j w x (omega arith) e) by step
+    | inr same ↦ unmet w x n b (entry_was left w x (omega arith) (rw same at e)) by step
   ]
 
-  pub late_next : AreLateLayers task since d (left + 1) ends' late' place' reached'
+  pub late_next : AreLateLayers task since d (left + 1) ends' late' place' entries'
   late_next = record {
-    lists = nothing_past task since (slice_index ends left) (slice_index ends (left + 1)) _ _ late' place' reached' after last';
+    lists = nothing_past task (slice_index ends left) (slice_index ends (left + 1)) _ _ late' place' entries' after last';
     many = many';
     first_end = end_before 0 (omega arith) ∙ made.first_end;
     second_end = end_before 1 (omega arith) ∙ made.second_end;
     rising = rising';
     last_end = last';
-    goal_first = (made.goal_first.0, kept 0 (record { node = task.goal; arrival = made.goal_first.0; deadline = d + 1 }) made.goal_first.1);
+    goal_first = kept 0 (record { node = task.goal; before = d + 1 }) made.goal_first;
     apart = apart';
     sound = sound';
     taken = taken';
@@ -167,22 +166,22 @@ module _ (task : SearchTask) (is : IsTask task) (since : List ℕ) (d left : ℕ
   }
 
 -- the layers so far, and a step from the start
-module _ (task : SearchTask) (since : List ℕ) (d left : ℕ) (ends late place : List ℕ) (reached : List LayerEntry) (made : AreLateLayers task since d left ends late place reached) (n w b : ℕ) (step : Takes task n task.start task.at w b) where
+module _ (task : SearchTask) (since : List ℕ) (d left : ℕ) (ends late place : List ℕ) (entries : List Deadline) (made : AreLateLayers task since d left ends late place entries) (n w b : ℕ) (step : Takes task n task.start task.at w b) where
   -- if it is in time for its node, the start is in time for an entry of the last layer
-  pub met_by : b < slice_index late w → IsMet task left ends reached
+  pub met_by : b < slice_index late w → IsMet task left ends entries
   met_by by =
       let on = made.lists.top w (slice_get_within task.table w step.contact.to step.receiver) (omega arith) in
-      let within : slice_index place w < length reached = slice_get_within reached (slice_index place w) (record { node = w; arrival = on.0; deadline = slice_index late w }) on.1 in
+      let within : slice_index place w < length entries = slice_get_within entries (slice_index place w) (record { node = w; before = slice_index late w }) on in
       let layer = layer_of ends (slice_index place w) (left + 1) made.first_end (omega (arith, made.last_end)) in
-      let entry : Entry ends reached layer.0 w on.0 (slice_index late w) = (slice_index place w, layer.2, layer.3, on.1) in
+      let entry : HasDeadline ends entries layer.0 w (slice_index late w) = (slice_index place w, layer.2, layer.3, on) in
       elim (last_or_before layer.0 left (omega (arith, layer.1))) [
-        | inl before ↦ absurd (made.unmet layer.0 w on.0 (slice_index late w) n b before entry by step)
-        | inr same ↦ record { n = n; w = w; b = b; a = on.0; x = slice_index late w; step = step; entry = rw same at entry; in_time = by }
+        | inl before ↦ absurd (made.unmet layer.0 w (slice_index late w) n b before entry by step)
+        | inr same ↦ record { n = n; w = w; b = b; x = slice_index late w; step = step; entry = rw same at entry; in_time = by }
       ]
 
   -- if it comes too late for its node, it does so for each entry
-  pub unmet_by : (j a x : ℕ) → Entry ends reached j w a x → slice_index late w ≤ b → b < x → ⊥
-  unmet_by j a x e late_is by = omega (arith, made.lists.by e.0 (record { node = w; arrival = a; deadline = x }) e.3)
+  pub unmet_by : (j x : ℕ) → HasDeadline ends entries j w x → slice_index late w ≤ b → b < x → ⊥
+  unmet_by j x e late_is by = omega (arith, made.lists.by e.0 (record { node = w; before = x }) e.3)
 
 -- zeros stand in a list of them
 pub all_zero : (n k : ℕ) → slice_index (replicate n 0) k ≡ 0
@@ -205,36 +204,36 @@ named_none seconds none = record {
 }
 
 -- the goal alone
-pub late_first : (task : SearchTask) → IsTask task → (since : List ℕ) (d : ℕ) (ends late place : List ℕ) (reached : List LayerEntry) → ends ≡ 0 ∷ 1 ∷ [] → reached ≡ record { node = task.goal; arrival = d; deadline = d + 1 } ∷ [] →
-    length place ≡ length task.shut → slice_index place task.goal ≡ 0 → length late ≡ length task.shut → slice_index late task.goal ≡ d + 1 → ((k : ℕ) → k ≢ task.goal → slice_index late k ≡ 0) → AreLateLayers task since d 0 ends late place reached
-late_first task is since d ends late place reached ends_is reached_is places place_is many late_is none =
-    rw (ends_is, reached_is) (record {
+pub late_first : (task : SearchTask) → IsTask task → (since : List ℕ) (d : ℕ) (ends late place : List ℕ) (entries : List Deadline) → ends ≡ 0 ∷ 1 ∷ [] → entries ≡ record { node = task.goal; before = d + 1 } ∷ [] →
+    length place ≡ length task.shut → slice_index place task.goal ≡ 0 → length late ≡ length task.shut → slice_index late task.goal ≡ d + 1 → ((k : ℕ) → k ≢ task.goal → slice_index late k ≡ 0) → AreLateLayers task since d 0 ends late place entries
+late_first task is since d ends late place entries ends_is entries_is places place_is many late_is none =
+    rw (ends_is, entries_is) (record {
       lists = record {
         flags = omega (arith, places, is.as_many);
         many = omega (arith, many, is.as_many);
         later = omega arith;
         begins = omega arith;
         top = λ v less some. elim (cases_eq v task.goal) [
-          | inl same ↦ rw (same, place_is, late_is) (d, refl)
+          | inl same ↦ rw (same, place_is, late_is) refl
           | inr other ↦ absurd (omega (arith, some, none v other))
         ];
-        each = λ p e some at. absurd (omega (arith, slice_get_within (record { node = task.goal; arrival = d; deadline = d + 1 } ∷ []) p e at));
+        each = λ p e some at. absurd (omega (arith, slice_get_within (record { node = task.goal; before = d + 1 } ∷ []) p e at));
         by = λ p e at.
-            (let zero_is : p ≡ 0 = omega (arith, slice_get_within (record { node = task.goal; arrival = d; deadline = d + 1 } ∷ []) p e at) in
-            let is : record { node = task.goal; arrival = d; deadline = d + 1 } ≡ e = same_some (ap (slice_get (record { node = task.goal; arrival = d; deadline = d + 1 } ∷ [])) (sym zero_is) ∙ at) in
+            (let zero_is : p ≡ 0 = omega (arith, slice_get_within (record { node = task.goal; before = d + 1 } ∷ []) p e at) in
+            let is : record { node = task.goal; before = d + 1 } ≡ e = same_some (ap (slice_get (record { node = task.goal; before = d + 1 } ∷ [])) (sym zero_is) ∙ at) in
             rw (← is) (omega (arith, late_is)));
-        rising = λ p q e f some less at_p at_q same. absurd (omega (arith, slice_get_within (record { node = task.goal; arrival = d; deadline = d + 1 } ∷ []) p e at_p));
-        once = λ p e from at. absurd (omega (arith, slice_get_within (record { node = task.goal; arrival = d; deadline = d + 1 } ∷ []) p e at));
-        sound = λ p e t from at less. absurd (omega (arith, slice_get_within (record { node = task.goal; arrival = d; deadline = d + 1 } ∷ []) p e at));
+        rising = λ p q e f some less at_p at_q same. absurd (omega (arith, slice_get_within (record { node = task.goal; before = d + 1 } ∷ []) p e at_p));
+        once = λ p e from at. absurd (omega (arith, slice_get_within (record { node = task.goal; before = d + 1 } ∷ []) p e at));
+        sound = λ p e t from at less. absurd (omega (arith, slice_get_within (record { node = task.goal; before = d + 1 } ∷ []) p e at));
       };
       many = refl;
       first_end = refl;
       second_end = refl;
       rising = λ j le. (let zero_is : j ≡ 0 = omega arith in rw zero_is (omega arith));
       last_end = refl;
-      goal_first = (d, refl);
-      apart = λ h p q e f le above_p above_q below_p below_q at_p at_q same. omega (arith, slice_get_within (record { node = task.goal; arrival = d; deadline = d + 1 } ∷ []) p e at_p, slice_get_within (record { node = task.goal; arrival = d; deadline = d + 1 } ∷ []) q f at_q);
-      sound = λ h v a x t less e by. absurd (omega arith);
-      taken = λ j w a x n u t b less e by step. absurd (omega arith);
-      unmet = λ j w a x n b less e by step. omega arith;
+      goal_first = refl;
+      apart = λ h p q e f le above_p above_q below_p below_q at_p at_q same. omega (arith, slice_get_within (record { node = task.goal; before = d + 1 } ∷ []) p e at_p, slice_get_within (record { node = task.goal; before = d + 1 } ∷ []) q f at_q);
+      sound = λ h v x t less e by. absurd (omega arith);
+      taken = λ j w x n u t b less e by step. absurd (omega arith);
+      unmet = λ j w x n b less e by step. omega arith;
     })

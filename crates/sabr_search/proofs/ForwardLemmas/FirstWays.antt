@@ -7,13 +7,12 @@ use Rattle.std.proofs.lemmas.List.Sums.{count_by-le-length}
 use Rattle.std.proofs.lemmas.List.Elements.{at_read}
 use Rattle.std.proofs.lemmas.List.{length-replicate}
 use Rattle.std.proofs.lemmas.Option.{slice_get_within}
-use Rattle.sabr_search.specs.declared.forward.queue.Event.{Event}
+use Rattle.sabr_search.specs.declared.visit.Visit.{Visit}
 use Rattle.sabr_search.specs.declared.forward.layers.Best.{Best}
 use Rattle.sabr_search.specs.questions.Ways.{Leads}
 use Rattle.sabr_search.specs.questions.Task.{SearchTask, Takes, IsTask, never, latest_arrival}
 use Rattle.sabr_search.specs.questions.FirstSteps.{IsNoneBefore}
 use Rattle.sabr_search.specs.layers.Lists.{IsKnown, AreClosed}
-use Rattle.sabr_search.specs.layers.Reach.{cost_to}
 use Rattle.sabr_search.specs.questions.Steps.{senders, degree}
 use Rattle.sabr_search.specs.layers.Made.{AreOpened}
 use Rattle.sabr_search.specs.layers.Settling.{IsBound, IsWaiting, AreBy, settled_count, AreArrivalsBy, sent_by_settled, IsQueue, AreSettling, IsFallen, AreSettledTaken, AreSettled, IsFirstWay, IsWayTo}
@@ -30,11 +29,11 @@ pub goal_other : (task : SearchTask) → IsTask task → task.goal ≢ task.star
 goal_other task is same = both_ways (slice_index_or task.shut task.start false) (sym (ap (λ k. slice_index_or task.shut k false) same) ∙ is.goal_open) is.start_shut
 
 -- a node is settled and its contacts are taken
-module _ (task : SearchTask) (late near : List ℕ) (settled : List Bool) (u t : ℕ) (arrival0 : List ℕ) (best0 : Best) (arrival hops : List ℕ) (queue : List Event) (best : Best)
-    (state : AreSettling task late near (slice_set settled u true) u t arrival hops queue best) (fallen : IsFallen (slice_set settled u true) arrival0 best0 arrival best) (taken : AreSettledTaken task near (slice_set settled u true) arrival best.delivery)
+module _ (task : SearchTask) (late costs : List ℕ) (settled : List Bool) (u t : ℕ) (arrival0 : List ℕ) (best0 : Best) (arrival hops : List ℕ) (queue : List Visit) (best : Best)
+    (state : AreSettling task late costs (slice_set settled u true) u t arrival hops queue best) (fallen : IsFallen (slice_set settled u true) arrival0 best0 arrival best) (taken : AreSettledTaken task costs (slice_set settled u true) arrival best.delivery)
     (other : task.goal ≢ u) where
   pub settled_next : slice_index_or (slice_set settled u true) task.start false ≡ true → slice_index arrival0 task.start ≡ task.at → slice_index_or settled task.goal false ≡ false →
-      AreClosed task.shut arrival0 task.at → AreSettled task late near (slice_set settled u true) arrival hops queue best
+      AreClosed task.shut arrival0 task.at → AreSettled task late costs (slice_set settled u true) arrival hops queue best
   settled_next start reached goal closed = record {
     flags = state.flags;
     many = state.many;
@@ -66,14 +65,14 @@ pub sent_grows : (task : SearchTask) (settled : List Bool) (u : ℕ) → u < len
 sent_grows task settled u within unsettled = settled_more settled u (senders task) within unsettled
 
 -- a way on from an open node costs at least what the goal costs less from its end
-pub costs_fall : (task : SearchTask) → IsTask task → (late near : List ℕ) → IsBound task late near → (ns : List ℕ) (w b v t : ℕ) → slice_index_or task.shut w false ≡ false → task.request.at ≤ b → Leads (Takes task) w b ns v t → b + cost_to near w ≤ t + cost_to near v
-costs_fall task is late near bound [] w b v t open' since way = omega (arith, way.1, ap (cost_to near) way.0)
-costs_fall task is late near bound (n ∷ ns) w b v t open' since way =
+pub costs_fall : (task : SearchTask) → IsTask task → (late costs : List ℕ) → IsBound task late costs → (ns : List ℕ) (w b v t : ℕ) → slice_index_or task.shut w false ≡ false → task.request.at ≤ b → Leads (Takes task) w b ns v t → b + slice_index costs w ≤ t + slice_index costs v
+costs_fall task is late costs bound [] w b v t open' since way = omega (arith, way.1, ap (slice_index costs) way.0)
+costs_fall task is late costs bound (n ∷ ns) w b v t open' since way =
     let later = (takes_timely task is.nodes).later n w b way.0 way.1 way.2 in
-    omega (arith, bound.costs n w b way.0 way.1 way.2 open' since, costs_fall task is late near bound ns way.0 way.1 v t way.2.unshut (omega (arith, later, since)) way.3)
+    omega (arith, bound.lowers n w b way.0 way.1 way.2 open' since, costs_fall task is late costs bound ns way.0 way.1 v t way.2.unshut (omega (arith, later, since)) way.3)
 
 -- the search stops when no event comes before the delivery
-module _ (task : SearchTask) (is : IsTask task) (bounds near : List ℕ) (bound : IsBound task bounds near) (settled : List Bool) (arrival hops : List ℕ) (queue : List Event) (best : Best) (was : AreSettled task bounds near settled arrival hops queue best) where
+module _ (task : SearchTask) (is : IsTask task) (bounds costs : List ℕ) (bound : IsBound task bounds costs) (settled : List Bool) (arrival hops : List ℕ) (queue : List Visit) (best : Best) (was : AreSettled task bounds costs settled arrival hops queue best) where
   -- a node is settled with that arrival, or it is too late there
   abbrev IsKnownAt : ℕ → ℕ → Type 0
   IsKnownAt v a = ((slice_index_or settled v false ≡ true) × (slice_index arrival v ≡ a)) ⊎ ((slice_index_or task.shut v false ≡ false) × (slice_index_or bounds v never ≤ a))
@@ -84,7 +83,7 @@ module _ (task : SearchTask) (is : IsTask task) (bounds near : List ℕ) (bound 
     | inr late ↦ omega (arith, late.1, bound.goal, was.sooner)
   ]
 
-  steps_taken : (v a n w b : ℕ) → IsKnownAt v a → Takes task n v a w b → (best.delivery ≤ b + cost_to near w) ⊎ (((c : ℕ) × (c ≤ b) × IsKnownAt w c) ⊎ ((c : ℕ) × (c ≤ b) × IsWaiting queue w (c + cost_to near w)))
+  steps_taken : (v a n w b : ℕ) → IsKnownAt v a → Takes task n v a w b → (best.delivery ≤ b + slice_index costs w) ⊎ (((c : ℕ) × (c ≤ b) × IsKnownAt w c) ⊎ ((c : ℕ) × (c ≤ b) × IsWaiting queue w (c + slice_index costs w)))
   steps_taken v a n w b known step = elim known [
     | inr late ↦ elim (cases_eq v task.goal) [
       | inl same ↦
@@ -108,13 +107,13 @@ module _ (task : SearchTask) (is : IsTask task) (bounds near : List ℕ) (bound 
   ]
 
   -- each way comes to a node no sooner than the arrival that is known there, or delivers no sooner than the delivery
-  reached_by : ((f : Event) → Contains queue f → best.delivery ≤ f.at) → (ns : List ℕ) (u a s v t : ℕ) → IsKnownAt u a → a ≤ s → task.request.at ≤ s → Leads (Takes task) u s ns v t →
-      (best.delivery ≤ t + cost_to near v) ⊎ ((c : ℕ) × (c ≤ t) × IsKnownAt v c)
+  reached_by : ((f : Visit) → Contains queue f → best.delivery ≤ f.at) → (ns : List ℕ) (u a s v t : ℕ) → IsKnownAt u a → a ≤ s → task.request.at ≤ s → Leads (Takes task) u s ns v t →
+      (best.delivery ≤ t + slice_index costs v) ⊎ ((c : ℕ) × (c ≤ t) × IsKnownAt v c)
   reached_by stop [] u a s v t known by since way = inr (a, omega (arith, way.1), rw way.0 at known)
   reached_by stop (n ∷ ns) u a s v t known by since way =
       let later : task.request.at ≤ way.1 = omega (arith, since, (takes_timely task is.nodes).later n u s way.0 way.1 way.2) in
       let first = (takes_timely task is.nodes).earlier n u s way.0 way.1 a way.2 by in
-      let after : way.1 + cost_to near way.0 ≤ t + cost_to near v = costs_fall task is bounds near bound ns way.0 way.1 v t way.2.unshut later way.3 in
+      let after : way.1 + slice_index costs way.0 ≤ t + slice_index costs v = costs_fall task is bounds costs bound ns way.0 way.1 v t way.2.unshut later way.3 in
       elim (steps_taken u a n way.0 first.0 known first.2) [
         | inl late ↦ inl (omega (arith, late, first.1, after))
         | inr found ↦ elim found [
@@ -145,7 +144,7 @@ module _ (task : SearchTask) (is : IsTask task) (bounds near : List ℕ) (bound 
     ];
   }
 
-  pub first_found : ((f : Event) → Contains queue f → best.delivery ≤ f.at) → IsFirstWay task best
+  pub first_found : ((f : Visit) → Contains queue f → best.delivery ≤ f.at) → IsFirstWay task best
   first_found stop = way_found (λ ns e way.
       elim (reached_by stop ns task.start task.at task.at task.goal e (inl (was.start_settled, was.start_reached)) (omega arith) bound.since way) [
         | inl late ↦ omega (arith, late, bound.there)
@@ -158,16 +157,16 @@ module _ (task : SearchTask) (is : IsTask task) (bounds near : List ℕ) (bound 
     | inr late ↦ omega (arith, was.lowered v late.0, late.1)
   ]
 
-  pub arrivals_found : ((f : Event) → Contains queue f → best.delivery ≤ f.at) → AreArrivalsBy task near arrival best.delivery
+  pub arrivals_found : ((f : Visit) → Contains queue f → best.delivery ≤ f.at) → AreArrivalsBy task costs arrival best.delivery
   arrivals_found stop ns v t some way = elim (reached_by stop ns task.start task.at task.at v t (inl (was.start_settled, was.start_reached)) (omega arith) bound.since way) [
     | inl late ↦ omega (arith, late)
     | inr by ↦ omega (arith, by.1, known_arrival v by.0 by.2)
   ]
 
 -- an event of a settled node goes
-pub settled_stale : (task : SearchTask) (late near : List ℕ) (settled : List Bool) (arrival hops : List ℕ) (queue queue' : List Event) (best : Best) → AreSettled task late near settled arrival hops queue best → IsQueue task late near settled arrival queue' →
-    AreSettled task late near settled arrival hops queue' best
-settled_stale task late near settled arrival hops queue queue' best was rest = record {
+pub settled_stale : (task : SearchTask) (late costs : List ℕ) (settled : List Bool) (arrival hops : List ℕ) (queue queue' : List Visit) (best : Best) → AreSettled task late costs settled arrival hops queue best → IsQueue task late costs settled arrival queue' →
+    AreSettled task late costs settled arrival hops queue' best
+settled_stale task late costs settled arrival hops queue queue' best was rest = record {
   flags = was.flags;
   many = was.many;
   start_settled = was.start_settled;
@@ -217,14 +216,14 @@ module _ (task : SearchTask) (is : IsTask task) (off settled : List Bool) (u : �
   pub start_sent : sent_by_settled task settled ≡ degree task task.start
   start_sent = omega (arith, ap (sent_by_settled task) settled_is, sent_grows task off u off_within (off_at u), count_none (senders task), ap (degree task) u_is)
 
-  module _ (late near : List ℕ) (arrival : List ℕ) (opened : AreOpened task late arrival) where
+  module _ (late costs : List ℕ) (arrival : List ℕ) (opened : AreOpened task late arrival) where
     opened_by : AreBy task late arrival
     opened_by k open' = elim (cases_lt k (length arrival)) [
       | inl within ↦ omega (arith, opened.unreached k within open')
       | inr past ↦ omega (arith, index_past arrival k past)
     ]
 
-    pub start_state : IsBound task late near → (hops : List ℕ) (queue : List Event) (best : Best) → length hops ≡ length task.shut → queue ≡ [] → best.hops ≡ 0 → best.delivery ≡ latest_arrival + 1 → AreSettling task late near settled u task.at arrival (slice_set hops u 0) queue best
+    pub start_state : IsBound task late costs → (hops : List ℕ) (queue : List Visit) (best : Best) → length hops ≡ length task.shut → queue ≡ [] → best.hops ≡ 0 → best.delivery ≡ latest_arrival + 1 → AreSettling task late costs settled u task.at arrival (slice_set hops u 0) queue best
     start_state bound hops queue best hops_many empty none delivery = rw empty (record {
       on = ap (λ k. slice_index_or settled k false) u_is ∙ start_on;
       real = ([], sym no_hops, (sym u_is, refl));
@@ -253,8 +252,8 @@ module _ (task : SearchTask) (is : IsTask task) (off settled : List Bool) (u : �
         no_hops = set_here hops u 0 (omega (arith, hops_many, u_is, is.start_in, is.as_many))
 
     -- and once all of them are taken
-    pub start_settled : (t : ℕ) (arrival' hops : List ℕ) (queue : List Event) (best0 best : Best) → AreSettling task late near settled u t arrival' hops queue best → IsFallen settled arrival best0 arrival' best →
-        ((n w x : ℕ) → Takes task n task.start task.at w x → IsKnown task.goal arrival' (best.delivery - cost_to near w) w x) → AreSettled task late near settled arrival' hops queue best
+    pub start_settled : (t : ℕ) (arrival' hops : List ℕ) (queue : List Visit) (best0 best : Best) → AreSettling task late costs settled u t arrival' hops queue best → IsFallen settled arrival best0 arrival' best →
+        ((n w x : ℕ) → Takes task n task.start task.at w x → IsKnown task.goal arrival' (best.delivery - slice_index costs w) w x) → AreSettled task late costs settled arrival' hops queue best
     start_settled t arrival' hops queue best0 best state fallen known =
         let start_at : slice_index arrival' task.start ≡ task.at = fallen.kept task.start start_on ∙ opened.start in
         record {
@@ -278,10 +277,10 @@ module _ (task : SearchTask) (is : IsTask task) (off settled : List Bool) (u : �
         }
 
 -- what holds after the node of the earliest event is settled
-module _ (task : SearchTask) (is : IsTask task) (late near : List ℕ) (settled : List Bool) (arrival0 hops0 : List ℕ) (queue0 queue : List Event) (best0 : Best) (e : Event) (was : AreSettled task late near settled arrival0 hops0 queue0 best0)
-    (moved : IsPermutation queue0 (e ∷ queue)) (first : All (λ (f : Event). e.at ≤ f.at) queue) (unsettled : slice_index_or settled e.node false ≡ false) where
+module _ (task : SearchTask) (is : IsTask task) (late costs : List ℕ) (settled : List Bool) (arrival0 hops0 : List ℕ) (queue0 queue : List Visit) (best0 : Best) (e : Visit) (was : AreSettled task late costs settled arrival0 hops0 queue0 best0)
+    (moved : IsPermutation queue0 (e ∷ queue)) (first : All (λ (f : Visit). e.at ≤ f.at) queue) (unsettled : slice_index_or settled e.node false ≡ false) where
   pub next_within : e.node < length settled
-  next_within = omega (arith, was.many, was.flags, head_inside task late near settled arrival0 queue0 queue e was.queue_is moved first)
+  next_within = omega (arith, was.many, was.flags, head_inside task late costs settled arrival0 queue0 queue e was.queue_is moved first)
 
   pub next_sent : sent_by_settled task settled + degree task e.node ≡ sent_by_settled task (slice_set settled e.node true)
   next_sent = sym (sent_grows task settled e.node next_within unsettled)
@@ -291,23 +290,23 @@ module _ (task : SearchTask) (is : IsTask task) (late near : List ℕ) (settled 
 
   next_way : IsWayTo task e.node (slice_index hops0 e.node) (slice_index arrival0 e.node)
   next_way =
-      (was.hops_are.ways e.node (head_inside task late near settled arrival0 queue0 queue e was.queue_is moved first) (head_open task late near settled arrival0 queue0 queue e was.queue_is moved first)
-      (head_soon task late near settled arrival0 queue0 queue e was.queue_is moved first)).1
+      (was.hops_are.ways e.node (head_inside task late costs settled arrival0 queue0 queue e was.queue_is moved first) (head_open task late costs settled arrival0 queue0 queue e was.queue_is moved first)
+      (head_soon task late costs settled arrival0 queue0 queue e was.queue_is moved first)).1
 
-  pub next_state : IsBound task late near → AreSettling task late near (slice_set settled e.node true) e.node (slice_index arrival0 e.node) arrival0 hops0 queue best0
+  pub next_state : IsBound task late costs → AreSettling task late costs (slice_set settled e.node true) e.node (slice_index arrival0 e.node) arrival0 hops0 queue best0
   next_state bound =
       let since : task.at ≤ slice_index arrival0 e.node = Leads-later (Takes task) (takes_timely task is.nodes) next_way.0 task.start task.at e.node (slice_index arrival0 e.node) next_way.2 in
-      settles task late near settled arrival0 queue0 queue e was.queue_is moved first next_within unsettled hops0 best0 bound was.flags was.many was.closed since was.lowered was.sooner was.goal_late was.found was.hops_are
+      settles task late costs settled arrival0 queue0 queue e was.queue_is moved first next_within unsettled hops0 best0 bound was.flags was.many was.closed since was.lowered was.sooner was.goal_late was.found was.hops_are
 
   pub next_counted : (settled' : List Bool) (old new : ℕ) → settled' ≡ slice_set settled e.node true → old ≤ new + sent_by_settled task settled + degree task e.node → old ≤ new + sent_by_settled task settled'
   next_counted settled' old new settled_is le = omega (arith, ap (sent_by_settled task) settled_is, next_sent)
 
-  pub next_settled : (settled' : List Bool) (arrival hops : List ℕ) (queue' : List Event) (best : Best) → settled' ≡ slice_set settled e.node true →
-      AreSettling task late near (slice_set settled e.node true) e.node (slice_index arrival0 e.node) arrival hops queue' best → IsFallen (slice_set settled e.node true) arrival0 best0 arrival best → AreSettledTaken task near (slice_set settled e.node true) arrival best.delivery →
-      AreSettled task late near settled' arrival hops queue' best
+  pub next_settled : (settled' : List Bool) (arrival hops : List ℕ) (queue' : List Visit) (best : Best) → settled' ≡ slice_set settled e.node true →
+      AreSettling task late costs (slice_set settled e.node true) e.node (slice_index arrival0 e.node) arrival hops queue' best → IsFallen (slice_set settled e.node true) arrival0 best0 arrival best → AreSettledTaken task costs (slice_set settled e.node true) arrival best.delivery →
+      AreSettled task late costs settled' arrival hops queue' best
   next_settled settled' arrival hops queue' best settled_is state fallen taken =
-      let other : task.goal ≢ e.node = λ same. head_other task late near settled arrival0 queue0 queue e was.queue_is moved first (sym same) in
-      rw settled_is (settled_next task late near settled e.node (slice_index arrival0 e.node) arrival0 best0 arrival hops queue' best state fallen taken other
+      let other : task.goal ≢ e.node = λ same. head_other task late costs settled arrival0 queue0 queue e was.queue_is moved first (sym same) in
+      rw settled_is (settled_next task late costs settled e.node (slice_index arrival0 e.node) arrival0 best0 arrival hops queue' best state fallen taken other
       (flag_stays settled e.node task.start next_within was.start_settled) was.start_reached was.goal_unsettled was.closed)
 
 -- what a `Vec` of flags has at an index, at the usual default

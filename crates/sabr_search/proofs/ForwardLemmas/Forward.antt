@@ -4,7 +4,7 @@ use Rattle.std.proofs.lemmas.Bool.{cases_lt, cases_eq}
 use Rattle.sabr_model.specs.declared.contact.Contact.{Contact}
 use Rattle.sabr_model.specs.declared.hop.Hop.{Hop}
 use Rattle.sabr_model.specs.plan.Plan.{contact_named, has}
-use Rattle.sabr_search.specs.declared.forward.layers.LayerEntry.{LayerEntry}
+use Rattle.sabr_search.specs.declared.visit.Visit.{Visit}
 use Rattle.sabr_search.specs.questions.Task.{SearchTask, Takes, IsTask}
 use Rattle.sabr_search.specs.questions.Steps.{IsHopAt}
 use Rattle.sabr_model.specs.routes.Hops.{hop_arrival}
@@ -13,7 +13,7 @@ use Rattle.sabr_search.proofs.LinkLemmas.PlanFacts.{hop_arrival_is}
 use Rattle.sabr_search.proofs.WayLemmas.RoutesAndWays.{same_some}
 
 -- nothing was taken
-pub lowered_none : (shut : List Bool) (goal at begin : ℕ) (Given : Arrivals) (arrival place : List ℕ) (reached : List LayerEntry) (best : ℕ) →
+pub lowered_none : (shut : List Bool) (goal at begin : ℕ) (Given : Arrivals) (arrival place : List ℕ) (reached : List Visit) (best : ℕ) →
     AreLists shut goal at begin arrival place reached → IsLowered shut goal at begin Given arrival reached best arrival place reached best
 lowered_none shut goal at begin Given arrival place reached best lists = record {
   lists = lists;
@@ -25,7 +25,7 @@ lowered_none shut goal at begin Given arrival place reached best lists = record 
 }
 
 -- more steps after some steps, if what the first are given is also given to the second
-pub lowered_more : (shut : List Bool) (goal at begin : ℕ) (Given Given' : Arrivals) (arrival0 : List ℕ) (reached0 : List LayerEntry) (best0 : ℕ) (arrival1 place1 : List ℕ) (reached1 : List LayerEntry) (best1 : ℕ) (arrival2 place2 : List ℕ) (reached2 : List LayerEntry) (best2 : ℕ) →
+pub lowered_more : (shut : List Bool) (goal at begin : ℕ) (Given Given' : Arrivals) (arrival0 : List ℕ) (reached0 : List Visit) (best0 : ℕ) (arrival1 place1 : List ℕ) (reached1 : List Visit) (best1 : ℕ) (arrival2 place2 : List ℕ) (reached2 : List Visit) (best2 : ℕ) →
     ((w x : ℕ) → Given' w x → Given w x) →
     IsLowered shut goal at begin Given arrival0 reached0 best0 arrival1 place1 reached1 best1 → IsLowered shut goal at begin Given' arrival1 reached1 best1 arrival2 place2 reached2 best2 →
     IsLowered shut goal at begin Given arrival0 reached0 best0 arrival2 place2 reached2 best2
@@ -39,7 +39,7 @@ lowered_more shut goal at begin Given Given' arrival0 reached0 best0 arrival1 pl
       | inl older ↦ inl (older.0, old.1 ∙ older.1)
       | inr given ↦ inr (rw old.1 given)
     ]
-    | inr given ↦ inr (weaker (slice_index_or reached2 p d).node (slice_index_or reached2 p d).arrival given)
+    | inr given ↦ inr (weaker (slice_index_or reached2 p d).node (slice_index_or reached2 p d).at given)
   ];
   found = elim two.found [
     | inl same ↦ (elim one.found [ inl older ↦ inl (same ∙ older) | inr given ↦ inr (subst (Given goal) (sym same) given) ])

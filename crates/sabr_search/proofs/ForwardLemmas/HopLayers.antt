@@ -10,26 +10,26 @@ module _ (T : StepRelation) (timely : IsTimely T) (E : Entries) where
       (ns : List ℕ) (k v t w e : ℕ) → k + length ns ≤ m → ReachedBy E k v t → Leads T v t ns w e →
       (best ≤ e) ⊎ ReachedBy E (k + length ns) w e
   reached_on m best taken [] k v t w e le r h =
-      inr (r.0, r.1, r.2, omega arith, omega (arith, r.4, h.1), rw (← h.0) r.5)
+      inr (r.0, r.1, omega arith, omega (arith, r.3, h.1), rw (← h.0) r.4)
   reached_on m best taken (n ∷ ns) k v t w e le r h =
-      let first = timely.earlier n v t h.0 h.1 r.1 h.2 r.4 in
+      let first = timely.earlier n v t h.0 h.1 r.1 h.2 r.3 in
       let after : h.1 ≤ e = Leads-later T timely ns h.0 h.1 w e h.3 in
-      elim (taken r.0 v r.1 r.2 n h.0 first.0 (omega (arith, r.3)) r.5 first.2) [
+      elim (taken r.0 v r.1 n h.0 first.0 (omega (arith, r.2)) r.4 first.2) [
         | inl late ↦ inl (omega (arith, late, first.1, after))
         | inr found ↦
-            let at : ReachedBy E (k + 1) h.0 h.1 = (found.0, found.1, found.2, omega (arith, found.3, r.3), omega (arith, found.4, first.1), found.5) in
+            let at : ReachedBy E (k + 1) h.0 h.1 = (found.0, found.1, omega (arith, found.2, r.2), omega (arith, found.3, first.1), found.4) in
             elim (reached_on m best taken ns (k + 1) h.0 h.1 w e (omega arith) at h.3) [
               | inl late ↦ inl late
-              | inr last ↦ inr (last.0, last.1, last.2, omega (arith, last.3), last.4, last.5)
+              | inr last ↦ inr (last.0, last.1, omega (arith, last.2), last.3, last.4)
             ]
       ]
 
-module _ (T : StepRelation) (timely : IsTimely T) (E : Entries) (start at goal first : ℕ) (begins : E 0 start at first) (never : (h a x : ℕ) → E h goal a x → ⊥) where
+module _ (T : StepRelation) (timely : IsTimely T) (E : Entries) (start at goal : ℕ) (begins : E 0 start at) (never : (h a : ℕ) → E h goal a → ⊥) where
   -- once all layers below m are taken, no way of at most m hops comes before `best`
   pub none_sooner : (m best : ℕ) → IsTaken T E m best → (ns : List ℕ) (e : ℕ) → length ns ≤ m → Leads T start at ns goal e → best ≤ e
   none_sooner m best taken ns e le way =
-      let at' : ReachedBy E 0 start at = (0, at, first, omega arith, omega arith, begins) in
+      let at' : ReachedBy E 0 start at = (0, at, omega arith, omega arith, begins) in
       elim (reached_on T timely E m best taken ns 0 start at goal e (omega (arith, le)) at' way) [
         | inl late ↦ late
-        | inr found ↦ absurd (never found.0 found.1 found.2 found.5)
+        | inr found ↦ absurd (never found.0 found.1 found.4)
       ]

@@ -11,11 +11,12 @@ use Rattle.sabr_model.specs.declared.contact.Contact.{Contact}
 use Rattle.sabr_model.specs.plan.Plan.{has}
 use Rattle.sabr_model.proofs.ListLemmas.Members.{map_in, Contains-from_in}
 use Rattle.sabr_model.proofs.RouteLemmas.Listed.{in_from_has}
-use Rattle.sabr_search.specs.declared.forward.layers.LayerEntry.{LayerEntry}
+use Rattle.sabr_search.specs.declared.visit.Visit.{Visit}
+use Rattle.sabr_search.specs.declared.backward.deadlines.Deadline.{Deadline}
 use Rattle.sabr_search.specs.questions.Task.{SearchTask}
 use Rattle.sabr_search.specs.questions.Steps.{place_in, senders, degree, sent_by_all, receivers, received, received_by_all}
-use Rattle.sabr_search.specs.layers.Lists.{nodes_between, AreSources}
-use Rattle.sabr_search.specs.layers.Deadlines.{IsApart}
+use Rattle.sabr_search.specs.layers.Lists.{nodes_from, nodes_between, AreSources}
+use Rattle.sabr_search.specs.layers.Deadlines.{IsApart, late_between}
 use Rattle.sabr_search.proofs.LinkLemmas.StepLists.{senders_length}
 
 -- lists that begin alike have the same elements there
@@ -27,24 +28,24 @@ same_below (suc k) (x' ∷ xs) (y ∷ ys) e zero x less at = let same : x' ≡ y
 same_below (suc k) (x' ∷ xs) (y ∷ ys) e (suc p) x less at = same_below k xs ys (let rest : take k xs ≡ take k ys = cc (e) in rest) p x (omega arith) at
 
 -- an entry more
-pub between_more : (reached : List LayerEntry) (first place : ℕ) (e : LayerEntry) → first ≤ place → slice_get reached place ≡ Some e → nodes_between reached first (place + 1) ≡ nodes_between reached first place ++ e.node ∷ []
-between_more reached first place e le at =
-    let inside : place < length reached = slice_get_within reached place e at in
-    let more : take (place + 1) reached ≡ take place reached ++ e ∷ [] = take_more reached place e inside ∙ ap (λ x. take place reached ++ x ∷ []) (get_or_from_slice_get reached place e e at) in
-    let front : drop first (take place reached ++ e ∷ []) ≡ drop first (take place reached) ++ e ∷ [] = drop-append-le first (take place reached) (e ∷ []) (omega (arith, length-take place reached)) in
-    ap (λ xs. map (λ (x : LayerEntry). x.node) (drop first xs)) more ∙ ap (map (λ (x : LayerEntry). x.node)) front ∙ map-append (λ (x : LayerEntry). x.node) (drop first (take place reached)) (e ∷ [])
+pub between_more : {X : Type 0} (node : X → ℕ) (entries : List X) (first place : ℕ) (e : X) → first ≤ place → slice_get entries place ≡ Some e → nodes_from node entries first (place + 1) ≡ nodes_from node entries first place ++ node e ∷ []
+between_more node entries first place e le at =
+    let inside : place < length entries = slice_get_within entries place e at in
+    let more : take (place + 1) entries ≡ take place entries ++ e ∷ [] = take_more entries place e inside ∙ ap (λ x. take place entries ++ x ∷ []) (get_or_from_slice_get entries place e e at) in
+    let front : drop first (take place entries ++ e ∷ []) ≡ drop first (take place entries) ++ e ∷ [] = drop-append-le first (take place entries) (e ∷ []) (omega (arith, length-take place entries)) in
+    ap (λ xs. map node (drop first xs)) more ∙ ap (map node) front ∙ map-append node (drop first (take place entries)) (e ∷ [])
 
 -- a node among them is that of an entry there
-pub between_at : (reached : List LayerEntry) (first place u : ℕ) → has u (nodes_between reached first place) ≡ true → (p : ℕ) × (e : LayerEntry) × (first ≤ p) × (p < place) × (slice_get reached p ≡ Some e) × (e.node ≡ u)
-between_at reached first place u h =
-    let m = map_in (λ (x : LayerEntry). x.node) u (drop first (take place reached)) (in_from_has u (nodes_between reached first place) h) in
-    let c = Contains-from_in (drop first (take place reached)) m.0 m.1 in
-    let sizes : length (drop first (take place reached)) ≡ length (take place reached) - first = length-drop first (take place reached) in
-    let below = length-take place reached in
-    let near : first + c.0 < length reached = omega (arith, c.1, sizes, below) in
-    let there : slice_index_or reached (first + c.0) m.0 ≡ m.0 =
-    sym (get_or-take place reached (first + c.0) m.0 (omega (arith, c.1, sizes, below))) ∙ sym (get_or-drop first (take place reached) c.0 m.0) ∙ c.2 in
-    (first + c.0, m.0, omega arith, omega (arith, c.1, sizes, below), slice_get-get_or reached (first + c.0) m.0 near ∙ ap Some there, sym m.2)
+pub between_at : {X : Type 0} (node : X → ℕ) (entries : List X) (first place u : ℕ) → has u (nodes_from node entries first place) ≡ true → (p : ℕ) × (e : X) × (first ≤ p) × (p < place) × (slice_get entries p ≡ Some e) × (node e ≡ u)
+between_at node entries first place u h =
+    let m = map_in node u (drop first (take place entries)) (in_from_has u (nodes_from node entries first place) h) in
+    let c = Contains-from_in (drop first (take place entries)) m.0 m.1 in
+    let sizes : length (drop first (take place entries)) ≡ length (take place entries) - first = length-drop first (take place entries) in
+    let below = length-take place entries in
+    let near : first + c.0 < length entries = omega (arith, c.1, sizes, below) in
+    let there : slice_index_or entries (first + c.0) m.0 ≡ m.0 =
+    sym (get_or-take place entries (first + c.0) m.0 (omega (arith, c.1, sizes, below))) ∙ sym (get_or-drop first (take place entries) c.0 m.0) ∙ c.2 in
+    (first + c.0, m.0, omega arith, omega (arith, c.1, sizes, below), slice_get-get_or entries (first + c.0) m.0 near ∙ ap Some there, sym m.2)
 
 count_more : (nodes fs : List ℕ) (u : ℕ) → has u nodes ≡ false → count_by (λ k. has k (nodes ++ u ∷ [])) fs ≡ count_by (λ k. has k nodes) fs + count_by (λ k. eqb k u) fs
 count_more nodes [] u fresh = refl
@@ -67,41 +68,41 @@ pub sent_at_most : (task : SearchTask) (nodes : List ℕ) → sent_by_all task n
 sent_at_most task nodes = omega (arith, count_by-le-length (λ k. has k nodes) (senders task), senders_length task)
 
 -- an entry that is read below what stays is the one of before
-pub entry_read : (reached reached0 : List LayerEntry) (begin place : ℕ) (e : LayerEntry) → take begin reached ≡ take begin reached0 → place < begin → begin ≤ length reached → e ≡ slice_index_or reached place e → slice_get reached0 place ≡ Some e
+pub entry_read : {X : Type 0} (reached reached0 : List X) (begin place : ℕ) (e : X) → take begin reached ≡ take begin reached0 → place < begin → begin ≤ length reached → e ≡ slice_index_or reached place e → slice_get reached0 place ≡ Some e
 entry_read reached reached0 begin place e before less within is =
     same_below begin reached reached0 before place e less (slice_get_read reached (length reached) place e refl (omega arith) is)
 
 -- the node of the next entry is not among those of the entries before it
-pub fresh_node : (reached : List LayerEntry) (first begin place : ℕ) (e : LayerEntry) →
-    ((p q : ℕ) (f g : LayerEntry) → first ≤ p → first ≤ q → p < begin → q < begin → slice_get reached p ≡ Some f → slice_get reached q ≡ Some g → f.node ≡ g.node → p ≡ q) →
-    first ≤ place → place < begin → slice_get reached place ≡ Some e → has e.node (nodes_between reached first place) ≡ false
-fresh_node reached first begin place e apart le less at =
-    false_from_ne_true (has e.node (nodes_between reached first place)) (λ h.
-    (let m = between_at reached first place e.node h in
+pub fresh_node : {X : Type 0} (node : X → ℕ) (entries : List X) (first begin place : ℕ) (e : X) →
+    ((p q : ℕ) (f g : X) → first ≤ p → first ≤ q → p < begin → q < begin → slice_get entries p ≡ Some f → slice_get entries q ≡ Some g → node f ≡ node g → p ≡ q) →
+    first ≤ place → place < begin → slice_get entries place ≡ Some e → has (node e) (nodes_from node entries first place) ≡ false
+fresh_node node entries first begin place e apart le less at =
+    false_from_ne_true (has (node e) (nodes_from node entries first place)) (λ h.
+    (let m = between_at node entries first place (node e) h in
     let same = apart m.0 place m.1 e m.2 le (omega (arith, m.3)) less m.4 at m.5 in
     omega (arith, m.3)))
 
 -- so their contacts together are no more than those of the plan
-pub sent_next : (task : SearchTask) (reached : List LayerEntry) (first begin place : ℕ) (e : LayerEntry) → AreSources task reached first begin → first ≤ place → place < begin → slice_get reached place ≡ Some e →
+pub sent_next : (task : SearchTask) (reached : List Visit) (first begin place : ℕ) (e : Visit) → AreSources task reached first begin → first ≤ place → place < begin → slice_get reached place ≡ Some e →
     sent_by_all task (nodes_between reached first place) + degree task e.node ≡ sent_by_all task (nodes_between reached first (place + 1))
 sent_next task reached first begin place e sources le less at =
-    sym (ap (sent_by_all task) (between_more reached first place e le at) ∙ sent_more task (nodes_between reached first place) e.node (fresh_node reached first begin place e sources.apart le less at))
+    sym (ap (sent_by_all task) (between_more (λ (x : Visit). x.node) reached first place e le at) ∙ sent_more task (nodes_between reached first place) e.node (fresh_node (λ (x : Visit). x.node) reached first begin place e sources.apart le less at))
 
 -- and the contacts that they receive
-pub received_next : (task : SearchTask) (ends : List ℕ) (reached : List LayerEntry) (left place : ℕ) (e : LayerEntry) → IsApart ends reached left → slice_index ends left ≤ place → place < slice_index ends (left + 1) → slice_get reached place ≡ Some e →
-    received_by_all task (nodes_between reached (slice_index ends left) place) + received task e.node ≡ received_by_all task (nodes_between reached (slice_index ends left) (place + 1))
-received_next task ends reached left place e apart le less at =
-    sym (ap (received_by_all task) (between_more reached (slice_index ends left) place e le at)
-    ∙ count_more (nodes_between reached (slice_index ends left) place) (receivers task) e.node (fresh_node reached (slice_index ends left) (slice_index ends (left + 1)) place e apart le less at))
+pub received_next : (task : SearchTask) (ends : List ℕ) (entries : List Deadline) (left place : ℕ) (e : Deadline) → IsApart ends entries left → slice_index ends left ≤ place → place < slice_index ends (left + 1) → slice_get entries place ≡ Some e →
+    received_by_all task (late_between entries (slice_index ends left) place) + received task e.node ≡ received_by_all task (late_between entries (slice_index ends left) (place + 1))
+received_next task ends entries left place e apart le less at =
+    sym (ap (received_by_all task) (between_more (λ (x : Deadline). x.node) entries (slice_index ends left) place e le at)
+    ∙ count_more (late_between entries (slice_index ends left) place) (receivers task) e.node (fresh_node (λ (x : Deadline). x.node) entries (slice_index ends left) (slice_index ends (left + 1)) place e apart le less at))
 
 pub received_at_most : (task : SearchTask) (nodes : List ℕ) → received_by_all task nodes ≤ length task.plan.contacts
 received_at_most task nodes = omega (arith, count_by-le-length (λ k. has k nodes) (receivers task), length-map task.plan.contacts (λ (c : Contact). place_in task.table c.to))
 
 -- so up to an entry they are no more than those of the plan
-pub received_within : (task : SearchTask) (ends : List ℕ) (reached : List LayerEntry) (left place : ℕ) (e : LayerEntry) → IsApart ends reached left → slice_index ends left ≤ place → place < slice_index ends (left + 1) → slice_get reached place ≡ Some e →
-    received_by_all task (nodes_between reached (slice_index ends left) place) + received task e.node ≤ length task.plan.contacts
-received_within task ends reached left place e apart le less at =
-    omega (arith, received_next task ends reached left place e apart le less at, received_at_most task (nodes_between reached (slice_index ends left) (place + 1)))
+pub received_within : (task : SearchTask) (ends : List ℕ) (entries : List Deadline) (left place : ℕ) (e : Deadline) → IsApart ends entries left → slice_index ends left ≤ place → place < slice_index ends (left + 1) → slice_get entries place ≡ Some e →
+    received_by_all task (late_between entries (slice_index ends left) place) + received task e.node ≤ length task.plan.contacts
+received_within task ends entries left place e apart le less at =
+    omega (arith, received_next task ends entries left place e apart le less at, received_at_most task (late_between entries (slice_index ends left) (place + 1)))
 
 -- what a `Vec` has at an index, at the usual default
 pub read_at : (xs : List ℕ) (i x : ℕ) → i < length xs → x ≡ slice_index_or xs i x → x ≡ slice_index xs i

@@ -4,13 +4,13 @@ use Rattle.std.proofs.Math.Nat.{mul-le-mul_right}
 use Rattle.std.proofs.lemmas.Bool.{cases_lt, cases_eq}
 use Rattle.std.proofs.lemmas.List.{get_or_append_left, get_or_push}
 use Rattle.std.proofs.lemmas.Option.{slice_get-get_or, slice_get_within, get_or_from_slice_get}
-use Rattle.sabr_search.specs.declared.forward.layers.LayerEntry.{LayerEntry}
+use Rattle.sabr_search.specs.declared.visit.Visit.{Visit}
 use Rattle.sabr_search.specs.declared.forward.layers.Best.{Best}
 use Rattle.sabr_search.specs.questions.Ways.{Leads}
 use Rattle.sabr_search.specs.layers.Layers.{ReachedBy, IsTaken}
 use Rattle.sabr_search.specs.questions.Task.{SearchTask, Takes, IsTask, never}
 use Rattle.sabr_search.specs.layers.Lists.{AreLists, IsLowered, IsKnownFrom, GivenFrom, AreSources}
-use Rattle.sabr_search.specs.layers.Made.{Entry, AreLayers, IsBestWithin}
+use Rattle.sabr_search.specs.layers.Made.{Entry, AreLayers, AreMade, IsBestWithin}
 use Rattle.sabr_search.specs.layers.Late.{IsNoneSooner}
 use Rattle.sabr_search.proofs.WayLemmas.Ways.{Leads-append, Leads-later}
 use Rattle.sabr_search.proofs.ForwardLemmas.HopLayers.{none_sooner}
@@ -40,8 +40,8 @@ layer_of bounds p (suc m) first less = elim (cases_lt p (slice_index bounds m)) 
 ]
 
 -- layers with one bound more
-module _ (task : SearchTask) (is : IsTask task) (hop : ℕ) (bounds arrival place : List ℕ) (reached : List LayerEntry) (best : Best) (made : AreLayers task hop bounds arrival place reached best)
-    (bounds' arrival' place' : List ℕ) (reached' : List LayerEntry) (delivery : ℕ)
+module _ (task : SearchTask) (is : IsTask task) (hop : ℕ) (bounds arrival place : List ℕ) (reached : List Visit) (best : Best) (made : AreLayers task hop bounds arrival place reached best)
+    (bounds' arrival' place' : List ℕ) (reached' : List Visit) (delivery : ℕ)
     (lowered : IsLowered task.shut task.goal task.at (slice_index bounds (hop + 1)) (GivenFrom task reached (slice_index bounds hop) (slice_index bounds (hop + 1))) arrival reached best.delivery arrival' place' reached' delivery)
     (known : IsKnownFrom task reached (slice_index bounds hop) (slice_index bounds (hop + 1)) arrival' delivery)
     (bounds_is : bounds' ≡ bounds ++ length reached' ∷ []) where
@@ -54,16 +54,16 @@ module _ (task : SearchTask) (is : IsTask task) (hop : ℕ) (bounds arrival plac
   last' : slice_index bounds' (hop + 1 + 1) ≡ length reached'
   last' = ap (λ xs. slice_index xs (hop + 1 + 1)) bounds_is ∙ index_at bounds (length reached') (hop + 1 + 1) (omega (arith, made.many))
 
-  kept : (p : ℕ) (e : LayerEntry) → slice_get reached p ≡ Some e → slice_get reached' p ≡ Some e
+  kept : (p : ℕ) (e : Visit) → slice_get reached p ≡ Some e → slice_get reached' p ≡ Some e
   kept p e at = same_below (slice_index bounds (hop + 1)) reached reached' (sym lowered.before) p e (omega (arith, made.last_bound, slice_get_within reached p e at)) at
 
-  was : (p : ℕ) (e : LayerEntry) → p < length reached → slice_get reached' p ≡ Some e → slice_get reached p ≡ Some e
+  was : (p : ℕ) (e : Visit) → p < length reached → slice_get reached' p ≡ Some e → slice_get reached p ≡ Some e
   was p e less at = same_below (slice_index bounds (hop + 1)) reached' reached lowered.before p e (omega (arith, made.last_bound)) at
 
   -- an old entry stays in its layer
-  entry_kept : (h v a x : ℕ) → Entry bounds reached h v a x → Entry bounds' reached' h v a x
-  entry_kept h v a x e = elim (cases_lt hop h) [
-    | inr early ↦ (e.0, omega (arith, bound_before h (omega arith), e.1), omega (arith, bound_before (h + 1) (omega arith), e.2), kept e.0 (record { node = v; arrival = a; deadline = x }) e.3)
+  entry_kept : (h v a : ℕ) → Entry bounds reached h v a → Entry bounds' reached' h v a
+  entry_kept h v a e = elim (cases_lt hop h) [
+    | inr early ↦ (e.0, omega (arith, bound_before h (omega arith), e.1), omega (arith, bound_before (h + 1) (omega arith), e.2), kept e.0 (record { node = v; at = a }) e.3)
     | inl late ↦ absurd (omega (arith, index_past bounds (h + 1) (omega (arith, made.many)), e.2))
   ]
 
@@ -76,11 +76,11 @@ module _ (task : SearchTask) (is : IsTask task) (hop : ℕ) (bounds arrival plac
   ]
 
   -- an entry of an old layer was there
-  entry_was : (h v a x : ℕ) → h ≤ hop → Entry bounds' reached' h v a x → Entry bounds reached h v a x
-  entry_was h v a x le e =
+  entry_was : (h v a : ℕ) → h ≤ hop → Entry bounds' reached' h v a → Entry bounds reached h v a
+  entry_was h v a le e =
       let above : slice_index bounds (h + 1) ≤ slice_index bounds (hop + 1) = bounds_rise h (hop + 1) (omega arith) (omega arith) in
       let below : e.0 < slice_index bounds (h + 1) = omega (arith, bound_before (h + 1) (omega arith), e.2) in
-      (e.0, omega (arith, bound_before h (omega arith), e.1), below, was e.0 (record { node = v; arrival = a; deadline = x }) (omega (arith, made.last_bound)) e.3)
+      (e.0, omega (arith, bound_before h (omega arith), e.1), below, was e.0 (record { node = v; at = a }) (omega (arith, made.last_bound)) e.3)
 
   -- a node that is reached by second b, before every arrival is late, has an entry by then
   reached_by : (w b : ℕ) → slice_index_or task.shut w false ≡ false → w < length arrival' → slice_index arrival' w ≤ b → b < never → ReachedBy (Entry bounds' reached') (hop + 1) w b
@@ -88,48 +88,48 @@ module _ (task : SearchTask) (is : IsTask task) (hop : ℕ) (bounds arrival plac
       let linked = lowered.lists.linked in
       let p : ℕ = slice_index place' w in
       let inside : p < length reached' = lowered.lists.placed.within w (omega (arith, linked.as_many)) in
-      let d : LayerEntry = record { node = 0; arrival = 0; deadline = 0 } in
-      let e : LayerEntry = slice_index_or reached' p d in
+      let d : Visit = record { node = 0; at = 0 } in
+      let e : Visit = slice_index_or reached' p d in
       let at : slice_get reached' p ≡ Some e = slice_get-get_or reached' p d inside in
       let node : e.node ≡ w = linked.node w d within unshut (omega arith) in
-      let time : e.arrival ≡ slice_index arrival' w = linked.time w d within unshut (omega arith) in
+      let time : e.at ≡ slice_index arrival' w = linked.time w d within unshut (omega arith) in
       let layer = layer_of bounds' p (hop + 1 + 1) (bound_before 0 (omega arith) ∙ made.first_bound) (omega (arith, last')) in
-      (layer.0, e.arrival, e.deadline, omega (arith, layer.1), omega (arith, time), (p, layer.2, layer.3, at ∙ ap (λ k. Some (record { node = k; arrival = e.arrival; deadline = e.deadline })) node))
+      (layer.0, e.at, omega (arith, layer.1), omega (arith, time), (p, layer.2, layer.3, at ∙ ap (λ k. Some (record { node = k; at = e.at })) node))
 
   -- every step of the layers so far is taken
   taken' : IsTaken (Takes task) (Entry bounds' reached') (hop + 1) delivery
-  taken' j v a x n w b less e s = elim (last_or_before j hop less) [
-    | inl before ↦ elim (made.taken j v a x n w b before (entry_was j v a x (omega arith) e) s) [
+  taken' j v a n w b less e s = elim (last_or_before j hop less) [
+    | inl before ↦ elim (made.taken j v a n w b before (entry_was j v a (omega arith) e) s) [
       | inl late ↦ inl (omega (arith, lowered.lower))
-      | inr r ↦ inr (r.0, r.1, r.2, r.3, r.4, entry_kept r.0 w r.1 r.2 r.5)
+      | inr r ↦ inr (r.0, r.1, r.2, r.3, entry_kept r.0 w r.1 r.4)
     ]
     | inr same ↦
-        (let old : Entry bounds reached hop v a x = entry_was hop v a x (omega arith) (rw same at e) in
-        elim (known old.0 (record { node = v; arrival = a; deadline = x }) n w b old.1 old.2 old.3 s) [
+        (let old : Entry bounds reached hop v a = entry_was hop v a (omega arith) (rw same at e) in
+        elim (known old.0 (record { node = v; at = a }) n w b old.1 old.2 old.3 s) [
           | inl late ↦ inl late
           | inr found ↦
               (let r = reached_by w b s.unshut (omega (arith, lowered.lists.flags, is.as_many, slice_get_within task.table w s.contact.to s.receiver)) found.1 (omega (arith, takes_early task is n v a w b s)) in
-              inr (r.0, r.1, r.2, omega (arith, r.3), r.4, r.5))
+              inr (r.0, r.1, omega (arith, r.2), r.3, r.4))
         ])
   ]
 
   -- one step more
   way_on : (w x : ℕ) → GivenFrom task reached (slice_index bounds hop) (slice_index bounds (hop + 1)) w x → (ns : List ℕ) × (length ns ≡ hop + 1) × Leads (Takes task) task.start task.at ns w x
   way_on w x given =
-      let e : LayerEntry = given.1 in
-      let front = made.real hop e.node e.arrival e.deadline (given.0, given.3, given.4, given.5) in (
+      let e : Visit = given.1 in
+      let front = made.real hop e.node e.at (given.0, given.3, given.4, given.5) in (
         front.0 ++ given.2 ∷ [],
         omega (arith, length-append front.0 (given.2 ∷ []), front.1),
-        Leads-append (Takes task) (takes_timely task is.nodes) front.0 (given.2 ∷ []) task.start task.at e.node e.arrival w x front.2 (w, x, given.6, (refl, refl)),
+        Leads-append (Takes task) (takes_timely task is.nodes) front.0 (given.2 ∷ []) task.start task.at e.node e.at w x front.2 (w, x, given.6, (refl, refl)),
       )
 
-  real' : (h v a x : ℕ) → Entry bounds' reached' h v a x → (ns : List ℕ) × (length ns ≡ h) × Leads (Takes task) task.start task.at ns v a
-  real' h v a x e = elim (cases_lt hop h) [
-    | inr early ↦ made.real h v a x (entry_was h v a x early e)
+  real' : (h v a : ℕ) → Entry bounds' reached' h v a → (ns : List ℕ) × (length ns ≡ h) × Leads (Takes task) task.start task.at ns v a
+  real' h v a e = elim (cases_lt hop h) [
+    | inr early ↦ made.real h v a (entry_was h v a early e)
     | inl late ↦ elim (cases_eq h (hop + 1)) [
       | inr later ↦ absurd (omega (arith, index_past bounds' (h + 1) (omega (arith, many')), e.2))
       | inl here ↦
-          (let d : LayerEntry = record { node = v; arrival = a; deadline = x } in
+          (let d : Visit = record { node = v; at = a } in
           let lower : slice_index bounds' h ≡ length reached = ap (slice_index bounds') here ∙ bound_before (hop + 1) (omega arith) ∙ made.last_bound in
           let inside : e.0 < length reached' = slice_get_within reached' e.0 d e.3 in
           let read : slice_index_or reached' e.0 d ≡ d = get_or_from_slice_get reached' e.0 d d e.3 in
@@ -141,7 +141,7 @@ module _ (task : SearchTask) (is : IsTask task) (hop : ℕ) (bounds arrival plac
   ]
 
   -- entries of one layer are of different nodes
-  apart' : (h p q : ℕ) (e f : LayerEntry) → h ≤ hop + 1 → slice_index bounds' h ≤ p → slice_index bounds' h ≤ q → p < slice_index bounds' (h + 1) → q < slice_index bounds' (h + 1) → slice_get reached' p ≡ Some e → slice_get reached' q ≡ Some f → e.node ≡ f.node → p ≡ q
+  apart' : (h p q : ℕ) (e f : Visit) → h ≤ hop + 1 → slice_index bounds' h ≤ p → slice_index bounds' h ≤ q → p < slice_index bounds' (h + 1) → q < slice_index bounds' (h + 1) → slice_get reached' p ≡ Some e → slice_get reached' q ≡ Some f → e.node ≡ f.node → p ≡ q
   apart' h p q e f le above_p above_q below_p below_q at_p at_q same = elim (cases_eq h (hop + 1)) [
     | inl here ↦
         (let lower : slice_index bounds' h ≡ slice_index bounds (hop + 1) = ap (slice_index bounds') here ∙ bound_before (hop + 1) (omega arith) in
@@ -167,8 +167,8 @@ module _ (task : SearchTask) (is : IsTask task) (hop : ℕ) (bounds arrival plac
     | inr other ↦ omega (arith, bound_before j le, bound_before (j + 1) (omega arith), made.rising j (omega arith))
   ]
 
-  begins' : slice_get reached' 0 ≡ Some (record { node = task.start; arrival = task.at; deadline = 0 })
-  begins' = kept 0 (record { node = task.start; arrival = task.at; deadline = 0 }) made.begins
+  begins' : slice_get reached' 0 ≡ Some (record { node = task.start; at = task.at })
+  begins' = kept 0 (record { node = task.start; at = task.at }) made.begins
 
   lists' : AreLists task.shut task.goal task.at (slice_index bounds' (hop + 1 + 1)) arrival' place' reached'
   lists' = record {
@@ -233,32 +233,32 @@ module _ (task : SearchTask) (is : IsTask task) (hop : ℕ) (bounds arrival plac
       sames = omega (arith, lowered.lower)
 
 -- what is found is not later
-pub below_never : (task : SearchTask) (hop : ℕ) (bounds arrival place : List ℕ) (reached : List LayerEntry) (best : Best) → AreLayers task hop bounds arrival place reached best → best.delivery ≤ never
+pub below_never : (task : SearchTask) (hop : ℕ) (bounds arrival place : List ℕ) (reached : List Visit) (best : Best) → AreLayers task hop bounds arrival place reached best → best.delivery ≤ never
 below_never task hop bounds arrival place reached best made = elim made.found [ inl none ↦ omega (arith, none.1) | inr found ↦ omega (arith, found.2) ]
 
 -- the start is the first entry, and no entry is the goal's
-module _ (task : SearchTask) (is : IsTask task) (hop : ℕ) (bounds arrival place : List ℕ) (reached : List LayerEntry) (best : Best) (made : AreLayers task hop bounds arrival place reached best) where
-  start_entry : Entry bounds reached 0 task.start task.at 0
+module _ (task : SearchTask) (is : IsTask task) (hop : ℕ) (bounds arrival place : List ℕ) (reached : List Visit) (best : Best) (made : AreLayers task hop bounds arrival place reached best) where
+  start_entry : Entry bounds reached 0 task.start task.at
   start_entry = (0, omega (arith, made.first_bound), omega (arith, made.second_bound), made.begins)
 
-  goal_never : (h a x : ℕ) → Entry bounds reached h task.goal a x → ⊥
-  goal_never h a x e =
-      let d : LayerEntry = record { node = task.goal; arrival = a; deadline = x } in
+  goal_never : (h a : ℕ) → Entry bounds reached h task.goal a → ⊥
+  goal_never h a e =
+      let d : Visit = record { node = task.goal; at = a } in
       let read : slice_index_or reached e.0 d ≡ d = get_or_from_slice_get reached e.0 d d e.3 in
-      made.lists.other e.0 d (slice_get_within reached e.0 d e.3) (ap (λ (y : LayerEntry). y.node) read)
+      made.lists.other e.0 d (slice_get_within reached e.0 d e.3) (ap (λ (y : Visit). y.node) read)
 
   -- no way of at most this number of hops comes before the best
   pub least_within : (ns : List ℕ) (e : ℕ) → length ns ≤ hop → Leads (Takes task) task.start task.at ns task.goal e → best.delivery ≤ e
-  least_within = none_sooner (Takes task) (takes_timely task is.nodes) (Entry bounds reached) task.start task.at task.goal 0 start_entry goal_never hop best.delivery made.taken
+  least_within = none_sooner (Takes task) (takes_timely task is.nodes) (Entry bounds reached) task.start task.at task.goal start_entry goal_never hop best.delivery made.taken
 
   -- if the last layer is empty, no way of any number of hops does
   pub least_of_all : slice_index bounds hop ≡ slice_index bounds (hop + 1) → (ns : List ℕ) (e : ℕ) → Leads (Takes task) task.start task.at ns task.goal e → best.delivery ≤ e
   least_of_all none ns e way =
-      none_sooner (Takes task) (takes_timely task is.nodes) (Entry bounds reached) task.start task.at task.goal 0 start_entry goal_never (length ns) best.delivery all ns e (omega arith) way
+      none_sooner (Takes task) (takes_timely task is.nodes) (Entry bounds reached) task.start task.at task.goal start_entry goal_never (length ns) best.delivery all ns e (omega arith) way
     where
       all : IsTaken (Takes task) (Entry bounds reached) (length ns) best.delivery
-      all j v a x n w b less en s = elim (cases_lt j hop) [
-        | inl before ↦ made.taken j v a x n w b before en s
+      all j v a n w b less en s = elim (cases_lt j hop) [
+        | inl before ↦ made.taken j v a n w b before en s
         | inr behind ↦ elim (cases_eq j hop) [
           | inl here ↦ absurd (omega (arith, en.1, en.2, none, ap (slice_index bounds) here, ap (λ k. slice_index bounds (k + 1)) here))
           | inr past ↦ absurd (omega (arith, en.2, index_past bounds (j + 1) (omega (arith, made.many))))
@@ -269,17 +269,17 @@ module _ (task : SearchTask) (is : IsTask task) (hop : ℕ) (bounds arrival plac
   pub sources_of : AreSources task reached (slice_index bounds hop) (slice_index bounds (hop + 1))
   sources_of = record {
     inside = λ p e at. (let read : slice_index_or reached p e ≡ e = get_or_from_slice_get reached p e e at in
-        omega (arith, is.as_many, ap (λ (y : LayerEntry). y.node) read, made.lists.inside p e (slice_get_within reached p e at)));
+        omega (arith, is.as_many, ap (λ (y : Visit). y.node) read, made.lists.inside p e (slice_get_within reached p e at)));
     since = λ p e at.
         (let layer = layer_of bounds p (hop + 1) made.first_bound (omega (arith, made.last_bound, slice_get_within reached p e at)) in
-        let way = made.real layer.0 e.node e.arrival e.deadline (p, layer.2, layer.3, at) in
-        Leads-later (Takes task) (takes_timely task is.nodes) way.0 task.start task.at e.node e.arrival way.2);
+        let way = made.real layer.0 e.node e.at (p, layer.2, layer.3, at) in
+        Leads-later (Takes task) (takes_timely task is.nodes) way.0 task.start task.at e.node e.at way.2);
     apart = λ p q e f above_p above_q below_p below_q at_p at_q same. made.apart hop p q e f (omega arith) above_p above_q below_p below_q at_p at_q same;
   }
 
 -- the layers with one more, whatever the new layer brings
-pub layers_next : (task : SearchTask) → IsTask task → (hop : ℕ) (bounds arrival place : List ℕ) (reached : List LayerEntry) (best : Best) → AreLayers task hop bounds arrival place reached best →
-    (bounds' arrival' place' : List ℕ) (reached' : List LayerEntry) (delivery : ℕ) →
+pub layers_next : (task : SearchTask) → IsTask task → (hop : ℕ) (bounds arrival place : List ℕ) (reached : List Visit) (best : Best) → AreLayers task hop bounds arrival place reached best →
+    (bounds' arrival' place' : List ℕ) (reached' : List Visit) (delivery : ℕ) →
     IsLowered task.shut task.goal task.at (slice_index bounds (hop + 1)) (GivenFrom task reached (slice_index bounds hop) (slice_index bounds (hop + 1))) arrival reached best.delivery arrival' place' reached' delivery →
     IsKnownFrom task reached (slice_index bounds hop) (slice_index bounds (hop + 1)) arrival' delivery →
     bounds' ≡ bounds ++ length reached' ∷ [] → (best' : Best) → ((delivery < best.delivery) × (best' ≡ record { delivery = delivery; hops = hop + 1 })) ⊎ ((best.delivery ≤ delivery) × (best' ≡ best)) →
@@ -309,7 +309,7 @@ spent_fewer old left hop hops contacts le so_far =
     omega (arith, all, so_far)
 
 -- layer 0 is the start alone
-pub layers_first : (task : SearchTask) (bounds arrival place : List ℕ) (reached : List LayerEntry) → bounds ≡ 0 ∷ 1 ∷ [] → reached ≡ record { node = task.start; arrival = task.at; deadline = 0 } ∷ [] →
+pub layers_first : (task : SearchTask) (bounds arrival place : List ℕ) (reached : List Visit) → bounds ≡ 0 ∷ 1 ∷ [] → reached ≡ record { node = task.start; at = task.at } ∷ [] →
     AreLists task.shut task.goal task.at 1 arrival place reached → AreLayers task 0 bounds arrival place reached (record { delivery = never; hops = 0 })
 layers_first task bounds arrival place reached bounds_is reached_is lists =
     rw (bounds_is, reached_is) (record {
@@ -321,25 +321,52 @@ layers_first task bounds arrival place reached bounds_is reached_is lists =
       last_bound = refl;
       begins = refl;
       apart = λ h p q e f le above_p above_q below_p below_q at_p at_q same. omega (arith, slice_get_within one p e at_p, slice_get_within one q f at_q);
-      real = λ h v a x e. elim (cases_eq h 0) [
+      real = λ h v a e. elim (cases_eq h 0) [
         | inl zero_is ↦
-            (let d : LayerEntry = record { node = v; arrival = a; deadline = x } in
+            (let d : Visit = record { node = v; at = a } in
             let first : e.0 ≡ 0 = omega (arith, slice_get_within one e.0 d e.3) in
-            let is : record { node = task.start; arrival = task.at; deadline = 0 } ≡ d = same_some (ap (slice_get one) (sym first) ∙ e.3) in
-            ([], sym zero_is, (ap (λ (y : LayerEntry). y.node) is, ap (λ (y : LayerEntry). y.arrival) is)))
+            let is : record { node = task.start; at = task.at } ≡ d = same_some (ap (slice_get one) (sym first) ∙ e.3) in
+            ([], sym zero_is, (ap (λ (y : Visit). y.node) is, ap (λ (y : Visit). y.at) is)))
         | inr other ↦ absurd (omega (arith, index_past (0 ∷ 1 ∷ []) (h + 1) (omega arith), e.2))
       ];
-      taken = λ j v a x n w b less e s. absurd (omega arith);
+      taken = λ j v a n w b less e s. absurd (omega arith);
       found = inl (refl, refl);
     })
   where
-    one : List LayerEntry
-    one = record { node = task.start; arrival = task.at; deadline = 0 } ∷ []
+    one : List Visit
+    one = record { node = task.start; at = task.at } ∷ []
 
 -- what is found within fewer hops is the best within more, if nothing is sooner there
-pub best_within : (task : SearchTask) (hop : ℕ) (bounds arrival place : List ℕ) (reached : List LayerEntry) (best : Best) → AreLayers task hop bounds arrival place reached best →
+pub best_within : (task : SearchTask) (hop : ℕ) (bounds arrival place : List ℕ) (reached : List Visit) (best : Best) → AreLayers task hop bounds arrival place reached best →
     (hops : ℕ) → hop ≤ hops → IsNoneSooner task hops best.delivery → IsBestWithin task hops best
 best_within task hop bounds arrival place reached best made hops within least = record {
   least = least;
   found = elim made.found [ inl none ↦ inl none | inr found ↦ inr (found.0, omega (arith, found.1), found.2, found.3) ];
 }
+
+-- ---- layers of which the last begins at `first`
+
+module _ (task : SearchTask) (is : IsTask task) (hop first begin : ℕ) (arrival place : List ℕ) (reached : List Visit) (best : Best) (made : AreMade task hop first arrival place reached best) (end : begin ≡ length reached) where
+  last : slice_index made.0 (hop + 1) ≡ begin
+  last = made.2.last_bound ∙ sym end
+
+  pub made_lists : AreLists task.shut task.goal task.at begin arrival place reached
+  made_lists = rw last at made.2.lists
+
+  pub made_sources : AreSources task reached first begin
+  made_sources = rw (made.1, last) at (sources_of task is hop made.0 arrival place reached best made.2)
+
+  -- one layer more begins after these
+  pub made_next : (arrival' place' : List ℕ) (reached' : List Visit) (delivery : ℕ) → IsLowered task.shut task.goal task.at begin (GivenFrom task reached first begin) arrival reached best.delivery arrival' place' reached' delivery → IsKnownFrom task reached first begin arrival' delivery →
+      (best' : Best) → ((delivery < best.delivery) × (best' ≡ record { delivery = delivery; hops = hop + 1 })) ⊎ ((best.delivery ≤ delivery) × (best' ≡ best)) → AreMade task (hop + 1) begin arrival' place' reached' best'
+  made_next arrival' place' reached' delivery lowered known best' which = (
+    made.0 ++ length reached' ∷ [],
+    index_before made.0 (length reached') (hop + 1) (omega (arith, made.2.many)) ∙ last,
+    layers_next task is hop made.0 arrival place reached best made.2 (made.0 ++ length reached' ∷ []) arrival' place' reached' delivery (rw (made.1, last) lowered) (rw (made.1, last) known) refl best' which,
+  )
+
+-- if the last layer is empty, no way comes before the best
+pub made_all : (task : SearchTask) → IsTask task → (hop first : ℕ) (arrival place : List ℕ) (reached : List Visit) (best : Best) → (made : AreMade task hop first arrival place reached best) → first ≡ length reached →
+    (ns : List ℕ) (e : ℕ) → Leads (Takes task) task.start task.at ns task.goal e → best.delivery ≤ e
+made_all task is hop first arrival place reached best made none ns e way =
+    least_of_all task is hop made.0 arrival place reached best made.2 (made.1 ∙ none ∙ sym made.2.last_bound) ns e way

@@ -6,11 +6,10 @@ use Rattle.std.proofs.lemmas.Grind.{common_steps}
 use Rattle.std.proofs.lemmas.List.Elements.{All-cons, All-head, All-tail, All-weaker, Contains-append_right, Contains-append_cases}
 use Rattle.std.proofs.lemmas.List.Sorted.{All-permutation, Contains-permutation}
 use Rattle.std.proofs.lemmas.List.Sums.{sum_by-set, count_by-le-length}
-use Rattle.sabr_search.specs.declared.forward.queue.Event.{Event}
+use Rattle.sabr_search.specs.declared.visit.Visit.{Visit}
 use Rattle.sabr_search.specs.declared.forward.layers.Best.{Best}
 use Rattle.sabr_search.specs.questions.Task.{SearchTask, Takes, IsTask, never, latest_arrival}
 use Rattle.sabr_search.specs.layers.Lists.{AreClosed, IsKnown}
-use Rattle.sabr_search.specs.layers.Reach.{cost_to}
 use Rattle.sabr_search.specs.layers.Settling.{IsBound, IsWaiting, AreSettledBy, AreBy, settled_count, IsWayTo, IsQueue, AreHops, IsFirst, AreSettling, IsFallen, AreSettledTaken}
 use Rattle.sabr_search.proofs.WayLemmas.Ways.{Leads-append}
 use Rattle.sabr_search.proofs.WayLemmas.RoutesAndWays.{takes_timely}
@@ -76,9 +75,9 @@ way_same : (task : SearchTask) (v h i t x : ℕ) → i ≡ h → x ≡ t → IsW
 way_same task v h i t x hops at way = rw (hops, at) way
 
 -- the delivery is better, by one step more
-pub found_better : (task : SearchTask) → IsTask task → (late near : List ℕ) (settled : List Bool) (u t n w h : ℕ) (arrival hops : List ℕ) (queue : List Event) (best : Best) (delivery : ℕ) → AreSettling task late near settled u t arrival hops queue best →
-    h ≡ slice_index hops u → delivery < best.delivery → w ≡ task.goal → Takes task n u t w delivery → AreSettling task late near settled u t arrival hops queue (record { delivery = delivery; hops = h + 1 })
-found_better task is late near settled u t n w h arrival hops queue best delivery so_far h_is less at step = record {
+pub found_better : (task : SearchTask) → IsTask task → (late costs : List ℕ) (settled : List Bool) (u t n w h : ℕ) (arrival hops : List ℕ) (queue : List Visit) (best : Best) (delivery : ℕ) → AreSettling task late costs settled u t arrival hops queue best →
+    h ≡ slice_index hops u → delivery < best.delivery → w ≡ task.goal → Takes task n u t w delivery → AreSettling task late costs settled u t arrival hops queue (record { delivery = delivery; hops = h + 1 })
+found_better task is late costs settled u t n w h arrival hops queue best delivery so_far h_is less at step = record {
   on = so_far.on;
   real = so_far.real;
   few = so_far.few;
@@ -95,18 +94,18 @@ found_better task is late near settled u t n w h arrival hops queue best deliver
 }
 
 -- what is reached sooner is open
-pub open_sooner : (task : SearchTask) (late near : List ℕ) (settled : List Bool) (u t w b : ℕ) (arrival hops : List ℕ) (queue : List Event) (best : Best) → AreSettling task late near settled u t arrival hops queue best →
+pub open_sooner : (task : SearchTask) (late costs : List ℕ) (settled : List Bool) (u t w b : ℕ) (arrival hops : List ℕ) (queue : List Visit) (best : Best) → AreSettling task late costs settled u t arrival hops queue best →
     t ≤ b → b < slice_index arrival w → slice_index_or task.shut w false ≡ false
-open_sooner task late near settled u t w b arrival hops queue best so_far later less = false_from_ne_true (slice_index_or task.shut w false) (λ on. omega (arith, so_far.closed w on))
+open_sooner task late costs settled u t w b arrival hops queue best so_far later less = false_from_ne_true (slice_index_or task.shut w false) (λ on. omega (arith, so_far.closed w on))
 
 -- an open node is reached sooner, and an event waits for it
-module _ (task : SearchTask) (is : IsTask task) (late near : List ℕ) (settled : List Bool) (u t n b h : ℕ) (event : Event) (arrival hops : List ℕ) (queue queue' : List Event) (best : Best) (so_far : AreSettling task late near settled u t arrival hops queue best)
+module _ (task : SearchTask) (is : IsTask task) (late costs : List ℕ) (settled : List Bool) (u t n b h : ℕ) (event : Visit) (arrival hops : List ℕ) (queue queue' : List Visit) (best : Best) (so_far : AreSettling task late costs settled u t arrival hops queue best)
     (later : t ≤ b) (within : event.node < length arrival) (less : b < slice_index arrival event.node) (other : event.node ≢ task.goal) (step : Takes task n u t event.node b) (h_is : h ≡ slice_index hops u)
-    (at_is : event.at ≡ b + cost_to near event.node) (moved : IsPermutation (event ∷ queue) queue') where
+    (at_is : event.at ≡ b + slice_index costs event.node) (moved : IsPermutation (event ∷ queue) queue') where
   abbrev w : ℕ
   w = event.node
 
-  early : AreSettledBy task near settled arrival (b + cost_to near w)
+  early : AreSettledBy task costs settled arrival (b + slice_index costs w)
   early = so_far.early n w b step
 
   unsettled : slice_index_or settled w false ≡ false
@@ -121,10 +120,10 @@ module _ (task : SearchTask) (is : IsTask task) (late near : List ℕ) (settled 
   kept : (k : ℕ) → slice_index_or settled k false ≡ true → slice_index (slice_set arrival w b) k ≡ slice_index arrival k
   kept k on = set_other arrival w b k (λ same. both_ways (slice_index_or settled w false) unsettled (rw same at on))
 
-  all_more : (P : Event → Type 0) → P event → All P queue → All P queue'
+  all_more : (P : Visit → Type 0) → P event → All P queue → All P queue'
   all_more P here rest = All-permutation P (event ∷ queue) queue' moved (All-cons P event queue here rest)
 
-  queue_more : IsQueue task late near settled (slice_set arrival w b) queue'
+  queue_more : IsQueue task late costs settled (slice_set arrival w b) queue'
   queue_more =
       let was = so_far.queue_is in
       let arrival' = slice_set arrival w b in
@@ -138,12 +137,12 @@ module _ (task : SearchTask) (is : IsTask task) (late near : List ℕ) (settled 
               let waits = was.waits k (omega (arith, many)) open' off (omega (arith, same)) in
               (waits.0, Contains-permutation (event ∷ queue) queue' waits.0 moved (Contains-append_right (event ∷ []) queue waits.0 waits.1), waits.2, omega (arith, waits.3, same))
         ];
-        late = all_more (λ (e : Event). slice_index arrival' e.node + cost_to near e.node ≤ e.at) (omega (arith, here, at_is)) (All-weaker (λ (e : Event). slice_index arrival e.node + cost_to near e.node ≤ e.at) (λ (e : Event). slice_index arrival' e.node + cost_to near e.node ≤ e.at) (λ e le. omega (arith, falls e.node)) queue was.late);
-        before = all_more (λ (e : Event). e.at < slice_index_or late e.node never + cost_to near e.node) (omega (arith, less, at_is, so_far.lowered w step.unshut)) was.before;
-        order = all_more (λ (e : Event). AreSettledBy task near settled arrival' e.at) (λ k on open'. omega (arith, kept k on, at_is, early k on open')) (All-weaker (λ (e : Event). AreSettledBy task near settled arrival e.at) (λ (e : Event). AreSettledBy task near settled arrival' e.at) (λ e by k on open'. omega (arith, kept k on, by k on open')) queue was.order);
-        inside = all_more (λ (e : Event). e.node < length arrival') (omega (arith, many)) (All-weaker (λ (e : Event). e.node < length arrival) (λ (e : Event). e.node < length arrival') (λ e lt. omega (arith, many)) queue was.inside);
-        unshut = all_more (λ (e : Event). slice_index_or task.shut e.node false ≡ false) step.unshut was.unshut;
-        other = all_more (λ (e : Event). e.node ≢ task.goal) other was.other;
+        late = all_more (λ (e : Visit). slice_index arrival' e.node + slice_index costs e.node ≤ e.at) (omega (arith, here, at_is)) (All-weaker (λ (e : Visit). slice_index arrival e.node + slice_index costs e.node ≤ e.at) (λ (e : Visit). slice_index arrival' e.node + slice_index costs e.node ≤ e.at) (λ e le. omega (arith, falls e.node)) queue was.late);
+        before = all_more (λ (e : Visit). e.at < slice_index_or late e.node never + slice_index costs e.node) (omega (arith, less, at_is, so_far.lowered w step.unshut)) was.before;
+        order = all_more (λ (e : Visit). AreSettledBy task costs settled arrival' e.at) (λ k on open'. omega (arith, kept k on, at_is, early k on open')) (All-weaker (λ (e : Visit). AreSettledBy task costs settled arrival e.at) (λ (e : Visit). AreSettledBy task costs settled arrival' e.at) (λ e by k on open'. omega (arith, kept k on, by k on open')) queue was.order);
+        inside = all_more (λ (e : Visit). e.node < length arrival') (omega (arith, many)) (All-weaker (λ (e : Visit). e.node < length arrival) (λ (e : Visit). e.node < length arrival') (λ e lt. omega (arith, many)) queue was.inside);
+        unshut = all_more (λ (e : Visit). slice_index_or task.shut e.node false ≡ false) step.unshut was.unshut;
+        other = all_more (λ (e : Visit). e.node ≢ task.goal) other was.other;
       }
 
   hops_more : AreHops task late settled (slice_set arrival w b) (slice_set hops w (h + 1))
@@ -164,7 +163,7 @@ module _ (task : SearchTask) (is : IsTask task) (late near : List ℕ) (settled 
         ];
       }
 
-  pub pushed : AreSettling task late near settled u t (slice_set arrival w b) (slice_set hops w (h + 1)) queue' best
+  pub pushed : AreSettling task late costs settled u t (slice_set arrival w b) (slice_set hops w (h + 1)) queue' best
   pushed = record {
     on = so_far.on;
     real = way_same task u _ _ t t (set_other hops w (h + 1) u apart) refl so_far.real;
@@ -194,10 +193,10 @@ fallen_more settled arrival0 best0 arrival1 best1 arrival2 best2 one two = recor
 }
 
 -- a node more is settled, and its contacts are taken
-pub taken_settled : (task : SearchTask) (near : List ℕ) (settled : List Bool) (u t : ℕ) (arrival0 : List ℕ) (best0 : Best) (arrival : List ℕ) (best : Best) → slice_index arrival0 u ≡ t →
-    AreSettledTaken task near settled arrival0 best0.delivery → IsFallen (slice_set settled u true) arrival0 best0 arrival best → ((n w x : ℕ) → Takes task n u t w x → IsKnown task.goal arrival (best.delivery - cost_to near w) w x) →
-    AreSettledTaken task near (slice_set settled u true) arrival best.delivery
-taken_settled task near settled u t arrival0 best0 arrival best reached taken fallen known v n w b on s =
+pub taken_settled : (task : SearchTask) (costs : List ℕ) (settled : List Bool) (u t : ℕ) (arrival0 : List ℕ) (best0 : Best) (arrival : List ℕ) (best : Best) → slice_index arrival0 u ≡ t →
+    AreSettledTaken task costs settled arrival0 best0.delivery → IsFallen (slice_set settled u true) arrival0 best0 arrival best → ((n w x : ℕ) → Takes task n u t w x → IsKnown task.goal arrival (best.delivery - slice_index costs w) w x) →
+    AreSettledTaken task costs (slice_set settled u true) arrival best.delivery
+taken_settled task costs settled u t arrival0 best0 arrival best reached taken fallen known v n w b on s =
     let same : slice_index arrival v ≡ slice_index arrival0 v = fallen.kept v on in
     elim (cases_eq v u) [
       | inl here ↦
@@ -206,47 +205,47 @@ taken_settled task near settled u t arrival0 best0 arrival best reached taken fa
           known n w b (rw here at step))
       | inr other ↦
           (let step : Takes task n v (slice_index arrival0 v) w b = rw same at s in
-          known_lower task.goal arrival0 arrival (best0.delivery - cost_to near w) (best.delivery - cost_to near w) w b fallen.lowered (omega (arith, fallen.lower)) (taken v n w b (sym (flag_other settled u v other) ∙ on) step))
+          known_lower task.goal arrival0 arrival (best0.delivery - slice_index costs w) (best.delivery - slice_index costs w) w b fallen.lowered (omega (arith, fallen.lower)) (taken v n w b (sym (flag_other settled u v other) ∙ on) step))
     ]
 
 -- the one element of a list of one
-pub only_one : (e x : Event) → Contains (e ∷ []) x → x.node ≡ e.node
-only_one e x (zero, lt, same) = ap (λ (f : Event). f.node) (sym same)
+pub only_one : (e x : Visit) → Contains (e ∷ []) x → x.node ≡ e.node
+only_one e x (zero, lt, same) = ap (λ (f : Visit). f.node) (sym same)
 only_one e x (suc i, lt, same) = absurd (omega arith)
 
 -- the earliest event is taken out
-module _ (task : SearchTask) (bounds near : List ℕ) (settled : List Bool) (arrival : List ℕ) (queue queue' : List Event) (e : Event)
-    (was : IsQueue task bounds near settled arrival queue) (moved : IsPermutation queue (e ∷ queue')) (first : All (λ (f : Event). e.at ≤ f.at) queue') where
-  head : (P : Event → Type 0) → All P queue → P e
+module _ (task : SearchTask) (bounds costs : List ℕ) (settled : List Bool) (arrival : List ℕ) (queue queue' : List Visit) (e : Visit)
+    (was : IsQueue task bounds costs settled arrival queue) (moved : IsPermutation queue (e ∷ queue')) (first : All (λ (f : Visit). e.at ≤ f.at) queue') where
+  head : (P : Visit → Type 0) → All P queue → P e
   head P all = All-head P e queue' (All-permutation P queue (e ∷ queue') moved all)
 
-  tail : (P : Event → Type 0) → All P queue → All P queue'
+  tail : (P : Visit → Type 0) → All P queue → All P queue'
   tail P all = All-tail P e queue' (All-permutation P queue (e ∷ queue') moved all)
 
-  head_late : slice_index arrival e.node + cost_to near e.node ≤ e.at
-  head_late = head (λ (f : Event). slice_index arrival f.node + cost_to near f.node ≤ f.at) was.late
+  head_late : slice_index arrival e.node + slice_index costs e.node ≤ e.at
+  head_late = head (λ (f : Visit). slice_index arrival f.node + slice_index costs f.node ≤ f.at) was.late
 
-  head_order : AreSettledBy task near settled arrival e.at
-  head_order = head (λ (f : Event). AreSettledBy task near settled arrival f.at) was.order
+  head_order : AreSettledBy task costs settled arrival e.at
+  head_order = head (λ (f : Visit). AreSettledBy task costs settled arrival f.at) was.order
 
   pub head_inside : e.node < length arrival
-  head_inside = head (λ (f : Event). f.node < length arrival) was.inside
+  head_inside = head (λ (f : Visit). f.node < length arrival) was.inside
 
   pub head_open : slice_index_or task.shut e.node false ≡ false
-  head_open = head (λ (f : Event). slice_index_or task.shut f.node false ≡ false) was.unshut
+  head_open = head (λ (f : Visit). slice_index_or task.shut f.node false ≡ false) was.unshut
 
   pub head_other : e.node ≢ task.goal
-  head_other = head (λ (f : Event). f.node ≢ task.goal) was.other
+  head_other = head (λ (f : Visit). f.node ≢ task.goal) was.other
 
   -- it isn't too late there
   pub head_soon : slice_index arrival e.node < slice_index_or bounds e.node never
-  head_soon = omega (arith, head_late, head (λ (f : Event). f.at < slice_index_or bounds f.node never + cost_to near f.node) was.before)
+  head_soon = omega (arith, head_late, head (λ (f : Visit). f.at < slice_index_or bounds f.node never + slice_index costs f.node) was.before)
 
   -- what waits is no earlier
-  pub waits_later : (f : Event) → Contains queue f → e.at ≤ f.at
+  pub waits_later : (f : Visit) → Contains queue f → e.at ≤ f.at
   waits_later f there = elim (Contains-append_cases (e ∷ []) queue' f (Contains-permutation queue (e ∷ queue') f moved there)) [
-    | inl alone ↦ omega (arith, ap (λ (x : Event). x.at) (only alone))
-    | inr rest ↦ (let here : slice_index_or queue' rest.0 f ≡ f = rest.2 in omega (arith, first rest.0 f rest.1, ap (λ (x : Event). x.at) here))
+    | inl alone ↦ omega (arith, ap (λ (x : Visit). x.at) (only alone))
+    | inr rest ↦ (let here : slice_index_or queue' rest.0 f ≡ f = rest.2 in omega (arith, first rest.0 f rest.1, ap (λ (x : Visit). x.at) here))
   ]
     where
       only : Contains (e ∷ []) f → e ≡ f
@@ -254,7 +253,7 @@ module _ (task : SearchTask) (bounds near : List ℕ) (settled : List Bool) (arr
       only (suc i, lt, same) = absurd (omega arith)
 
   -- the event of a node that is not settled comes with its arrival
-  head_arrives : slice_index_or settled e.node false ≡ false → slice_index arrival e.node + cost_to near e.node ≡ e.at
+  head_arrives : slice_index_or settled e.node false ≡ false → slice_index arrival e.node + slice_index costs e.node ≡ e.at
   head_arrives off =
       let waits = was.waits e.node head_inside head_open off head_soon in
       omega (arith, head_late, waits_later waits.0 waits.1, waits.3)
@@ -268,10 +267,10 @@ module _ (task : SearchTask) (bounds near : List ℕ) (settled : List Bool) (arr
 
   -- its node is settled
   module _ (within : e.node < length settled) (unsettled : slice_index_or settled e.node false ≡ false) where
-    early_after : (t : ℕ) → e.at ≤ t → AreSettledBy task near settled arrival t → AreSettledBy task near (slice_set settled e.node true) arrival t
+    early_after : (t : ℕ) → e.at ≤ t → AreSettledBy task costs settled arrival t → AreSettledBy task costs (slice_set settled e.node true) arrival t
     early_after t le by k on open' =
         elim (cases_eq k e.node) [
-          | inl same ↦ omega (arith, ap (λ (j : ℕ). slice_index arrival j) same, ap (λ (j : ℕ). cost_to near j) same, head_late)
+          | inl same ↦ omega (arith, ap (λ (j : ℕ). slice_index arrival j) same, ap (λ (j : ℕ). slice_index costs j) same, head_late)
           | inr other ↦ by k (sym (flag_other settled e.node k other) ∙ on) open'
         ]
 
@@ -280,22 +279,22 @@ module _ (task : SearchTask) (bounds near : List ℕ) (settled : List Bool) (arr
         let other : k ≢ e.node = λ same. (let on : slice_index_or (slice_set settled e.node true) k false ≡ true = rw same (flag_here settled e.node within) in cc) in
         (other, sym (flag_other settled e.node k other) ∙ off)
 
-    queue_settled : IsQueue task bounds near (slice_set settled e.node true) arrival queue'
+    queue_settled : IsQueue task bounds costs (slice_set settled e.node true) arrival queue'
     queue_settled = record {
       waits = λ k inside open' off reached.
           let before = unsettled_before k off in
           rest_waits k _ before.0 (was.waits k inside open' before.1 reached);
-      late = tail (λ (f : Event). slice_index arrival f.node + cost_to near f.node ≤ f.at) was.late;
-      before = tail (λ (f : Event). f.at < slice_index_or bounds f.node never + cost_to near f.node) was.before;
-      order = λ i d lt. early_after _ (first i d lt) (tail (λ (f : Event). AreSettledBy task near settled arrival f.at) was.order i d lt);
-      inside = tail (λ (f : Event). f.node < length arrival) was.inside;
-      unshut = tail (λ (f : Event). slice_index_or task.shut f.node false ≡ false) was.unshut;
-      other = tail (λ (f : Event). f.node ≢ task.goal) was.other;
+      late = tail (λ (f : Visit). slice_index arrival f.node + slice_index costs f.node ≤ f.at) was.late;
+      before = tail (λ (f : Visit). f.at < slice_index_or bounds f.node never + slice_index costs f.node) was.before;
+      order = λ i d lt. early_after _ (first i d lt) (tail (λ (f : Visit). AreSettledBy task costs settled arrival f.at) was.order i d lt);
+      inside = tail (λ (f : Visit). f.node < length arrival) was.inside;
+      unshut = tail (λ (f : Visit). slice_index_or task.shut f.node false ≡ false) was.unshut;
+      other = tail (λ (f : Visit). f.node ≢ task.goal) was.other;
     }
 
     -- so its contacts can be taken
-    pub settles : (hops : List ℕ) (best : Best) → IsBound task bounds near → length arrival ≡ length task.shut → length settled ≡ length task.shut → AreClosed task.shut arrival task.at → task.at ≤ slice_index arrival e.node → AreBy task bounds arrival → best.delivery ≤ latest_arrival + 1 →
-        best.delivery ≤ slice_index arrival task.goal → IsFirst task settled best → AreHops task bounds settled arrival hops → AreSettling task bounds near (slice_set settled e.node true) e.node (slice_index arrival e.node) arrival hops queue' best
+    pub settles : (hops : List ℕ) (best : Best) → IsBound task bounds costs → length arrival ≡ length task.shut → length settled ≡ length task.shut → AreClosed task.shut arrival task.at → task.at ≤ slice_index arrival e.node → AreBy task bounds arrival → best.delivery ≤ latest_arrival + 1 →
+        best.delivery ≤ slice_index arrival task.goal → IsFirst task settled best → AreHops task bounds settled arrival hops → AreSettling task bounds costs (slice_set settled e.node true) e.node (slice_index arrival e.node) arrival hops queue' best
     settles hops best bound flags many closed since lowered sooner goal_late found hops_are = record {
       on = flag_here settled e.node within;
       real = (hops_are.ways e.node head_inside head_open head_soon).1;
@@ -304,8 +303,8 @@ module _ (task : SearchTask) (bounds near : List ℕ) (settled : List Bool) (arr
       many = flag_many settled e.node ∙ many;
       closed = λ k on. omega (arith, closed k on, since);
       early = λ n w b step.
-          let later : e.at ≤ b + cost_to near w = omega (arith, head_arrives unsettled, bound.costs n e.node (slice_index arrival e.node) w b step head_open (omega (arith, bound.since, since))) in
-          early_after (b + cost_to near w) later (λ k on open'. omega (arith, later, head_order k on open'));
+          let later : e.at ≤ b + slice_index costs w = omega (arith, head_arrives unsettled, bound.lowers n e.node (slice_index arrival e.node) w b step head_open (omega (arith, bound.since, since))) in
+          early_after (b + slice_index costs w) later (λ k on open'. omega (arith, later, head_order k on open'));
       lowered = lowered;
       queue_is = queue_settled;
       hops_are = record {
@@ -318,13 +317,13 @@ module _ (task : SearchTask) (bounds near : List ℕ) (settled : List Bool) (arr
     }
 
   -- an event of a node that is settled already goes
-  pub queue_stale : slice_index_or settled e.node false ≡ true → IsQueue task bounds near settled arrival queue'
+  pub queue_stale : slice_index_or settled e.node false ≡ true → IsQueue task bounds costs settled arrival queue'
   queue_stale on = record {
     waits = λ k inside open' off reached. rest_waits k _ (λ same. both_ways (slice_index_or settled k false) off (ap (λ (j : ℕ). slice_index_or settled j false) same ∙ on)) (was.waits k inside open' off reached);
-    late = tail (λ (f : Event). slice_index arrival f.node + cost_to near f.node ≤ f.at) was.late;
-    before = tail (λ (f : Event). f.at < slice_index_or bounds f.node never + cost_to near f.node) was.before;
-    order = tail (λ (f : Event). AreSettledBy task near settled arrival f.at) was.order;
-    inside = tail (λ (f : Event). f.node < length arrival) was.inside;
-    unshut = tail (λ (f : Event). slice_index_or task.shut f.node false ≡ false) was.unshut;
-    other = tail (λ (f : Event). f.node ≢ task.goal) was.other;
+    late = tail (λ (f : Visit). slice_index arrival f.node + slice_index costs f.node ≤ f.at) was.late;
+    before = tail (λ (f : Visit). f.at < slice_index_or bounds f.node never + slice_index costs f.node) was.before;
+    order = tail (λ (f : Visit). AreSettledBy task costs settled arrival f.at) was.order;
+    inside = tail (λ (f : Visit). f.node < length arrival) was.inside;
+    unshut = tail (λ (f : Visit). slice_index_or task.shut f.node false ≡ false) was.unshut;
+    other = tail (λ (f : Visit). f.node ≢ task.goal) was.other;
   }

@@ -4,7 +4,7 @@ use Rattle.std.specs.Prelude.{IfSome}
 use Rattle.std.specs.List.Sorted.{IsNonDecreasingBy}
 use Rattle.std.specs.declared.option.Option.{Option}
 use Rattle.std.specs.declared.option.Option.TheVariants.{None}
-use Rattle.sabr_search.specs.declared.forward.layers.LayerEntry.{LayerEntry}
+use Rattle.sabr_search.specs.declared.backward.deadlines.Deadline.{Deadline}
 use Rattle.sabr_search.specs.declared.backward.pick.Step.{Step}
 use Rattle.sabr_search.specs.layers.Late.{AreOpen}
 use Rattle.sabr_search.specs.layers.Deadlines.{IsInTime}
@@ -202,11 +202,11 @@ pub same_number : (passes : List Pass) (i k : ℕ) (x y : Pass) → slice_get pa
 same_number passes i k x y at_i at_k same = ap (λ (p : Pass). p.number) (same_some (sym at_i ∙ ap (slice_get passes) (sym same) ∙ at_k))
 
 -- a step over a link that arrives before its deadline is a step in time
-pub chosen_from : (task : SearchTask) (ends : List ℕ) (reached : List LayerEntry) (hops : ℕ) → AreOpen task reached → (u t to before : ℕ) → ((b : ℕ) → b < before → IsInTime ends reached hops to b) → (o : Option Step) →
+pub chosen_from : (task : SearchTask) (ends : List ℕ) (entries : List Deadline) (hops : ℕ) → AreOpen task entries → (u t to before : ℕ) → ((b : ℕ) → b < before → IsInTime ends entries hops to b) → (o : Option Step) →
     IfSome o (λ s. (s.node ≡ to) × (s.at < before) × (slice_index_or task.shut to false ≡ false → Takes task s.number u t to s.at)) →
-    IfSome o (λ s. Takes task s.number u t s.node s.at × IsInTime ends reached hops s.node s.at)
-chosen_from task ends reached hops opens u t to before in_time None h = tt
-chosen_from task ends reached hops opens u t to before in_time (Some s) h =
+    IfSome o (λ s. Takes task s.number u t s.node s.at × IsInTime ends entries hops s.node s.at)
+chosen_from task ends entries hops opens u t to before in_time None h = tt
+chosen_from task ends entries hops opens u t to before in_time (Some s) h =
     let admits = in_time s.at h.1 in
-    let step = h.2 (opens admits.2.0 (record { node = to; arrival = admits.0; deadline = admits.1 }) admits.2.3).1 in
+    let step = h.2 (opens admits.1.0 (record { node = to; before = admits.0 }) admits.1.3).1 in
     rw h.0 (step, admits)

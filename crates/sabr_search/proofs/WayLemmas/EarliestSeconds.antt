@@ -5,7 +5,6 @@ use Rattle.std.proofs.lemmas.Grind.{common_steps}
 use Rattle.std.proofs.lemmas.List.FromFn.{get_or-map-range_with_len, length-map-range_with_len}
 use Rattle.sabr_search.specs.questions.Task.{SearchTask, Takes, IsTask}
 use Rattle.sabr_search.specs.layers.Late.{AreSince, AreArrivals}
-use Rattle.sabr_search.specs.layers.Reach.{cost_to}
 use Rattle.sabr_search.specs.layers.Since.{first_of, since_at, since_of}
 use Rattle.sabr_search.specs.layers.Settling.{AreArrivalsBy}
 use Rattle.sabr_search.proofs.WayLemmas.Ways.{Leads-later}
@@ -27,16 +26,16 @@ arrivals_since task is n n_is = record {
   least = λ ns v t some way. omega (arith, same_everywhere n task.at v, Leads-later (Takes task) (takes_timely task is.nodes) ns task.start task.at v t way);
 }
 
-pub since_many : (nodes : ℕ) (arrival near soon : List ℕ) (d : ℕ) → length (since_of nodes arrival near soon d) ≡ nodes
-since_many nodes arrival near soon d = length-map-range_with_len (since_at arrival near soon d) 0 nodes
+pub since_many : (nodes : ℕ) (arrival costs soon : List ℕ) (d : ℕ) → length (since_of nodes arrival costs soon d) ≡ nodes
+since_many nodes arrival costs soon d = length-map-range_with_len (since_at arrival costs soon d) 0 nodes
 
-pub since_read : (nodes : ℕ) (arrival near soon : List ℕ) (d k : ℕ) → k < nodes → slice_index (since_of nodes arrival near soon d) k ≡ since_at arrival near soon d k
-since_read nodes arrival near soon d k less = get_or-map-range_with_len (since_at arrival near soon d) 0 nodes k k 0 less (omega arith)
+pub since_read : (nodes : ℕ) (arrival costs soon : List ℕ) (d k : ℕ) → k < nodes → slice_index (since_of nodes arrival costs soon d) k ≡ since_at arrival costs soon d k
+since_read nodes arrival costs soon d k less = get_or-map-range_with_len (since_at arrival costs soon d) 0 nodes k k 0 less (omega arith)
 
-pub since_most : (nodes : ℕ) (arrival near soon : List ℕ) (d k : ℕ) → slice_index (since_of nodes arrival near soon d) k ≤ since_at arrival near soon d k
-since_most nodes arrival near soon d k = elim (cases_lt k nodes) [
-  | inl less ↦ omega (arith, since_read nodes arrival near soon d k less)
-  | inr past ↦ omega (arith, index_past (since_of nodes arrival near soon d) k (omega (arith, since_many nodes arrival near soon d)))
+pub since_most : (nodes : ℕ) (arrival costs soon : List ℕ) (d k : ℕ) → slice_index (since_of nodes arrival costs soon d) k ≤ since_at arrival costs soon d k
+since_most nodes arrival costs soon d k = elim (cases_lt k nodes) [
+  | inl less ↦ omega (arith, since_read nodes arrival costs soon d k less)
+  | inr past ↦ omega (arith, index_past (since_of nodes arrival costs soon d) k (omega (arith, since_many nodes arrival costs soon d)))
 ]
 
 pub first_before : (a l s : ℕ) → a < l → first_of a l s ≡ a
@@ -53,10 +52,10 @@ first_most a l s = elim (cases_lt a l) [
 
 -- nor before the arrivals that were found, each lowered to the last second from which a way may still deliver by then; nor
 -- before the soonest seconds
-pub arrivals_lowered : (task : SearchTask) (nodes : ℕ) (arrival near soon : List ℕ) (d : ℕ) → nodes ≡ length task.table → AreSince task soon → AreArrivalsBy task near arrival d → AreArrivals task (since_of nodes arrival near soon d)
-arrivals_lowered task nodes arrival near soon d all since by = record {
-  flags = since_many nodes arrival near soon d ∙ all;
-  least = λ ns v t some way. omega (arith, since_most nodes arrival near soon d v, first_most (slice_index arrival v) (d - cost_to near v) (slice_index soon v), since ns v t some way, by ns v t some way);
+pub arrivals_lowered : (task : SearchTask) (nodes : ℕ) (arrival costs soon : List ℕ) (d : ℕ) → nodes ≡ length task.table → AreSince task soon → AreArrivalsBy task costs arrival d → AreArrivals task (since_of nodes arrival costs soon d)
+arrivals_lowered task nodes arrival costs soon d all since by = record {
+  flags = since_many nodes arrival costs soon d ∙ all;
+  least = λ ns v t some way. omega (arith, since_most nodes arrival costs soon d v, first_most (slice_index arrival v) (d - slice_index costs v) (slice_index soon v), since ns v t some way, by ns v t some way);
 }
 
 -- an empty list that is made longer has the new value alone

@@ -5,7 +5,7 @@ use Rattle.sabr_model.specs.declared.contact.Contact.{Contact}
 use Rattle.sabr_model.specs.plan.Plan.{TabledPlan, contact_named}
 use Rattle.sabr_model.specs.routes.Arrival.{RouteRequest, arrival}
 use Rattle.sabr_search.specs.declared.answers.Answer.{Answer}
-use Rattle.sabr_search.specs.declared.backward.pick.Standing.{Standing}
+use Rattle.sabr_search.specs.declared.visit.Visit.{Visit}
 use Rattle.sabr_search.specs.questions.Ways.{Leads}
 use Rattle.sabr_search.specs.questions.Task.{SearchTask, Takes}
 use Rattle.sabr_search.specs.layers.Picks.{IsLeastWay}
@@ -64,7 +64,7 @@ abbrev pub IsPut : {A : Type 0} → List (Answer A) → List (Answer A) → Answ
 IsPut {A} old new a = (k : ℕ) (x : Answer A) → slice_get new k ≡ Some x → (x ≡ a) ⊎ ((j : ℕ) × (slice_get old j ≡ Some x))
 
 -- contact n takes what is at its sender at second t to an open node
-pub record Arrives (task : SearchTask) (n t : ℕ) (s : Standing) : Type 0 where
+pub record Arrives (task : SearchTask) (n t : ℕ) (s : Visit) : Type 0 where
   pub contact : Contact
   pub named : contact_named task.plan n ≡ Some contact
   pub receiver : slice_get task.table s.node ≡ Some contact.to

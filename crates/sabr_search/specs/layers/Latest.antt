@@ -2,7 +2,9 @@
 use Rattle.std.specs.Prelude.{◌≡◌, ◌≢◌, ℕ, ◌+◌, ◌≤◌, ◌<◌, List, [], ◌∷◌, Bool, false, true, length, replicate, slice_set, Contains, All, slice_get, slice_index, slice_index_or}
 use Rattle.std.specs.List.Sorted.{IsPermutation}
 use Rattle.std.specs.declared.option.Option.TheVariants.{Some}
-use Rattle.sabr_search.specs.declared.forward.queue.Event.{Event}
+use Rattle.sabr_search.specs.declared.visit.Visit.{Visit}
+use Rattle.sabr_index.specs.declared.link.Pass.{Pass}
+use Rattle.sabr_search.specs.questions.Linked.{HasNumber}
 use Rattle.sabr_search.specs.questions.Task.{SearchTask, IsTask, Takes, is_closed, never}
 
 -- the whole graph: no node is shut but the source and those to avoid, and no number is excluded
@@ -25,23 +27,27 @@ IsTakenBy task late w = (n u t b : ℕ) → Takes task n u t w b → b < slice_i
 abbrev pub IsNear : SearchTask → List ℕ → ℕ → ℕ → ℕ → ℕ → Type 0
 IsNear task near u t w b = slice_index_or task.shut u false ≡ false → u ≢ task.goal → task.request.at ≤ t → slice_index near w + t ≤ slice_index near u + b
 
+-- so it is for each step over these passes to node w
+abbrev pub IsNearOver : SearchTask → List ℕ → ℕ → List Pass → ℕ → Type 0
+IsNearOver task near u passes w = (n t b : ℕ) → HasNumber passes n → Takes task n u t w b → IsNear task near u t w b
+
 -- so it is for each step that leads to node w
 abbrev pub IsNearBy : SearchTask → List ℕ → ℕ → Type 0
 IsNearBy task near w = (n u t b : ℕ) → Takes task n u t w b → IsNear task near u t w b
 
 -- at first the goal alone waits, and may be left at any second
-pub record IsBegun (task : SearchTask) (late : List ℕ) (taken : List Bool) (queue : List Event) : Type 0 where
+pub record IsBegun (task : SearchTask) (late : List ℕ) (taken : List Bool) (queue : List Visit) : Type 0 where
   pub late_is : late ≡ slice_set (replicate (length task.shut) 0) task.goal never
   pub taken_is : taken ≡ replicate (length task.shut) false
   pub waits : IsPermutation (record { at = 0; node = task.goal } ∷ []) queue
 
 -- the seconds so far, while the links to node `now` are taken: P holds for each other node whose links are, or it waits
-pub record AreRising (P : List ℕ → ℕ → Type 0) (task : SearchTask) (late : List ℕ) (taken : List Bool) (queue : List Event) (now : ℕ) : Type 0 where
+pub record AreRising (P : List ℕ → ℕ → Type 0) (task : SearchTask) (late : List ℕ) (taken : List Bool) (queue : List Visit) (now : ℕ) : Type 0 where
   pub many : length late ≡ length task.table
   pub flags : length taken ≡ length task.table
   pub goal : slice_index late task.goal ≡ never
-  pub inside : All (λ (e : Event). e.node < length task.table) queue
-  pub waits : (w : ℕ) → w < length task.table → slice_index_or taken w false ≡ false → 0 < slice_index late w → (e : Event) × Contains queue e × (e.node ≡ w)
+  pub inside : All (λ (e : Visit). e.node < length task.table) queue
+  pub waits : (w : ℕ) → w < length task.table → slice_index_or taken w false ≡ false → 0 < slice_index late w → (e : Visit) × Contains queue e × (e.node ≡ w)
   pub over : (w : ℕ) → w ≢ now → slice_index_or taken w false ≡ true → P late w
 
 -- in the end P holds for each node that may be left in time

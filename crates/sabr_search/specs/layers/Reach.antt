@@ -1,5 +1,5 @@
 -- What bounds every search of a request over a plan, over the whole graph.
-use Rattle.std.specs.Prelude.{◌≡◌, ◌≢◌, ℕ, ◌+◌, ◌-◌, ◌≤◌, ◌<◌, List, [], true, false, length, slice_get, slice_index, slice_index_or}
+use Rattle.std.specs.Prelude.{◌≡◌, ◌≢◌, ℕ, ◌+◌, ◌≤◌, ◌<◌, List, [], true, false, length, slice_get, slice_index, slice_index_or}
 use Rattle.std.specs.declared.option.Option.TheVariants.{Some}
 use Rattle.sabr_model.specs.declared.contact.Contact.{Contact}
 use Rattle.sabr_model.specs.plan.Plan.{TabledPlan, contact_named, has}
@@ -31,15 +31,11 @@ pub record AreLateFor (p : TabledPlan) (r : RouteRequest) (late : List ℕ) : Ty
   pub goal : (g : ℕ) → slice_get p.table g ≡ Some r.destination → never ≤ slice_index_or late g never
   pub steps : (n u t w b : ℕ) → Goes p r n u t w b → IsBetween p r u → slice_index_or late u never ≤ t → slice_index_or late w never ≤ b
 
--- by node how much less than `never` the way to the destination takes at the least over the whole graph, in seconds: no step
--- from when the request begins on brings it nearer than the seconds on the way
-pub record AreNearFor (p : TabledPlan) (r : RouteRequest) (near : List ℕ) : Type 0 where
-  pub goal : (g : ℕ) → slice_get p.table g ≡ Some r.destination → slice_index_or near g never ≡ never
-  pub steps : (n u t w b : ℕ) → Goes p r n u t w b → IsBetween p r u → r.at ≤ t → slice_index_or near w never + t ≤ slice_index_or near u never + b
-
--- so the way from node v to the destination takes so many seconds at the least
-abbrev pub cost_to : List ℕ → ℕ → ℕ
-cost_to near v = never - slice_index_or near v never
+-- by node the seconds that the way to the destination takes at the least over the whole graph; 0 after the list's end: no
+-- step from when the request begins on lowers them by more than the seconds on the way
+pub record AreCostsFor (p : TabledPlan) (r : RouteRequest) (costs : List ℕ) : Type 0 where
+  pub goal : (g : ℕ) → slice_get p.table g ≡ Some r.destination → slice_index costs g ≡ 0
+  pub steps : (n u t w b : ℕ) → Goes p r n u t w b → IsBetween p r u → r.at ≤ t → t + slice_index costs u ≤ b + slice_index costs w
 
 -- by node a second before which no contacts lead there from the source over the whole graph; 0 after the list's end
 abbrev pub AreSoonFor : TabledPlan → RouteRequest → List ℕ → Type 0
@@ -50,5 +46,5 @@ AreSoonFor p r soon =
 -- what is known of the ways of every question of the request is true
 pub record IsReach {A : Type 0} (p : TabledPlan) (r : RouteRequest) (reach : Reach A) : Type 0 where
   pub late : AreLateFor p r reach.late.items
-  pub near : AreNearFor p r reach.near.items
+  pub costs : AreCostsFor p r reach.costs.items
   pub soon : AreSoonFor p r reach.soon.items

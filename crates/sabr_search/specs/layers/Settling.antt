@@ -2,40 +2,41 @@
 use Rattle.std.specs.Prelude.{◌≡◌, ◌≢◌, ◌⊎◌, ℕ, ◌+◌, ◌-◌, ◌≤◌, ◌<◌, min, List, length, Bool, true, false, All, Contains, slice_get, slice_index, slice_index_or}
 use Rattle.std.specs.List.{count_by}
 use Rattle.std.specs.declared.option.Option.TheVariants.{Some}
-use Rattle.sabr_search.specs.declared.backward.pick.Standing.{Standing}
-use Rattle.sabr_search.specs.declared.forward.queue.Event.{Event}
+use Rattle.sabr_search.specs.declared.visit.Visit.{Visit}
 use Rattle.sabr_search.specs.declared.forward.layers.Best.{Best}
+use Rattle.sabr_search.specs.declared.forward.settling.Settling.{Settling}
+use Rattle.sabr_index.specs.declared.link.Pass.{Pass}
+use Rattle.sabr_search.specs.questions.Linked.{HasNumber}
 use Rattle.sabr_search.specs.questions.Ways.{Leads}
 use Rattle.sabr_search.specs.questions.Task.{SearchTask, Takes, never, latest_arrival}
 use Rattle.sabr_search.specs.questions.Steps.{senders}
 use Rattle.sabr_search.specs.layers.Lists.{AreClosed, IsKnown}
-use Rattle.sabr_search.specs.layers.Reach.{cost_to}
 
 -- by node a second before which no way comes there, or from which on none delivers before d, if that is sooner; nothing is
 -- said of a node after the list's end
 abbrev pub AreArrivalsBy : SearchTask → List ℕ → List ℕ → ℕ → Type 0
-AreArrivalsBy task near arrival d = (ns : List ℕ) (v t : ℕ) → 0 < length ns → Leads (Takes task) task.start task.at ns v t → min (slice_index arrival v) (d - cost_to near v) ≤ t
+AreArrivalsBy task costs arrival d = (ns : List ℕ) (v t : ℕ) → 0 < length ns → Leads (Takes task) task.start task.at ns v t → min (slice_index arrival v) (d - slice_index costs v) ≤ t
 
 -- by node a second from which on no way leads to the goal, as far as the list goes; and what a way from there to the goal
 -- costs at the least, which no step lowers by more than its seconds
-pub record IsBound (task : SearchTask) (late near : List ℕ) : Type 0 where
+pub record IsBound (task : SearchTask) (late costs : List ℕ) : Type 0 where
   pub goal : never ≤ slice_index_or late task.goal never
   pub steps : (n u t w b : ℕ) → Takes task n u t w b → slice_index_or task.shut u false ≡ false → u ≢ task.goal → slice_index_or late u never ≤ t → slice_index_or late w never ≤ b
-  pub there : cost_to near task.goal ≡ 0
+  pub there : slice_index costs task.goal ≡ 0
   pub since : task.request.at ≤ task.at
-  pub costs : (n u t w b : ℕ) → Takes task n u t w b → slice_index_or task.shut u false ≡ false → task.request.at ≤ t → t + cost_to near u ≤ b + cost_to near w
+  pub lowers : (n u t w b : ℕ) → Takes task n u t w b → slice_index_or task.shut u false ≡ false → task.request.at ≤ t → t + slice_index costs u ≤ b + slice_index costs w
 
 -- these are steps from the start
-abbrev pub AreReal : SearchTask → List Standing → Type 0
-AreReal task first = (k : ℕ) (s : Standing) → slice_get first k ≡ Some s → (n : ℕ) × Takes task n task.start task.at s.node s.at
+abbrev pub AreReal : SearchTask → List Visit → Type 0
+AreReal task first = (k : ℕ) (s : Visit) → slice_get first k ≡ Some s → (n : ℕ) × Takes task n task.start task.at s.node s.at
 
 -- whoever comes to a settled open node may be at the goal by second t, by what it costs at the least
 abbrev pub AreSettledBy : SearchTask → List ℕ → List Bool → List ℕ → ℕ → Type 0
-AreSettledBy task near settled arrival t = (k : ℕ) → slice_index_or settled k false ≡ true → slice_index_or task.shut k false ≡ false → slice_index arrival k + cost_to near k ≤ t
+AreSettledBy task costs settled arrival t = (k : ℕ) → slice_index_or settled k false ≡ true → slice_index_or task.shut k false ≡ false → slice_index arrival k + slice_index costs k ≤ t
 
 -- an event for node k at second t waits
-abbrev pub IsWaiting : List Event → ℕ → ℕ → Type 0
-IsWaiting queue k t = (e : Event) × Contains queue e × (e.node ≡ k) × (e.at ≡ t)
+abbrev pub IsWaiting : List Visit → ℕ → ℕ → Type 0
+IsWaiting queue k t = (e : Visit) × Contains queue e × (e.node ≡ k) × (e.at ≡ t)
 
 -- the number of settled nodes
 abbrev pub settled_count : List Bool → ℕ
@@ -50,19 +51,19 @@ abbrev pub IsWayTo : SearchTask → ℕ → ℕ → ℕ → Type 0
 IsWayTo task v h t = (ns : List ℕ) × (length ns ≡ h) × Leads (Takes task) task.start task.at ns v t
 
 -- what the queue holds between two steps: an event's second is the arrival at its node and what the goal costs from there
-pub record IsQueue (task : SearchTask) (bounds near : List ℕ) (settled : List Bool) (arrival : List ℕ) (queue : List Event) : Type 0 where
+pub record IsQueue (task : SearchTask) (bounds costs : List ℕ) (settled : List Bool) (arrival : List ℕ) (queue : List Visit) : Type 0 where
   -- an open node that is reached before it is too late there, and not settled, waits with its arrival
-  pub waits : (k : ℕ) → k < length arrival → slice_index_or task.shut k false ≡ false → slice_index_or settled k false ≡ false → slice_index arrival k < slice_index_or bounds k never → IsWaiting queue k (slice_index arrival k + cost_to near k)
+  pub waits : (k : ℕ) → k < length arrival → slice_index_or task.shut k false ≡ false → slice_index_or settled k false ≡ false → slice_index arrival k < slice_index_or bounds k never → IsWaiting queue k (slice_index arrival k + slice_index costs k)
   -- no event is earlier than the arrival at its node
-  pub late : All (λ (e : Event). slice_index arrival e.node + cost_to near e.node ≤ e.at) queue
+  pub late : All (λ (e : Visit). slice_index arrival e.node + slice_index costs e.node ≤ e.at) queue
   -- no event comes when it is too late at its node
-  pub before : All (λ (e : Event). e.at < slice_index_or bounds e.node never + cost_to near e.node) queue
+  pub before : All (λ (e : Visit). e.at < slice_index_or bounds e.node never + slice_index costs e.node) queue
   -- no event is earlier than a settled node
-  pub order : All (λ (e : Event). AreSettledBy task near settled arrival e.at) queue
+  pub order : All (λ (e : Visit). AreSettledBy task costs settled arrival e.at) queue
   -- an event is of an open node, and not of the goal
-  pub inside : All (λ (e : Event). e.node < length arrival) queue
-  pub unshut : All (λ (e : Event). slice_index_or task.shut e.node false ≡ false) queue
-  pub other : All (λ (e : Event). e.node ≢ task.goal) queue
+  pub inside : All (λ (e : Visit). e.node < length arrival) queue
+  pub unshut : All (λ (e : Visit). slice_index_or task.shut e.node false ≡ false) queue
+  pub other : All (λ (e : Visit). e.node ≢ task.goal) queue
 
 -- by node the hops of a way with its arrival, no more than there are settled nodes, if it is an open node that is reached
 -- before it is too late there
@@ -81,20 +82,28 @@ abbrev pub AreBy : SearchTask → List ℕ → List ℕ → Type 0
 AreBy task late arrival = (k : ℕ) → slice_index_or task.shut k false ≡ false → slice_index arrival k ≤ slice_index_or late k never
 
 -- what holds while the contacts of node u are taken, which is settled and reached at t
-pub record AreSettling (task : SearchTask) (late near : List ℕ) (settled : List Bool) (u t : ℕ) (arrival hops : List ℕ) (queue : List Event) (best : Best) : Type 0 where
+pub record AreSettling (task : SearchTask) (late costs : List ℕ) (settled : List Bool) (u t : ℕ) (arrival hops : List ℕ) (queue : List Visit) (best : Best) : Type 0 where
   pub on : slice_index_or settled u false ≡ true
   pub real : IsWayTo task u (slice_index hops u) t
   pub few : slice_index hops u < settled_count settled
   pub flags : length arrival ≡ length task.shut
   pub many : length settled ≡ length task.shut
   pub closed : AreClosed task.shut arrival t
-  pub early : (n w b : ℕ) → Takes task n u t w b → AreSettledBy task near settled arrival (b + cost_to near w)
+  pub early : (n w b : ℕ) → Takes task n u t w b → AreSettledBy task costs settled arrival (b + slice_index costs w)
   pub lowered : AreBy task late arrival
-  pub queue_is : IsQueue task late near settled arrival queue
+  pub queue_is : IsQueue task late costs settled arrival queue
   pub hops_are : AreHops task late settled arrival hops
   pub found : IsFirst task settled best
   pub sooner : best.delivery ≤ latest_arrival + 1
   pub goal_late : best.delivery ≤ slice_index arrival task.goal
+
+-- so it is with what a search keeps, while the contacts of an event's node are taken
+abbrev pub StaySettling : {A : Type 0} → SearchTask → (late costs : List ℕ) → List Bool → Visit → Settling A → Best → Type 0
+StaySettling task late costs settled event s best = AreSettling task late costs settled event.node event.at s.arrival.items s.hops.items s.queue best
+
+-- what these passes bring from node u at t is known
+abbrev pub IsKnownOver : SearchTask → List Pass → ℕ → ℕ → (costs arrival : List ℕ) → ℕ → Type 0
+IsKnownOver task passes u t costs arrival best = (n w x : ℕ) → HasNumber passes n → Takes task n u t w x → IsKnown task.goal arrival (best - slice_index costs w) w x
 
 -- what doesn't change or only falls when more contacts are taken
 pub record IsFallen (settled : List Bool) (arrival0 : List ℕ) (best0 : Best) (arrival : List ℕ) (best : Best) : Type 0 where
@@ -104,11 +113,11 @@ pub record IsFallen (settled : List Bool) (arrival0 : List ℕ) (best0 : Best) (
 
 -- what the contacts of the settled nodes bring is known
 abbrev pub AreSettledTaken : SearchTask → List ℕ → List Bool → List ℕ → ℕ → Type 0
-AreSettledTaken task near settled arrival best =
-    (v n w b : ℕ) → slice_index_or settled v false ≡ true → Takes task n v (slice_index arrival v) w b → IsKnown task.goal arrival (best - cost_to near w) w b
+AreSettledTaken task costs settled arrival best =
+    (v n w b : ℕ) → slice_index_or settled v false ≡ true → Takes task n v (slice_index arrival v) w b → IsKnown task.goal arrival (best - slice_index costs w) w b
 
 -- what holds between two events
-pub record AreSettled (task : SearchTask) (late near : List ℕ) (settled : List Bool) (arrival hops : List ℕ) (queue : List Event) (best : Best) : Type 0 where
+pub record AreSettled (task : SearchTask) (late costs : List ℕ) (settled : List Bool) (arrival hops : List ℕ) (queue : List Visit) (best : Best) : Type 0 where
   pub flags : length arrival ≡ length task.shut
   pub many : length settled ≡ length task.shut
   pub start_settled : slice_index_or settled task.start false ≡ true
@@ -116,12 +125,16 @@ pub record AreSettled (task : SearchTask) (late near : List ℕ) (settled : List
   pub goal_unsettled : slice_index_or settled task.goal false ≡ false
   pub closed : AreClosed task.shut arrival task.at
   pub lowered : AreBy task late arrival
-  pub queue_is : IsQueue task late near settled arrival queue
+  pub queue_is : IsQueue task late costs settled arrival queue
   pub hops_are : AreHops task late settled arrival hops
   pub found : IsFirst task settled best
   pub sooner : best.delivery ≤ latest_arrival + 1
   pub goal_late : best.delivery ≤ slice_index arrival task.goal
-  pub taken : AreSettledTaken task near settled arrival best.delivery
+  pub taken : AreSettledTaken task costs settled arrival best.delivery
+
+-- so it is with what a search keeps
+abbrev pub StaySettled : {A : Type 0} → SearchTask → (late costs : List ℕ) → Settling A → Best → Type 0
+StaySettled task late costs s best = AreSettled task late costs s.settled.items s.arrival.items s.hops.items s.queue best
 
 -- what a search found: no way to the goal comes before the delivery, and some way comes then with that number of hops,
 -- fewer than there are nodes; or no way leads there

@@ -2,7 +2,7 @@
 use Rattle.std.specs.Prelude.{◌≡◌, ℕ, ◌≤◌, List, slice_get}
 use Rattle.std.specs.declared.option.Option.TheVariants.{Some}
 use Rattle.sabr_model.specs.plan.Plan.{TabledPlan}
-use Rattle.sabr_search.specs.declared.backward.pick.Standing.{Standing}
+use Rattle.sabr_search.specs.declared.visit.Visit.{Visit}
 use Rattle.sabr_search.specs.questions.Ways.{Leads}
 use Rattle.sabr_search.specs.questions.Task.{SearchTask, Takes}
 
@@ -11,11 +11,11 @@ abbrev pub tabled_of : SearchTask → TabledPlan
 tabled_of task = record { plan = task.plan; table = task.table }
 
 -- one of these is at node w by second b
-abbrev pub ComesTo : List Standing → ℕ → ℕ → Type 0
-ComesTo first w b = (k : ℕ) × (s : Standing) × (slice_get first k ≡ Some s) × (s.node ≡ w) × (s.at ≤ b)
+abbrev pub ComesTo : List Visit → ℕ → ℕ → Type 0
+ComesTo first w b = (k : ℕ) × (s : Visit) × (slice_get first k ≡ Some s) × (s.node ≡ w) × (s.at ≤ b)
 
 -- each first step comes to one of the nodes, then or later
-abbrev pub AreFirstSteps : SearchTask → List Standing → Type 0
+abbrev pub AreFirstSteps : SearchTask → List Visit → Type 0
 AreFirstSteps task first = (n w b : ℕ) → Takes task n task.start task.at w b → ComesTo first w b
 
 -- no way delivers before second d

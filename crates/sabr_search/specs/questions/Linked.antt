@@ -1,5 +1,5 @@
 -- The links that a search walks at one node: the contacts that it sends, by receiver, as passes.
-use Rattle.std.specs.Prelude.{◌≡◌, ℕ, ◌+◌, ◌-◌, ◌<◌, ◌≤◌, List, length, take, drop, slice_get}
+use Rattle.std.specs.Prelude.{◌≡◌, ℕ, ◌+◌, ◌-◌, ◌<◌, ◌≤◌, List, length, take, drop, false, slice_get, slice_index_or}
 use Rattle.std.specs.List.{sum_by}
 use Rattle.std.specs.declared.option.Option.TheVariants.{Some}
 use Rattle.sabr_model.specs.declared.contact.Contact.{Contact}
@@ -39,6 +39,10 @@ IsLinkWithin task u w passes bounds = IsLinkAt task u w passes × AreWithin boun
 -- one of the passes has the number
 abbrev pub HasNumber : List Pass → ℕ → Type 0
 HasNumber passes n = (k : ℕ) × (x : Pass) × (slice_get passes k ≡ Some x) × (x.number ≡ n)
+
+-- who is at node u at t arrives over some contact at node w before a second, if that node is open
+abbrev pub IsLeftBefore : SearchTask → ℕ → ℕ → ℕ → ℕ → Type 0
+IsLeftBefore task u w before t = (b : ℕ) × (b < before) × (slice_index_or task.shut w false ≡ false → (n : ℕ) × Takes task n u t w b)
 
 -- the passes at the places of the link
 abbrev pub passes_of : List Pass → Link → List Pass

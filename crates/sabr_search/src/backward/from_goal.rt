@@ -10,12 +10,12 @@ ghost use Rattle.sabr_search.specs.questions.FirstSteps.{AreFirstSteps};
 ghost use Rattle.sabr_search.specs.layers.Settling.{AreReal};
 ghost use Rattle.sabr_search.specs.layers.Late.{InTimeFor, AreLateAfter, IsNotedLate, IsToldLate, IsToldOver, IsToldByHead, IsLayerTold, AreArrivals, AreMet, IsNoneSeen};
 
-use crate::backward::pick::Standing;
+use crate::backward::deadlines::{Deadline, Deadlines};
 use crate::backward::since::Since;
-use crate::forward::layers::{LayerEntry, Layers};
 use crate::links::looks::Looks;
 use crate::links::over_link::{WalkedLink, is_soonest};
 use crate::task::Task;
+use crate::visit::Visit;
 use sabr_index::{Sender, SenderHead};
 use sabr_model::NoMemory;
 use std::alloc::Allocator;
@@ -28,30 +28,30 @@ pub struct Aim<'t, 'a, 's, A: Allocator + Copy> {
     /// For each node, a second before which no way comes there.
     pub since: &'s Since<'s>,
     /// Where the first steps come to, and when.
-    pub first: &'s [Standing],
-    /// The second by which the goal is to be reached.
+    pub first: &'s [Visit],
+    /// The second by which the goal is to be reached; within a limit on hops, one before which no way delivers.
     pub delivery: u64,
 }
 
-impl<A: Allocator + Copy> Layers<A> {
+impl<A: Allocator + Copy> Deadlines<A> {
     /// Notes the first second that is too late at a node, in the layer that begins at `begin`, once for each node.
-    fn note_late(&mut self, entry: LayerEntry, begin: usize) -> Result<(), NoMemory>
+    fn note_late(&mut self, entry: Deadline, begin: usize) -> Result<(), NoMemory>
         requires place { entry.node < length self.old.place.items }
         requires late { entry.node < length self.old.late }
-        requires placed { 0 < slice_index self.old.late entry.node → slice_index self.old.place.items entry.node < length self.old.reached.items }
+        requires placed { 0 < slice_index self.old.late entry.node → slice_index self.old.place.items entry.node < length self.old.entries.items }
         ensures ends { self.new.ends ≡ self.old.ends }
-        ensures late { OnOk result (self.new.late ≡ slice_set self.old.late entry.node entry.deadline) }
-        ensures noted { OnOk result (IsNotedLate self.old.late self.old.place.items self.old.reached.items begin entry.node entry.arrival entry.deadline self.new.place.items self.new.reached.items) }
+        ensures late { OnOk result (self.new.late ≡ slice_set self.old.late entry.node entry.before) }
+        ensures noted { OnOk result (IsNotedLate self.old.late self.old.place.items self.old.entries.items begin entry.node entry.before self.new.place.items self.new.entries.items) }
     {
         let at = self.place[entry.node];
         if self.late.at(entry.node) > 0 && at >= begin {
-            self.reached[at] = entry;
+            self.entries[at] = entry;
         } else {
-            let end = self.reached.len();
-            self.reached.push(entry)?;
+            let end = self.entries.len();
+            self.entries.push(entry)?;
             self.place[entry.node] = end;
         }
-        self.late.set(entry.node, entry.deadline)
+        self.late.set(entry.node, entry.before)
     }
 
     /// Returns true if a link to a node that is left in time before `before` needn't be taken: its sender is in no layer,
@@ -83,7 +83,7 @@ impl<A: Allocator + Copy> Layers<A> {
         aim: &Aim<'_, '_, '_, A>,
         looks: &mut Looks,
         from: Sender<'_>,
-        to: LayerEntry,
+        to: Deadline,
         left: usize,
     ) -> Result<(), NoMemory>
         requires task { IsTask aim.now.task.now }
@@ -95,17 +95,17 @@ impl<A: Allocator + Copy> Layers<A> {
         requires receiver { slice_index_or aim.now.task.now.shut to.node false ≡ false }
         requires arrivals { length aim.now.since.now ≡ length aim.now.task.now.table }
         requires few { length from.passes.now ≤ looks.old.left }
-        requires given { (b : ℕ) → b < to.deadline → InTimeFor self.old.reached.items (slice_index self.old.ends.items left) (slice_index self.old.ends.items (left + 1)) to.node b }
-        requires lists { AreLateAfter aim.now.task.now aim.now.since.now self.old.ends.items left self.old.late self.old.place.items self.old.reached.items }
+        requires given { (b : ℕ) → b < to.before → InTimeFor self.old.entries.items (slice_index self.old.ends.items left) (slice_index self.old.ends.items (left + 1)) to.node b }
+        requires lists { AreLateAfter aim.now.task.now self.old.ends.items left self.old.late self.old.place.items self.old.entries.items }
         ensures ends { self.new.ends ≡ self.old.ends }
         ensures looks { looks.old.left ≤ looks.new.left + length from.entry.passes.now }
-        ensures lists { OnOk result (AreLateAfter aim.now.task.now aim.now.since.now self.old.ends.items left self.new.late self.new.place.items self.new.reached.items) }
-        ensures kept { OnOk result (take (slice_index self.old.ends.items (left + 1)) self.new.reached.items ≡ take (slice_index self.old.ends.items (left + 1)) self.old.reached.items) }
+        ensures lists { OnOk result (AreLateAfter aim.now.task.now self.old.ends.items left self.new.late self.new.place.items self.new.entries.items) }
+        ensures kept { OnOk result (take (slice_index self.old.ends.items (left + 1)) self.new.entries.items ≡ take (slice_index self.old.ends.items (left + 1)) self.old.entries.items) }
         ensures rises { OnOk result ((k : ℕ) → slice_index self.old.late k ≤ slice_index self.new.late k) }
-        ensures told { OnOk result (IsToldOver aim.now.task.now aim.now.since.now self.new.late from.entry.node from.entry.passes.now to.deadline) }
+        ensures told { OnOk result (IsToldOver aim.now.task.now aim.now.since.now self.new.late from.entry.node from.entry.passes.now to.before) }
     {
         let since = aim.since.at(from.node);
-        if to.deadline <= since {
+        if to.before <= since {
             return Ok(());
         }
         let latest = self.late.at(from.node);
@@ -115,14 +115,13 @@ impl<A: Allocator + Copy> Layers<A> {
             passes: from.passes,
             bounds: from.bounds,
         };
-        let last = aim.task.leave_over(looks, link, to.deadline, latest);
+        let last = aim.task.leave_over(looks, link, to.before, latest);
         if last <= latest || last <= since {
             return Ok(());
         }
-        let entry = LayerEntry {
+        let entry = Deadline {
             node: from.node,
-            arrival: since,
-            deadline: last,
+            before: last,
         };
         let begin = self.ends[left + 1];
         self.note_late(entry, begin)?;
@@ -134,7 +133,7 @@ impl<A: Allocator + Copy> Layers<A> {
         &mut self,
         aim: &Aim<'_, '_, '_, A>,
         looks: &mut Looks,
-        to: LayerEntry,
+        to: Deadline,
         left: usize,
     ) -> Result<bool, NoMemory>
         requires task { IsTask aim.now.task.now }
@@ -142,20 +141,20 @@ impl<A: Allocator + Copy> Layers<A> {
         requires node { to.node < length aim.now.task.now.table }
         requires receiver { slice_index_or aim.now.task.now.shut to.node false ≡ false }
         requires arrivals { length aim.now.since.now ≡ length aim.now.task.now.table }
-        requires given { (b : ℕ) → b < to.deadline → InTimeFor self.old.reached.items (slice_index self.old.ends.items left) (slice_index self.old.ends.items (left + 1)) to.node b }
-        requires lists { AreLateAfter aim.now.task.now aim.now.since.now self.old.ends.items left self.old.late self.old.place.items self.old.reached.items }
+        requires given { (b : ℕ) → b < to.before → InTimeFor self.old.entries.items (slice_index self.old.ends.items left) (slice_index self.old.ends.items (left + 1)) to.node b }
+        requires lists { AreLateAfter aim.now.task.now self.old.ends.items left self.old.late self.old.place.items self.old.entries.items }
         ensures ends { self.new.ends ≡ self.old.ends }
         ensures counted { looks.old.left ≤ looks.new.left + received aim.now.task.now to.node }
         ensures none { IfOk result (λ whole. whole ≡ false → looks.old.left < received aim.now.task.now to.node) }
-        ensures lists { OnOk result (AreLateAfter aim.now.task.now aim.now.since.now self.old.ends.items left self.new.late self.new.place.items self.new.reached.items) }
-        ensures kept { OnOk result (take (slice_index self.old.ends.items (left + 1)) self.new.reached.items ≡ take (slice_index self.old.ends.items (left + 1)) self.old.reached.items) }
+        ensures lists { OnOk result (AreLateAfter aim.now.task.now self.old.ends.items left self.new.late self.new.place.items self.new.entries.items) }
+        ensures kept { OnOk result (take (slice_index self.old.ends.items (left + 1)) self.new.entries.items ≡ take (slice_index self.old.ends.items (left + 1)) self.old.entries.items) }
         ensures rises { OnOk result ((k : ℕ) → slice_index self.old.late k ≤ slice_index self.new.late k) }
-        ensures told { IfOk result (λ whole. IsTrue whole → (n u t b : ℕ) → Takes aim.now.task.now n u t to.node b → b < to.deadline → IsToldLate aim.now.task.now aim.now.since.now self.new.late u t) }
+        ensures told { IfOk result (λ whole. IsTrue whole → (n u t b : ℕ) → Takes aim.now.task.now n u t to.node b → b < to.before → IsToldLate aim.now.task.now aim.now.since.now self.new.late u t) }
     {
         let senders = aim.task.senders(to.node);
         for place in 0..senders.len() {
             let head = senders.head(place);
-            if self.is_told(aim, head, to.deadline) {
+            if self.is_told(aim, head, to.before) {
                 continue;
             }
             let from = senders.at(place);
@@ -181,20 +180,20 @@ impl<A: Allocator + Copy> Layers<A> {
         requires task { IsTask aim.now.task.now }
         requires arrivals { length aim.now.since.now ≡ length aim.now.task.now.table }
         requires bounded { left + 1 < length self.old.ends.items }
-        requires goal { IfSome (slice_get self.old.reached.items 0) (λ e. e.node ≡ aim.now.task.now.goal) }
-        requires apart { IsApart self.old.ends.items self.old.reached.items left }
-        requires lists { AreLateAfter aim.now.task.now aim.now.since.now self.old.ends.items left self.old.late self.old.place.items self.old.reached.items }
+        requires goal { IfSome (slice_get self.old.entries.items 0) (λ e. e.node ≡ aim.now.task.now.goal) }
+        requires apart { IsApart self.old.ends.items self.old.entries.items left }
+        requires lists { AreLateAfter aim.now.task.now self.old.ends.items left self.old.late self.old.place.items self.old.entries.items }
         ensures ends { self.new.ends ≡ self.old.ends }
         ensures counted { looks.old.left ≤ looks.new.left + length aim.now.task.now.plan.contacts }
         ensures none { IfOk result (λ whole. whole ≡ false → looks.old.left < length aim.now.task.now.plan.contacts) }
-        ensures lists { OnOk result (AreLateAfter aim.now.task.now aim.now.since.now self.old.ends.items left self.new.late self.new.place.items self.new.reached.items) }
-        ensures kept { OnOk result (take (slice_index self.old.ends.items (left + 1)) self.new.reached.items ≡ take (slice_index self.old.ends.items (left + 1)) self.old.reached.items) }
-        ensures told { IfOk result (λ whole. IsTrue whole → IsLayerTold aim.now.task.now aim.now.since.now self.old.ends.items left self.old.reached.items self.new.late) }
+        ensures lists { OnOk result (AreLateAfter aim.now.task.now self.old.ends.items left self.new.late self.new.place.items self.new.entries.items) }
+        ensures kept { OnOk result (take (slice_index self.old.ends.items (left + 1)) self.new.entries.items ≡ take (slice_index self.old.ends.items (left + 1)) self.old.entries.items) }
+        ensures told { IfOk result (λ whole. IsTrue whole → IsLayerTold aim.now.task.now aim.now.since.now self.old.ends.items left self.old.entries.items self.new.late) }
     {
         let first = self.ends[left];
         let begin = self.ends[left + 1];
         for place in first..begin {
-            let to = self.reached[place];
+            let to = self.entries[place];
             let whole = self.take_senders(aim, looks, to, left)?;
             if !whole {
                 return Ok(false);
@@ -208,7 +207,7 @@ impl<A: Allocator + Copy> Layers<A> {
         requires task { IsTask task.now }
         requires early { delivery < never }
         ensures ends { OnOk result (self.new.ends.items ≡ 0 ∷ 1 ∷ []) }
-        ensures reached { OnOk result (self.new.reached.items ≡ record { node = task.now.goal; arrival = delivery; deadline = delivery + 1 } ∷ []) }
+        ensures entries { OnOk result (self.new.entries.items ≡ record { node = task.now.goal; before = delivery + 1 } ∷ []) }
         ensures flags { OnOk result (length self.new.place.items ≡ length task.now.shut) }
         ensures place { OnOk result (slice_index self.new.place.items task.now.goal ≡ 0) }
         ensures many { OnOk result (length self.new.late ≡ length task.now.shut) }
@@ -219,11 +218,10 @@ impl<A: Allocator + Copy> Layers<A> {
         self.place[task.goal()] = 0;
         self.late.begin(task.shut().len())?;
         self.late.set(task.goal(), delivery + 1)?;
-        self.reached.clear();
-        self.reached.push(LayerEntry {
+        self.entries.clear();
+        self.entries.push(Deadline {
             node: task.goal(),
-            arrival: delivery,
-            deadline: delivery + 1,
+            before: delivery + 1,
         })?;
         self.ends.clear();
         self.ends.push(0)?;
@@ -232,10 +230,10 @@ impl<A: Allocator + Copy> Layers<A> {
     }
 
     /// Returns true if some first step comes in time to a node of the layers so far.
-    fn is_met(&self, first: &[Standing]) -> bool
-        requires { (k : ℕ) (s : Standing) → slice_get first.now k ≡ Some s → s.node < length self.now.late }
-        ensures met { IsTrue result → (k : ℕ) × (s : Standing) × (slice_get first.now k ≡ Some s) × (s.at < slice_index self.now.late s.node) }
-        ensures unmet { result ≡ false → (k : ℕ) (s : Standing) → slice_get first.now k ≡ Some s → slice_index self.now.late s.node ≤ s.at }
+    fn is_met(&self, first: &[Visit]) -> bool
+        requires { (k : ℕ) (s : Visit) → slice_get first.now k ≡ Some s → s.node < length self.now.late }
+        ensures met { IsTrue result → (k : ℕ) × (s : Visit) × (slice_get first.now k ≡ Some s) × (s.at < slice_index self.now.late s.node) }
+        ensures unmet { result ≡ false → (k : ℕ) (s : Visit) → slice_get first.now k ≡ Some s → slice_index self.now.late s.node ≤ s.at }
     {
         for place in 0..first.len() {
             let step = first[place];
@@ -263,7 +261,7 @@ impl<A: Allocator + Copy> Layers<A> {
         ensures counted { looks.old.left ≤ looks.new.left + hops * length aim.now.task.now.plan.contacts }
         ensures within { IfOk result (λ o. IfSome o (λ left. left < hops)) }
         ensures layers { IfOk result (λ o. IfSome o (λ left. looks.old.left ≤ looks.new.left + (left + 1) * length aim.now.task.now.plan.contacts)) }
-        ensures met { IfOk result (λ o. IfSome o (λ left. AreMet aim.now.task.now aim.now.since.now aim.now.delivery left self.new.ends.items self.new.place.items self.new.reached.items)) }
+        ensures met { IfOk result (λ o. IfSome o (λ left. AreMet aim.now.task.now aim.now.since.now aim.now.delivery left self.new.ends.items self.new.place.items self.new.entries.items)) }
         ensures none { IfOk result (λ o. IfNone o (IsNoneSeen aim.now.task.now hops aim.now.delivery looks.old.left)) }
     {
         self.first_back(aim.task, aim.delivery)?;
@@ -278,7 +276,7 @@ impl<A: Allocator + Copy> Layers<A> {
             if !whole {
                 return Ok(None);
             }
-            let end = self.reached.len();
+            let end = self.entries.len();
             self.ends.push(end)?;
         }
         Ok(None)

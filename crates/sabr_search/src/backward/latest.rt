@@ -8,10 +8,11 @@ ghost use Rattle.sabr_search.specs.layers.Reach.{AreLateFor};
 ghost use Rattle.sabr_search.specs.layers.Latest.{IsWhole, IsBegun, AreRising, AreTaken, IsTakenBy, IsLeftBy};
 
 use crate::forward::layers::NEVER;
-use crate::forward::queue::{Event, LAST_AT, Queue};
+use crate::forward::queue::{LAST_AT, Queue};
 use crate::links::looks::Looks;
 use crate::links::over_link::{WalkedLink, is_soonest};
 use crate::task::Task;
+use crate::visit::Visit;
 use sabr_index::Sender;
 use sabr_model::NoMemory;
 use std::alloc::Allocator;
@@ -40,7 +41,7 @@ impl<A: Allocator + Copy> Latest<A> {
         let mut taken = Vec::new(alloc);
         taken.resize(nodes, false)?;
         let mut queue = Queue::new(alloc);
-        let first = Event {
+        let first = Visit {
             at: 0,
             node: task.goal(),
         };
@@ -90,7 +91,7 @@ impl<A: Allocator + Copy> Latest<A> {
         if last <= latest {
             return Ok(());
         }
-        let event = Event {
+        let event = Visit {
             at: LAST_AT.saturating_sub(last),
             node,
         };

@@ -7,6 +7,7 @@ ghost use Rattle.sabr_search.specs.layers.Late.{AreArrivals, IsNoneSooner, HasWa
 ghost use Rattle.sabr_search.specs.layers.Settling.{AreReal};
 ghost use Rattle.sabr_search.specs.questions.FirstSteps.{AreFirstSteps, IsNoneBefore};
 
+use crate::backward::deadlines::Deadlines;
 use crate::backward::from_goal::Aim;
 use crate::forward::layers::Layers;
 use crate::links::looks::Looks;
@@ -32,7 +33,7 @@ impl<A: Allocator + Copy> FoundWay<A> {
     }
 }
 
-impl<A: Allocator + Copy> Layers<A> {
+impl<A: Allocator + Copy> Deadlines<A> {
     /// Returns the least way of at most so many hops. Some such way delivers as is aimed at, and none sooner. None if more
     /// looks might be needed than are left.
     pub fn least_by(
@@ -72,6 +73,7 @@ impl<A: Allocator + Copy> Layers<A> {
     /// looks might be needed than are left.
     pub fn least_within(
         &mut self,
+        forward: &mut Layers<A>,
         aim: &Aim<'_, '_, '_, A>,
         looks: &mut Looks,
         hops: usize,
@@ -88,7 +90,7 @@ impl<A: Allocator + Copy> Layers<A> {
         ensures found { IfOk result (λ o. IfSome o (λ way. IsFoundWay aim.now.task.now hops way.numbers.items way.delivery)) }
     {
         let task = aim.task;
-        let made = self.make(task, looks, hops, aim.delivery)?;
+        let made = forward.make(task, looks, hops, aim.delivery)?;
         let Some(best) = made else {
             return Ok(None);
         };

@@ -1,17 +1,18 @@
-//! For each node, how near the destination is, by the bounds of links alone: from the goal backward over the whole graph.
+//! For each node, what a way to the destination costs, by the bounds of links alone: from the goal backward over the whole graph.
 
 ghost use Rattle.sabr_index.specs.Links.{SentLink};
 ghost use Rattle.std.specs.Prelude.{◌≡◌, ◌≢◌, ℕ, ◌+◌, ◌≤◌, ◌<◌, [], Some, IfOk, OnOk, IsTrue, false, length, slice_get, slice_index, slice_index_or};
-ghost use Rattle.sabr_search.specs.questions.Task.{IsTask, Takes};
+ghost use Rattle.sabr_search.specs.questions.Task.{IsTask, Takes, never};
 ghost use Rattle.sabr_search.specs.questions.Linked.{AreSendersAt, HasNumber};
 ghost use Rattle.sabr_search.specs.questions.FirstSteps.{tabled_of};
-ghost use Rattle.sabr_search.specs.layers.Reach.{AreNearFor};
-ghost use Rattle.sabr_search.specs.layers.Latest.{IsWhole, AreRising, AreTaken, IsNearBy, IsNear};
+ghost use Rattle.sabr_search.specs.layers.Reach.{AreCostsFor};
+ghost use Rattle.sabr_search.specs.layers.Latest.{IsWhole, AreRising, AreTaken, IsNearBy, IsNearOver};
 
 use crate::backward::latest::Latest;
 use crate::forward::layers::NEVER;
-use crate::forward::queue::{Event, LAST_AT};
+use crate::forward::queue::LAST_AT;
 use crate::task::Task;
+use crate::visit::Visit;
 use sabr_index::Senders;
 use sabr_model::{MOST_LIGHT, NoMemory};
 use std::alloc::Allocator;
@@ -45,7 +46,7 @@ impl<A: Allocator + Copy> Latest<A> {
         ensures rising { OnOk result (AreRising (IsNearBy task.now) task.now self.new.late.items self.new.taken.items self.new.queue to) }
         ensures same { OnOk result (slice_index self.new.late.items to ≡ slice_index self.old.late.items to) }
         ensures rises { OnOk result ((k : ℕ) → slice_index self.old.late.items k ≤ slice_index self.new.late.items k) }
-        ensures told { OnOk result ((s : SentLink) → slice_get senders.now place ≡ Some s → (n t b : ℕ) → HasNumber s.passes n → Takes task.now n s.sender t to b → IsNear task.now self.new.late.items s.sender t to b) }
+        ensures told { OnOk result ((s : SentLink) → slice_get senders.now place ≡ Some s → IsNearOver task.now self.new.late.items s.sender s.passes to) }
     {
         let head = senders.head(place);
         let node = head.node;
@@ -69,7 +70,7 @@ impl<A: Allocator + Copy> Latest<A> {
             return Ok(());
         }
         let rank = note_hops(hops, node, to);
-        let event = Event {
+        let event = Visit {
             at: (NEVER - last).min(LAST_AT),
             node,
         };
@@ -119,16 +120,33 @@ impl<A: Allocator + Copy> Latest<A> {
     }
 }
 
-/// Returns for each node how near the destination is: `NEVER` less the least sum of the links' least costs on a way over the
+/// Returns the seconds of a way, by how near it makes its node.
+fn seconds_for(near: u64) -> u64
+    ensures { result + near ≡ never }
+{
+    NEVER - near
+}
+
+/// Turns how near each node is, `NEVER` less the seconds of a way, into these seconds.
+fn turn<A: Allocator + Copy>(seconds: &mut Vec<u64, A>)
+    ensures { (k : ℕ) → k < length seconds.old.items → slice_index seconds.new.items k + slice_index seconds.old.items k ≡ never }
+{
+    for place in 0..seconds.len() {
+        let near = seconds[place];
+        seconds[place] = seconds_for(near);
+    }
+}
+
+/// Returns for each node what a way to the destination costs: the least sum of the links' least costs on a way over the
 /// links that haven't ended when the request begins. The hops of such a way are noted in `hops`. Nothing is known of any
 /// node if the links of more nodes than two for each contact would be taken.
-pub fn nearest_of<A: Allocator + Copy>(
+pub fn costs_of<A: Allocator + Copy>(
     alloc: A,
     task: &Task<'_, A>,
     hops: &mut Vec<u64, A>,
 ) -> Result<Vec<u64, A>, NoMemory>
     requires whole { IsWhole task.now }
-    ensures near { IfOk result (λ v. AreNearFor (tabled_of task.now) task.now.request v.items) }
+    ensures costs { IfOk result (λ v. AreCostsFor (tabled_of task.now) task.now.request v.items) }
 {
     let mut nearest = Latest::begin(alloc, task)?;
     hops.resize(task.shut().len(), 0)?;
@@ -136,5 +154,6 @@ pub fn nearest_of<A: Allocator + Copy>(
     if !all {
         return Ok(Vec::new(alloc));
     }
+    turn(&mut nearest.late);
     Ok(nearest.late)
 }

@@ -7,21 +7,15 @@ ghost use Rattle.sabr_search.specs.layers.Late.{AreMet, AreOpen, IsNoneSooner};
 ghost use Rattle.sabr_search.specs.layers.Deadlines.{IsInTime, ArePointed};
 ghost use Rattle.sabr_search.specs.layers.Picks.{IsAtMost, IsLeastStep, IsPicked};
 
+use crate::backward::deadlines::Deadlines;
 use crate::backward::from_goal::Aim;
-use crate::forward::layers::Layers;
 use crate::links::looks::Looks;
 use crate::links::over_link::{WalkedLink, link_passes};
 use crate::task::Task;
+use crate::visit::Visit;
 use sabr_index::Links;
 use sabr_model::NoMemory;
 use std::alloc::Allocator;
-
-/// A node, and when the bundle is there.
-#[derive(Clone, Copy)]
-pub struct Standing {
-    pub node: usize,
-    pub at: u64,
-}
 
 /// A contact that is taken, by number, and where and when it arrives.
 #[derive(Clone, Copy)]
@@ -42,7 +36,7 @@ pub fn is_at_most(least: Option<Step>, number: u32) -> bool
     }
 }
 
-impl<A: Allocator + Copy> Layers<A> {
+impl<A: Allocator + Copy> Deadlines<A> {
     /// Returns the step of least number from a node after which the goal is still reached in time, with so many hops
     /// left then.
     fn least_step(
@@ -50,7 +44,7 @@ impl<A: Allocator + Copy> Layers<A> {
         task: &Task<'_, A>,
         looks: &mut Looks,
         hops: usize,
-        from: Standing,
+        from: Visit,
         links: Links<'_>,
     ) -> Option<Step>
         requires task { IsTask task.now }
@@ -58,12 +52,12 @@ impl<A: Allocator + Copy> Layers<A> {
         requires few { length links.passes.now ≤ looks.old.left }
         requires bounded { hops + 1 < length self.now.ends.items }
         requires many { length self.now.place.items ≡ length task.now.table }
-        requires ends { slice_index self.now.ends.items (hops + 1) ≤ length self.now.reached.items }
-        requires pointed { ArePointed self.now.ends.items self.now.place.items self.now.reached.items hops }
-        requires open { AreOpen task.now self.now.reached.items }
+        requires ends { slice_index self.now.ends.items (hops + 1) ≤ length self.now.entries.items }
+        requires pointed { ArePointed self.now.ends.items self.now.place.items self.now.entries.items hops }
+        requires open { AreOpen task.now self.now.entries.items }
         ensures looks { looks.old.left ≤ looks.new.left + length links.entry.passes.now }
-        ensures some { IfSome result (IsLeastStep task.now self.now.ends.items self.now.reached.items hops from.node from.at) }
-        ensures none { IfNone result ((n w b : ℕ) → Takes task.now n from.node from.at w b → IsInTime self.now.ends.items self.now.reached.items hops w b → ⊥) }
+        ensures some { IfSome result (IsLeastStep task.now self.now.ends.items self.now.entries.items hops from.node from.at) }
+        ensures none { IfNone result ((n w b : ℕ) → Takes task.now n from.node from.at w b → IsInTime self.now.ends.items self.now.entries.items hops w b → ⊥) }
     {
         let mut least: Option<Step> = None;
         for link in links.links {
@@ -93,7 +87,7 @@ impl<A: Allocator + Copy> Layers<A> {
     ) -> Result<Option<Vec<u32, A>>, NoMemory>
         requires task { IsTask aim.now.task.now }
         requires many { left < most_nodes }
-        requires met { AreMet aim.now.task.now aim.now.since.now aim.now.delivery left self.old.ends.items self.old.place.items self.old.reached.items }
+        requires met { AreMet aim.now.task.now aim.now.since.now aim.now.delivery left self.old.ends.items self.old.place.items self.old.entries.items }
         requires least { IsNoneSooner aim.now.task.now (left + 1) aim.now.delivery }
         ensures counted { looks.old.left ≤ looks.new.left + (left + 1) * length aim.now.task.now.plan.contacts }
         ensures none { IfOk result (λ o. IfNone o (looks.old.left < (left + 1) * length aim.now.task.now.plan.contacts)) }
@@ -101,7 +95,7 @@ impl<A: Allocator + Copy> Layers<A> {
     {
         let task = aim.task;
         let mut numbers = Vec::with_capacity(self.alloc, left + 1)?;
-        let mut from = Standing {
+        let mut from = Visit {
             node: task.start(),
             at: task.at(),
         };
@@ -116,7 +110,7 @@ impl<A: Allocator + Copy> Layers<A> {
                 unreachable!();
             };
             numbers.push(step.number)?;
-            from = Standing {
+            from = Visit {
                 node: step.node,
                 at: step.at,
             };

@@ -1,9 +1,7 @@
 //! For each node, a second before which no way comes there.
 
 ghost use Rattle.std.specs.Prelude.{◌≡◌, ◌≤◌, ◌<◌, ◌^◌, ℕ, length, slice_index};
-ghost use Rattle.sabr_search.specs.layers.Reach.{cost_to};
 
-use crate::forward::layers::NEVER;
 use std::marker::Model;
 
 /// For each node, a second before which no way comes there. Contracts see a list of them. Each is found when it is asked
@@ -14,8 +12,8 @@ pub struct Since<'a> {
     pub nodes: usize,
     /// For each node, its least arrival, or a later second; 0 after the list's end.
     pub arrival: &'a [u64],
-    /// For each node, `NEVER` less the least seconds of a way to the goal; `NEVER` after the list's end.
-    pub near: &'a [u64],
+    /// For each node, the least seconds of a way to the goal; 0 after the list's end.
+    pub costs: &'a [u64],
     /// For each node, a second before which no way comes there; 0 after the list's end.
     pub soon: &'a [u64],
     /// The delivery up to which arrivals are known.
@@ -28,23 +26,12 @@ impl<'a> Model for Since<'a> {
 
     ghost Value = { List ℕ };
 
-    ghost view = { λ s. since_of s.nodes s.arrival.now s.near.now s.soon.now s.delivery };
+    ghost view = { λ s. since_of s.nodes s.arrival.now s.costs.now s.soon.now s.delivery };
 }
 
-/// Returns the least seconds of a way from a node to the goal, by how near each node is.
+/// Returns the seconds of a node in a list; 0 after its end.
 #[inline(always)]
-pub fn cost_by(near: &[u64], node: usize) -> u64
-    ensures { result ≡ cost_to near.now node }
-{
-    match near.get(node) {
-        Some(near) => NEVER - *near,
-        None => 0,
-    }
-}
-
-/// Returns a second of a list; 0 after its end.
-#[inline(always)]
-fn second(seconds: &[u64], node: usize) -> u64
+pub fn seconds_of(seconds: &[u64], node: usize) -> u64
     ensures { result ≡ slice_index seconds.now node }
 {
     match seconds.get(node) {
@@ -62,7 +49,7 @@ impl<'a> Since<'a> {
         Since {
             nodes: seconds.len(),
             arrival: &[],
-            near: &[],
+            costs: &[],
             soon: seconds,
             delivery: 0,
         }
@@ -74,11 +61,11 @@ impl<'a> Since<'a> {
         requires { node < length self.now }
         ensures { result ≡ slice_index self.now node }
     {
-        let last = self.delivery.saturating_sub(cost_by(self.near, node));
-        let arrival = second(self.arrival, node);
+        let last = self.delivery.saturating_sub(seconds_of(self.costs, node));
+        let arrival = seconds_of(self.arrival, node);
         if arrival < last {
             return arrival;
         }
-        last.max(second(self.soon, node))
+        last.max(seconds_of(self.soon, node))
     }
 }

@@ -6,22 +6,22 @@ ghost use Rattle.sabr_search.specs.questions.Steps.{degree};
 ghost use Rattle.sabr_search.specs.questions.FirstSteps.{ComesTo, AreFirstSteps};
 ghost use Rattle.sabr_search.specs.layers.Settling.{AreReal};
 
-use crate::backward::pick::Standing;
 use crate::forward::layers::NEVER;
 use crate::links::looks::Looks;
 use crate::links::over_link::{WalkedLink, link_passes};
 use crate::task::Task;
+use crate::visit::Visit;
 use sabr_model::NoMemory;
 use std::alloc::Allocator;
 
 /// Adds a node and when it is reached, if it is reached at all.
 fn put_step<A: Allocator + Copy>(
-    first: &mut Vec<Standing, A>,
-    step: Standing,
+    first: &mut Vec<Visit, A>,
+    step: Visit,
 ) -> Result<(), NoMemory>
-    ensures kept { OnOk result ((k : ℕ) (s : Standing) → slice_get first.old.items k ≡ Some s → slice_get first.new.items k ≡ Some s) }
+    ensures kept { OnOk result ((k : ℕ) (s : Visit) → slice_get first.old.items k ≡ Some s → slice_get first.new.items k ≡ Some s) }
     ensures put { OnOk result (step.at < never → (k : ℕ) × (slice_get first.new.items k ≡ Some step)) }
-    ensures only { OnOk result ((k : ℕ) (s : Standing) → slice_get first.new.items k ≡ Some s → (slice_get first.old.items k ≡ Some s) ⊎ ((step ≡ s) × (step.at < never))) }
+    ensures only { OnOk result ((k : ℕ) (s : Visit) → slice_get first.new.items k ≡ Some s → (slice_get first.old.items k ≡ Some s) ⊎ ((step ≡ s) × (step.at < never))) }
 {
     if step.at == NEVER {
         return Ok(());
@@ -36,15 +36,15 @@ impl<'a, A: Allocator + Copy> Task<'a, A> {
     fn steps_from(
         &self,
         looks: &mut Looks,
-        from: Standing,
-        first: &mut Vec<Standing, A>,
+        from: Visit,
+        first: &mut Vec<Visit, A>,
     ) -> Result<bool, NoMemory>
         requires task { IsTask self.now }
         requires node { from.node < length self.now.table }
         ensures counted { looks.old.left ≤ looks.new.left + degree self.now from.node }
         ensures all { IfOk result (λ all. all ≡ false → looks.old.left < degree self.now from.node) }
-        ensures inside { IfOk result (λ all. (k : ℕ) (s : Standing) → slice_get first.new.items k ≡ Some s → s.node < length self.now.table) }
-        ensures real { IfOk result (λ all. (k : ℕ) (s : Standing) → slice_get first.new.items k ≡ Some s → (n : ℕ) × Takes self.now n from.node from.at s.node s.at) }
+        ensures inside { IfOk result (λ all. (k : ℕ) (s : Visit) → slice_get first.new.items k ≡ Some s → s.node < length self.now.table) }
+        ensures real { IfOk result (λ all. (k : ℕ) (s : Visit) → slice_get first.new.items k ≡ Some s → (n : ℕ) × Takes self.now n from.node from.at s.node s.at) }
         ensures whole { IfOk result (λ all. IsTrue all → (n w b : ℕ) → Takes self.now n from.node from.at w b → ComesTo first.new.items w b) }
     {
         first.clear();
@@ -64,7 +64,7 @@ impl<'a, A: Allocator + Copy> Task<'a, A> {
                 bounds: link.bounds,
             };
             let at = self.arrive_over(looks, walked, from.at, NEVER);
-            let step = Standing {
+            let step = Visit {
                 node: link.receiver as usize,
                 at,
             };
@@ -78,16 +78,16 @@ impl<'a, A: Allocator + Copy> Task<'a, A> {
     pub fn first_steps(
         &self,
         looks: &mut Looks,
-        first: &mut Vec<Standing, A>,
+        first: &mut Vec<Visit, A>,
     ) -> Result<bool, NoMemory>
         requires task { IsTask self.now }
         ensures counted { looks.old.left ≤ looks.new.left + degree self.now self.now.start }
         ensures all { IfOk result (λ all. all ≡ false → looks.old.left < degree self.now self.now.start) }
-        ensures inside { IfOk result (λ all. (k : ℕ) (s : Standing) → slice_get first.new.items k ≡ Some s → s.node < length self.now.table) }
+        ensures inside { IfOk result (λ all. (k : ℕ) (s : Visit) → slice_get first.new.items k ≡ Some s → s.node < length self.now.table) }
         ensures real { IfOk result (λ all. AreReal self.now first.new.items) }
         ensures whole { IfOk result (λ all. IsTrue all → AreFirstSteps self.now first.new.items) }
     {
-        let from = Standing {
+        let from = Visit {
             node: self.start(),
             at: self.at(),
         };

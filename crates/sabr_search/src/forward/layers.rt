@@ -1,27 +1,19 @@
-//! Hop layers, made forward: for each number of hops, the nodes that it reaches earlier, and when.
+//! Hop layers, made forward: for each number of hops, the nodes that it reaches earlier than fewer do, and when.
 
 ghost use Rattle.std.specs.Prelude.{◌≡◌, ◌≢◌, min, ℕ, [], ◌∷◌, ◌+◌, ◌*◌, ◌^◌, ◌≤◌, ◌<◌, length, take, slice_set, slice_index, slice_index_or, true, false, OnOk, IfOk, IfSome, IfNone};
 ghost use Rattle.sabr_search.specs.questions.Task.{IsTask, Takes, never};
 ghost use Rattle.sabr_search.specs.questions.Steps.{degree};
 ghost use Rattle.sabr_search.specs.questions.Linked.{IsLinkWithin, HasNumber};
-ghost use Rattle.sabr_search.specs.layers.Lists.{IsPlaced, StayLinked, IsLayer, AddsOnly, AreLists, AreLowered, IsKnown, AreSources, GivenAt, GivenByLayer, IsKnownFrom};
+ghost use Rattle.sabr_search.specs.layers.Lists.{IsPlaced, StayLinked, IsLayer, AddsOnly, AreLists, AreLowered, IsKnown, AreSources, GivenAt, GivenFrom, IsKnownFrom};
 ghost use Rattle.sabr_search.specs.questions.FirstSteps.{IsNoneBefore};
 ghost use Rattle.sabr_search.specs.layers.Made.{AreOpened, IsBestWithin};
 
-use crate::backward::seconds::Seconds;
 use crate::links::looks::Looks;
 use crate::links::over_link::{WalkedLink, link_passes};
 use crate::task::Task;
+use crate::visit::Visit;
 use sabr_model::NoMemory;
 use std::alloc::Allocator;
-
-/// A node that a layer reaches, when, and the first second that is too late there for the rest.
-#[derive(Clone, Copy)]
-pub struct LayerEntry {
-    pub node: usize,
-    pub arrival: u64,
-    pub deadline: u64,
-}
 
 /// A delivery, and the number of hops with which it is reached; no hops if there is none.
 #[derive(Clone, Copy)]
@@ -110,38 +102,24 @@ pub fn news_before<A: Allocator + Copy>(
     }
 }
 
-/// The layers and what is known of each node. Forward layers use the arrivals, the places, the entries and their
-/// bounds. Layers made backward keep for each node the first second that is too late so far, and where each of them
-/// begins.
+/// The layers, and what is known of each node.
 #[derive(Drop)]
 pub struct Layers<A: Allocator + Copy> {
-    /// The allocator of the buffers.
-    pub alloc: A,
     /// For each node, the least arrival so far.
     pub arrival: Vec<u64, A>,
-    /// For each node, the place of an entry; any place if it has none in layers made backward, and 0 in others.
+    /// For each node, the place of an entry; 0 if it has none.
     pub place: Vec<usize, A>,
     /// The entries, layer by layer; the first is the start.
-    pub reached: Vec<LayerEntry, A>,
-    /// Where each layer begins.
-    pub bounds: Vec<usize, A>,
-    /// For each node, the first second that is too late so far, in layers made backward.
-    pub late: Seconds<A>,
-    /// Where each of the layers made backward begins.
-    pub ends: Vec<usize, A>,
+    pub reached: Vec<Visit, A>,
 }
 
 impl<A: Allocator + Copy> Layers<A> {
     /// Starts without layers. It takes no memory.
     pub fn new(alloc: A) -> Layers<A> {
         Layers {
-            alloc,
             arrival: Vec::new(alloc),
             place: Vec::new(alloc),
             reached: Vec::new(alloc),
-            bounds: Vec::new(alloc),
-            late: Seconds::new(alloc),
-            ends: Vec::new(alloc),
         }
     }
 
@@ -152,7 +130,6 @@ impl<A: Allocator + Copy> Layers<A> {
         requires many { length self.old.place.items ≡ length self.old.arrival.items }
         requires layer { IsLayer begin self.old.place.items self.old.reached.items }
         requires later { 0 < begin }
-        ensures bounds { self.new.bounds ≡ self.old.bounds }
         ensures arrivals { OnOk result (self.new.arrival.items ≡ slice_set self.old.arrival.items node arrival) }
         ensures placed { OnOk result (IsPlaced self.new.place.items self.new.reached.items) }
         ensures linked { OnOk result (StayLinked self.old self.new) }
@@ -162,14 +139,10 @@ impl<A: Allocator + Copy> Layers<A> {
     {
         let at = self.place[node];
         if at >= begin {
-            self.reached[at].arrival = arrival;
+            self.reached[at].at = arrival;
         } else {
             let end = self.reached.len();
-            self.reached.push(LayerEntry {
-                node,
-                arrival,
-                deadline: 0,
-            })?;
+            self.reached.push(Visit { node, at: arrival })?;
             self.place[node] = end;
         }
         self.arrival[node] = arrival;
@@ -192,7 +165,6 @@ impl<A: Allocator + Copy> Layers<A> {
         requires few { length link.passes.now ≤ looks.old.left }
         requires later { 0 < layer.begin }
         requires lists { AreLists task.now.shut task.now.goal task.now.at layer.begin self.old.arrival.items self.old.place.items self.old.reached.items }
-        ensures bounds { self.new.bounds ≡ self.old.bounds }
         ensures looks { looks.old.left ≤ looks.new.left + length link.entry.passes.now }
         ensures lowered { IfOk result (λ b. AreLowered task.now layer.begin (GivenAt task.now link.entry.from at) self.old layer.best self.new b) }
         ensures known { IfOk result (λ b. (n w x : ℕ) → HasNumber link.entry.passes.now n → Takes task.now n link.entry.from at w x → IsKnown task.now.goal self.new.arrival.items b w x) }
@@ -215,20 +187,19 @@ impl<A: Allocator + Copy> Layers<A> {
         &mut self,
         task: &Task<'_, A>,
         looks: &mut Looks,
-        from: LayerEntry,
+        from: Visit,
         begin: usize,
         best: u64,
     ) -> Result<u64, NoMemory>
         requires task { IsTask task.now }
         requires node { from.node < length task.now.table }
-        requires since { task.now.at ≤ from.arrival }
+        requires since { task.now.at ≤ from.at }
         requires few { degree task.now from.node ≤ looks.old.left }
         requires later { 0 < begin }
         requires lists { AreLists task.now.shut task.now.goal task.now.at begin self.old.arrival.items self.old.place.items self.old.reached.items }
-        ensures bounds { self.new.bounds ≡ self.old.bounds }
         ensures looks { looks.old.left ≤ looks.new.left + degree task.now from.node }
-        ensures lowered { IfOk result (λ b. AreLowered task.now begin (GivenAt task.now from.node from.arrival) self.old best self.new b) }
-        ensures known { IfOk result (λ b. (n w x : ℕ) → Takes task.now n from.node from.arrival w x → IsKnown task.now.goal self.new.arrival.items b w x) }
+        ensures lowered { IfOk result (λ b. AreLowered task.now begin (GivenAt task.now from.node from.at) self.old best self.new b) }
+        ensures known { IfOk result (λ b. (n w x : ℕ) → Takes task.now n from.node from.at w x → IsKnown task.now.goal self.new.arrival.items b w x) }
     {
         let links = task.links(from.node);
         let mut least = best;
@@ -241,34 +212,32 @@ impl<A: Allocator + Copy> Layers<A> {
                 bounds: link.bounds,
             };
             let layer = Layer { begin, best: least };
-            least = self.take_link(task, looks, from.arrival, walked, layer)?;
+            least = self.take_link(task, looks, from.at, walked, layer)?;
         }
         Ok(least)
     }
 
-    /// Takes every contact of every node of layer `hop`. Returns the least delivery so far.
+    /// Takes every contact of every node of the last layer, whose entries are those from `first` to before `begin`. Returns
+    /// the least delivery so far.
     fn next_layer(
         &mut self,
         task: &Task<'_, A>,
         looks: &mut Looks,
-        hop: usize,
+        first: usize,
+        begin: usize,
         best: u64,
     ) -> Result<u64, NoMemory>
         requires task { IsTask task.now }
         requires few { length task.now.plan.contacts ≤ looks.old.left }
-        requires bounded { hop + 1 < length self.old.bounds.items }
-        requires last { slice_index self.old.bounds.items (hop + 1) ≡ length self.old.reached.items }
-        requires later { 0 < slice_index self.old.bounds.items (hop + 1) }
-        requires sources { AreSources task.now self.old.reached.items (slice_index self.old.bounds.items hop) (slice_index self.old.bounds.items (hop + 1)) }
-        requires lists { AreLists task.now.shut task.now.goal task.now.at (slice_index self.old.bounds.items (hop + 1)) self.old.arrival.items self.old.place.items self.old.reached.items }
-        ensures bounds { self.new.bounds ≡ self.old.bounds }
+        requires last { begin ≡ length self.old.reached.items }
+        requires later { 0 < begin }
+        requires sources { AreSources task.now self.old.reached.items first begin }
+        requires lists { AreLists task.now.shut task.now.goal task.now.at begin self.old.arrival.items self.old.place.items self.old.reached.items }
         ensures looks { looks.old.left ≤ looks.new.left + length task.now.plan.contacts }
-        ensures lowered { IfOk result (λ b. AreLowered task.now (slice_index self.old.bounds.items (hop + 1)) (GivenByLayer task.now self.old hop) self.old best self.new b) }
-        ensures known { IfOk result (λ b. IsKnownFrom task.now self.old.reached.items (slice_index self.old.bounds.items hop) (slice_index self.old.bounds.items (hop + 1)) self.new.arrival.items b) }
+        ensures lowered { IfOk result (λ b. AreLowered task.now begin (GivenFrom task.now self.old.reached.items first begin) self.old best self.new b) }
+        ensures known { IfOk result (λ b. IsKnownFrom task.now self.old.reached.items first begin self.new.arrival.items b) }
     {
         let mut least = best;
-        let first = self.bounds[hop];
-        let begin = self.bounds[hop + 1];
         for place in first..begin {
             let from = self.reached[place];
             least = self.take_all(task, looks, from, begin, least)?;
@@ -279,22 +248,17 @@ impl<A: Allocator + Copy> Layers<A> {
     /// Makes layer 0: the start alone.
     fn first_layer(&mut self, task: &Task<'_, A>) -> Result<(), NoMemory>
         requires { IsTask task.now }
-        ensures bounds { OnOk result (self.new.bounds.items ≡ 0 ∷ 1 ∷ []) }
-        ensures reached { OnOk result (self.new.reached.items ≡ record { node = task.now.start; arrival = task.now.at; deadline = 0 } ∷ []) }
+        ensures reached { OnOk result (self.new.reached.items ≡ record { node = task.now.start; at = task.now.at } ∷ []) }
         ensures lists { OnOk result (AreLists task.now.shut task.now.goal task.now.at 1 self.new.arrival.items self.new.place.items self.new.reached.items) }
     {
         open_nodes(&mut self.arrival, task, &[])?;
         self.place.clear();
         self.place.resize(task.shut().len(), 0)?;
         self.reached.clear();
-        self.reached.push(LayerEntry {
+        self.reached.push(Visit {
             node: task.start(),
-            arrival: task.at(),
-            deadline: 0,
+            at: task.at(),
         })?;
-        self.bounds.clear();
-        self.bounds.push(0)?;
-        self.bounds.push(1)?;
         Ok(())
     }
 
@@ -319,26 +283,27 @@ impl<A: Allocator + Copy> Layers<A> {
             delivery: NEVER,
             hops: 0,
         };
+        let mut first = 0;
         for hop in 0..hops {
             if task.one_pass() > looks.left {
                 return Ok(None);
             }
-            let delivery = self.next_layer(task, looks, hop, best.delivery)?;
+            let begin = self.reached.len();
+            let delivery = self.next_layer(task, looks, first, begin, best.delivery)?;
             if delivery < best.delivery {
                 best = Best {
                     delivery,
                     hops: hop + 1,
                 };
             }
-            let begin = self.bounds[hop + 1];
             let end = self.reached.len();
-            self.bounds.push(end)?;
             if best.delivery <= lower {
                 return Ok(Some(best));
             }
             if end == begin {
                 return Ok(Some(best));
             }
+            first = begin;
         }
         Ok(Some(best))
     }

@@ -4,6 +4,7 @@ ghost use Rattle.std.specs.Prelude.{◌≡◌, ◌≤◌, ◌<◌, ◌^◌, ◌�
 ghost use Rattle.std.specs.List.Sorted.{IsPermutation};
 ghost use Rattle.sabr_search.specs.layers.Events.{event_of};
 
+use crate::visit::Visit;
 use sabr_model::NoMemory;
 use std::alloc::Allocator;
 use std::cmp::Reverse;
@@ -23,15 +24,8 @@ const NODES: u64 = 65536;
 /// The keys of one second.
 const KEYS: u64 = RANKS * NODES;
 
-/// A node and a second for it.
-#[derive(Clone, Copy)]
-pub struct Event {
-    pub at: u64,
-    pub node: usize,
-}
-
 /// Returns the key of an event: the lesser, the earlier it is; of two at the same second, the lesser its rank is.
-fn key_of(event: Event, rank: u64) -> u64
+fn key_of(event: Visit, rank: u64) -> u64
     requires at { event.at < 2 ^ 40 }
     requires node { event.node < 2 ^ 16 }
     ensures { event_of result ≡ event }
@@ -40,10 +34,10 @@ fn key_of(event: Event, rank: u64) -> u64
 }
 
 /// Returns the event that has a key.
-fn event_of_key(key: u64) -> Event
+fn event_of_key(key: u64) -> Visit
     ensures { result ≡ event_of key }
 {
-    Event {
+    Visit {
         at: key / KEYS,
         node: (key % NODES) as usize,
     }
@@ -59,10 +53,10 @@ pub struct Queue<A: Allocator + Copy> {
 impl<A: Allocator + Copy> Model for Queue<A> {
     ghost use Rattle.std.specs.Prelude.{List, map};
     ghost use Rattle.std.specs.BinaryHeap.{heap_items, IsHeap};
-    ghost use Rattle.sabr_search.specs.declared.forward.queue.Event.{Event};
+    ghost use Rattle.sabr_search.specs.declared.visit.Visit.{Visit};
     ghost use Rattle.sabr_search.specs.layers.Events.{event_of};
 
-    ghost Value = { List Event };
+    ghost Value = { List Visit };
 
     ghost view = { λ q. map (λ k. event_of k.0) (heap_items q.keys) };
 
@@ -88,7 +82,7 @@ impl<A: Allocator + Copy> Queue<A> {
 
     /// Adds an event; refused if the queue has to grow and memory is refused. Of events at one second, those of lesser
     /// rank come first.
-    pub fn push(&mut self, event: Event, rank: u64) -> Result<(), NoMemory>
+    pub fn push(&mut self, event: Visit, rank: u64) -> Result<(), NoMemory>
         requires at { event.at < 2 ^ 40 }
         requires node { event.node < 2 ^ 16 }
         ensures ok { OnOk result (IsPermutation (event ∷ self.old) self.new) }
@@ -100,7 +94,7 @@ impl<A: Allocator + Copy> Queue<A> {
 
     /// Removes and returns the earliest event.
     #[inline(always)]
-    pub fn pop(&mut self) -> Option<Event>
+    pub fn pop(&mut self) -> Option<Visit>
         ensures none { IfNone result (self.old ≡ []) }
         ensures moved { IfSome result (λ x. IsPermutation self.old (x ∷ self.new)) }
         ensures first { IfSome result (λ x. All (λ e. x.at ≤ e.at) self.new) }

@@ -6,17 +6,16 @@ ghost use Rattle.sabr_search.specs.questions.Steps.{degree};
 ghost use Rattle.sabr_search.specs.questions.Linked.{AreLinksAt, IsLinkWithin, HasNumber};
 ghost use Rattle.sabr_search.specs.layers.Lists.{IsKnown};
 ghost use Rattle.sabr_search.specs.layers.Made.{AreOpened};
-ghost use Rattle.sabr_search.specs.layers.Reach.{cost_to};
 ghost use Rattle.sabr_search.specs.questions.FirstSteps.{AreFirstSteps};
-ghost use Rattle.sabr_search.specs.layers.Settling.{IsBound, AreReal, AreArrivalsBy, IsFirstWay, AreSettling, AreSettled, IsFallen, AreSettledTaken};
+ghost use Rattle.sabr_search.specs.layers.Settling.{IsBound, AreReal, AreArrivalsBy, IsFirstWay, StaySettling, StaySettled, IsKnownOver, IsFallen, AreSettledTaken};
 
-use crate::backward::pick::Standing;
-use crate::backward::since::cost_by;
+use crate::backward::since::seconds_of;
 use crate::forward::layers::{Best, UNDELIVERED, open_nodes};
-use crate::forward::queue::{Event, Queue};
+use crate::forward::queue::Queue;
 use crate::links::looks::Looks;
 use crate::links::over_link::{WalkedLink, link_passes};
 use crate::task::Task;
+use crate::visit::Visit;
 use sabr_index::{Link, Links};
 use sabr_model::NoMemory;
 use std::alloc::Allocator;
@@ -28,8 +27,8 @@ pub struct Forward<'t, 'a, 'b, A: Allocator + Copy> {
     pub task: &'t Task<'a, A>,
     /// For each node, a second from which on no way leads to the goal; none is known after the list's end.
     pub late: &'b [u64],
-    /// For each node, `NEVER` less the least seconds of a way to the goal; `NEVER` after the list's end.
-    pub near: &'b [u64],
+    /// For each node, the least seconds of a way to the goal; 0 after the list's end.
+    pub costs: &'b [u64],
     /// For each node, the hops of such a way, as far as the list goes.
     pub hops: &'b [u64],
 }
@@ -38,9 +37,9 @@ impl<'t, 'a, 'b, A: Allocator + Copy> Forward<'t, 'a, 'b, A> {
     /// Returns the least seconds of a way from a node to the goal.
     #[inline(always)]
     fn cost(&self, node: usize) -> u64
-        ensures { result ≡ cost_to self.now.near.now node }
+        ensures { result ≡ slice_index self.now.costs.now node }
     {
-        cost_by(self.near, node)
+        seconds_of(self.costs, node)
     }
 
     /// Returns the rank of a node among those of one second: the hops from it to the goal.
@@ -58,9 +57,9 @@ impl<'t, 'a, 'b, A: Allocator + Copy> Forward<'t, 'a, 'b, A> {
     fn news(&self, arrival: &[u64], to: usize, delivery: u64) -> u64
         requires node { to < length arrival.now }
         requires late { delivery ≤ slice_index arrival.now self.now.task.now.goal }
-        ensures sooner { result ≤ delivery - cost_to self.now.near.now to }
-        ensures goal { to ≡ self.now.task.now.goal → result ≡ delivery - cost_to self.now.near.now to }
-        ensures other { to ≢ self.now.task.now.goal → result ≡ min (delivery - cost_to self.now.near.now to) (slice_index arrival.now to) }
+        ensures sooner { result ≤ delivery - slice_index self.now.costs.now to }
+        ensures goal { to ≡ self.now.task.now.goal → result ≡ delivery - slice_index self.now.costs.now to }
+        ensures other { to ≢ self.now.task.now.goal → result ≡ min (delivery - slice_index self.now.costs.now to) (slice_index arrival.now to) }
     {
         delivery.saturating_sub(self.cost(to)).min(arrival[to])
     }
@@ -119,24 +118,24 @@ impl<A: Allocator + Copy> Settling<A> {
     fn reach(
         &mut self,
         forward: &Forward<'_, '_, '_, A>,
-        event: Event,
-        step: Standing,
+        event: Visit,
+        step: Visit,
         best: Best,
     ) -> Result<Best, NoMemory>
         requires task { IsTask forward.now.task.now }
         requires receiver { step.node < length forward.now.task.now.table }
         requires later { event.at ≤ step.at }
-        requires sooner { step.at + cost_to forward.now.near.now step.node < best.delivery }
+        requires sooner { step.at + slice_index forward.now.costs.now step.node < best.delivery }
         requires news { step.node ≢ forward.now.task.now.goal → step.at < slice_index self.old.arrival.items step.node }
         requires step { slice_index_or forward.now.task.now.shut step.node false ≡ false → (n : ℕ) × Takes forward.now.task.now n event.node event.at step.node step.at }
-        requires state { AreSettling forward.now.task.now forward.now.late.now forward.now.near.now self.old.settled.items event.node event.at self.old.arrival.items self.old.hops.items self.old.queue best }
+        requires state { StaySettling forward.now.task.now forward.now.late.now forward.now.costs.now self.old.settled.items event self.old best }
         ensures settled { self.new.settled ≡ self.old.settled }
-        ensures state { IfOk result (λ b. AreSettling forward.now.task.now forward.now.late.now forward.now.near.now self.old.settled.items event.node event.at self.new.arrival.items self.new.hops.items self.new.queue b) }
+        ensures state { IfOk result (StaySettling forward.now.task.now forward.now.late.now forward.now.costs.now self.old.settled.items event self.new) }
         ensures fallen { IfOk result (λ b. IsFallen self.old.settled.items self.old.arrival.items best self.new.arrival.items b) }
-        ensures known { IfOk result (λ b. IsKnown forward.now.task.now.goal self.new.arrival.items (b.delivery - cost_to forward.now.near.now step.node) step.node step.at) }
+        ensures known { IfOk result (λ b. IsKnown forward.now.task.now.goal self.new.arrival.items (b.delivery - slice_index forward.now.costs.now step.node) step.node step.at) }
         ensures pushes { OnOk result (length self.new.queue ≤ length self.old.queue + 1) }
     {
-        let Standing { node, at } = step;
+        let Visit { node, at } = step;
         let hops = self.hops[event.node] + 1;
         if node == forward.task.goal() {
             return Ok(Best {
@@ -146,7 +145,7 @@ impl<A: Allocator + Copy> Settling<A> {
         }
         let cost = forward.cost(node);
         let rank = forward.rank(node);
-        let waiting = Event {
+        let waiting = Visit {
             at: at + cost,
             node,
         };
@@ -161,7 +160,7 @@ impl<A: Allocator + Copy> Settling<A> {
         &mut self,
         forward: &Forward<'_, '_, '_, A>,
         looks: &mut Looks,
-        event: Event,
+        event: Visit,
         link: WalkedLink<'_>,
         best: Best,
     ) -> Result<Best, NoMemory>
@@ -170,12 +169,12 @@ impl<A: Allocator + Copy> Settling<A> {
         requires link { IsLinkWithin forward.now.task.now link.from link.to link.passes.now link.bounds }
         requires receiver { link.to < length forward.now.task.now.table }
         requires few { length link.passes.now ≤ looks.old.left }
-        requires state { AreSettling forward.now.task.now forward.now.late.now forward.now.near.now self.old.settled.items event.node event.at self.old.arrival.items self.old.hops.items self.old.queue best }
+        requires state { StaySettling forward.now.task.now forward.now.late.now forward.now.costs.now self.old.settled.items event self.old best }
         ensures settled { self.new.settled ≡ self.old.settled }
         ensures looks { looks.old.left ≤ looks.new.left + length link.entry.passes.now }
-        ensures state { IfOk result (λ b. AreSettling forward.now.task.now forward.now.late.now forward.now.near.now self.old.settled.items event.node event.at self.new.arrival.items self.new.hops.items self.new.queue b) }
+        ensures state { IfOk result (StaySettling forward.now.task.now forward.now.late.now forward.now.costs.now self.old.settled.items event self.new) }
         ensures fallen { IfOk result (λ b. IsFallen self.old.settled.items self.old.arrival.items best self.new.arrival.items b) }
-        ensures known { IfOk result (λ b. (n w x : ℕ) → HasNumber link.entry.passes.now n → Takes forward.now.task.now n link.entry.from event.at w x → IsKnown forward.now.task.now.goal self.new.arrival.items (b.delivery - cost_to forward.now.near.now w) w x) }
+        ensures known { IfOk result (λ b. IsKnownOver forward.now.task.now link.entry.passes.now link.entry.from event.at forward.now.costs.now self.new.arrival.items b.delivery) }
         ensures pushes { OnOk result (length self.new.queue + looks.new.left ≤ length self.old.queue + looks.old.left) }
     {
         let task = forward.task;
@@ -185,7 +184,7 @@ impl<A: Allocator + Copy> Settling<A> {
         if at >= before {
             return Ok(best);
         }
-        let least = self.reach(forward, event, Standing { node: to, at }, best)?;
+        let least = self.reach(forward, event, Visit { node: to, at }, best)?;
         Ok(least)
     }
 
@@ -194,7 +193,7 @@ impl<A: Allocator + Copy> Settling<A> {
         &mut self,
         forward: &Forward<'_, '_, '_, A>,
         looks: &mut Looks,
-        event: Event,
+        event: Visit,
         links: Links<'_>,
         best: Best,
     ) -> Result<Best, NoMemory>
@@ -205,13 +204,13 @@ impl<A: Allocator + Copy> Settling<A> {
         requires reached { slice_index self.old.arrival.items event.node ≡ event.at }
         requires links { AreLinksAt forward.now.task.now event.node links.links.now links.passes.now }
         requires few { length links.passes.now ≤ looks.old.left }
-        requires state { AreSettling forward.now.task.now forward.now.late.now forward.now.near.now (slice_set self.old.settled.items event.node true) event.node event.at self.old.arrival.items self.old.hops.items self.old.queue best }
-        requires taken { AreSettledTaken forward.now.task.now forward.now.near.now self.old.settled.items self.old.arrival.items best.delivery }
+        requires state { StaySettling forward.now.task.now forward.now.late.now forward.now.costs.now (slice_set self.old.settled.items event.node true) event self.old best }
+        requires taken { AreSettledTaken forward.now.task.now forward.now.costs.now self.old.settled.items self.old.arrival.items best.delivery }
         ensures settled { self.new.settled.items ≡ slice_set self.old.settled.items event.node true }
         ensures looks { looks.old.left ≤ looks.new.left + length links.entry.passes.now }
-        ensures state { IfOk result (λ b. AreSettling forward.now.task.now forward.now.late.now forward.now.near.now (slice_set self.old.settled.items event.node true) event.node event.at self.new.arrival.items self.new.hops.items self.new.queue b) }
+        ensures state { IfOk result (StaySettling forward.now.task.now forward.now.late.now forward.now.costs.now (slice_set self.old.settled.items event.node true) event self.new) }
         ensures fallen { IfOk result (λ b. IsFallen (slice_set self.old.settled.items event.node true) self.old.arrival.items best self.new.arrival.items b) }
-        ensures taken { IfOk result (λ b. AreSettledTaken forward.now.task.now forward.now.near.now (slice_set self.old.settled.items event.node true) self.new.arrival.items b.delivery) }
+        ensures taken { IfOk result (λ b. AreSettledTaken forward.now.task.now forward.now.costs.now (slice_set self.old.settled.items event.node true) self.new.arrival.items b.delivery) }
         ensures pushes { OnOk result (length self.new.queue + looks.new.left ≤ length self.old.queue + looks.old.left) }
     {
         self.settled[event.node] = true;
@@ -236,11 +235,11 @@ impl<A: Allocator + Copy> Settling<A> {
     fn settle_start(
         &mut self,
         forward: &Forward<'_, '_, '_, A>,
-        first: &[Standing],
+        first: &[Visit],
     ) -> Result<Best, NoMemory>
         requires task { IsTask forward.now.task.now }
-        requires bound { IsBound forward.now.task.now forward.now.late.now forward.now.near.now }
-        requires inside { (k : ℕ) (s : Standing) → slice_get first.now k ≡ Some s → s.node < length forward.now.task.now.table }
+        requires bound { IsBound forward.now.task.now forward.now.late.now forward.now.costs.now }
+        requires inside { (k : ℕ) (s : Visit) → slice_get first.now k ≡ Some s → s.node < length forward.now.task.now.table }
         requires steps { AreFirstSteps forward.now.task.now first.now }
         requires real { AreReal forward.now.task.now first.now }
         requires arrivals { AreOpened forward.now.task.now forward.now.late.now self.old.arrival.items }
@@ -248,9 +247,9 @@ impl<A: Allocator + Copy> Settling<A> {
         requires settled { self.old.settled.items ≡ replicate (length forward.now.task.now.shut) false }
         requires queue { self.old.queue ≡ [] }
         ensures settled { self.new.settled.items ≡ slice_set self.old.settled.items forward.now.task.now.start true }
-        ensures state { IfOk result (λ b. AreSettled forward.now.task.now forward.now.late.now forward.now.near.now self.new.settled.items self.new.arrival.items self.new.hops.items self.new.queue b) }
+        ensures state { IfOk result (StaySettled forward.now.task.now forward.now.late.now forward.now.costs.now self.new) }
     {
-        let event = Event {
+        let event = Visit {
             at: forward.task.at(),
             node: forward.task.start(),
         };
@@ -276,17 +275,17 @@ impl<A: Allocator + Copy> Settling<A> {
         &mut self,
         forward: &Forward<'_, '_, '_, A>,
         looks: &mut Looks,
-        first: &[Standing],
+        first: &[Visit],
     ) -> Result<Option<Best>, NoMemory>
         requires task { IsTask forward.now.task.now }
-        requires bound { IsBound forward.now.task.now forward.now.late.now forward.now.near.now }
-        requires inside { (k : ℕ) (s : Standing) → slice_get first.now k ≡ Some s → s.node < length forward.now.task.now.table }
+        requires bound { IsBound forward.now.task.now forward.now.late.now forward.now.costs.now }
+        requires inside { (k : ℕ) (s : Visit) → slice_get first.now k ≡ Some s → s.node < length forward.now.task.now.table }
         requires steps { AreFirstSteps forward.now.task.now first.now }
         requires real { AreReal forward.now.task.now first.now }
         ensures counted { looks.old.left + degree forward.now.task.now forward.now.task.now.start ≤ looks.new.left + length forward.now.task.now.plan.contacts }
         ensures none { IfOk result (λ o. IfNone o (looks.old.left + degree forward.now.task.now forward.now.task.now.start < length forward.now.task.now.plan.contacts)) }
         ensures first { IfOk result (λ o. IfSome o (IsFirstWay forward.now.task.now)) }
-        ensures arrivals { IfOk result (λ o. IfSome o (λ best. AreArrivalsBy forward.now.task.now forward.now.near.now self.new.arrival.items best.delivery)) }
+        ensures arrivals { IfOk result (λ o. IfSome o (λ best. AreArrivalsBy forward.now.task.now forward.now.costs.now self.new.arrival.items best.delivery)) }
     {
         self.first_events(forward)?;
         let mut best = self.settle_start(forward, first)?;
@@ -299,7 +298,7 @@ impl<A: Allocator + Copy> Settling<A> {
                 if links.passes.len() as u64 > looks.left {
                     return Ok(None);
                 }
-                let reached = Event {
+                let reached = Visit {
                     at: self.arrival[event.node],
                     node: event.node,
                 };
@@ -316,14 +315,14 @@ impl<A: Allocator + Copy> Settling<A> {
         &mut self,
         forward: &Forward<'_, '_, '_, A>,
         looks: &mut Looks,
-        first: &mut Vec<Standing, A>,
+        first: &mut Vec<Visit, A>,
     ) -> Result<Option<Best>, NoMemory>
         requires task { IsTask forward.now.task.now }
-        requires bound { IsBound forward.now.task.now forward.now.late.now forward.now.near.now }
+        requires bound { IsBound forward.now.task.now forward.now.late.now forward.now.costs.now }
         ensures counted { looks.old.left ≤ looks.new.left + length forward.now.task.now.plan.contacts }
         ensures none { IfOk result (λ o. IfNone o (looks.old.left < length forward.now.task.now.plan.contacts)) }
         ensures way { IfOk result (λ o. IfSome o (IsFirstWay forward.now.task.now)) }
-        ensures arrivals { IfOk result (λ o. IfSome o (λ best. AreArrivalsBy forward.now.task.now forward.now.near.now self.new.arrival.items best.delivery)) }
+        ensures arrivals { IfOk result (λ o. IfSome o (λ best. AreArrivalsBy forward.now.task.now forward.now.costs.now self.new.arrival.items best.delivery)) }
         ensures steps { IfOk result (λ o. IfSome o (λ _. AreFirstSteps forward.now.task.now first.new.items)) }
         ensures real { IfOk result (λ o. IfSome o (λ _. AreReal forward.now.task.now first.new.items)) }
     {

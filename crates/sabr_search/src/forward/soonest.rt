@@ -37,7 +37,7 @@ pub fn soonest_of<A: Allocator + Copy>(
     let forward = Forward {
         task,
         late,
-        near: &[],
+        costs: &[],
         hops: &[],
     };
     let mut settling = Settling::new(alloc);

@@ -4,12 +4,25 @@ ghost use Rattle.std.specs.Prelude.{◌≡◌, ◌↔◌, ℕ, ◌+◌, ◌<◌,
 ghost use Rattle.std.specs.List.Sorted.{IsNonDecreasing, IsStrictlyIncreasing};
 ghost use Rattle.sabr_model.specs.plan.Plan.{has};
 
-/// Numbers that no way takes first.
+/// Numbers that no route takes next after a prefix, or no way takes first.
 #[derive(Clone, Copy)]
 pub struct Excluded<'a> {
     pub numbers: &'a [u32],
-    /// Whether these are known to rise.
+    /// Whether these are known to rise, as a session's do: then nobody has to go over them to find one.
     pub rising: bool,
+    ghost known: { rising ≡ true → IsStrictlyIncreasing numbers.now },
+}
+
+impl<'a> Excluded<'a> {
+    /// These numbers, in any order. It goes over all of them to know whether they rise.
+    pub fn of(numbers: &'a [u32]) -> Excluded<'a>
+        ensures { result.numbers.now ≡ numbers.now }
+    {
+        Excluded {
+            numbers,
+            rising: rises(numbers),
+        }
+    }
 }
 
 /// Where the next number is looked for first. It may be anywhere: the answer rests on what is compared.
@@ -28,12 +41,13 @@ impl Finger {
     /// of them. At most `behind` after this one are asked for. If the list isn't known to rise, only this number is
     /// looked for.
     #[inline(always)]
-    pub fn counts(&mut self, numbers: &[u32], rising: bool, number: u32, behind: u32) -> usize
-        requires { IsTrue rising → IsStrictlyIncreasing numbers.now }
-        ensures none { result ≡ 0 → has number numbers.now ≡ false }
-        ensures some { (j : ℕ) → j < result → has (number + j) numbers.now ≡ true }
+    pub fn counts(&mut self, excluded: Excluded<'_>, number: u32, behind: u32) -> usize
+        ensures none { result ≡ 0 → has number excluded.entry.numbers.now ≡ false }
+        ensures some { (j : ℕ) → j < result → has (number + j) excluded.entry.numbers.now ≡ true }
         ensures limit { result ≤ behind + 1 }
     {
+        let numbers = excluded.numbers;
+        let rising = excluded.rising;
         if !self.finds(numbers, rising, number) {
             return 0;
         }

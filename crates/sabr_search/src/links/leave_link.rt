@@ -3,7 +3,7 @@
 ghost use Rattle.std.specs.Prelude.{◌≡◌, ◌≢◌, ◌⊎◌, ℕ, ◌+◌, ◌^◌, ◌≤◌, ◌<◌, max, IsTrue, false, Some, length, slice_get, slice_index_or};
 ghost use Rattle.sabr_index.specs.declared.link.Pass.{Pass};
 ghost use Rattle.sabr_search.specs.questions.Task.{IsTask, Takes};
-ghost use Rattle.sabr_search.specs.questions.Linked.{IsLinkWithin, AreInOrder, HasNumber};
+ghost use Rattle.sabr_search.specs.questions.Linked.{IsLinkWithin, IsLeftBefore, AreInOrder, HasNumber};
 
 use crate::links::looks::Looks;
 use crate::links::over_link::WalkedLink;
@@ -59,7 +59,7 @@ impl<'a, A: Allocator + Copy> Task<'a, A> {
         ensures looks { looks.old.left ≤ looks.new.left + length link.entry.passes.now }
         ensures some_looks { latest < result → looks.new.left < looks.old.left }
         ensures lower { latest ≤ result }
-        ensures sound { (t : ℕ) → latest ≤ t → t < result → (b : ℕ) × (b < before) × (slice_index_or self.now.shut link.entry.to false ≡ false → (n : ℕ) × Takes self.now n link.entry.from t link.entry.to b) }
+        ensures sound { (t : ℕ) → latest ≤ t → t < result → IsLeftBefore self.now link.entry.from link.entry.to before t }
         ensures full { (n t w b : ℕ) → HasNumber link.entry.passes.now n → Takes self.now n link.entry.from t w b → b < before → t < result }
     {
         let passes = link.passes;

@@ -15,8 +15,8 @@ latest_of-requires g c =
     let both = found _ in
     record { whole = rw c.new-task.ensures (whole_task _ both.0 both.1 refl) }
 
-pub nearest_of-requires : goal.nearest_of-requires
-nearest_of-requires g c =
+pub costs_of-requires : goal.costs_of-requires
+costs_of-requires g c =
     let found = rw c.plan-plan.ensures at c.in_ok-source.ensures.entered in
     let both = found _ in
     record { whole = rw c.new-task.ensures (whole_task _ both.0 both.1 refl) }
@@ -35,4 +35,4 @@ pub returns-in_default : goal.returns-in_default
 returns-in_default g c = c.new.ensures _ _
 
 pub returns : goal.returns
-returns g c = record { late = rw c.new-task.ensures at c.in_ok-late.ensures.late; near = rw c.new-task.ensures at c.in_ok-near.ensures.near; soon = rw c.new-task.ensures at c.in_ok-soon.ensures.soon }
+returns g c = record { late = rw c.new-task.ensures at c.in_ok-late.ensures.late; costs = rw c.new-task.ensures at c.in_ok-costs.ensures.costs; soon = rw c.new-task.ensures at c.in_ok-soon.ensures.soon }

@@ -18,7 +18,7 @@ pub returns-clause-some : goal.returns-clause-some
 returns-clause-some g c = rw c.recall_at.ensures.slots c.recall_at.ensures.some
 
 pub run-requires-clause-bound : goal.run-requires-clause-bound
-run-requires-clause-bound g c = rw c.with_shut-question.ensures (reach_bounds _ c.requires.asked.task_is.nodes c.in_ok-shut_near.ensures.request _ _ c.requires.kept.0.late c.requires.kept.0.near)
+run-requires-clause-bound g c = rw c.with_shut-question.ensures (reach_bounds _ c.requires.asked.task_is.nodes c.in_ok-shut_near.ensures.request _ _ c.requires.kept.0.late c.requires.kept.0.costs)
 
 pub run-requires-clause-soon : goal.run-requires-clause-soon
 run-requires-clause-soon g c =

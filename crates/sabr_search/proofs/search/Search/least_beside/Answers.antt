@@ -71,7 +71,7 @@ pub find_own-requires-clause-bound : goal.find_own-requires-clause-bound
 find_own-requires-clause-bound g c =
     let task = c.args.task.now in
     let reach = c.find_kept-found.ensures.kept.0 in
-    reach_bounds task c.requires.asked.task_is.nodes (of_request task c.args.prefix.now c.requires.asked.behind) _ _ reach.late reach.near
+    reach_bounds task c.requires.asked.task_is.nodes (of_request task c.args.prefix.now c.requires.asked.behind) _ _ reach.late reach.costs
 
 pub find_own-requires-clause-soon : goal.find_own-requires-clause-soon
 find_own-requires-clause-soon g c =

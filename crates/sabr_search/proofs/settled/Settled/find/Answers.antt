@@ -21,7 +21,7 @@ returns-in_default-clause-least g c =
     let p = c.args.index.now.plan in
     let r = c.args.request.now in
     let none = rw (c.plan-plan.ensures, c.in_default.is) at c.in_ok-taken.ensures.none in
-    sym (ap (option_map (record_of p r)) (none_is p r c.args.part.prefix.now c.args.part.excluded.now (rw c.plan-plan.ensures at c.take_course.ensures.plan) (λ m route on. none m route)))
+    sym (ap (option_map (record_of p r)) (none_is p r c.args.prefix.now c.args.excluded.numbers.now (rw c.plan-plan.ensures at c.take_course.ensures.plan) (λ m route on. none m route)))
 
 pub go-requires-clause-course : goal.go-requires-clause-course
 go-requires-clause-course g c = rw c.deref_mut.ensures.value (rw c.in-Some.is at c.in_ok-taken.ensures.some)
@@ -32,15 +32,15 @@ go-requires-clause-fits g c = rw c.plan-plan.ensures c.requires.fits
 pub returns-in_err-stop-clause-bound : goal.returns-in_err-stop-clause-bound
 returns-in_err-stop-clause-bound g c =
     let course = rw (c.in-Some.is, c.plan-plan.ensures) at c.in_ok-taken.ensures.some in
-    entered_looks c.args.index.now c.args.request.now c.args.part.prefix.now course.tabled (prefix_facts c.args.index.now.plan c.args.request.now c.args.part.prefix.now c.requires.fits) (node_count c.args.index.now.plan.contacts) (looks_taken c.go.new.looks) course.nodes (omega (arith, c.go.ensures.looks, c.requires.few))
+    entered_looks c.args.index.now c.args.request.now c.args.prefix.now course.tabled (prefix_facts c.args.index.now.plan c.args.request.now c.args.prefix.now c.requires.fits) (node_count c.args.index.now.plan.contacts) (looks_taken c.go.new.looks) course.nodes (omega (arith, c.go.ensures.looks, c.requires.few))
 
 pub open-requires-clause-kept : goal.open-requires-clause-kept
 open-requires-clause-kept g c = rw c.plan-plan.ensures at c.take_course.ensures.kept
 
 pub open-requires-clause-few : goal.open-requires-clause-few
 open-requires-clause-few g c =
-    let facts = prefix_facts c.args.index.now.plan c.args.request.now c.args.part.prefix.now c.requires.fits in
-    omega (arith, c.go.ensures.looks, c.requires.few, prefix_few c.args.index.now.plan c.args.request.now c.args.part.prefix.now facts)
+    let facts = prefix_facts c.args.index.now.plan c.args.request.now c.args.prefix.now c.requires.fits in
+    omega (arith, c.go.ensures.looks, c.requires.few, prefix_few c.args.index.now.plan c.args.request.now c.args.prefix.now facts)
 
 pub returns-in_err-stop-clause-kept : goal.returns-in_err-stop-clause-kept
 returns-in_err-stop-clause-kept g c = rw c.plan-plan.ensures at c.take_course.ensures.kept
@@ -48,7 +48,7 @@ returns-in_err-stop-clause-kept g c = rw c.plan-plan.ensures at c.take_course.en
 pub least_beside-answer-requires-clause-asked : goal.least_beside-answer-requires-clause-asked
 least_beside-answer-requires-clause-asked g c =
     let found = rw c.plan-plan.ensures at c.in_ok-stop.ensures.entered in
-    let both = found c.args.part.excluded.now in
+    let both = found c.args.excluded.numbers.now in
     rw (c.new-task.ensures, c.deref.ensures) (record {
       task_is = both.0;
       behind = both.1;
@@ -71,5 +71,5 @@ returns-clause-bound g c =
 pub go-requires-clause-few : goal.go-requires-clause-few
 go-requires-clause-few g c =
     let p = c.args.index.now.plan in
-    let facts = prefix_facts p c.args.request.now c.args.part.prefix.now c.requires.fits in
-    omega (arith, c.requires.few, contacts_few p (rw c.plan-plan.ensures at c.take_course.ensures.plan), prefix_few p c.args.request.now c.args.part.prefix.now facts)
+    let facts = prefix_facts p c.args.request.now c.args.prefix.now c.requires.fits in
+    omega (arith, c.requires.few, contacts_few p (rw c.plan-plan.ensures at c.take_course.ensures.plan), prefix_few p c.args.request.now c.args.prefix.now facts)

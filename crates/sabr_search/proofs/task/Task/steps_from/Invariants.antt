@@ -1,6 +1,6 @@
 use Rattle.std.proofs.Common.{◌≡◌, ℕ, ◌+◌, ◌<◌, ◌≤◌, Some, length, slice_get}
 use Rattle.sabr_index.specs.declared.link.Link.{Link}
-use Rattle.sabr_search.specs.declared.backward.pick.Standing.{Standing}
+use Rattle.sabr_search.specs.declared.visit.Visit.{Visit}
 use Rattle.sabr_search.specs.questions.Task.{Takes}
 use Rattle.sabr_search.specs.questions.Linked.{HasNumber, AreLinksAt, passes_of}
 use Rattle.sabr_search.specs.questions.FirstSteps.{ComesTo}
@@ -11,7 +11,7 @@ invariant-loop-link g l = record {
   links : AreLinksAt l.self l.from.node l.links.links.now l.links.passes.now;
   placed : (x : Link) → slice_get l.link-items l.link-index ≡ Some x → l.fn.looks.left ≤ l.looks.left + x.first;
   all : l.fn.looks.left ≤ l.looks.left + length l.links.passes.now;
-  real : (k : ℕ) (s : Standing) → slice_get l.first.items k ≡ Some s → (n : ℕ) × Takes l.self n l.from.node l.from.at s.node s.at;
-  inside : (k : ℕ) (s : Standing) → slice_get l.first.items k ≡ Some s → s.node < length l.self.table;
+  real : (k : ℕ) (s : Visit) → slice_get l.first.items k ≡ Some s → (n : ℕ) × Takes l.self n l.from.node l.from.at s.node s.at;
+  inside : (k : ℕ) (s : Visit) → slice_get l.first.items k ≡ Some s → s.node < length l.self.table;
   come : (j : ℕ) (x : Link) (n w b : ℕ) → j < l.link-index → slice_get l.link-items j ≡ Some x → HasNumber (passes_of l.links.passes.now x) n → Takes l.self n l.from.node l.from.at w b → ComesTo l.first.items w b;
 }

@@ -33,13 +33,12 @@ pub loop-link-preserved : goal.loop-link-preserved
 loop-link-preserved g c =
     let task = c.args.task.now in
     let u = c.args.from.node in
-    let t = c.args.from.arrival in
+    let t = c.args.from.at in
     let so_far = c.loop-link.invariant in
     let link = link_here _ _ _ _ so_far.links _ c.loop-link-test.true _ c.link_passes-passes.ensures in
     let gained = c.in_ok-least.ensures.lowered in
     record {
       links = so_far.links;
-      bounds = c.take_link.ensures.bounds ∙ so_far.bounds;
       counted = omega (arith, so_far.placed _ link.here, c.take_link.ensures.looks, link.few);
       placed = λ m next. omega (arith, so_far.placed _ link.here, c.take_link.ensures.looks, link.next m next);
       lowered = lowered_more task.shut task.goal task.at c.args.begin (λ w x. (n : ℕ) × Takes task n u t w x) _ _ _ _ _ _ _ _ _ _ _ _ (λ w x given. given) so_far.lowered gained;
@@ -55,5 +54,5 @@ returns-clause-looks g c = omega (arith, c.loop-link.invariant.counted, c.loop-l
 
 pub returns-clause-known : goal.returns-clause-known
 returns-clause-known g c = λ n w x s.
-    let on = c.loop-link.invariant.links.whole n c.args.from.arrival w x s in
+    let on = c.loop-link.invariant.links.whole n c.args.from.at w x s in
     c.loop-link.invariant.known on.0 on.1 n w x (omega (arith, slice_get_within c.links-links.result.links.now on.0 on.1 on.2, c.loop-link-test.false)) on.2 on.3 s

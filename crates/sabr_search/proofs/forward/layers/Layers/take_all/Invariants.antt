@@ -8,9 +8,8 @@ use Rattle.sabr_search.proofs.forward.layers.Layers.take_all.Given as goal
 abbrev pub invariant-loop-link : goal.invariant-loop-link
 invariant-loop-link g l = record {
   links : AreLinksAt l.task l.from.node l.links.links.now l.links.passes.now;
-  bounds : l.self.bounds ≡ l.fn.self.bounds;
   counted : l.fn.looks.left ≤ l.looks.left + length l.links.passes.now;
   placed : (x : Link) → slice_get l.link-items l.link-index ≡ Some x → l.fn.looks.left ≤ l.looks.left + x.first;
-  lowered : IsLowered l.task.shut l.task.goal l.task.at l.begin (λ w x. (n : ℕ) × Takes l.task n l.from.node l.from.arrival w x) l.fn.self.arrival.items l.fn.self.reached.items l.best l.self.arrival.items l.self.place.items l.self.reached.items l.least;
-  known : (j : ℕ) (x : Link) (n w b : ℕ) → j < l.link-index → slice_get l.link-items j ≡ Some x → HasNumber (passes_of l.links.passes.now x) n → Takes l.task n l.from.node l.from.arrival w b → IsKnown l.task.goal l.self.arrival.items l.least w b;
+  lowered : IsLowered l.task.shut l.task.goal l.task.at l.begin (λ w x. (n : ℕ) × Takes l.task n l.from.node l.from.at w x) l.fn.self.arrival.items l.fn.self.reached.items l.best l.self.arrival.items l.self.place.items l.self.reached.items l.least;
+  known : (j : ℕ) (x : Link) (n w b : ℕ) → j < l.link-index → slice_get l.link-items j ≡ Some x → HasNumber (passes_of l.links.passes.now x) n → Takes l.task n l.from.node l.from.at w b → IsKnown l.task.goal l.self.arrival.items l.least w b;
 }

@@ -1,7 +1,6 @@
 use Rattle.std.proofs.Common.{◌≡◌, ◌≢◌, ◌+◌, ◌<◌, ℕ, List, length, Bool, true, false, slice_index, slice_index_or, refl, sym, ap, ◌∙◌, arith, rules}
 use Rattle.std.proofs.lemmas.List.Sorted.{length_permutation}
-use Rattle.sabr_search.specs.declared.forward.queue.Event.{Event}
-use Rattle.sabr_search.specs.layers.Reach.{cost_to}
+use Rattle.sabr_search.specs.declared.visit.Visit.{Visit}
 use Rattle.sabr_search.proofs.ForwardLemmas.LayerEntries.{read_at}
 use Rattle.sabr_search.proofs.ForwardLemmas.Queues.{found_better, flag_within, open_sooner, pushed, pushed_falls}
 use Rattle.sabr_search.proofs.forward.settling.Settling.reach.Goals as goal
@@ -32,8 +31,8 @@ returns g c =
     let less : b < slice_index c.args.self.now.arrival.items w = c.requires.news other in
     let step = c.requires.step (open_sooner task _ _ _ _ _ w b _ _ _ _ state c.requires.later less) in
     let hops = read_hops c.args.self.now.settled.items c.args.self.now.hops.items c.args.event.node c.index.result.now state.on (state.many ∙ sym state.hops_are.many) c.index.ensures in
-    let event : Event = record { at = b + c.cost-cost.result; node = w } in
-    let at_is : event.at ≡ b + cost_to c.args.forward.now.near.now w = omega (arith, c.cost-cost.ensures) in
+    let event : Visit = record { at = b + c.cost-cost.result; node = w } in
+    let at_is : event.at ≡ b + slice_index c.args.forward.now.costs.now w = omega (arith, c.cost-cost.ensures) in
     record {
       settled = refl;
       state = pushed task c.requires.task _ _ _ c.args.event.node c.args.event.at step.0 b _ event _ _ _ _ c.args.best state c.requires.later within less other step.1 hops at_is c.in_ok-push.ensures.ok;

@@ -11,13 +11,12 @@ use Rattle.sabr_index.specs.declared.link.Link.{Link}
 use Rattle.sabr_index.specs.declared.link.Pass.{Pass}
 use Rattle.sabr_search.specs.questions.Task.{SearchTask, IsTask, Takes}
 use Rattle.sabr_search.specs.layers.Lists.{IsKnown}
-use Rattle.sabr_search.specs.layers.Reach.{cost_to}
 
 -- what the bounds of a link rule out is known
-told_known : (task : SearchTask) → IsTask task → (u t : ℕ) (l : Link) (over : List Pass) → IsLinkWithin task u l.receiver over l.bounds → (near arrival : List ℕ) (best : ℕ) → best ≤ slice_index arrival task.goal →
+told_known : (task : SearchTask) → IsTask task → (u t : ℕ) (l : Link) (over : List Pass) → IsLinkWithin task u l.receiver over l.bounds → (costs arrival : List ℕ) (best : ℕ) → best ≤ slice_index arrival task.goal →
     (slice_index arrival l.receiver ≤ l.bounds.soonest) ⊎ (slice_index arrival l.receiver ≤ t + l.bounds.least_light) →
-    (n w b : ℕ) → HasNumber over n → Takes task n u t w b → w ≡ l.receiver → IsKnown task.goal arrival (best - cost_to near w) w b
-told_known task is u t l over link near arrival best goal_late told n w b has s to =
+    (n w b : ℕ) → HasNumber over n → Takes task n u t w b → w ≡ l.receiver → IsKnown task.goal arrival (best - slice_index costs w) w b
+told_known task is u t l over link costs arrival best goal_late told n w b has s to =
     let by : slice_index arrival w ≤ b = rw to (ruled_out task is u l.receiver over link.0 l.bounds link.1 t (slice_index arrival l.receiver) (inr told) n t w b has (omega arith) s) in
     elim (cases_eq w task.goal) [
       | inl same ↦ inl (omega (arith, goal_late, by, ap (slice_index arrival) same))
@@ -99,7 +98,7 @@ loop-link-preserved-then-is_told g c =
         | inl before ↦ so_far.known j x n w b before at has s
         | inr same ↦
             (let own = link.own j x n at same has in
-            told_known task c.requires.task c.args.event.node c.args.event.at l over link.link c.args.forward.now.near.now c.loop-link.self.arrival.items c.loop-link.least.delivery
+            told_known task c.requires.task c.args.event.node c.args.event.at l over link.link c.args.forward.now.costs.now c.loop-link.self.arrival.items c.loop-link.least.delivery
             so_far.state.goal_late (rw c.deref.ensures.value at (c.is_told.ensures c.if-is_told.true))
             n w b own s (link.to c.requires.task n c.args.event.at w b own s))
       ];

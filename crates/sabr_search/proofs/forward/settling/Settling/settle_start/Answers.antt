@@ -1,6 +1,6 @@
 use Rattle.std.proofs.Common.{◌≡◌, ◌+◌, inl, inr, refl, Some, length, slice_get, slice_index_or, ap, sym, ◌∙◌, arith}
 use Rattle.std.proofs.lemmas.Option.{slice_get-get_or, slice_get_within}
-use Rattle.sabr_search.specs.declared.backward.pick.Standing.{Standing}
+use Rattle.sabr_search.specs.declared.visit.Visit.{Visit}
 use Rattle.sabr_search.specs.questions.Task.{latest_arrival}
 use Rattle.sabr_search.proofs.WayLemmas.RoutesAndWays.{same_some, takes_timely}
 use Rattle.sabr_search.proofs.ForwardLemmas.Forward.{known_lower, known_old, known_later, last_or_before}
@@ -21,25 +21,25 @@ loop-place-init g c =
 
 pub news-requires-clause-node : goal.news-requires-clause-node
 news-requires-clause-node g c =
-    let none : Standing = record { node = 0; at = 0 } in
+    let none : Visit = record { node = 0; at = 0 } in
     let at = slice_get-get_or c.args.first.now c.loop-place.place none c.loop-place-test.true in
     omega (arith, c.requires.inside c.loop-place.place _ at, c.loop-place.invariant.state.flags, c.requires.task.as_many, ap length c.deref.ensures.value)
 
 pub reach-requires-clause-receiver : goal.reach-requires-clause-receiver
 reach-requires-clause-receiver g c =
-    let none : Standing = record { node = 0; at = 0 } in
+    let none : Visit = record { node = 0; at = 0 } in
     c.requires.inside c.loop-place.place _ (slice_get-get_or c.args.first.now c.loop-place.place none c.loop-place-test.true)
 
 pub reach-requires-clause-later : goal.reach-requires-clause-later
 reach-requires-clause-later g c =
     let task = c.args.forward.now.task.now in
-    let none : Standing = record { node = 0; at = 0 } in
+    let none : Visit = record { node = 0; at = 0 } in
     let step = c.requires.real c.loop-place.place _ (slice_get-get_or c.args.first.now c.loop-place.place none c.loop-place-test.true) in
     omega (arith, c.at.ensures, (takes_timely task c.requires.task.nodes).later step.0 task.start task.at _ _ step.1)
 
 pub reach-requires-clause-step : goal.reach-requires-clause-step
 reach-requires-clause-step g c = λ open'.
-    let none : Standing = record { node = 0; at = 0 } in
+    let none : Visit = record { node = 0; at = 0 } in
     let at = slice_get-get_or c.args.first.now c.loop-place.place none c.loop-place-test.true in
     rw (c.start.ensures, c.at.ensures) (c.requires.real c.loop-place.place _ at)
 
@@ -48,8 +48,8 @@ loop-place-preserved g c =
     let task = c.args.forward.now.task.now in
     let first = c.args.first.now in
     let i = c.loop-place.place in
-    let none : Standing = record { node = 0; at = 0 } in
-    let step : Standing = slice_index_or first i none in
+    let none : Visit = record { node = 0; at = 0 } in
+    let step : Visit = slice_index_or first i none in
     let here : slice_get first i ≡ Some step = slice_get-get_or first i none c.loop-place-test.true in
     let so_far = c.loop-place.invariant in
     elim c.if-step-news.branch [
@@ -83,7 +83,7 @@ returns-clause-state g c =
     let forward = c.args.forward.now in
     let task = forward.task.now in
     let so_far = c.loop-place.invariant in
-    start_settled task c.requires.task c.args.self.now.settled.items c.loop-place.self.settled.items c.start.result c.requires.settled c.start.ensures so_far.settled forward.late.now forward.near.now c.args.self.now.arrival.items c.requires.arrivals
+    start_settled task c.requires.task c.args.self.now.settled.items c.loop-place.self.settled.items c.start.result c.requires.settled c.start.ensures so_far.settled forward.late.now forward.costs.now c.args.self.now.arrival.items c.requires.arrivals
     c.at.result c.loop-place.self.arrival.items c.loop-place.self.hops.items c.loop-place.self.queue (record { delivery = latest_arrival + 1; hops = 0 }) c.loop-place.best (rw so_far.settled so_far.state) (rw so_far.settled so_far.fallen)
     (λ n w x s.
     (let on = c.requires.steps n w x s in

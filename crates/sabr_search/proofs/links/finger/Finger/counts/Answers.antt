@@ -6,19 +6,19 @@ use Rattle.sabr_search.proofs.LinkLemmas.Rising.{never_falls}
 use Rattle.sabr_search.proofs.links.finger.Finger.counts.Goals as goal
 
 pub finds-requires : goal.finds-requires
-finds-requires c = λ rising. never_falls c.args.numbers.now (c.requires rising)
+finds-requires c = λ rising. never_falls c.args.excluded.numbers.now (c.args.excluded.known rising)
 
 pub returns-then-not-finds-clause-none : goal.returns-then-not-finds-clause-none
-returns-then-not-finds-clause-none c = λ zero. sym (has_from_iff c.finds.result c.args.numbers.now c.args.number c.finds.ensures) ∙ c.if-not-finds.true
+returns-then-not-finds-clause-none c = λ zero. sym (has_from_iff c.finds.result c.args.excluded.numbers.now c.args.number c.finds.ensures) ∙ c.if-not-finds.true
 
 pub returns-then-not-rising-clause-some : goal.returns-then-not-rising-clause-some
 returns-then-not-rising-clause-some c = λ j less.
     let here : c.args.number + j ≡ c.args.number = omega (arith, less) in
-    ap (λ n. has n c.args.numbers.now) here ∙ sym (has_from_iff c.finds.result c.args.numbers.now c.args.number c.finds.ensures) ∙ c.if-not-finds.false
+    ap (λ n. has n c.args.excluded.numbers.now) here ∙ sym (has_from_iff c.finds.result c.args.excluded.numbers.now c.args.number c.finds.ensures) ∙ c.if-not-finds.false
 
 pub returns-clause-some : goal.returns-clause-some
 returns-clause-some c = λ j less.
-    let numbers = c.args.numbers.now in
+    let numbers = c.args.excluded.numbers.now in
     let n = c.args.number in
     elim (cases_eq j 0) [
       | inl first ↦

@@ -1,0 +1,107 @@
+use Rattle.std.proofs.Common.{◌≡◌, ◌+◌, length, slice_index, sym, ap, ◌∙◌, arith}
+use Rattle.sabr_index.specs.Links.{SentLink}
+use Rattle.std.proofs.lemmas.Option.{slice_get_within}
+use Rattle.sabr_search.specs.layers.Late.{IsToldOver}
+use Rattle.sabr_search.proofs.BackwardLemmas.LastSeconds.{left_before, each_until}
+use Rattle.sabr_search.proofs.BackwardLemmas.LateLists.{in_time_kept, told_rises}
+use Rattle.sabr_search.proofs.LinkLemmas.Linking.{passes_within}
+use Rattle.sabr_search.proofs.LinkLemmas.StepLists.{sum_taken_le}
+use Rattle.sabr_search.proofs.backward.deadlines.Deadlines.take_senders.Given.{Over}
+use Rattle.sabr_search.proofs.backward.deadlines.Deadlines.take_senders.Goals.{After-at-from}
+use Rattle.sabr_search.proofs.backward.deadlines.Deadlines.take_senders.Goals as goal
+use Rattle.sabr_search.proofs.WayLemmas.RoutesAndWays.{same_some}
+
+pub take_sender-requires-clause-link : goal.take_sender-requires-clause-link
+take_sender-requires-clause-link g c = (c.senders-senders.ensures.each c.loop-place.place (record { sender = c.at-from.result.node; passes = c.at-from.result.passes.now }) c.at-from.ensures.link, c.at-from.ensures.bounds)
+
+pub take_sender-requires-clause-bounded : goal.take_sender-requires-clause-bounded
+take_sender-requires-clause-bounded g c = rw c.loop-place.invariant.ends c.requires.bounded
+
+pub take_sender-requires-clause-lists : goal.take_sender-requires-clause-lists
+take_sender-requires-clause-lists g c = rw c.loop-place.invariant.ends c.loop-place.invariant.lists
+
+pub take_sender-requires-clause-given : goal.take_sender-requires-clause-given
+take_sender-requires-clause-given g c = λ b less.
+    rw c.loop-place.invariant.ends (in_time_kept (slice_index c.args.self.now.ends.items c.args.left) (slice_index c.args.self.now.ends.items (c.args.left + 1)) c.loop-place.self.entries.items c.args.self.now.entries.items c.loop-place.invariant.kept c.args.to.node b (c.requires.given b less))
+
+-- the sender and the head at one place are of one node
+one_node : (g : Over) (c : After-at-from g) → c.at-from.result.node ≡ c.head-head.result.node
+one_node g c = ap (λ (s : SentLink). s.sender) (same_some (sym c.at-from.ensures.link ∙ c.head-head.ensures.1))
+
+pub take_sender-requires-clause-unshut : goal.take_sender-requires-clause-unshut
+take_sender-requires-clause-unshut g c = rw (one_node g (goal.at.take_sender-requires-clause-unshut g c).After-at-from) (c.is_told.ensures.unshut c.if-is_told.false)
+
+pub take_sender-requires-clause-other : goal.take_sender-requires-clause-other
+take_sender-requires-clause-other g c = rw (one_node g (goal.at.take_sender-requires-clause-other g c).After-at-from) (c.is_told.ensures.other c.if-is_told.false)
+
+pub is_told-requires-clause-node : goal.is_told-requires-clause-node
+is_told-requires-clause-node g c = c.senders-senders.ensures.senders c.loop-place.place (record { sender = c.head-head.result.node; passes = c.head-head.ensures.0 }) c.head-head.ensures.1
+
+pub loop-place-preserved-then-is_told : goal.loop-place-preserved-then-is_told
+loop-place-preserved-then-is_told g c =
+    let so_far = c.loop-place.invariant in
+    let here = c.head-head.ensures in
+    let link = c.senders-senders.ensures.each c.loop-place.place (record { sender = c.head-head.result.node; passes = here.0 }) here.1 in
+    record {
+      ends = so_far.ends;
+      counted = omega (arith, so_far.counted, (passes_within c.args.aim.now.task.now c.args.to.node c.senders-senders.result c.senders-senders.ensures c.loop-place.place _ here.1).0);
+      lists = so_far.lists;
+      kept = so_far.kept;
+      rises = so_far.rises;
+      told = each_until (λ (s : SentLink). IsToldOver c.args.aim.now.task.now c.args.aim.now.since.now c.loop-place.self.late s.sender s.passes c.args.to.before) c.senders-senders.result c.loop-place.place _ here.1 so_far.told
+          (c.is_told.ensures.told c.if-is_told.true c.args.to.node here.2 here.0 (link, here.3));
+    }
+
+pub loop-place-preserved-then-from-at : goal.loop-place-preserved-then-from-at
+loop-place-preserved-then-from-at g c =
+    let task = c.args.aim.now.task.now in
+    let so_far = c.loop-place.invariant in
+    let here = c.at-from.ensures in
+    let from = c.at-from.result in
+    let link = c.senders-senders.ensures.each c.loop-place.place (record { sender = from.node; passes = from.passes.now }) here.link in
+    record {
+      ends = so_far.ends;
+      counted = omega (arith, so_far.counted, (passes_within task c.args.to.node c.senders-senders.result c.senders-senders.ensures c.loop-place.place _ here.link).0);
+      lists = so_far.lists;
+      kept = so_far.kept;
+      rises = so_far.rises;
+      told = each_until (λ (s : SentLink). IsToldOver task c.args.aim.now.since.now c.loop-place.self.late s.sender s.passes c.args.to.before) c.senders-senders.result c.loop-place.place _ here.link so_far.told
+          (λ n t w b has s by open' other soon. left_before task c.requires.task from.node c.args.to.node from.passes.now from.bounds (link, here.bounds) (slice_index c.loop-place.self.late from.node) (omega (arith, c.if-from-at.true, c.at.ensures)) n t w b has s);
+    }
+
+pub loop-place-preserved : goal.loop-place-preserved
+loop-place-preserved g c =
+    let task = c.args.aim.now.task.now in
+    let so_far = c.loop-place.invariant in
+    let one = c.in_ok-take_sender.ensures in
+    record {
+      ends = c.take_sender.ensures.ends ∙ so_far.ends;
+      counted = omega (arith, so_far.counted, c.take_sender.ensures.looks, (passes_within task c.args.to.node c.senders-senders.result c.senders-senders.ensures c.loop-place.place _ c.at-from.ensures.link).0);
+      lists = rw so_far.ends at one.lists;
+      kept = rw so_far.ends at one.kept ∙ so_far.kept;
+      rises = λ k. omega (arith, so_far.rises k, one.rises k);
+      told = each_until (λ (s : SentLink). IsToldOver task c.args.aim.now.since.now c.take_sender.new.self.late s.sender s.passes c.args.to.before) c.senders-senders.result c.loop-place.place _ c.at-from.ensures.link
+          (λ j s less at n t w b has step by. told_rises task c.args.aim.now.since.now _ _ s.sender t one.rises (so_far.told j s less at n t w b has step by))
+          one.told;
+    }
+
+pub returns-then-from-looks-clause-none : goal.returns-then-from-looks-clause-none
+returns-then-from-looks-clause-none g c =
+    omega (arith, c.if-from-looks.true, c.loop-place.invariant.counted, (passes_within c.args.aim.now.task.now c.args.to.node c.senders-senders.result c.senders-senders.ensures c.loop-place.place _ c.at-from.ensures.link).1)
+
+pub returns-then-from-looks-clause-counted : goal.returns-then-from-looks-clause-counted
+returns-then-from-looks-clause-counted g c =
+    omega (arith, c.loop-place.invariant.counted, (passes_within c.args.aim.now.task.now c.args.to.node c.senders-senders.result c.senders-senders.ensures c.loop-place.place _ c.at-from.ensures.link).1)
+
+pub returns-in_err-take_sender-clause-counted : goal.returns-in_err-take_sender-clause-counted
+returns-in_err-take_sender-clause-counted g c =
+    omega (arith, c.take_sender.ensures.looks, c.loop-place.invariant.counted, (passes_within c.args.aim.now.task.now c.args.to.node c.senders-senders.result c.senders-senders.ensures c.loop-place.place _ c.at-from.ensures.link).1)
+
+pub returns-clause-counted : goal.returns-clause-counted
+returns-clause-counted g c =
+    omega (arith, c.loop-place.invariant.counted, sum_taken_le (λ (x : SentLink). length x.passes) c.senders-senders.result c.loop-place.place, c.senders-senders.ensures.few)
+
+pub returns-clause-told : goal.returns-clause-told
+returns-clause-told g c = λ same n u t b step by.
+    let on = c.senders-senders.ensures.whole n u t b step in
+    rw (← on.3) (c.loop-place.invariant.told on.0 on.1 (omega (arith, slice_get_within c.senders-senders.result on.0 on.1 on.2, c.loop-place-test.false, c.len-place-end.ensures)) on.2 n t c.args.to.node b on.4 (rw (← on.3) at step) by)
