@@ -1,8 +1,9 @@
 -- Building the command line: words that are added to a command, and commands to the program.
 use Rattle.std.proofs.Common.{◌≡◌, ◌≢◌, Bool, true, false, List, [], ◌∷◌, ◌++◌, ◌||◌, refl, sym, ap, ap₂, subst, subst₂, ◌∙◌, append-nil, append_assoc, inl, inr, Result, Ok, Err, IfOk}
-use Rattle.clap.specs.Words.{AddsArg, AddsSubcommand, App, HasKind, IsAmong, Kinds, Rule, Shape, app_of, fields_of, is_simple, is_simple_and_free, kind_of, rule_of, shape_of, with_rule, with_subcommand}
+use Rattle.clap.specs.Words.{AddsArg, AddsSubcommand, App, HasKind, IsAmong, Kinds, Rule, Shape, app_of, is_simple, is_simple_and_free, kind_of, rule_of, shape_of, with_rule, with_subcommand}
 use Rattle.clap.specs.declared.builder.arg.Arg.{Arg}
 use Rattle.clap.specs.declared.builder.command.Command.{Command}
+use Rattle.clap.specs.declared.builder.command.Command.TheViews.{out-Command}
 use Rattle.clap.specs.declared.error.Error.{Error}
 use Rattle.clap.specs.declared.error.kind.ErrorKind.{ErrorKind}
 use Rattle.clap.specs.declared.error.kind.ErrorKind.TheVariants as kind
@@ -17,7 +18,7 @@ or_none false = refl
 pub add_word : (old new : Command) (rule : Rule) (a : Arg) → AddsArg old a new → IsWord rule a → AddsWords old (rule ∷ []) new
 add_word old new rule a added word =
     let is : app_of new ≡ with_rule (app_of old) rule = added.shape word.local ∙ ap (with_rule (app_of old)) word.reads in
-    let same : (fields_of new).has_globals ≡ (fields_of old).has_globals = added.globals ∙ ap (λ b. (fields_of old).has_globals || b) word.local ∙ or_none _ in
+    let same : (out-Command new).has_globals ≡ (out-Command old).has_globals = added.globals ∙ ap (λ b. (out-Command old).has_globals || b) word.local ∙ or_none _ in
     record { top = ap (λ (x : App). x.top) is; subs = ap (λ (x : App). x.subs) is; local = same }
 
 -- nothing is added
@@ -40,7 +41,7 @@ add_both a b c xs ys first second =
     }
 
 -- a command without words, and then with them
-pub is_command : (start c : Command) (shape : Shape) (rules : List Rule) → app_of start ≡ record { top = shape; subs = [] } → (fields_of start).has_globals ≡ false
+pub is_command : (start c : Command) (shape : Shape) (rules : List Rule) → app_of start ≡ record { top = shape; subs = [] } → (out-Command start).has_globals ≡ false
     → AddsWords start rules c → IsCommand (record shape { rules = shape.rules ++ rules }) c
 is_command start c shape rules is local added =
     let top : (app_of c).top ≡ record shape { rules = shape.rules ++ rules } =
@@ -89,7 +90,7 @@ module _ {E : Type 0} where
   words_in (Ok c) a b xs ys first second = add_both a b c xs ys first second
   words_in (Err e) a b xs ys first second = tt
 
-  pub command_in : (r : Result Command E) (start : Command) (shape : Shape) (rules : List Rule) → app_of start ≡ record { top = shape; subs = [] } → (fields_of start).has_globals ≡ false
+  pub command_in : (r : Result Command E) (start : Command) (shape : Shape) (rules : List Rule) → app_of start ≡ record { top = shape; subs = [] } → (out-Command start).has_globals ≡ false
       → IfOk r (AddsWords start rules) → IfOk r (IsCommand (record shape { rules = shape.rules ++ rules }))
   command_in (Ok c) start shape rules is local added = is_command start c shape rules is local added
   command_in (Err e) start shape rules is local added = tt
