@@ -1,4 +1,4 @@
--- Pages and sessions, and the calls of commands.
+-- Pages and sessions.
 pub mod SessionPages
 pub mod PageTexts
 pub mod ManyAnswers
@@ -7,4 +7,3 @@ pub mod RunsFollow
 pub mod NextPages
 pub mod RunsInTurn
 pub mod StandingPages
-pub mod CallLemmas
