@@ -189,7 +189,7 @@ left_if_done _ left = None
 
 -- what is left after a command: nothing has changed if it keeps no session
 abbrev pub left_after : Option (List ℕ) → Status → Option (List ℕ) → Option (List ℕ)
-left_after kept ended left = option_map_or (λ path. left_if_done ended (Some path)) left kept
+left_after kept ended left = option_map_or (λ path. left_if_done ended (Some path)) kept left
 
 -- a file of this command that can't be opened or made at its path has this failure
 abbrev pub FailsAtFile : (List ℕ → Type 0) → CommandName → Found → Failure → Type 0
