@@ -3,6 +3,11 @@
 //! A call fails where its values are bad, or a file can't be opened or made, before its run. Then it has written
 //! nothing, and no file is made.
 
+ghost use Rattle.std.specs.Prelude.{◌≡◌, IfErr, IfOk, OnErr};
+ghost use Rattle.clap.specs.Matches.{found_of};
+ghost use Rattle.commands.specs.declared.command.CommandName.TheVariants as command;
+ghost use Rattle.commands.specs.runs.Calls.{RunsCheck, RunsExplain, RunsFirst, RunsFollow, RunsMany, RunsNext, RunsVerify, StopsBefore, kept_path, left_after};
+
 use crate::command::CommandName;
 use crate::failure::Failure;
 use crate::files::{
@@ -24,7 +29,12 @@ pub fn first<'w, D: FileSystem<'w>, O: Write, E: Write>(
     files: &mut D,
     out: &mut O,
     err: &mut E,
-) -> Result<Status, Failure> {
+) -> Result<Status, Failure>
+    ensures ran { IfOk result (λ s. RunsFirst D.opened D.made (found_of words.now) (O.output out.old) (O.output out.new) (E.output err.old) (E.output err.new) s) }
+    ensures left { IfOk result (λ s. D.left files.new ≡ left_after (kept_path command.First (found_of words.now)) s (D.left files.old)) }
+    ensures stopped { IfErr result (StopsBefore D.refused command.First (found_of words.now)) }
+    ensures not_run { OnErr result ((O.output out.new ≡ O.output out.old) × (E.output err.new ≡ E.output err.old) × (D.left files.new ≡ D.left files.old)) }
+{
     let values = values_of(alloc, CommandName::First, words)?;
     let count = values.count.unwrap();
     let request = values.request.unwrap();
@@ -47,7 +57,12 @@ pub fn next<'w, D: FileSystem<'w>, O: Write, E: Write>(
     files: &mut D,
     out: &mut O,
     err: &mut E,
-) -> Result<Status, Failure> {
+) -> Result<Status, Failure>
+    ensures ran { IfOk result (λ s. RunsNext D.opened D.made (found_of words.now) (O.output out.old) (O.output out.new) (E.output err.old) (E.output err.new) s) }
+    ensures left { IfOk result (λ s. D.left files.new ≡ left_after (kept_path command.Next (found_of words.now)) s (D.left files.old)) }
+    ensures stopped { IfErr result (StopsBefore D.refused command.Next (found_of words.now)) }
+    ensures not_run { OnErr result ((O.output out.new ≡ O.output out.old) × (E.output err.new ≡ E.output err.old) × (D.left files.new ≡ D.left files.old)) }
+{
     let values = values_of(alloc, CommandName::Next, words)?;
     let count = values.count.unwrap();
     let mut plan = open_plan(files, words)?;
@@ -70,7 +85,11 @@ pub fn verify<'w, D: FileSystem<'w>, O: Write, E: Write>(
     files: &D,
     out: &mut O,
     err: &mut E,
-) -> Result<Status, Failure> {
+) -> Result<Status, Failure>
+    ensures ran { IfOk result (λ s. RunsVerify D.opened (found_of words.now) (O.output out.old) (O.output out.new) (E.output err.old) (E.output err.new) s) }
+    ensures stopped { IfErr result (StopsBefore D.refused command.Verify (found_of words.now)) }
+    ensures not_run { OnErr result ((O.output out.new ≡ O.output out.old) × (E.output err.new ≡ E.output err.old)) }
+{
     let mut plan = open_plan(files, words)?;
     let mut old = open_session(files, words)?;
     Ok(run_verify(alloc, &mut plan, &mut old, out, err))
@@ -83,7 +102,11 @@ pub fn check<'w, D: FileSystem<'w>, O: Write, E: Write>(
     files: &D,
     out: &mut O,
     err: &mut E,
-) -> Result<Status, Failure> {
+) -> Result<Status, Failure>
+    ensures ran { IfOk result (λ s. RunsCheck D.opened (found_of words.now) (O.output out.old) (O.output out.new) (E.output err.old) (E.output err.new) s) }
+    ensures stopped { IfErr result (StopsBefore D.refused command.Check (found_of words.now)) }
+    ensures not_run { OnErr result ((O.output out.new ≡ O.output out.old) × (E.output err.new ≡ E.output err.old)) }
+{
     let mut plan = open_plan(files, words)?;
     Ok(run_check(alloc, &mut plan, out, err))
 }
@@ -95,7 +118,11 @@ pub fn explain<'w, D: FileSystem<'w>, O: Write, E: Write>(
     files: &D,
     out: &mut O,
     err: &mut E,
-) -> Result<Status, Failure> {
+) -> Result<Status, Failure>
+    ensures ran { IfOk result (λ s. RunsExplain D.opened (found_of words.now) (O.output out.old) (O.output out.new) (E.output err.old) (E.output err.new) s) }
+    ensures stopped { IfErr result (StopsBefore D.refused command.Explain (found_of words.now)) }
+    ensures not_run { OnErr result ((O.output out.new ≡ O.output out.old) × (E.output err.new ≡ E.output err.old)) }
+{
     let values = values_of(alloc, CommandName::Explain, words)?;
     let request = values.request.unwrap();
     let contacts = values.contacts.as_slice();
@@ -110,7 +137,11 @@ pub fn many<'w, D: FileSystem<'w>, O: Write, E: Write>(
     files: &D,
     out: &mut O,
     err: &mut E,
-) -> Result<Status, Failure> {
+) -> Result<Status, Failure>
+    ensures ran { IfOk result (λ s. RunsMany D.opened (found_of words.now) (O.output out.old) (O.output out.new) (E.output err.old) (E.output err.new) s) }
+    ensures stopped { IfErr result (StopsBefore D.refused command.Many (found_of words.now)) }
+    ensures not_run { OnErr result ((O.output out.new ≡ O.output out.old) × (E.output err.new ≡ E.output err.old)) }
+{
     let values = values_of(alloc, CommandName::Many, words)?;
     let count = values.count.unwrap();
     let mut plan = open_plan(files, words)?;
@@ -125,7 +156,11 @@ pub fn follow<'w, D: FileSystem<'w>, O: Write, E: Write>(
     files: &D,
     out: &mut O,
     err: &mut E,
-) -> Result<Status, Failure> {
+) -> Result<Status, Failure>
+    ensures ran { IfOk result (λ s. RunsFollow D.opened (found_of words.now) (O.output out.old) (O.output out.new) (E.output err.old) (E.output err.new) s) }
+    ensures stopped { IfErr result (StopsBefore D.refused command.Follow (found_of words.now)) }
+    ensures not_run { OnErr result ((O.output out.new ≡ O.output out.old) × (E.output err.new ≡ E.output err.old)) }
+{
     let mut plan = open_plan(files, words)?;
     let mut lists = open_lists(files, words)?;
     Ok(run_follow(alloc, &mut plan, &mut lists, out, err))

@@ -1,6 +1,8 @@
 //! The commands, each declared in one place: its name, its help, its words, and its run.
 
-ghost use Rattle.std.specs.Prelude.{◌≡◌, Some};
+ghost use Rattle.std.specs.Prelude.{◌≡◌, IfErr, IfOk, OnErr, Some};
+ghost use Rattle.clap.specs.Matches.{found_of};
+ghost use Rattle.commands.specs.runs.Calls.{RunsCommand, StopsBefore, kept_path, left_after};
 ghost use Rattle.commands.specs.words.CommandLine.{command_text};
 ghost use Rattle.commands.specs.words.Values.{command_named, has_request, has_session, has_requests, has_lists, has_count, keeps_session, has_contacts};
 
@@ -189,7 +191,12 @@ A list is a line NUMBERS FROM TO TIME, and after it, if need be, PPM, HOPS and N
         files: &mut D,
         out: &mut O,
         err: &mut E,
-    ) -> Result<Status, Failure> {
+    ) -> Result<Status, Failure>
+        ensures ran { IfOk result (λ s. RunsCommand self D.opened D.made (found_of words.now) (O.output out.old) (O.output out.new) (E.output err.old) (E.output err.new) s) }
+        ensures left { IfOk result (λ s. D.left files.new ≡ left_after (kept_path self (found_of words.now)) s (D.left files.old)) }
+        ensures stopped { IfErr result (StopsBefore D.refused self (found_of words.now)) }
+        ensures not_run { OnErr result ((O.output out.new ≡ O.output out.old) × (E.output err.new ≡ E.output err.old) × (D.left files.new ≡ D.left files.old)) }
+    {
         match self {
             CommandName::First => first(alloc, words, files, out, err),
             CommandName::Next => next(alloc, words, files, out, err),

@@ -1,7 +1,9 @@
 //! The program: words, files and the runs over them.
 
+ghost use Rattle.std.specs.Prelude.{map};
+ghost use Rattle.clap.specs.Simple.{subcommand_rows_of};
 ghost use Rattle.clap.specs.Values.{kind_of};
-ghost use Rattle.commands.specs.runs.Program.{TellsRefusal};
+ghost use Rattle.commands.specs.runs.Program.{EndsGiven, EndsWords, TellsRefusal};
 ghost use Rattle.commands.specs.texts.Messages.{TellsText};
 
 use crate::command::command_named;
@@ -27,7 +29,9 @@ pub fn run_words<'w, D: FileSystem<'w>, O: Write, E: Write>(
     files: &mut D,
     out: &mut O,
     err: &mut E,
-) -> Status {
+) -> Status
+    ensures { EndsWords D.opened D.made D.refused (map (λ w. w.now) words.now) (D.left files.old) (D.left files.new) (O.output out.old) (O.output out.new) (E.output err.old) (E.output err.new) result }
+{
     match parsed(alloc, words) {
         Ok(matches) => run_command(alloc, &matches, files, out, err),
         Err(refusal) => tell_usage(alloc, &refusal, err),
@@ -62,7 +66,9 @@ fn run_command<'w, D: FileSystem<'w>, O: Write, E: Write>(
     files: &mut D,
     out: &mut O,
     err: &mut E,
-) -> Status {
+) -> Status
+    ensures { EndsGiven D.opened D.made D.refused (subcommand_rows_of matches.now) (D.left files.old) (D.left files.new) (O.output out.old) (O.output out.new) (E.output err.old) (E.output err.new) result }
+{
     let Some((name, words)) = matches.subcommand() else {
         return Status::Usage;
     };
