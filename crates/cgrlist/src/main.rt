@@ -1,7 +1,7 @@
 //! The program `cgrlist`: lists the routes of a contact plan, best first.
 #![tactic(auto)]
 
-use commands::{Failure, run_words, tell};
+use commands::{Disk, Failure, run_words, tell};
 use sabr_model::Device;
 use std::alloc::Global;
 use std::env;
@@ -13,7 +13,10 @@ fn main(rt: HostRuntime) -> ExitCode {
     let mut err = Device::new(rt.stderr());
     let status = match arguments(&rt) {
         Ok(arguments) => match words(rt.alloc(), &arguments) {
-            Ok(words) => run_words(&rt, words.as_slice(), &mut out, &mut err),
+            Ok(words) => {
+                let mut files = Disk::new(&rt);
+                run_words(rt.alloc(), words.as_slice(), &mut files, &mut out, &mut err)
+            }
             Err(failure) => tell(&mut err, failure),
         },
         Err(failure) => tell(&mut err, failure),

@@ -1,5 +1,6 @@
 -- What runs leave on their writers.
 pub mod Runs
+pub mod Calls
 pub mod SessionRuns
 pub mod EveryRun
 pub mod NextPage
@@ -8,3 +9,4 @@ pub mod RunsGoOn
 pub mod PagesLeft
 pub mod Many
 pub mod ManyAsFirst
+pub mod Program

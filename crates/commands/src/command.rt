@@ -1,14 +1,18 @@
 //! The commands, each declared in one place: its name, its help, its words, and its run.
 
-ghost use Rattle.std.specs.Prelude.{◌≡◌, Some};
-ghost use Rattle.commands.specs.words.Values.{command_named, has_request, has_count, has_contacts};
+ghost use Rattle.std.specs.Prelude.{◌≡◌, IfErr, IfOk, OnErr, Some};
+ghost use Rattle.clap.specs.Matches.{found_of};
+ghost use Rattle.commands.specs.runs.Calls.{RunsCommand, StopsBefore, kept_path, left_after};
+ghost use Rattle.commands.specs.words.CommandLine.{command_text};
+ghost use Rattle.commands.specs.words.Values.{command_named, has_request, has_session, has_requests, has_lists, has_count, keeps_session, has_contacts};
 
-use crate::calls::{check, explain, follow, list, many, verify};
+use crate::calls::{check, explain, first, follow, many, next, verify};
 use crate::failure::Failure;
+use crate::files::FileSystem;
 use crate::status::Status;
 use clap::ArgMatches;
 use sabr_model::Write;
-use std::rt::Files;
+use std::alloc::Global;
 
 /// A command of the program.
 #[derive(Clone, Copy)]
@@ -28,17 +32,6 @@ pub enum CommandName {
     /// Explains many lists of contacts over a plan.
     Follow,
 }
-
-/// The commands, in the order in which help lists them.
-pub const COMMANDS: [CommandName; 7] = [
-    CommandName::First,
-    CommandName::Next,
-    CommandName::Verify,
-    CommandName::Check,
-    CommandName::Explain,
-    CommandName::Many,
-    CommandName::Follow,
-];
 
 /// The declaration of a command. Each command has a plan; its other words come in this order.
 #[derive(Clone, Copy)]
@@ -69,8 +62,13 @@ impl CommandName {
     /// The declaration of the command.
     pub fn declared<'a>(self) -> Declared<'a>
         ensures name { command_named result.name.now ≡ Some self }
+        ensures text { result.name.now ≡ command_text self }
         ensures request { result.has_request ≡ has_request self }
+        ensures session { result.has_session ≡ has_session self }
+        ensures requests { result.has_requests ≡ has_requests self }
+        ensures lists { result.has_lists ≡ has_lists self }
         ensures count { result.has_count ≡ has_count self }
+        ensures keeps { result.keeps_session ≡ keeps_session self }
         ensures contacts { result.has_contacts ≡ has_contacts self }
     {
         match self {
@@ -179,25 +177,34 @@ A list is a line NUMBERS FROM TO TIME, and after it, if need be, PPM, HOPS and N
         }
     }
 
-    /// Runs the command over its words. The report goes to `out`, and messages go to `err`.
+    /// Runs the command over its words and the files that they name. The report goes to `out`, and messages go to `err`.
+    /// If the run isn't done, the file that was made for a session is removed.
     ///
     /// # Errors
     ///
-    /// What stopped the command before its run: a bad value, or a file that can't be opened or made.
-    pub fn run<R: Files + AllocGlobal, O: Write, E: Write>(
+    /// What stopped the command before its run: a bad value, refused memory, or a file that can't be opened or made.
+    /// Then nothing was written, and no file was made.
+    pub fn run<'w, D: FileSystem<'w>, O: Write, E: Write>(
         self,
-        rt: &R,
-        words: &ArgMatches<'_>,
+        alloc: Global,
+        words: &ArgMatches<'w>,
+        files: &mut D,
         out: &mut O,
         err: &mut E,
-    ) -> Result<Status, Failure> {
+    ) -> Result<Status, Failure>
+        ensures ran { IfOk result (λ s. RunsCommand self D.opened D.made (found_of words.now) (O.output out.old) (O.output out.new) (E.output err.old) (E.output err.new) s) }
+        ensures left { IfOk result (λ s. D.left files.new ≡ left_after (kept_path self (found_of words.now)) s (D.left files.old)) }
+        ensures stopped { IfErr result (StopsBefore D.refused self (found_of words.now)) }
+        ensures not_run { OnErr result ((O.output out.new ≡ O.output out.old) × (E.output err.new ≡ E.output err.old) × (D.left files.new ≡ D.left files.old)) }
+    {
         match self {
-            CommandName::First | CommandName::Next => list(rt, self, words, out, err),
-            CommandName::Verify => verify(rt, words, out, err),
-            CommandName::Check => check(rt, words, out, err),
-            CommandName::Explain => explain(rt, words, out, err),
-            CommandName::Many => many(rt, words, out, err),
-            CommandName::Follow => follow(rt, words, out, err),
+            CommandName::First => first(alloc, words, files, out, err),
+            CommandName::Next => next(alloc, words, files, out, err),
+            CommandName::Verify => verify(alloc, words, files, out, err),
+            CommandName::Check => check(alloc, words, files, out, err),
+            CommandName::Explain => explain(alloc, words, files, out, err),
+            CommandName::Many => many(alloc, words, files, out, err),
+            CommandName::Follow => follow(alloc, words, files, out, err),
         }
     }
 }

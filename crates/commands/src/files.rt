@@ -1,12 +1,20 @@
 //! The files that the words of a command name.
 
+mod disk;
+mod system;
+
+ghost use Rattle.std.specs.Prelude.{◌≡◌, IfErr, IfOk, OnErr, Some, option_map};
+ghost use Rattle.clap.specs.Matches.{first_value, found_of};
+ghost use Rattle.commands.specs.declared.failure.Failure.TheVariants as failure;
+ghost use Rattle.commands.specs.runs.Calls.{left_if_done};
+ghost use Rattle.commands.specs.words.Paths.{lists_word, path_under, plan_word, requests_word, session_out_word, session_word};
+
 use crate::failure::Failure;
 use crate::status::Status;
 use clap::ArgMatches;
-use sabr_model::Device;
-use std::fs;
-use std::fs::File;
-use std::rt::Files;
+
+pub use disk::Disk;
+pub use system::FileSystem;
 
 /// The word for the plan's file.
 pub const PLAN: &str = "plan";
@@ -23,17 +31,11 @@ pub const LISTS: &str = "lists";
 /// The word for the new session's file.
 pub const SESSION_OUT: &str = "session-out";
 
-/// Opens the file that a word names.
-fn open<R: Files>(
-    rt: &R,
-    words: &ArgMatches<'_>,
-    word: &str,
-    failure: Failure,
-) -> Result<Device<R::File>, Failure> {
-    match fs::open(rt, words.get_str(word).unwrap_or("")) {
-        Ok(file) => Ok(Device::new(file)),
-        Err(_) => Err(failure),
-    }
+/// The path that a word gives. Empty if it gives none.
+fn path_under<'w>(words: &ArgMatches<'w>, word: &str) -> &'w str
+    ensures { result.now ≡ path_under (found_of words.now) word.now }
+{
+    words.get_str(word).unwrap_or("")
 }
 
 /// Opens the plan.
@@ -41,8 +43,17 @@ fn open<R: Files>(
 /// # Errors
 ///
 /// [`Failure::CannotOpenPlan`] if it can't be opened.
-pub fn open_plan<R: Files>(rt: &R, words: &ArgMatches<'_>) -> Result<Device<R::File>, Failure> {
-    open(rt, words, PLAN, Failure::CannotOpenPlan)
+pub fn open_plan<'w, D: FileSystem<'w>>(
+    files: &D,
+    words: &ArgMatches<'w>,
+) -> Result<D::File, Failure>
+    ensures opened { IfOk result (λ file. D.opened (path_under (found_of words.now) plan_word) (D.File.input file)) }
+    ensures refused { IfErr result (λ f. (f ≡ failure.CannotOpenPlan) × D.refused (path_under (found_of words.now) plan_word)) }
+{
+    match files.open(path_under(words, PLAN)) {
+        Ok(file) => Ok(file),
+        Err(_) => Err(Failure::CannotOpenPlan),
+    }
 }
 
 /// Opens the old session.
@@ -50,8 +61,17 @@ pub fn open_plan<R: Files>(rt: &R, words: &ArgMatches<'_>) -> Result<Device<R::F
 /// # Errors
 ///
 /// [`Failure::CannotOpenSession`] if it can't be opened.
-pub fn open_session<R: Files>(rt: &R, words: &ArgMatches<'_>) -> Result<Device<R::File>, Failure> {
-    open(rt, words, SESSION, Failure::CannotOpenSession)
+pub fn open_session<'w, D: FileSystem<'w>>(
+    files: &D,
+    words: &ArgMatches<'w>,
+) -> Result<D::File, Failure>
+    ensures opened { IfOk result (λ file. D.opened (path_under (found_of words.now) session_word) (D.File.input file)) }
+    ensures refused { IfErr result (λ f. (f ≡ failure.CannotOpenSession) × D.refused (path_under (found_of words.now) session_word)) }
+{
+    match files.open(path_under(words, SESSION)) {
+        Ok(file) => Ok(file),
+        Err(_) => Err(Failure::CannotOpenSession),
+    }
 }
 
 /// Opens the file of requests.
@@ -59,8 +79,17 @@ pub fn open_session<R: Files>(rt: &R, words: &ArgMatches<'_>) -> Result<Device<R
 /// # Errors
 ///
 /// [`Failure::CannotOpenRequests`] if it can't be opened.
-pub fn open_requests<R: Files>(rt: &R, words: &ArgMatches<'_>) -> Result<Device<R::File>, Failure> {
-    open(rt, words, REQUESTS, Failure::CannotOpenRequests)
+pub fn open_requests<'w, D: FileSystem<'w>>(
+    files: &D,
+    words: &ArgMatches<'w>,
+) -> Result<D::File, Failure>
+    ensures opened { IfOk result (λ file. D.opened (path_under (found_of words.now) requests_word) (D.File.input file)) }
+    ensures refused { IfErr result (λ f. (f ≡ failure.CannotOpenRequests) × D.refused (path_under (found_of words.now) requests_word)) }
+{
+    match files.open(path_under(words, REQUESTS)) {
+        Ok(file) => Ok(file),
+        Err(_) => Err(Failure::CannotOpenRequests),
+    }
 }
 
 /// Opens the file of lists.
@@ -68,30 +97,52 @@ pub fn open_requests<R: Files>(rt: &R, words: &ArgMatches<'_>) -> Result<Device<
 /// # Errors
 ///
 /// [`Failure::CannotOpenLists`] if it can't be opened.
-pub fn open_lists<R: Files>(rt: &R, words: &ArgMatches<'_>) -> Result<Device<R::File>, Failure> {
-    open(rt, words, LISTS, Failure::CannotOpenLists)
+pub fn open_lists<'w, D: FileSystem<'w>>(
+    files: &D,
+    words: &ArgMatches<'w>,
+) -> Result<D::File, Failure>
+    ensures opened { IfOk result (λ file. D.opened (path_under (found_of words.now) lists_word) (D.File.input file)) }
+    ensures refused { IfErr result (λ f. (f ≡ failure.CannotOpenLists) × D.refused (path_under (found_of words.now) lists_word)) }
+{
+    match files.open(path_under(words, LISTS)) {
+        Ok(file) => Ok(file),
+        Err(_) => Err(Failure::CannotOpenLists),
+    }
 }
 
 /// The path of the file for the new session. `None` if it isn't kept.
-pub fn session_out<'a>(words: &ArgMatches<'a>) -> Option<&'a str> {
+pub fn session_out<'w>(words: &ArgMatches<'w>) -> Option<&'w str>
+    ensures { option_map (λ path. path.now) result ≡ first_value (found_of words.now) session_out_word }
+{
     words.get_str(SESSION_OUT)
 }
 
-/// Creates the file of a new session. A file that exists stays as it is.
+/// Makes the file of a new session. A file that exists stays as it is.
 ///
 /// # Errors
 ///
 /// [`Failure::CannotMakeSession`] if it can't be made.
-pub fn make_session<R: Files>(rt: &R, path: &str) -> Result<Device<R::File>, Failure> {
-    match File::create_new(rt, path) {
-        Ok(file) => Ok(Device::new(file)),
+pub fn make_session<'w, D: FileSystem<'w>>(
+    files: &mut D,
+    path: &'w str,
+) -> Result<D::File, Failure>
+    ensures made { IfOk result (λ file. D.made path.now (D.File.output file)) }
+    ensures left { IfOk result (λ _. D.left files.new ≡ Some path.now) }
+    ensures refused { IfErr result (λ f. (f ≡ failure.CannotMakeSession) × D.refused path.now) }
+    ensures not_made { OnErr result (D.left files.new ≡ D.left files.old) }
+{
+    match files.make(path) {
+        Ok(file) => Ok(file),
         Err(_) => Err(Failure::CannotMakeSession),
     }
 }
 
 /// Removes the file of a new session, unless the run that wrote it is done. A failure to remove it changes nothing.
-pub fn remove_unless_done<R: Files>(rt: &R, path: &str, status: Status) {
-    if status != Status::Done {
-        let _ = fs::remove_file(rt, path);
+pub fn remove_unless_done<'w, D: FileSystem<'w>>(files: &mut D, status: Status)
+    ensures { D.left files.new ≡ left_if_done status (D.left files.old) }
+{
+    match status {
+        Status::Done => {}
+        _ => files.remove(),
     }
 }

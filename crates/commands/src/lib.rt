@@ -14,6 +14,7 @@ mod texts;
 mod words;
 
 pub use failure::Failure;
+pub use files::{Disk, FileSystem};
 pub use headline::{
     every_run, follow_answers_as_explain, many_answers_as_first, next_goes_on, pages_stand,
     runs_go_on, runs_in_turn,

@@ -1,7 +1,14 @@
 //! The program: words, files and the runs over them.
 
+ghost use Rattle.std.specs.Prelude.{map};
+ghost use Rattle.clap.specs.Simple.{subcommand_rows_of};
+ghost use Rattle.clap.specs.Values.{kind_of};
+ghost use Rattle.commands.specs.runs.Program.{EndsGiven, EndsWords, TellsRefusal};
+ghost use Rattle.commands.specs.texts.Messages.{TellsText};
+
 use crate::command::command_named;
 use crate::failure::Failure;
+use crate::files::FileSystem;
 use crate::status::Status;
 use crate::texts::tell;
 use crate::words::parsed;
@@ -9,7 +16,6 @@ use clap::error::ErrorKind;
 use clap::{ArgMatches, Error};
 use sabr_model::{Write, write_text};
 use std::alloc::Global;
-use std::rt::Files;
 
 /// Runs the program over the words after its name: reads their values, opens the files that they name, and runs the
 /// command over these. The report goes to `out`, and messages and help go to `err`.
@@ -17,44 +23,59 @@ use std::rt::Files;
 /// The status is [`Status::Usage`] if the words are refused or ask for help, [`Status::Io`] if a file can't be opened
 /// or made, and [`Status::Memory`] if memory was refused before the run. Then nothing is written to `out`. Else the
 /// status is the run's; if that isn't [`Status::Done`], the file that was made for a session is removed.
-pub fn run_words<R: Files + AllocGlobal, O: Write, E: Write>(
-    rt: &R,
-    words: &[&str],
+pub fn run_words<'w, D: FileSystem<'w>, O: Write, E: Write>(
+    alloc: Global,
+    words: &'w [&'w str],
+    files: &mut D,
     out: &mut O,
     err: &mut E,
-) -> Status {
-    match parsed(rt.alloc(), words) {
-        Ok(matches) => run_command(rt, &matches, out, err),
-        Err(refusal) => tell_usage(rt.alloc(), &refusal, err),
+) -> Status
+    ensures { EndsWords D.opened D.made D.refused (map (λ w. w.now) words.now) (D.left files.old) (D.left files.new) (O.output out.old) (O.output out.new) (E.output err.old) (E.output err.new) result }
+{
+    match parsed(alloc, words) {
+        Ok(matches) => run_command(alloc, &matches, files, out, err),
+        Err(refusal) => tell_usage(alloc, &refusal, err),
     }
 }
 
+/// Writes a text for the user. A failure of `err` changes nothing else.
+fn tell_text<E: Write>(text: &str, err: &mut E)
+    ensures { TellsText (E.output err.old) text.now (E.output err.new) }
+{
+    let _ = write_text(err, text.as_bytes());
+}
+
 /// Reports why the words were refused, or writes the help that they ask for.
-fn tell_usage<E: Write>(alloc: Global, refusal: &Error, err: &mut E) -> Status {
+fn tell_usage<E: Write>(alloc: Global, refusal: &Error, err: &mut E) -> Status
+    ensures { TellsRefusal (kind_of refusal.now) (E.output err.old) (E.output err.new) result }
+{
     if refusal.kind() == ErrorKind::OutOfMemory {
         return tell(err, Failure::NoMemory);
     }
     let Ok(text) = refusal.to_string(alloc) else {
         return tell(err, Failure::NoMemory);
     };
-    let _ = write_text(err, text.as_str().as_bytes());
+    tell_text(text.as_str(), err);
     Status::Usage
 }
 
 /// Runs the command that the words name, or reports why it couldn't begin.
-fn run_command<R: Files + AllocGlobal, O: Write, E: Write>(
-    rt: &R,
-    matches: &ArgMatches<'_>,
+fn run_command<'w, D: FileSystem<'w>, O: Write, E: Write>(
+    alloc: Global,
+    matches: &ArgMatches<'w>,
+    files: &mut D,
     out: &mut O,
     err: &mut E,
-) -> Status {
+) -> Status
+    ensures { EndsGiven D.opened D.made D.refused (subcommand_rows_of matches.now) (D.left files.old) (D.left files.new) (O.output out.old) (O.output out.new) (E.output err.old) (E.output err.new) result }
+{
     let Some((name, words)) = matches.subcommand() else {
         return Status::Usage;
     };
     let Some(command) = command_named(name) else {
         return Status::Usage;
     };
-    match command.run(rt, words, out, err) {
+    match command.run(alloc, words, files, out, err) {
         Ok(status) => status,
         Err(failure) => tell(err, failure),
     }

@@ -7,7 +7,7 @@ use crate::answers::refused;
 use crate::desk::Desk;
 use crate::words::{Words, numbers, small_number};
 use commands::{
-    Status, ValueFault, ValueName, run_check, run_explain, run_first, run_follow, run_many,
+    Disk, Status, ValueFault, ValueName, run_check, run_explain, run_first, run_follow, run_many,
     run_next, run_verify, run_words,
 };
 use failing::LimitedWriter;
@@ -154,8 +154,9 @@ fn program(desk: &Desk<'_>, words: &mut Words<'_>, writers: &mut Writers) -> Opt
     for word in words {
         taken.push(word).ok()?;
     }
+    let mut files = Disk::new(desk.rt);
     let (out, err) = (&mut writers.out, &mut writers.err);
-    Some(run_words(desk.rt, &taken, out, err))
+    Some(run_words(desk.alloc, &taken, &mut files, out, err))
 }
 
 /// Takes a count of routes, and whether the session is kept.

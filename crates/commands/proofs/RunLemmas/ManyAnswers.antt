@@ -1,6 +1,6 @@
 -- Answers to lines, one after the other.
 use Rattle.std.proofs.Common.{◌≡◌, ℕ, ◌+◌, Bool, true, false, cond, List, [], ◌∷◌, ◌++◌, map, append_assoc, append-nil, refl, sym, ap, subst, ◌∙◌, None, Result, Ok, Err}
-use Rattle.sabr_model.specs.Devices.{Output, Written, WrittenInPart}
+use Rattle.sabr_model.specs.Devices.{Output, TakesNone, Written, WrittenInPart}
 use Rattle.sabr_model.specs.plan.Plan.{ContactPlan, IsPlan, TabledPlan}
 use Rattle.sabr_model.specs.routes.Arrival.{RouteRequest}
 use Rattle.sabr_model.specs.routes.Record.{RouteRecord, record_of}
@@ -12,20 +12,20 @@ use Rattle.sabr_model.specs.declared.fault.NoMemory.{NoMemory}
 use Rattle.sabr_model.specs.routes.Asking.{IsRequest}
 use Rattle.sabr_session.specs.ReportText.{HasSpelledTimes, report_text}
 use Rattle.commands.proofs.TextLemmas.SpelledTimes.{records_spelled}
-use Rattle.sabr_model.proofs.ListLemmas.WrittenTexts.{Written-nil, Written-append, WrittenInPart-after, WrittenInPart-more}
+use Rattle.sabr_model.proofs.ListLemmas.WrittenTexts.{Takes-kept, Written-nil, Written-append, WrittenInPart-after, WrittenInPart-more}
 use Rattle.commands.specs.declared.words.requests_fault.RequestKind.{RequestKind}
 use Rattle.commands.specs.declared.words.requests_fault.RequestKind.TheVariants.{BadLine}
 use Rattle.commands.specs.declared.words.requests_fault.RequestsFault.{RequestsFault}
 use Rattle.commands.specs.declared.words.line_form.LineForm.{LineForm}
 use Rattle.commands.specs.declared.runs.answer_kind.AnswerKind.{AnswerKind}
 use Rattle.commands.specs.words.Requests.{Asked, HasRequests, RequestLine, asked_at, asked_in, fault_of, lines_in, most_requests, put_first, requests_from}
-use Rattle.commands.specs.runs.Many.{IsFirstPage, LeavesAnswer, LeavesAnswers, StopsAtRequest, WritesAll, WritesAnswers, answer_text, answers_text, form_of}
+use Rattle.commands.specs.runs.Many.{IsFirstPage, LeavesAnswer, LeavesAnswers, StopsAtRequest, WritesAll, WritesAnswers, answer_text, answers_text, form_of, has_broken}
 use Rattle.commands.specs.texts.Messages.{failure_of_requests}
 use Rattle.commands.specs.runs.Runs.{first_report}
 use Rattle.commands.specs.runs.SessionRuns.{next_report}
-use Rattle.commands.proofs.RunLemmas.PageTexts.{report_of_page}
+use Rattle.commands.proofs.RunLemmas.PageTexts.{flush_failed, report_of_page}
 use Rattle.commands.proofs.RunLemmas.SessionPages.{first_report_is}
-use Rattle.std.specs.Prelude.{All, IfOk, is_some, nat_lt}
+use Rattle.std.specs.Prelude.{All, IfOk, IsTrue, is_some, nat_lt}
 use Rattle.commands.specs.declared.failure.Failure.{Failure}
 use Rattle.commands.specs.declared.failure.Failure.TheVariants as failure
 
@@ -173,3 +173,40 @@ not_requested p kind requested fault end a is e = rw is (e, refl)
 pub answers_left : (p : TabledPlan) (kind : AnswerKind) (requested : Result (List RequestLine) RequestsFault) (text : List ℕ) (end : Result (Unit {0}) Failure) (a c : Output) → HasRequests (form_of kind) text requested
     → (xs : List RequestLine) × (requests_from (form_of kind) 1 (lines_in text) ≡ Ok xs) × WritesAll p.plan xs kind end a c → WritesAnswers (Ok p) requested kind end a c
 answers_left p kind requested text end a c h (xs, is, left) = subst (λ t. WritesAnswers (Ok p) t kind end a c) (sym is ∙ h.0) left
+
+-- what answering and then the flush leave: the writer had failed before it
+pub broken_before : (p : ContactPlan) (xs : List RequestLine) (kind : AnswerKind) (answered : Result (Unit {0}) Failure) (a b : Output)
+    → has_broken answered ≡ true → LeavesAnswers p xs kind answered a b → WritesAll p xs kind answered a b
+broken_before p xs kind (Ok _) a b e left = absurd cc
+broken_before p xs kind (Err failure.Write) a b e left = left
+broken_before p xs kind (Err failure.NoMemory) a b e left = absurd cc
+broken_before p xs kind (Err _) a b e left = absurd left
+
+-- a beginning of the answers is one of all
+answers_before : (p : ContactPlan) (xs : List RequestLine) (kind : AnswerKind) (a b c : Output) (h : StopsAtRequest p xs kind a b) → WrittenInPart a (answers_text p h.before kind) c → WrittenInPart a (answers_text p xs kind) c
+answers_before p xs kind a b c h part =
+    let all = WrittenInPart-more a c (answers_text p h.before kind) (answers_text p (h.request ∷ h.after) kind) part in
+    let those = subst (λ text. WrittenInPart a text c) (sym (answers_then p kind h.before (h.request ∷ h.after))) all in
+    subst (λ ys. WrittenInPart a (answers_text p ys kind) c) (sym h.parts) those
+
+-- the flush fails
+pub broken_by_flush : (p : ContactPlan) (xs : List RequestLine) (kind : AnswerKind) (answered : Result (Unit {0}) Failure) (a b c : Output)
+    → has_broken answered ≡ false → LeavesAnswers p xs kind answered a b → TakesNone b c → c.failures ≡ b.failures + 1 → WrittenInPart a (answers_text p xs kind) c
+broken_by_flush p xs kind (Ok _) a b c e left kept fails = flush_failed a b c _ left kept fails
+broken_by_flush p xs kind (Err failure.Write) a b c e left kept fails = absurd cc
+broken_by_flush p xs kind (Err failure.NoMemory) a b c e left kept fails = answers_before p xs kind a b c left (flush_failed a b c _ left.written kept fails)
+broken_by_flush p xs kind (Err _) a b c e left kept fails = absurd left
+
+-- all that was written is flushed
+pub all_flushed : (p : ContactPlan) (xs : List RequestLine) (kind : AnswerKind) (answered : Result (Unit {0}) Failure) (a b c : Output)
+    → has_broken answered ≡ false → LeavesAnswers p xs kind answered a b → TakesNone b c → c.failures ≡ b.failures → IsTrue c.flushed → WritesAll p xs kind answered a c
+all_flushed p xs kind (Ok _) a b c e left kept fails mark = ((Takes-kept a b c _ left.0 kept, fails ∙ left.1), mark)
+all_flushed p xs kind (Err failure.Write) a b c e left kept fails mark = absurd cc
+all_flushed p xs kind (Err failure.NoMemory) a b c e left kept fails mark = (record {
+  before = left.before;
+  request = left.request;
+  after = left.after;
+  parts = left.parts;
+  written = (Takes-kept a b c _ left.written.0 kept, fails ∙ left.written.1);
+}, mark)
+all_flushed p xs kind (Err _) a b c e left kept fails mark = absurd left

@@ -1,5 +1,5 @@
 -- What a run over many lines leaves: the answers to them, one after the other.
-use Rattle.std.specs.Prelude.{◌≡◌, ◌≤◌, ⊤, ℕ, List, [], ◌∷◌, ◌++◌, All, Result, Ok, Err, codes}
+use Rattle.std.specs.Prelude.{◌≡◌, ◌≤◌, ⊤, ℕ, Bool, true, false, IsTrue, List, [], ◌∷◌, ◌++◌, All, Result, Ok, Err, codes}
 use Rattle.std.specs.List.{concat}
 use Rattle.sabr_model.specs.plan.Plan.{ContactPlan, TabledPlan}
 use Rattle.sabr_model.specs.Devices.{Input, Output, Written, WrittenAndFlushed, WrittenInPart}
@@ -75,10 +75,17 @@ LeavesAnswers p xs kind (Err failure.Write) old new = WrittenInPart old (answers
 LeavesAnswers p xs kind (Err failure.NoMemory) old new = StopsAtRequest p xs kind old new
 LeavesAnswers p xs kind (Err _) old new = ⊥
 
--- the same with the flush
+-- the same with a flush, of all answers or of those before the line at which memory was refused
 abbrev pub WritesAll : ContactPlan → List RequestLine → AnswerKind → Result (Unit {0}) Failure → Output → Output → Type 0
 WritesAll p xs kind (Ok _) old new = WrittenAndFlushed old (answers_text p xs kind) new
-WritesAll p xs kind (Err failure) old new = LeavesAnswers p xs kind (Err failure) old new
+WritesAll p xs kind (Err failure.Write) old new = WrittenInPart old (answers_text p xs kind) new
+WritesAll p xs kind (Err failure.NoMemory) old new = StopsAtRequest p xs kind old new × IsTrue new.flushed
+WritesAll p xs kind (Err _) old new = ⊥
+
+-- the writer failed before the flush
+abbrev pub has_broken : Result (Unit {0}) Failure → Bool
+has_broken (Err failure.Write) = true
+has_broken _ = false
 
 -- what one answer leaves: all of it, a beginning of it if the writer failed, and nothing if memory was refused
 abbrev pub LeavesAnswer : ContactPlan → AnswerKind → RequestLine → Result (Unit {0}) Failure → Output → Output → Type 0

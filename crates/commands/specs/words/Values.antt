@@ -151,6 +151,28 @@ abbrev pub has_contacts : CommandName → Bool
 has_contacts command.Explain = true
 has_contacts _ = false
 
+-- commands with an old session
+abbrev pub has_session : CommandName → Bool
+has_session command.Next = true
+has_session command.Verify = true
+has_session _ = false
+
+-- commands with a file of requests
+abbrev pub has_requests : CommandName → Bool
+has_requests command.Many = true
+has_requests _ = false
+
+-- commands with a file of lists
+abbrev pub has_lists : CommandName → Bool
+has_lists command.Follow = true
+has_lists _ = false
+
+-- commands that can keep the session after their page
+abbrev pub keeps_session : CommandName → Bool
+keeps_session command.First = true
+keeps_session command.Next = true
+keeps_session _ = false
+
 -- the values of a command; what it doesn't have is none or empty
 pub record ValuesRead : Type 0 where
   pub request : Option RouteRequest

@@ -21,13 +21,13 @@ use std::alloc::Allocator;
 
 /// Explains the lists of a text over one plan: reads the plan whole from `plan`, then the text whole from `lists`, and
 /// judges its lines. For each list in order, it then writes to `out` the word `list` and its line, and what
-/// [`run_explain`](crate::run_explain) writes of its contacts for its request. The output is flushed once, at the end.
+/// [`run_explain`](crate::run_explain) writes of its contacts for its request. The output is flushed at the end.
 ///
 /// A failure's message goes to `err`; a failure of `err` changes nothing else. The status is [`Status::Done`] whether
 /// or not the lists are routes; [`Status::Plan`] if the plan is refused, and then `lists` isn't read;
 /// [`Status::Session`] if a line is bad; [`Status::Io`] if a reader or `out` failed; and [`Status::Memory`] if a growth
-/// was refused. If it was refused at a list, `out` holds the answers to those before it, whole, and no others. If `out`
-/// failed, it holds a beginning of the answers.
+/// was refused. If it was refused at a list, `out` holds the answers to those before it, whole and flushed, and no
+/// others. If `out` failed, it holds a beginning of the answers.
 pub fn run_follow<P: Read, Q: Read, O: Write, E: Write, A: Allocator + Copy>(
     alloc: A,
     plan: &mut P,

@@ -5,7 +5,7 @@ ghost use Rattle.sabr_model.specs.plan.Plan.{TabledPlan};
 ghost use Rattle.sabr_plan.specs.PlanRead.{ReadsPlan};
 ghost use Rattle.sabr_plan.specs.declared.fault.PlanFault.{PlanFault};
 ghost use Rattle.commands.specs.declared.words.requests_fault.RequestsFault.{RequestsFault};
-ghost use Rattle.commands.specs.runs.Many.{IsWithin, LeavesAnswers, ReadsRequestsOver, WritesAll, WritesAnswers, form_of};
+ghost use Rattle.commands.specs.runs.Many.{IsWithin, LeavesAnswers, ReadsRequestsOver, WritesAll, WritesAnswers, form_of, has_broken};
 ghost use Rattle.commands.specs.words.Requests.{RequestLine, fault_of, lines_in, requests_from};
 
 use crate::failure::Failure;
@@ -35,7 +35,18 @@ fn answer_all<O: Write, A: Allocator + Copy>(
     Ok(())
 }
 
-/// Writes the answers of this kind to the lines of a text without a bad one, and flushes them.
+/// Tells whether the writer failed while the answers were written.
+fn has_broken(answered: &Result<(), Failure>) -> bool
+    ensures { result ≡ has_broken answered.now }
+{
+    match answered {
+        Err(Failure::Write) => true,
+        _ => false,
+    }
+}
+
+/// Writes the answers of this kind to the lines of a text without a bad one, and flushes them: all, or those before the
+/// line at which memory was refused.
 fn send_answers<O: Write, A: Allocator + Copy>(
     alloc: A,
     plan: &Plan<A>,
@@ -48,11 +59,13 @@ fn send_answers<O: Write, A: Allocator + Copy>(
     ensures { (xs : List RequestLine) × (requests_from (form_of kind) 1 (lines_in text.now) ≡ Ok xs) × WritesAll plan.now.plan xs kind result (O.output out.old) (O.output out.new) }
 {
     let answered = answer_all(&mut Answering::new(alloc, plan), kind, text, out);
-    answered?;
+    if has_broken(&answered) {
+        return answered;
+    }
     let Ok(()) = out.flush() else {
         return Err(Failure::Write);
     };
-    Ok(())
+    answered
 }
 
 /// Reads the plan whole, and then the lines, and sends the answers of this kind to these.
@@ -60,8 +73,8 @@ fn send_answers<O: Write, A: Allocator + Copy>(
 /// # Errors
 ///
 /// [`Failure::NoMemory`] if a growth was refused. If it was refused at a line, the answers to those before it were
-/// written. [`Failure::Write`] if the writer failed. Then a beginning of the answers was written. Else the plan was
-/// refused, and then no line was read, or the lines were, and nothing was written.
+/// written and flushed. [`Failure::Write`] if the writer failed. Then a beginning of the answers was written. Else the
+/// plan was refused, and then no line was read, or the lines were, and nothing was written.
 pub fn write_answers<P: Read, Q: Read, O: Write, A: Allocator + Copy>(
     alloc: A,
     plan: &mut P,

@@ -23,12 +23,12 @@ use std::alloc::Allocator;
 /// Answers the requests of a text over one plan: reads the plan whole from `plan`, then the text whole from `requests`,
 /// and judges its lines. For each request in order, it then writes to `out` the word `request` and its line, and the
 /// report of its first `count` routes, from 1 to 10000, as [`run_first`](crate::run_first) does. The output is flushed
-/// once, at the end.
+/// at the end.
 ///
 /// A failure's message goes to `err`; a failure of `err` changes nothing else. The status is [`Status::Plan`] if the
 /// plan is refused, and then `requests` isn't read; [`Status::Session`] if a line is bad; [`Status::Io`] if a reader or
 /// `out` failed; and [`Status::Memory`] if a growth was refused. If it was refused at a request, `out` holds the
-/// answers to those before it, whole, and no others. If `out` failed, it holds a beginning of the answers.
+/// answers to those before it, whole and flushed, and no others. If `out` failed, it holds a beginning of the answers.
 pub fn run_many<P: Read, Q: Read, O: Write, E: Write, A: Allocator + Copy>(
     alloc: A,
     plan: &mut P,

@@ -1,6 +1,16 @@
 //! The words of the command line, as one level of subcommands with texts as values.
 
-use crate::command::{COMMANDS, CommandName, Declared};
+ghost use Rattle.std.specs.Prelude.{◌≡◌, [], ◌∷◌, ◌++◌, IfOk, false, map};
+ghost use Rattle.clap.specs.Simple.{app_of, subcommand_rows_of};
+ghost use Rattle.clap.specs.Walk.{rule_of};
+ghost use Rattle.clap.specs.Faults.{fault_of};
+ghost use Rattle.clap.specs.Kinds.{FailsBy};
+ghost use Rattle.commands.specs.declared.words.value_name.ValueName.TheVariants as name;
+ghost use Rattle.commands.specs.words.CommandLine.{AddsCommand, AddsWords, IsCommand, IsProgram, IsWord, end_rules, given_by, limit_rules, option_rule, program_app, required_rule, rules_for, rules_where, shape_for};
+ghost use Rattle.commands.specs.words.Paths.{lists_word, plan_word, requests_word, session_out_word, session_word};
+ghost use Rattle.commands.specs.words.Values.{name_text};
+
+use crate::command::CommandName;
 use crate::files::{LISTS, PLAN, REQUESTS, SESSION, SESSION_OUT};
 use clap::{Arg, ArgAction, ArgMatches, Command, Error};
 use std::alloc::{AllocError, Global};
@@ -9,7 +19,9 @@ use std::alloc::{AllocError, Global};
 const VERSION: &str = "1.1.0";
 
 /// A word with a value: what its value looks like, and what it is.
-fn option<'a>(alloc: Global, name: &'a str, form: &'a str, help: &'a str) -> Arg<'a> {
+fn option<'a>(alloc: Global, name: &'a str, form: &'a str, help: &'a str) -> Arg<'a>
+    ensures { IsWord (option_rule name.entry.now) result }
+{
     Arg::new(alloc, name)
         .long(name)
         .action(ArgAction::Set)
@@ -18,164 +30,208 @@ fn option<'a>(alloc: Global, name: &'a str, form: &'a str, help: &'a str) -> Arg
 }
 
 /// A word that is required.
-fn required<'a>(alloc: Global, name: &'a str, form: &'a str, help: &'a str) -> Arg<'a> {
+fn required<'a>(alloc: Global, name: &'a str, form: &'a str, help: &'a str) -> Arg<'a>
+    ensures { IsWord (required_rule name.entry.now) result }
+{
     option(alloc, name, form, help).required(true)
 }
 
 /// The word for the plan.
-fn plan<'a>(alloc: Global) -> Arg<'a> {
+fn plan<'a>(alloc: Global) -> Arg<'a>
+    ensures { IsWord (required_rule plan_word) result }
+{
     required(alloc, PLAN, "FILE", "The contact plan")
 }
 
 /// The word for the source.
-fn from<'a>(alloc: Global) -> Arg<'a> {
+fn from<'a>(alloc: Global) -> Arg<'a>
+    ensures { IsWord (required_rule (name_text name.From)) result }
+{
     let help = "Source: a node, 1 to 18446744073709551615";
     required(alloc, "from", "NODE", help)
 }
 
 /// The word for the destination.
-fn to<'a>(alloc: Global) -> Arg<'a> {
+fn to<'a>(alloc: Global) -> Arg<'a>
+    ensures { IsWord (required_rule (name_text name.To)) result }
+{
     let help = "Destination: another node, 1 to 18446744073709551615";
     required(alloc, "to", "NODE", help)
 }
 
 /// The word for the time at which the bundle is at the source.
-fn at<'a>(alloc: Global) -> Arg<'a> {
+fn at<'a>(alloc: Global) -> Arg<'a>
+    ensures { IsWord (required_rule (name_text name.At)) result }
+{
     let help = "When the bundle is at the source, UTC: years 1970 to 9998";
     required(alloc, "at", "yyyy/mm/dd-hh:mm:ss", help)
 }
 
 /// The word for the margin.
-fn margin_ppm<'a>(alloc: Global) -> Arg<'a> {
+fn margin_ppm<'a>(alloc: Global) -> Arg<'a>
+    ensures { IsWord (option_rule (name_text name.MarginPpm)) result }
+{
     let help =
         "Margin on each light time, in parts in a million of it, rounded up to seconds: 0 to 1000000; 0 if not given";
     option(alloc, "margin-ppm", "PPM", help)
 }
 
 /// The word for the limit on hops.
-fn max_hops<'a>(alloc: Global) -> Arg<'a> {
+fn max_hops<'a>(alloc: Global) -> Arg<'a>
+    ensures { IsWord (option_rule (name_text name.MaxHops)) result }
+{
     let help = "Routes of at most so many contacts: 1 to 20000; 20000 if not given";
     option(alloc, "max-hops", "HOPS", help)
 }
 
 /// The word for the nodes to avoid.
-fn avoid<'a>(alloc: Global) -> Arg<'a> {
+fn avoid<'a>(alloc: Global) -> Arg<'a>
+    ensures { IsWord (option_rule (name_text name.Avoid)) result }
+{
     let help =
         "Nodes that no route passes: 1 to 16, rising, neither source nor destination among them";
     option(alloc, "avoid", "NODE,NODE..", help)
 }
 
 /// The word for the count of routes.
-fn count<'a>(alloc: Global) -> Arg<'a> {
+fn count<'a>(alloc: Global) -> Arg<'a>
+    ensures { IsWord (required_rule (name_text name.Count)) result }
+{
     required(alloc, "count", "COUNT", "How many routes: 1 to 10000")
 }
 
 /// The word for the old session.
-fn session<'a>(alloc: Global) -> Arg<'a> {
+fn session<'a>(alloc: Global) -> Arg<'a>
+    ensures { IsWord (required_rule session_word) result }
+{
     let help = "The session that a page left, written by --session-out";
     required(alloc, SESSION, "FILE", help)
 }
 
 /// The word for the requests.
-fn requests<'a>(alloc: Global) -> Arg<'a> {
+fn requests<'a>(alloc: Global) -> Arg<'a>
+    ensures { IsWord (required_rule requests_word) result }
+{
     let help = "The requests: a line FROM TO TIME each, or with PPM, HOPS, NODES after it";
     required(alloc, REQUESTS, "FILE", help)
 }
 
 /// The word for the lists.
-fn lists<'a>(alloc: Global) -> Arg<'a> {
+fn lists<'a>(alloc: Global) -> Arg<'a>
+    ensures { IsWord (required_rule lists_word) result }
+{
     let help = "The lists: a line NUMBERS FROM TO TIME each, or with PPM, HOPS, NODES after it";
     required(alloc, LISTS, "FILE", help)
 }
 
 /// The word for the new session.
-fn session_out<'a>(alloc: Global) -> Arg<'a> {
+fn session_out<'a>(alloc: Global) -> Arg<'a>
+    ensures { IsWord (option_rule session_out_word) result }
+{
     let help = "Where to leave the session after the page: a file that isn't there";
     option(alloc, SESSION_OUT, "FILE", help)
 }
 
 /// The word for the contacts.
-fn contacts<'a>(alloc: Global) -> Arg<'a> {
+fn contacts<'a>(alloc: Global) -> Arg<'a>
+    ensures { IsWord (required_rule (name_text name.Contacts)) result }
+{
     let help = "Contacts in the order in which they are taken: numbers from 1 to 4294967295";
     required(alloc, "contacts", "NUMBER,NUMBER..", help)
 }
 
 /// Adds the words for where and when a request begins, and where it goes to.
-fn with_ends<'a>(alloc: Global, command: Command<'a>) -> Result<Command<'a>, AllocError> {
+fn with_ends<'a>(alloc: Global, command: Command<'a>) -> Result<Command<'a>, AllocError>
+    ensures { IfOk result (AddsWords command.entry end_rules) }
+{
     command.arg(from(alloc))?.arg(to(alloc))?.arg(at(alloc))
 }
 
 /// Adds the words for the margin and the limits of a request.
-fn with_limits<'a>(alloc: Global, command: Command<'a>) -> Result<Command<'a>, AllocError> {
+fn with_limits<'a>(alloc: Global, command: Command<'a>) -> Result<Command<'a>, AllocError>
+    ensures { IfOk result (AddsWords command.entry limit_rules) }
+{
     command
         .arg(margin_ppm(alloc))?
         .arg(max_hops(alloc))?
         .arg(avoid(alloc))
 }
 
-/// Adds the words for what a command reads beside the plan.
-fn with_inputs<'a>(
+/// Adds the words of a request, if the command has them.
+fn with_request<'a>(
     alloc: Global,
-    declared: Declared<'_>,
+    asked: bool,
     command: Command<'a>,
-) -> Result<Command<'a>, AllocError> {
-    let mut made = command;
-    if declared.has_request {
-        made = with_limits(alloc, with_ends(alloc, made)?)?;
+) -> Result<Command<'a>, AllocError>
+    ensures { IfOk result (AddsWords command.entry (rules_where asked (end_rules ++ limit_rules))) }
+{
+    if !asked {
+        return Ok(command);
     }
-    if declared.has_session {
-        made = made.arg(session(alloc))?;
-    }
-    if declared.has_requests {
-        made = made.arg(requests(alloc))?;
-    }
-    if declared.has_lists {
-        made = made.arg(lists(alloc))?;
-    }
-    Ok(made)
+    with_limits(alloc, with_ends(alloc, command)?)
 }
 
-/// Adds the words for a page and for contacts.
-fn with_others<'a>(
-    alloc: Global,
-    declared: Declared<'_>,
+/// Adds a word, if the command has it.
+fn with_word<'a>(
+    asked: bool,
+    word: Arg<'a>,
     command: Command<'a>,
-) -> Result<Command<'a>, AllocError> {
-    let mut made = command;
-    if declared.has_count {
-        made = made.arg(count(alloc))?;
+) -> Result<Command<'a>, AllocError>
+    requires { word.global ≡ false }
+    ensures { IfOk result (AddsWords command.entry (rules_where asked (rule_of word.entry ∷ []))) }
+{
+    if !asked {
+        return Ok(command);
     }
-    if declared.keeps_session {
-        made = made.arg(session_out(alloc))?;
-    }
-    if declared.has_contacts {
-        made = made.arg(contacts(alloc))?;
-    }
-    Ok(made)
+    command.arg(word)
 }
 
 /// A command of the command line, as it is declared.
-fn subcommand<'a>(alloc: Global, command: CommandName) -> Result<Command<'a>, AllocError> {
+fn subcommand<'a>(alloc: Global, command: CommandName) -> Result<Command<'a>, AllocError>
+    ensures { IfOk result (IsCommand (shape_for command)) }
+{
     let declared = command.declared();
     let made = Command::new(alloc, declared.name)
         .about(declared.about)
         .after_help(declared.examples)
         .arg(plan(alloc))?;
-    let made = with_inputs(alloc, declared, made)?;
-    with_others(alloc, declared, made)
+    let made = with_request(alloc, declared.has_request, made)?;
+    let made = with_word(declared.has_session, session(alloc), made)?;
+    let made = with_word(declared.has_requests, requests(alloc), made)?;
+    let made = with_word(declared.has_lists, lists(alloc), made)?;
+    let made = with_word(declared.has_count, count(alloc), made)?;
+    let made = with_word(declared.keeps_session, session_out(alloc), made)?;
+    with_word(declared.has_contacts, contacts(alloc), made)
 }
 
-/// Adds all commands.
-fn with_commands<'a>(alloc: Global, program: Command<'a>) -> Result<Command<'a>, AllocError> {
-    let mut made = program;
-    for command in COMMANDS {
-        made = made.subcommand(subcommand(alloc, command)?)?;
-    }
-    Ok(made)
+/// Adds a command.
+fn with_command<'a>(
+    alloc: Global,
+    command: CommandName,
+    program: Command<'a>,
+) -> Result<Command<'a>, AllocError>
+    ensures { IfOk result (AddsCommand program.entry (shape_for command)) }
+{
+    program.subcommand(subcommand(alloc, command)?)
+}
+
+/// Adds all commands, in the order in which help lists them.
+fn with_commands<'a>(alloc: Global, program: Command<'a>) -> Result<Command<'a>, AllocError>
+    ensures { IfOk result (IsProgram program.entry) }
+{
+    let made = with_command(alloc, CommandName::First, program)?;
+    let made = with_command(alloc, CommandName::Next, made)?;
+    let made = with_command(alloc, CommandName::Verify, made)?;
+    let made = with_command(alloc, CommandName::Check, made)?;
+    let made = with_command(alloc, CommandName::Explain, made)?;
+    let made = with_command(alloc, CommandName::Many, made)?;
+    with_command(alloc, CommandName::Follow, made)
 }
 
 /// The command line, with all commands.
-fn program<'a>(alloc: Global) -> Result<Command<'a>, AllocError> {
+fn program<'a>(alloc: Global) -> Result<Command<'a>, AllocError>
+    ensures { IfOk result (λ c. app_of c ≡ program_app) }
+{
     let program = Command::new(alloc, "cgrlist")
         .about("Lists every feasible route of a contact plan from one node to another, best first")
         .version(VERSION)
@@ -195,6 +251,9 @@ or a line of requests or lists is refused, 5 a file can't be opened, read, made 
 /// # Errors
 ///
 /// The error of clap, with the reason as its text; of the kind `OutOfMemory` if memory was refused.
-pub fn parsed<'a>(alloc: Global, words: &'a [&'a str]) -> Result<ArgMatches<'a>, Error> {
+pub fn parsed<'a>(alloc: Global, words: &'a [&'a str]) -> Result<ArgMatches<'a>, Error>
+    ensures given { IfOk result (λ m. subcommand_rows_of m ≡ given_by (map (λ w. w.now) words.entry.now)) }
+    ensures fault { FailsBy (fault_of program_app (map (λ w. w.now) words.entry.now)) result }
+{
     program(alloc)?.try_get_matches_from(words)
 }

@@ -1,0 +1,105 @@
+-- The command line, in the words of clap's definitions.
+use Rattle.std.specs.Prelude.{◌≡◌, ℕ, Bool, true, false, List, [], ◌∷◌, ◌++◌, codes, if◌then◌else◌}
+use Rattle.std.specs.declared.option.Option.{Option}
+use Rattle.std.specs.declared.option.Option.TheVariants.{Some, None}
+use Rattle.clap.specs.Facts.{args_of}
+use Rattle.clap.specs.Simple.{App, Shape, app_of, new_app, new_rule, new_shape, subcommand_of}
+use Rattle.clap.specs.Walk.{Row, Rule, rule_of}
+use Rattle.clap.specs.declared.builder.action.ArgAction.TheVariants.{Set}
+use Rattle.clap.specs.declared.builder.arg.Arg.{Arg}
+use Rattle.clap.specs.declared.builder.command.Command.{Command}
+use Rattle.clap.specs.declared.builder.command.Command.TheViews.{out-Command}
+use Rattle.commands.specs.declared.command.CommandName.{CommandName}
+use Rattle.commands.specs.declared.command.CommandName.TheVariants as command
+use Rattle.commands.specs.declared.words.value_name.ValueName.TheVariants as name
+use Rattle.commands.specs.words.Paths.{lists_word, plan_word, requests_word, session_out_word, session_word}
+use Rattle.commands.specs.words.Values.{has_contacts, has_count, has_lists, has_request, has_requests, has_session, keeps_session, name_text}
+
+-- a word with a value
+abbrev pub option_rule : List ℕ → Rule
+option_rule word = record (new_rule word) { long = Some word; action = Some Set; value_names = 1 }
+
+-- a word that is required
+abbrev pub required_rule : List ℕ → Rule
+required_rule word = record (option_rule word) { required = true }
+
+-- the words for the ends of a request, and for its limits
+abbrev pub end_rules : List Rule
+end_rules = required_rule (name_text name.From) ∷ required_rule (name_text name.To) ∷ required_rule (name_text name.At) ∷ []
+
+abbrev pub limit_rules : List Rule
+limit_rules = option_rule (name_text name.MarginPpm) ∷ option_rule (name_text name.MaxHops) ∷ option_rule (name_text name.Avoid) ∷ []
+
+-- these words, if the command has them
+abbrev pub rules_where : Bool → List Rule → List Rule
+rules_where asked rules = if asked then rules else []
+
+-- the words of a command, in their order
+abbrev pub rules_for : CommandName → List Rule
+rules_for c =
+    (required_rule plan_word ∷ [])
+    ++ rules_where (has_request c) (end_rules ++ limit_rules)
+    ++ rules_where (has_session c) (required_rule session_word ∷ [])
+    ++ rules_where (has_requests c) (required_rule requests_word ∷ [])
+    ++ rules_where (has_lists c) (required_rule lists_word ∷ [])
+    ++ rules_where (has_count c) (required_rule (name_text name.Count) ∷ [])
+    ++ rules_where (keeps_session c) (option_rule session_out_word ∷ [])
+    ++ rules_where (has_contacts c) (required_rule (name_text name.Contacts) ∷ [])
+
+-- the name of a command
+abbrev pub command_text : CommandName → List ℕ
+command_text command.First = codes "first"
+command_text command.Next = codes "next"
+command_text command.Verify = codes "verify"
+command_text command.Check = codes "check"
+command_text command.Explain = codes "explain"
+command_text command.Many = codes "many"
+command_text command.Follow = codes "follow"
+
+-- a command with its words
+abbrev pub shape_for : CommandName → Shape
+shape_for c = record (new_shape (command_text c)) { rules = rules_for c }
+
+-- the program, without its commands
+abbrev pub bare_shape : Shape
+bare_shape = record (new_shape (codes "cgrlist")) { has_version = true; no_binary_name = true; subcommand_required = true }
+
+-- the program
+abbrev pub program_app : App
+program_app = record {
+  top = record bare_shape { is_leaf = false };
+  subs = shape_for command.First ∷ shape_for command.Next ∷ shape_for command.Verify ∷ shape_for command.Check ∷ shape_for command.Explain ∷ shape_for command.Many ∷ shape_for command.Follow ∷ [];
+}
+
+-- the subcommand that words name, with what they give under the names of its words
+abbrev pub given_by : List (List ℕ) → Option (List ℕ × List Row)
+given_by words = subcommand_of program_app words
+
+-- an argument is this word's
+pub record IsWord (rule : Rule) (a : Arg) : Type 0 where
+  pub reads : rule_of a ≡ rule
+  pub local : a.global ≡ false
+
+-- words were added to a command
+pub record AddsWords (old : Command) (rules : List Rule) (new : Command) : Type 0 where
+  pub top : (app_of new).top ≡ record (app_of old).top { rules = (app_of old).top.rules ++ rules }
+  pub subs : (app_of new).subs ≡ (app_of old).subs
+  pub local : (out-Command new).has_globals ≡ (out-Command old).has_globals
+
+-- a command is built, as it is declared
+pub record IsCommand (shape : Shape) (c : Command) : Type 0 where
+  pub reads : app_of c ≡ record { top = shape; subs = [] }
+  pub local : (out-Command c).has_globals ≡ false
+
+-- a command was added to the program
+pub record AddsCommand (old : Command) (shape : Shape) (new : Command) : Type 0 where
+  pub top : (app_of new).top ≡ record (app_of old).top { is_leaf = false }
+  pub subs : (app_of new).subs ≡ (app_of old).subs ++ shape ∷ []
+
+-- all commands were added to it
+abbrev pub IsProgram : Command → Command → Type 0
+IsProgram bare c =
+    app_of c ≡ record {
+      top = record (app_of bare).top { is_leaf = false };
+      subs = (app_of bare).subs ++ program_app.subs;
+    }
