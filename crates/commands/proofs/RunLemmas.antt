@@ -1,4 +1,4 @@
--- Pages and sessions.
+-- Pages and sessions, and the calls of commands.
 pub mod SessionPages
 pub mod PageTexts
 pub mod ManyAnswers
@@ -7,3 +7,4 @@ pub mod RunsFollow
 pub mod NextPages
 pub mod RunsInTurn
 pub mod StandingPages
+pub mod CallLemmas

@@ -16,7 +16,7 @@ use crate::files::{
 };
 use crate::runs::{run_check, run_explain, run_first, run_follow, run_many, run_next, run_verify};
 use crate::status::Status;
-use crate::words::read_values;
+use crate::words::values_of;
 use clap::ArgMatches;
 use sabr_model::{Device, Write};
 use std::alloc::Global;
@@ -32,10 +32,10 @@ pub fn first<'w, D: FileSystem<'w>, O: Write, E: Write>(
 ) -> Result<Status, Failure>
     ensures ran { IfOk result (λ s. RunsFirst D.opened D.made (found_of words.now) (O.output out.old) (O.output out.new) (E.output err.old) (E.output err.new) s) }
     ensures left { IfOk result (λ s. D.left files.new ≡ left_after (kept_path command.First (found_of words.now)) s (D.left files.old)) }
-    ensures stopped { IfErr result (StopsBefore command.First (found_of words.now)) }
+    ensures stopped { IfErr result (StopsBefore D.refused command.First (found_of words.now)) }
     ensures not_run { OnErr result ((O.output out.new ≡ O.output out.old) × (E.output err.new ≡ E.output err.old) × (D.left files.new ≡ D.left files.old)) }
 {
-    let values = read_values(alloc, CommandName::First.declared().name, words)?;
+    let values = values_of(alloc, CommandName::First, words)?;
     let count = values.count.unwrap();
     let request = values.request.unwrap();
     let mut plan = open_plan(files, words)?;
@@ -60,10 +60,10 @@ pub fn next<'w, D: FileSystem<'w>, O: Write, E: Write>(
 ) -> Result<Status, Failure>
     ensures ran { IfOk result (λ s. RunsNext D.opened D.made (found_of words.now) (O.output out.old) (O.output out.new) (E.output err.old) (E.output err.new) s) }
     ensures left { IfOk result (λ s. D.left files.new ≡ left_after (kept_path command.Next (found_of words.now)) s (D.left files.old)) }
-    ensures stopped { IfErr result (StopsBefore command.Next (found_of words.now)) }
+    ensures stopped { IfErr result (StopsBefore D.refused command.Next (found_of words.now)) }
     ensures not_run { OnErr result ((O.output out.new ≡ O.output out.old) × (E.output err.new ≡ E.output err.old) × (D.left files.new ≡ D.left files.old)) }
 {
-    let values = read_values(alloc, CommandName::Next.declared().name, words)?;
+    let values = values_of(alloc, CommandName::Next, words)?;
     let count = values.count.unwrap();
     let mut plan = open_plan(files, words)?;
     let mut old = open_session(files, words)?;
@@ -87,7 +87,7 @@ pub fn verify<'w, D: FileSystem<'w>, O: Write, E: Write>(
     err: &mut E,
 ) -> Result<Status, Failure>
     ensures ran { IfOk result (λ s. RunsVerify D.opened (found_of words.now) (O.output out.old) (O.output out.new) (E.output err.old) (E.output err.new) s) }
-    ensures stopped { IfErr result (StopsBefore command.Verify (found_of words.now)) }
+    ensures stopped { IfErr result (StopsBefore D.refused command.Verify (found_of words.now)) }
     ensures not_run { OnErr result ((O.output out.new ≡ O.output out.old) × (E.output err.new ≡ E.output err.old)) }
 {
     let mut plan = open_plan(files, words)?;
@@ -104,7 +104,7 @@ pub fn check<'w, D: FileSystem<'w>, O: Write, E: Write>(
     err: &mut E,
 ) -> Result<Status, Failure>
     ensures ran { IfOk result (λ s. RunsCheck D.opened (found_of words.now) (O.output out.old) (O.output out.new) (E.output err.old) (E.output err.new) s) }
-    ensures stopped { IfErr result (StopsBefore command.Check (found_of words.now)) }
+    ensures stopped { IfErr result (StopsBefore D.refused command.Check (found_of words.now)) }
     ensures not_run { OnErr result ((O.output out.new ≡ O.output out.old) × (E.output err.new ≡ E.output err.old)) }
 {
     let mut plan = open_plan(files, words)?;
@@ -120,10 +120,10 @@ pub fn explain<'w, D: FileSystem<'w>, O: Write, E: Write>(
     err: &mut E,
 ) -> Result<Status, Failure>
     ensures ran { IfOk result (λ s. RunsExplain D.opened (found_of words.now) (O.output out.old) (O.output out.new) (E.output err.old) (E.output err.new) s) }
-    ensures stopped { IfErr result (StopsBefore command.Explain (found_of words.now)) }
+    ensures stopped { IfErr result (StopsBefore D.refused command.Explain (found_of words.now)) }
     ensures not_run { OnErr result ((O.output out.new ≡ O.output out.old) × (E.output err.new ≡ E.output err.old)) }
 {
-    let values = read_values(alloc, CommandName::Explain.declared().name, words)?;
+    let values = values_of(alloc, CommandName::Explain, words)?;
     let request = values.request.unwrap();
     let contacts = values.contacts.as_slice();
     let mut plan = open_plan(files, words)?;
@@ -139,10 +139,10 @@ pub fn many<'w, D: FileSystem<'w>, O: Write, E: Write>(
     err: &mut E,
 ) -> Result<Status, Failure>
     ensures ran { IfOk result (λ s. RunsMany D.opened (found_of words.now) (O.output out.old) (O.output out.new) (E.output err.old) (E.output err.new) s) }
-    ensures stopped { IfErr result (StopsBefore command.Many (found_of words.now)) }
+    ensures stopped { IfErr result (StopsBefore D.refused command.Many (found_of words.now)) }
     ensures not_run { OnErr result ((O.output out.new ≡ O.output out.old) × (E.output err.new ≡ E.output err.old)) }
 {
-    let values = read_values(alloc, CommandName::Many.declared().name, words)?;
+    let values = values_of(alloc, CommandName::Many, words)?;
     let count = values.count.unwrap();
     let mut plan = open_plan(files, words)?;
     let mut requests = open_requests(files, words)?;
@@ -158,7 +158,7 @@ pub fn follow<'w, D: FileSystem<'w>, O: Write, E: Write>(
     err: &mut E,
 ) -> Result<Status, Failure>
     ensures ran { IfOk result (λ s. RunsFollow D.opened (found_of words.now) (O.output out.old) (O.output out.new) (E.output err.old) (E.output err.new) s) }
-    ensures stopped { IfErr result (StopsBefore command.Follow (found_of words.now)) }
+    ensures stopped { IfErr result (StopsBefore D.refused command.Follow (found_of words.now)) }
     ensures not_run { OnErr result ((O.output out.new ≡ O.output out.old) × (E.output err.new ≡ E.output err.old)) }
 {
     let mut plan = open_plan(files, words)?;

@@ -194,7 +194,7 @@ A list is a line NUMBERS FROM TO TIME, and after it, if need be, PPM, HOPS and N
     ) -> Result<Status, Failure>
         ensures ran { IfOk result (λ s. RunsCommand self D.opened D.made (found_of words.now) (O.output out.old) (O.output out.new) (E.output err.old) (E.output err.new) s) }
         ensures left { IfOk result (λ s. D.left files.new ≡ left_after (kept_path self (found_of words.now)) s (D.left files.old)) }
-        ensures stopped { IfErr result (StopsBefore self (found_of words.now)) }
+        ensures stopped { IfErr result (StopsBefore D.refused self (found_of words.now)) }
         ensures not_run { OnErr result ((O.output out.new ≡ O.output out.old) × (E.output err.new ≡ E.output err.old) × (D.left files.new ≡ D.left files.old)) }
     {
         match self {

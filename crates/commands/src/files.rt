@@ -48,7 +48,7 @@ pub fn open_plan<'w, D: FileSystem<'w>>(
     words: &ArgMatches<'w>,
 ) -> Result<D::File, Failure>
     ensures opened { IfOk result (λ file. D.opened (path_under (found_of words.now) plan_word) (D.File.input file)) }
-    ensures refused { IfErr result (λ f. f ≡ failure.CannotOpenPlan) }
+    ensures refused { IfErr result (λ f. (f ≡ failure.CannotOpenPlan) × D.refused (path_under (found_of words.now) plan_word)) }
 {
     match files.open(path_under(words, PLAN)) {
         Ok(file) => Ok(file),
@@ -66,7 +66,7 @@ pub fn open_session<'w, D: FileSystem<'w>>(
     words: &ArgMatches<'w>,
 ) -> Result<D::File, Failure>
     ensures opened { IfOk result (λ file. D.opened (path_under (found_of words.now) session_word) (D.File.input file)) }
-    ensures refused { IfErr result (λ f. f ≡ failure.CannotOpenSession) }
+    ensures refused { IfErr result (λ f. (f ≡ failure.CannotOpenSession) × D.refused (path_under (found_of words.now) session_word)) }
 {
     match files.open(path_under(words, SESSION)) {
         Ok(file) => Ok(file),
@@ -84,7 +84,7 @@ pub fn open_requests<'w, D: FileSystem<'w>>(
     words: &ArgMatches<'w>,
 ) -> Result<D::File, Failure>
     ensures opened { IfOk result (λ file. D.opened (path_under (found_of words.now) requests_word) (D.File.input file)) }
-    ensures refused { IfErr result (λ f. f ≡ failure.CannotOpenRequests) }
+    ensures refused { IfErr result (λ f. (f ≡ failure.CannotOpenRequests) × D.refused (path_under (found_of words.now) requests_word)) }
 {
     match files.open(path_under(words, REQUESTS)) {
         Ok(file) => Ok(file),
@@ -102,7 +102,7 @@ pub fn open_lists<'w, D: FileSystem<'w>>(
     words: &ArgMatches<'w>,
 ) -> Result<D::File, Failure>
     ensures opened { IfOk result (λ file. D.opened (path_under (found_of words.now) lists_word) (D.File.input file)) }
-    ensures refused { IfErr result (λ f. f ≡ failure.CannotOpenLists) }
+    ensures refused { IfErr result (λ f. (f ≡ failure.CannotOpenLists) × D.refused (path_under (found_of words.now) lists_word)) }
 {
     match files.open(path_under(words, LISTS)) {
         Ok(file) => Ok(file),
@@ -128,7 +128,7 @@ pub fn make_session<'w, D: FileSystem<'w>>(
 ) -> Result<D::File, Failure>
     ensures made { IfOk result (λ file. D.made path.now (D.File.output file)) }
     ensures left { IfOk result (λ _. D.left files.new ≡ Some path.now) }
-    ensures refused { IfErr result (λ f. f ≡ failure.CannotMakeSession) }
+    ensures refused { IfErr result (λ f. (f ≡ failure.CannotMakeSession) × D.refused path.now) }
     ensures not_made { OnErr result (D.left files.new ≡ D.left files.old) }
 {
     match files.make(path) {

@@ -4,6 +4,7 @@ ghost use Rattle.std.specs.Prelude.{map};
 ghost use Rattle.clap.specs.Simple.{subcommand_rows_of};
 ghost use Rattle.clap.specs.Values.{kind_of};
 ghost use Rattle.commands.specs.runs.Program.{EndsGiven, EndsWords, TellsRefusal};
+ghost use Rattle.commands.specs.texts.Messages.{TellsText};
 
 use crate::command::command_named;
 use crate::failure::Failure;
@@ -29,12 +30,19 @@ pub fn run_words<'w, D: FileSystem<'w>, O: Write, E: Write>(
     out: &mut O,
     err: &mut E,
 ) -> Status
-    ensures { EndsWords D.opened D.made (map (λ w. w.now) words.now) (D.left files.old) (D.left files.new) (O.output out.old) (O.output out.new) (E.output err.old) (E.output err.new) result }
+    ensures { EndsWords D.opened D.made D.refused (map (λ w. w.now) words.now) (D.left files.old) (D.left files.new) (O.output out.old) (O.output out.new) (E.output err.old) (E.output err.new) result }
 {
     match parsed(alloc, words) {
         Ok(matches) => run_command(alloc, &matches, files, out, err),
         Err(refusal) => tell_usage(alloc, &refusal, err),
     }
+}
+
+/// Writes a text for the user. A failure of `err` changes nothing else.
+fn tell_text<E: Write>(text: &str, err: &mut E)
+    ensures { TellsText (E.output err.old) text.now (E.output err.new) }
+{
+    let _ = write_text(err, text.as_bytes());
 }
 
 /// Reports why the words were refused, or writes the help that they ask for.
@@ -47,7 +55,7 @@ fn tell_usage<E: Write>(alloc: Global, refusal: &Error, err: &mut E) -> Status
     let Ok(text) = refusal.to_string(alloc) else {
         return tell(err, Failure::NoMemory);
     };
-    let _ = write_text(err, text.as_str().as_bytes());
+    tell_text(text.as_str(), err);
     Status::Usage
 }
 
@@ -59,7 +67,7 @@ fn run_command<'w, D: FileSystem<'w>, O: Write, E: Write>(
     out: &mut O,
     err: &mut E,
 ) -> Status
-    ensures { EndsGiven D.opened D.made (subcommand_rows_of matches.now) (D.left files.old) (D.left files.new) (O.output out.old) (O.output out.new) (E.output err.old) (E.output err.new) result }
+    ensures { EndsGiven D.opened D.made D.refused (subcommand_rows_of matches.now) (D.left files.old) (D.left files.new) (O.output out.old) (O.output out.new) (E.output err.old) (E.output err.new) result }
 {
     let Some((name, words)) = matches.subcommand() else {
         return Status::Usage;

@@ -21,4 +21,4 @@ pub use requests::{first_line, read_requests};
 pub use requests_fault::{RequestKind, RequestsFault};
 pub use value_fault::ValueFault;
 pub use value_name::ValueName;
-pub use values::{Values, read_values};
+pub use values::{Values, read_values, values_of};

@@ -1,5 +1,5 @@
 -- What a call of a command leaves: over the files that its words name, the run of their values.
-use Rattle.std.specs.Prelude.{◌≡◌, ℕ, ◌⊎◌, Bool, false, IsTrue, List, is_some, Result, Ok, Err, if◌then◌else◌}
+use Rattle.std.specs.Prelude.{◌≡◌, ℕ, ◌⊎◌, Bool, IsTrue, List, is_some, Result, Ok, Err, if◌then◌else◌}
 use Rattle.std.specs.Option.{option_map_or}
 use Rattle.std.specs.declared.option.Option.{Option}
 use Rattle.std.specs.declared.option.Option.TheVariants.{Some, None}
@@ -32,8 +32,8 @@ use Rattle.commands.specs.runs.Runs.{TellsEnd, status_at, status_of_answer}
 use Rattle.commands.specs.runs.Many.{ReadsRequestsOver, WritesAnswers}
 use Rattle.commands.specs.runs.SessionRuns.{ReadsOldSession, VerifiesOldSession, WritesAnswer, WritesFirstPage, WritesNextPage, place_of}
 
--- In these definitions, `opened path x` says that a file opened at this path reads as x, and `made path x` that a file
--- made there takes as x.
+-- In these definitions, `opened path x` says that a file opened at this path reads as x, `made path x` that a file made
+-- there takes as x, and `refused path` that none can be opened, or made, there.
 
 -- where the words keep the session after a page, if they do
 abbrev pub kept_path : CommandName → Found → Option (List ℕ)
@@ -189,22 +189,26 @@ left_if_done _ left = None
 
 -- what is left after a command: nothing has changed if it keeps no session
 abbrev pub left_after : Option (List ℕ) → Status → Option (List ℕ) → Option (List ℕ)
-left_after kept ended left = option_map_or (λ path. left_if_done ended (Some path)) left kept
+left_after kept ended left = option_map_or (λ path. left_if_done ended (Some path)) kept left
 
--- a file of this command that can't be opened or made has this failure
-abbrev pub is_failure_of_file : CommandName → Failure → Bool
-is_failure_of_file name failure.CannotOpenPlan = true
-is_failure_of_file name failure.CannotOpenSession = has_session name
-is_failure_of_file name failure.CannotOpenRequests = has_requests name
-is_failure_of_file name failure.CannotOpenLists = has_lists name
-is_failure_of_file name failure.CannotMakeSession = keeps_session name
-is_failure_of_file name _ = false
+-- a file of this command that can't be opened or made at its path has this failure
+abbrev pub FailsAtFile : (List ℕ → Type 0) → CommandName → Found → Failure → Type 0
+FailsAtFile refused name found failure.CannotOpenPlan = refused (path_under found plan_word)
+FailsAtFile refused name found failure.CannotOpenSession = IsTrue (has_session name) × refused (path_under found session_word)
+FailsAtFile refused name found failure.CannotOpenRequests = IsTrue (has_requests name) × refused (path_under found requests_word)
+FailsAtFile refused name found failure.CannotOpenLists = IsTrue (has_lists name) × refused (path_under found lists_word)
+FailsAtFile refused name found failure.CannotMakeSession = (path : List ℕ) × (kept_path name found ≡ Some path) × refused path
+FailsAtFile refused name found _ = ⊥
 
 -- the values of a command's words are refused
 abbrev pub RefusesValues : CommandName → Found → Failure → Type 0
 RefusesValues name found f = (fault : ValueFault) × (values_of name found ≡ Err fault) × (f ≡ failure_of_value fault)
 
+-- they aren't, and a file is
+abbrev pub RefusesFile : (List ℕ → Type 0) → CommandName → Found → Failure → Type 0
+RefusesFile refused name found f = (values : ValuesRead) × (values_of name found ≡ Ok values) × FailsAtFile refused name found f
+
 -- why a command ends before its run: its values are refused, memory for its contacts is, or one of its files is
-abbrev pub StopsBefore : CommandName → Found → Failure → Type 0
-StopsBefore name found f =
-    RefusesValues name found f ⊎ (((f ≡ failure.NoMemory) × IsTrue (has_contacts name)) ⊎ IsTrue (is_failure_of_file name f))
+abbrev pub StopsBefore : (List ℕ → Type 0) → CommandName → Found → Failure → Type 0
+StopsBefore refused name found f =
+    RefusesValues name found f ⊎ (((f ≡ failure.NoMemory) × IsTrue (has_contacts name)) ⊎ RefusesFile refused name found f)

@@ -1,8 +1,8 @@
 -- What the program leaves, from the words after its name.
-use Rattle.std.specs.Prelude.{◌≡◌, ◌≢◌, ◌⊎◌, List, ℕ, false, option_and_then, option_map}
+use Rattle.std.specs.Prelude.{◌≡◌, ◌≢◌, ◌⊎◌, List, [], ℕ, option_and_then, option_map}
 use Rattle.std.specs.declared.option.Option.{Option}
 use Rattle.std.specs.declared.option.Option.TheVariants.{Some, None}
-use Rattle.clap.specs.Takes.{takes}
+use Rattle.clap.specs.Faults.{fault_of}
 use Rattle.clap.specs.Walk.{Row, rows_of}
 use Rattle.clap.specs.declared.error.kind.ErrorKind.{ErrorKind}
 use Rattle.clap.specs.declared.error.kind.ErrorKind.TheVariants as kind
@@ -31,9 +31,9 @@ abbrev pub rows_in : Given → Option (List Row)
 rows_in given = option_map (λ g. g.1) given
 
 -- a command ended before its run, with the message and the status of why
-pub record EndsBefore (name : CommandName) (found : Found) (left left₁ : Option (List ℕ)) (out out₁ err err₁ : Output) (ended : Status) : Type 0 where
+pub record EndsBefore (refused : List ℕ → Type 0) (name : CommandName) (found : Found) (left left₁ : Option (List ℕ)) (out out₁ err err₁ : Output) (ended : Status) : Type 0 where
   pub why : Failure
-  pub stops : StopsBefore name found why
+  pub stops : StopsBefore refused name found why
   pub writes_nothing : out₁ ≡ out
   pub makes_nothing : left₁ ≡ left
   pub tells : TellsText err (message_text why) err₁
@@ -45,17 +45,17 @@ pub record EndsRun (opened : List ℕ → Input → Type 0) (made : List ℕ →
   pub leaves : left₁ ≡ left_after (kept_path name found) ended left
 
 -- either of them
-abbrev pub EndsCommand : (List ℕ → Input → Type 0) → (List ℕ → Output → Type 0) → CommandName → Found → Option (List ℕ) → Option (List ℕ) → Output → Output → Output → Output → Status → Type 0
-EndsCommand opened made name found left left₁ out out₁ err err₁ ended =
-    EndsRun opened made name found left left₁ out out₁ err err₁ ended ⊎ EndsBefore name found left left₁ out out₁ err err₁ ended
+abbrev pub EndsCommand : (List ℕ → Input → Type 0) → (List ℕ → Output → Type 0) → (List ℕ → Type 0) → CommandName → Found → Option (List ℕ) → Option (List ℕ) → Output → Output → Output → Output → Status → Type 0
+EndsCommand opened made refused name found left left₁ out out₁ err err₁ ended =
+    EndsRun opened made name found left left₁ out out₁ err err₁ ended ⊎ EndsBefore refused name found left left₁ out out₁ err err₁ ended
 
 -- the command that was named ended, over what was given to it
-pub record EndsNamed (opened : List ℕ → Input → Type 0) (made : List ℕ → Output → Type 0) (given : Given) (left left₁ : Option (List ℕ)) (out out₁ err err₁ : Output) (ended : Status) : Type 0 where
+pub record EndsNamed (opened : List ℕ → Input → Type 0) (made : List ℕ → Output → Type 0) (refused : List ℕ → Type 0) (given : Given) (left left₁ : Option (List ℕ)) (out out₁ err err₁ : Output) (ended : Status) : Type 0 where
   pub name : CommandName
   pub found : Found
   pub named : named_in given ≡ Some name
   pub rows : rows_in given ≡ Some (rows_of found)
-  pub does : EndsCommand opened made name found left left₁ out out₁ err err₁ ended
+  pub does : EndsCommand opened made refused name found left left₁ out out₁ err err₁ ended
 
 -- no command was named: nothing is written
 pub record NamesNone (given : Given) (left left₁ : Option (List ℕ)) (out out₁ err err₁ : Output) (ended : Status) : Type 0 where
@@ -66,9 +66,9 @@ pub record NamesNone (given : Given) (left left₁ : Option (List ℕ)) (out out
   pub ends : ended ≡ status.Usage
 
 -- what the program leaves over what was given
-abbrev pub EndsGiven : (List ℕ → Input → Type 0) → (List ℕ → Output → Type 0) → Given → Option (List ℕ) → Option (List ℕ) → Output → Output → Output → Output → Status → Type 0
-EndsGiven opened made given left left₁ out out₁ err err₁ ended =
-    EndsNamed opened made given left left₁ out out₁ err err₁ ended ⊎ NamesNone given left left₁ out out₁ err err₁ ended
+abbrev pub EndsGiven : (List ℕ → Input → Type 0) → (List ℕ → Output → Type 0) → (List ℕ → Type 0) → Given → Option (List ℕ) → Option (List ℕ) → Output → Output → Output → Output → Status → Type 0
+EndsGiven opened made refused given left left₁ out out₁ err err₁ ended =
+    EndsNamed opened made refused given left left₁ out out₁ err err₁ ended ⊎ NamesNone given left left₁ out out₁ err err₁ ended
 
 -- a text is told and the status is Usage, or memory was refused
 abbrev pub TellsRefusal : ErrorKind → Output → Output → Status → Type 0
@@ -76,10 +76,10 @@ TellsRefusal why err err₁ ended =
     ((text : List ℕ) × (why ≢ kind.OutOfMemory) × TellsText err text err₁ × (ended ≡ status.Usage))
     ⊎ (TellsText err (message_text failure.NoMemory) err₁ × (ended ≡ status.Memory))
 
--- the words were refused or ask for help, and no command has them; or memory for them was refused
+-- the words have a fault or ask for help, and clap's own account names the kinds; or memory for them was refused
 abbrev pub RefusesWords : List (List ℕ) → Output → Output → Status → Type 0
 RefusesWords words err err₁ ended =
-    ((text : List ℕ) × (takes program_app words ≡ false) × TellsText err text err₁ × (ended ≡ status.Usage))
+    ((text : List ℕ) × (fault_of program_app words ≢ []) × TellsText err text err₁ × (ended ≡ status.Usage))
     ⊎ (TellsText err (message_text failure.NoMemory) err₁ × (ended ≡ status.Memory))
 
 -- no command was begun
@@ -88,7 +88,12 @@ pub record EndsUnread (words : List (List ℕ)) (left left₁ : Option (List ℕ
   pub writes_nothing : out₁ ≡ out
   pub makes_nothing : left₁ ≡ left
 
+-- the words have no fault and don't ask for help, and the command that they name ended
+pub record EndsRead (opened : List ℕ → Input → Type 0) (made : List ℕ → Output → Type 0) (refused : List ℕ → Type 0) (words : List (List ℕ)) (left left₁ : Option (List ℕ)) (out out₁ err err₁ : Output) (ended : Status) : Type 0 where
+  pub good : fault_of program_app words ≡ []
+  pub does : EndsGiven opened made refused (given_by words) left left₁ out out₁ err err₁ ended
+
 -- what the program leaves over these words
-abbrev pub EndsWords : (List ℕ → Input → Type 0) → (List ℕ → Output → Type 0) → List (List ℕ) → Option (List ℕ) → Option (List ℕ) → Output → Output → Output → Output → Status → Type 0
-EndsWords opened made words left left₁ out out₁ err err₁ ended =
-    EndsUnread words left left₁ out out₁ err err₁ ended ⊎ EndsGiven opened made (given_by words) left left₁ out out₁ err err₁ ended
+abbrev pub EndsWords : (List ℕ → Input → Type 0) → (List ℕ → Output → Type 0) → (List ℕ → Type 0) → List (List ℕ) → Option (List ℕ) → Option (List ℕ) → Output → Output → Output → Output → Status → Type 0
+EndsWords opened made refused words left left₁ out out₁ err err₁ ended =
+    EndsUnread words left left₁ out out₁ err err₁ ended ⊎ EndsRead opened made refused words left left₁ out out₁ err err₁ ended

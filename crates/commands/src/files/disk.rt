@@ -1,6 +1,6 @@
 //! The files of the machine that runs the program.
 
-ghost use Rattle.std.specs.Prelude.{◌≡◌, None, Some, option_map};
+ghost use Rattle.std.specs.Prelude.{◌≡◌, ⊤, None, Some, option_map};
 
 use crate::files::system::FileSystem;
 use sabr_model::{Device, Failed, Read, Write};
@@ -60,6 +60,8 @@ impl<'r, 'w, R: Files> FileSystem<'w> for Disk<'r, 'w, R> {
     ghost opened = { λ path seen. (file : FileAt R.File) × (file.path.now ≡ path) × (⟦<FileAt<'w, R::File> as Read>⟧.input file ≡ seen) };
 
     ghost made = { λ path seen. (file : FileAt R.File) × (file.path.now ≡ path) × (⟦<FileAt<'w, R::File> as Write>⟧.output file ≡ seen) };
+
+    ghost refused = { λ _. ⊤ };
 
     ghost left = { λ disk. option_map (λ path. path.now) disk.made };
 

@@ -26,8 +26,8 @@ use std::alloc::Allocator;
 /// A failure's message goes to `err`; a failure of `err` changes nothing else. The status is [`Status::Done`] whether
 /// or not the lists are routes; [`Status::Plan`] if the plan is refused, and then `lists` isn't read;
 /// [`Status::Session`] if a line is bad; [`Status::Io`] if a reader or `out` failed; and [`Status::Memory`] if a growth
-/// was refused. If it was refused at a list, `out` holds the answers to those before it, whole and flushed, and no others.
-/// If `out` failed, it holds a beginning of the answers.
+/// was refused. If it was refused at a list, `out` holds the answers to those before it, whole and flushed, and no
+/// others. If `out` failed, it holds a beginning of the answers.
 pub fn run_follow<P: Read, Q: Read, O: Write, E: Write, A: Allocator + Copy>(
     alloc: A,
     plan: &mut P,

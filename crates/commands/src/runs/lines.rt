@@ -73,8 +73,8 @@ fn send_answers<O: Write, A: Allocator + Copy>(
 /// # Errors
 ///
 /// [`Failure::NoMemory`] if a growth was refused. If it was refused at a line, the answers to those before it were
-/// written and flushed. [`Failure::Write`] if the writer failed. Then a beginning of the answers was written. Else the plan was
-/// refused, and then no line was read, or the lines were, and nothing was written.
+/// written and flushed. [`Failure::Write`] if the writer failed. Then a beginning of the answers was written. Else the
+/// plan was refused, and then no line was read, or the lines were, and nothing was written.
 pub fn write_answers<P: Read, Q: Read, O: Write, A: Allocator + Copy>(
     alloc: A,
     plan: &mut P,

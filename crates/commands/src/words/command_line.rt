@@ -1,11 +1,10 @@
 //! The words of the command line, as one level of subcommands with texts as values.
 
-ghost use Rattle.std.specs.Prelude.{◌≡◌, [], ◌∷◌, ◌++◌, IfErr, IfOk, false, map, true};
+ghost use Rattle.std.specs.Prelude.{◌≡◌, [], ◌∷◌, ◌++◌, IfOk, false, map};
 ghost use Rattle.clap.specs.Simple.{app_of, subcommand_rows_of};
 ghost use Rattle.clap.specs.Walk.{rule_of};
-ghost use Rattle.clap.specs.Takes.{takes};
-ghost use Rattle.clap.specs.Values.{kind_of};
-ghost use Rattle.clap.specs.declared.error.kind.ErrorKind.TheVariants as kind;
+ghost use Rattle.clap.specs.Faults.{fault_of};
+ghost use Rattle.clap.specs.Kinds.{FailsBy};
 ghost use Rattle.commands.specs.declared.words.value_name.ValueName.TheVariants as name;
 ghost use Rattle.commands.specs.words.CommandLine.{AddsCommand, AddsWords, IsCommand, IsProgram, IsWord, end_rules, given_by, limit_rules, option_rule, program_app, required_rule, rules_for, rules_where, shape_for};
 ghost use Rattle.commands.specs.words.Paths.{lists_word, plan_word, requests_word, session_out_word, session_word};
@@ -254,7 +253,7 @@ or a line of requests or lists is refused, 5 a file can't be opened, read, made 
 /// The error of clap, with the reason as its text; of the kind `OutOfMemory` if memory was refused.
 pub fn parsed<'a>(alloc: Global, words: &'a [&'a str]) -> Result<ArgMatches<'a>, Error>
     ensures given { IfOk result (λ m. subcommand_rows_of m ≡ given_by (map (λ w. w.now) words.entry.now)) }
-    ensures refused { IfErr result (λ e. takes program_app (map (λ w. w.now) words.entry.now) ≡ true → kind_of e ≡ kind.OutOfMemory) }
+    ensures fault { FailsBy (fault_of program_app (map (λ w. w.now) words.entry.now)) result }
 {
     program(alloc)?.try_get_matches_from(words)
 }

@@ -102,7 +102,7 @@ fn request_where_asked(words: &Option<RequestValues>) -> Result<Option<Request>,
 
 /// Reads the values of a command, as [`read_values`].
 #[tactic(auto, unfolding(crate::specs::words::Values::values_of))]
-fn values_of<A: Allocator + Copy>(
+pub fn values_of<A: Allocator + Copy>(
     alloc: A,
     command: CommandName,
     matches: &ArgMatches<'_>,

@@ -1,0 +1,125 @@
+-- Building the command line: words that are added to a command, and commands to the program.
+use Rattle.std.proofs.Common.{◌≡◌, ◌≢◌, Bool, true, false, List, [], ◌∷◌, ◌++◌, ◌||◌, refl, sym, ap, ap₂, subst, subst₂, ◌∙◌, append-nil, append_assoc, inl, inr, Result, Ok, Err, IfOk}
+use Rattle.clap.specs.Words.{AddsArg, AddsSubcommand, App, HasKind, IsAmong, Kinds, Rule, Shape, app_of, is_simple, is_simple_and_free, kind_of, rule_of, shape_of, with_rule, with_subcommand}
+use Rattle.clap.specs.declared.builder.arg.Arg.{Arg}
+use Rattle.clap.specs.declared.builder.command.Command.{Command}
+use Rattle.clap.specs.declared.builder.command.Command.TheViews.{out-Command}
+use Rattle.clap.specs.declared.error.Error.{Error}
+use Rattle.clap.specs.declared.error.kind.ErrorKind.{ErrorKind}
+use Rattle.clap.specs.declared.error.kind.ErrorKind.TheVariants as kind
+use Rattle.clap.proofs.OnLiterals.{clap_on_literals}
+use Rattle.commands.specs.words.CommandLine.{AddsCommand, AddsWords, IsCommand, IsProgram, IsWord, program_app, rules_where}
+
+or_none : (b : Bool) → (b || false) ≡ b
+or_none true = refl
+or_none false = refl
+
+-- an argument of a word is added
+pub add_word : (old new : Command) (rule : Rule) (a : Arg) → AddsArg old a new → IsWord rule a → AddsWords old (rule ∷ []) new
+add_word old new rule a added word =
+    let is : app_of new ≡ with_rule (app_of old) rule = added.shape word.local ∙ ap (with_rule (app_of old)) word.reads in
+    let same : (out-Command new).has_globals ≡ (out-Command old).has_globals = added.globals ∙ ap (λ b. (out-Command old).has_globals || b) word.local ∙ or_none _ in
+    record { top = ap (λ (x : App). x.top) is; subs = ap (λ (x : App). x.subs) is; local = same }
+
+-- nothing is added
+pub add_none : (c : Command) → AddsWords c [] c
+add_none c = record {
+  top = ap (λ rules. record (app_of c).top { rules = rules }) (sym (append-nil (app_of c).top.rules));
+  subs = refl;
+  local = refl;
+}
+
+-- some words are added, and then others
+pub add_both : (a b c : Command) (xs ys : List Rule) → AddsWords a xs b → AddsWords b ys c → AddsWords a (xs ++ ys) c
+add_both a b c xs ys first second =
+    let top : (app_of c).top ≡ record (app_of a).top { rules = ((app_of a).top.rules ++ xs) ++ ys } =
+        second.top ∙ ap (λ (s : Shape). record s { rules = s.rules ++ ys }) first.top in
+    record {
+      top = top ∙ ap (λ rules. record (app_of a).top { rules = rules }) (append_assoc (app_of a).top.rules xs ys);
+      subs = second.subs ∙ first.subs;
+      local = second.local ∙ first.local;
+    }
+
+-- a command without words, and then with them
+pub is_command : (start c : Command) (shape : Shape) (rules : List Rule) → app_of start ≡ record { top = shape; subs = [] } → (out-Command start).has_globals ≡ false
+    → AddsWords start rules c → IsCommand (record shape { rules = shape.rules ++ rules }) c
+is_command start c shape rules is local added =
+    let top : (app_of c).top ≡ record shape { rules = shape.rules ++ rules } =
+        added.top ∙ ap (λ (x : App). record x.top { rules = x.top.rules ++ rules }) is in
+    let subs : (app_of c).subs ≡ [] = added.subs ∙ ap (λ (x : App). x.subs) is in
+    record { reads = ap₂ (λ (t : Shape) (s : List Shape). record { top = t; subs = s }) top subs; local = added.local ∙ local }
+
+-- a command is added to the program
+pub add_command : (old sub new : Command) (shape : Shape) → AddsSubcommand old sub new → IsCommand shape sub → AddsCommand old shape new
+add_command old sub new shape added command =
+    let is : app_of new ≡ with_subcommand (app_of old) shape = added.shape command.local ∙ ap (λ (x : App). with_subcommand (app_of old) x.top) command.reads in
+    record { top = ap (λ (x : App). x.top) is; subs = ap (λ (x : App). x.subs) is }
+
+-- words that a command has, if it has them
+pub asked_words : (a b : Command) (asked has : Bool) (rules : List Rule) → asked ≡ has → AddsWords a (rules_where asked rules) b → AddsWords a (rules_where has rules) b
+asked_words a b asked has rules is added = subst (λ (h : Bool). AddsWords a (rules_where h rules) b) is added
+
+pub asked_word : (a b : Command) (asked has : Bool) (rule : Rule) (w : Arg) → asked ≡ has → IsWord rule w → AddsWords a (rules_where asked (rule_of w ∷ [])) b → AddsWords a (rules_where has (rule ∷ [])) b
+asked_word a b asked has rule w is word added = subst₂ (λ (h : Bool) (r : Rule). AddsWords a (rules_where h (r ∷ [])) b) is word.reads added
+
+-- commands were added in turn
+pub record AddsCommands (old : Command) (shapes : List Shape) (new : Command) : Type 0 where
+  pub top : (app_of new).top ≡ record (app_of old).top { is_leaf = false }
+  pub subs : (app_of new).subs ≡ (app_of old).subs ++ shapes
+
+pub first_command : (a b : Command) (shape : Shape) → AddsCommand a shape b → AddsCommands a (shape ∷ []) b
+first_command a b shape added = record { top = added.top; subs = added.subs }
+
+pub next_command : (a b c : Command) (shapes : List Shape) (shape : Shape) → AddsCommands a shapes b → AddsCommand b shape c → AddsCommands a (shapes ++ shape ∷ []) c
+next_command a b c shapes shape before added = record {
+  top = added.top ∙ ap (λ (s : Shape). record s { is_leaf = false }) before.top;
+  subs = added.subs ∙ ap (λ (s : List Shape). s ++ shape ∷ []) before.subs ∙ append_assoc (app_of a).subs shapes (shape ∷ []);
+}
+
+module _ {E : Type 0} where
+  pub word_in : (r : Result Command E) (old : Command) (rule : Rule) (a : Arg) → IsWord rule a → IfOk r (AddsArg old a) → IfOk r (AddsWords old (rule ∷ []))
+  word_in (Ok c) old rule a word added = add_word old c rule a added word
+  word_in (Err e) old rule a word added = tt
+
+  pub asked_word_in : (r : Result Command E) (a : Command) (asked has : Bool) (rule : Rule) (w : Arg) → asked ≡ has → IsWord rule w
+      → IfOk r (AddsWords a (rules_where asked (rule_of w ∷ []))) → IfOk r (AddsWords a (rules_where has (rule ∷ [])))
+  asked_word_in (Ok c) a asked has rule w is word added = asked_word a c asked has rule w is word added
+  asked_word_in (Err e) a asked has rule w is word added = tt
+
+  pub words_in : (r : Result Command E) (a b : Command) (xs ys : List Rule) → AddsWords a xs b → IfOk r (AddsWords b ys) → IfOk r (AddsWords a (xs ++ ys))
+  words_in (Ok c) a b xs ys first second = add_both a b c xs ys first second
+  words_in (Err e) a b xs ys first second = tt
+
+  pub command_in : (r : Result Command E) (start : Command) (shape : Shape) (rules : List Rule) → app_of start ≡ record { top = shape; subs = [] } → (out-Command start).has_globals ≡ false
+      → IfOk r (AddsWords start rules) → IfOk r (IsCommand (record shape { rules = shape.rules ++ rules }))
+  command_in (Ok c) start shape rules is local added = is_command start c shape rules is local added
+  command_in (Err e) start shape rules is local added = tt
+
+  pub subcommand_in : (r : Result Command E) (old sub : Command) (shape : Shape) → IsCommand shape sub → IfOk r (AddsSubcommand old sub) → IfOk r (AddsCommand old shape)
+  subcommand_in (Ok c) old sub shape command added = add_command old sub c shape added command
+  subcommand_in (Err e) old sub shape command added = tt
+
+  pub program_in : (r : Result Command E) (bare b : Command) (shapes : List Shape) (shape : Shape) → shapes ++ shape ∷ [] ≡ program_app.subs
+      → AddsCommands bare shapes b → IfOk r (AddsCommand b shape) → IfOk r (IsProgram bare)
+  program_in (Ok c) bare b shapes shape are before added =
+      let all = next_command bare b c shapes shape before added in
+      ap₂ (λ (t : Shape) (s : List Shape). record { top = t; subs = s }) all.top (all.subs ∙ ap (λ (s : List Shape). (app_of bare).subs ++ s) are)
+  program_in (Err e) bare b shapes shape are before added = tt
+
+-- a list that has a kind isn't empty
+among_some : (k : ErrorKind) (kinds : Kinds) → IsAmong k kinds → kinds ≢ []
+among_some k [] h = absurd h
+among_some k (x ∷ xs) h = λ e. absurd cc
+
+-- an error that isn't refused memory has one of the kinds
+pub has_fault : (e : Error) (kinds : Kinds) → HasKind kinds e → kind_of e ≢ kind.OutOfMemory → kinds ≢ []
+has_fault e kinds (inl memory) other = absurd (other memory)
+has_fault e kinds (inr among) other = among_some (kind_of e) kinds among
+
+pub is_simple_program : is_simple program_app ≡ true
+unfolding clap_on_literals
+is_simple_program = refl
+
+pub is_free_program : is_simple_and_free program_app ≡ true
+unfolding clap_on_literals
+is_free_program = refl

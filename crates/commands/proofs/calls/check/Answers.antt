@@ -1,0 +1,12 @@
+use Rattle.std.proofs.lemmas.Result.{err_from_is_err_and}
+use Rattle.clap.specs.Matches.{found_of}
+use Rattle.commands.specs.declared.command.CommandName.TheVariants as command
+use Rattle.commands.proofs.RunLemmas.CallLemmas.{check_values, fails_at_plan, no_values, stops_at_file}
+use Rattle.commands.proofs.calls.check.Goals as goal
+
+pub returns-in_err-plan-clause-stopped : goal.returns-in_err-plan-clause-stopped
+returns-in_err-plan-clause-stopped g c =
+    let (f, is, same) = err_from_is_err_and c.from_residual.result c.from_residual.ensures.1 in
+    let refused = g.D.FileSystem.refused in
+    let found = found_of c.args.words.now in
+    rw is (stops_at_file refused command.Check found no_values f (check_values found) (fails_at_plan refused command.Check found f (rw same c.in_err-plan.ensures.refused)))
