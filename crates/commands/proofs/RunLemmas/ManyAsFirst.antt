@@ -1,5 +1,5 @@
 -- One run over many lines writes what runs of their own for each of them report.
-use Rattle.std.proofs.Common.{◌≡◌, ℕ, Bool, true, List, [], ◌∷◌, ◌++◌, Option, Some, None, Result, Ok, Err, refl, sym, ap, subst, ◌∙◌, inl, inr}
+use Rattle.std.proofs.Common.{◌≡◌, ℕ, Bool, true, List, [], ◌∷◌, ◌++◌, Result, Ok, Err, refl, sym, ap, subst, ◌∙◌, inl, inr}
 use Rattle.sabr_model.specs.Devices.{Input, Output, IsTextOf, TakesAll}
 use Rattle.sabr_model.proofs.ListLemmas.ReadTexts.{begins_with}
 use Rattle.sabr_model.specs.plan.Plan.{ContactPlan, TabledPlan}
@@ -19,7 +19,7 @@ use Rattle.commands.specs.words.Requests.{ReadsRequests, RequestLine, requests_o
 use Rattle.commands.specs.runs.Runs.{first_report, status_at}
 use Rattle.commands.specs.runs.SessionRuns.{WritesFirstPage, WritesPage}
 use Rattle.commands.specs.runs.Many.{ReadsRequestsOver, WritesAll, WritesAnswers, answers_text, body_text, form_of, heading}
-use Rattle.commands.specs.runs.ManyAsFirst.{IsAlone, IsFirstReport, IsExplained, IsReport, AreReports, IsMany, AnswersAsAlone, ManyAnswersAsFirst, FollowAnswersAsExplain, reports_of}
+use Rattle.commands.specs.runs.ManyAsFirst.{IsFirstReport, IsExplained, IsReport, AreReports, IsMany, AnswersAsAlone, ManyAnswersAsFirst, FollowAnswersAsExplain, reports_of}
 use Rattle.commands.proofs.RunLemmas.RunsInTurn.{never_done, plan_read, taken}
 
 -- of a reader that has the text of lines, these are read

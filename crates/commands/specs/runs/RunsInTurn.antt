@@ -1,5 +1,5 @@
 -- Runs of the program in turn: a first run, and then next runs, each over the session text that the one before wrote.
-use Rattle.std.specs.Prelude.{◌≡◌, ℕ, ◌+◌, Bool, true, List, [], ◌∷◌, ◌++◌, Result, Ok}
+use Rattle.std.specs.Prelude.{◌≡◌, ℕ, ◌+◌, Bool, true, List, [], ◌∷◌, Result, Ok}
 use Rattle.sabr_model.specs.Devices.{Input, Output, IsTextOf, TakesAll}
 use Rattle.sabr_model.specs.plan.Plan.{ContactPlan, TabledPlan}
 use Rattle.sabr_model.specs.routes.Arrival.{RouteRequest}

@@ -1,4 +1,4 @@
-use Rattle.std.proofs.Common.{◌≡◌, ◌+◌, [], ◌∷◌, inl, inr, length, refl, arith}
+use Rattle.std.proofs.Common.{◌+◌, [], ◌∷◌, inl, inr, refl, arith}
 use Rattle.sabr_search.specs.layers.Made.{AreMade}
 use Rattle.sabr_search.proofs.ForwardLemmas.MadeLayers.{layers_first, best_within, least_within, made_lists, made_sources, made_next, made_all, spent_more, spent_fewer, none_more}
 use Rattle.sabr_search.proofs.forward.layers.Layers.make.Given.{Over}

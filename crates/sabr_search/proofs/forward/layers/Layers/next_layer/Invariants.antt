@@ -1,4 +1,4 @@
-use Rattle.std.proofs.Common.{◌≡◌, ◌+◌, ◌≤◌}
+use Rattle.std.proofs.Common.{◌+◌, ◌≤◌}
 use Rattle.sabr_search.specs.questions.Steps.{sent_by_all}
 use Rattle.sabr_search.specs.layers.Lists.{IsLowered, GivenFrom, IsKnownFrom, nodes_between}
 use Rattle.sabr_search.proofs.forward.layers.Layers.next_layer.Given as goal

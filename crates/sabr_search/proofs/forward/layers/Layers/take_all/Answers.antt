@@ -1,4 +1,4 @@
-use Rattle.std.proofs.Common.{ℕ, inl, inr, ◌∙◌, arith}
+use Rattle.std.proofs.Common.{ℕ, inl, inr, arith}
 use Rattle.std.proofs.lemmas.Option.{slice_get_within}
 use Rattle.sabr_search.specs.questions.Task.{Takes}
 use Rattle.sabr_search.proofs.ForwardLemmas.Forward.{lowered_more, known_lower, last_or_before}
