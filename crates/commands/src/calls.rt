@@ -41,11 +41,29 @@ pub fn first<'w, D: FileSystem<'w>, O: Write, E: Write>(
     let mut plan = open_plan(files, words)?;
     let Some(path) = session_out(words) else {
         let mut nowhere = Device::new(io::sink());
-        let status = run_first(alloc, &mut plan, request, count, out, false, &mut nowhere, err);
+        let status = run_first(
+            alloc,
+            &mut plan,
+            request,
+            count,
+            out,
+            false,
+            &mut nowhere,
+            err,
+        );
         return Ok(status);
     };
     let mut session = make_session(files, path)?;
-    let status = run_first(alloc, &mut plan, request, count, out, true, &mut session, err);
+    let status = run_first(
+        alloc,
+        &mut plan,
+        request,
+        count,
+        out,
+        true,
+        &mut session,
+        err,
+    );
     remove_unless_done(files, status);
     Ok(status)
 }
@@ -69,11 +87,29 @@ pub fn next<'w, D: FileSystem<'w>, O: Write, E: Write>(
     let mut old = open_session(files, words)?;
     let Some(path) = session_out(words) else {
         let mut nowhere = Device::new(io::sink());
-        let status = run_next(alloc, &mut plan, &mut old, count, out, false, &mut nowhere, err);
+        let status = run_next(
+            alloc,
+            &mut plan,
+            &mut old,
+            count,
+            out,
+            false,
+            &mut nowhere,
+            err,
+        );
         return Ok(status);
     };
     let mut session = make_session(files, path)?;
-    let status = run_next(alloc, &mut plan, &mut old, count, out, true, &mut session, err);
+    let status = run_next(
+        alloc,
+        &mut plan,
+        &mut old,
+        count,
+        out,
+        true,
+        &mut session,
+        err,
+    );
     remove_unless_done(files, status);
     Ok(status)
 }

@@ -12,7 +12,6 @@ ghost use Rattle.commands.specs.words.Paths.{lists_word, path_under, plan_word, 
 use crate::failure::Failure;
 use crate::status::Status;
 use clap::ArgMatches;
-
 pub use disk::Disk;
 pub use system::FileSystem;
 
@@ -122,10 +121,7 @@ pub fn session_out<'w>(words: &ArgMatches<'w>) -> Option<&'w str>
 /// # Errors
 ///
 /// [`Failure::CannotMakeSession`] if it can't be made.
-pub fn make_session<'w, D: FileSystem<'w>>(
-    files: &mut D,
-    path: &'w str,
-) -> Result<D::File, Failure>
+pub fn make_session<'w, D: FileSystem<'w>>(files: &mut D, path: &'w str) -> Result<D::File, Failure>
     ensures made { IfOk result (λ file. D.made path.now (D.File.output file)) }
     ensures left { IfOk result (λ _. D.left files.new ≡ Some path.now) }
     ensures refused { IfErr result (λ f. (f ≡ failure.CannotMakeSession) × D.refused path.now) }

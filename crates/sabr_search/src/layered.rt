@@ -152,12 +152,7 @@ impl<A: Allocator + Copy> BestOf<A> for Layered<A> {
         let Ok(index) = Index::new(self.alloc, plan) else {
             return Err(NoMemory);
         };
-        self.find(
-            &index,
-            request,
-            part.prefix,
-            Excluded::of(part.excluded),
-        )
+        self.find(&index, request, part.prefix, Excluded::of(part.excluded))
     }
 
     fn best_beside(

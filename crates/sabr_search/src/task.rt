@@ -10,8 +10,8 @@ ghost use Rattle.sabr_search.specs.questions.FirstSteps.{tabled_of};
 ghost use Rattle.sabr_search.specs.answers.KeptAnswers.{AreListed, Arrives};
 ghost use Rattle.sabr_search.specs.questions.Linked.{AreLinksAt, AreSendersAt};
 
-use crate::course::{Course, Stop};
 use crate::course::shut::Shut;
+use crate::course::{Course, Stop};
 use crate::links::finger::{Excluded, Finger};
 use crate::links::looks::Looks;
 use crate::visit::Visit;

@@ -202,11 +202,14 @@ pub all_flushed : (p : ContactPlan) (xs : List RequestLine) (kind : AnswerKind) 
     → has_broken answered ≡ false → LeavesAnswers p xs kind answered a b → TakesNone b c → c.failures ≡ b.failures → IsTrue c.flushed → WritesAll p xs kind answered a c
 all_flushed p xs kind (Ok _) a b c e left kept fails mark = ((Takes-kept a b c _ left.0 kept, fails ∙ left.1), mark)
 all_flushed p xs kind (Err failure.Write) a b c e left kept fails mark = absurd cc
-all_flushed p xs kind (Err failure.NoMemory) a b c e left kept fails mark = (record {
-  before = left.before;
-  request = left.request;
-  after = left.after;
-  parts = left.parts;
-  written = (Takes-kept a b c _ left.written.0 kept, fails ∙ left.written.1);
-}, mark)
+all_flushed p xs kind (Err failure.NoMemory) a b c e left kept fails mark = (
+  record {
+    before = left.before;
+    request = left.request;
+    after = left.after;
+    parts = left.parts;
+    written = (Takes-kept a b c _ left.written.0 kept, fails ∙ left.written.1);
+  },
+  mark,
+)
 all_flushed p xs kind (Err _) a b c e left kept fails mark = absurd left

@@ -33,7 +33,7 @@ add_none c = record {
 pub add_both : (a b c : Command) (xs ys : List Rule) → AddsWords a xs b → AddsWords b ys c → AddsWords a (xs ++ ys) c
 add_both a b c xs ys first second =
     let top : (app_of c).top ≡ record (app_of a).top { rules = ((app_of a).top.rules ++ xs) ++ ys } =
-        second.top ∙ ap (λ (s : Shape). record s { rules = s.rules ++ ys }) first.top in
+    second.top ∙ ap (λ (s : Shape). record s { rules = s.rules ++ ys }) first.top in
     record {
       top = top ∙ ap (λ rules. record (app_of a).top { rules = rules }) (append_assoc (app_of a).top.rules xs ys);
       subs = second.subs ∙ first.subs;
@@ -45,7 +45,7 @@ pub is_command : (start c : Command) (shape : Shape) (rules : List Rule) → app
     → AddsWords start rules c → IsCommand (record shape { rules = shape.rules ++ rules }) c
 is_command start c shape rules is local added =
     let top : (app_of c).top ≡ record shape { rules = shape.rules ++ rules } =
-        added.top ∙ ap (λ (x : App). record x.top { rules = x.top.rules ++ rules }) is in
+    added.top ∙ ap (λ (x : App). record x.top { rules = x.top.rules ++ rules }) is in
     let subs : (app_of c).subs ≡ [] = added.subs ∙ ap (λ (x : App). x.subs) is in
     record { reads = ap₂ (λ (t : Shape) (s : List Shape). record { top = t; subs = s }) top subs; local = added.local ∙ local }
 

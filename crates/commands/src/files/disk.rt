@@ -4,10 +4,9 @@ ghost use Rattle.std.specs.Prelude.{◌≡◌, ⊤, None, Some, option_map};
 
 use crate::files::system::FileSystem;
 use sabr_model::{Device, Failed, Read, Write};
-use std::fs;
 use std::fs::File;
-use std::io;
 use std::rt::Files;
+use std::{fs, io};
 
 /// A file, with the path at which it was opened or made.
 #[derive(Drop)]

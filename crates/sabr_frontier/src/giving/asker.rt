@@ -120,7 +120,6 @@ impl<'p, B: BestOf<A>, A: Allocator + Copy> Asker<'p, B, A> {
             numbers: excluded,
             rising: true,
         };
-        self.finder
-            .best_beside(&mut self.kept, &self.index, &self.request, prefix, excluded)
+        self.finder.best_beside(&mut self.kept, &self.index, &self.request, prefix, excluded)
     }
 }

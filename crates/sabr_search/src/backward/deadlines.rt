@@ -72,10 +72,6 @@ impl<A: Allocator + Copy> Deadlines<A> {
             return 0;
         }
         let entry = self.entries[place];
-        if entry.node == node {
-            entry.before
-        } else {
-            0
-        }
+        if entry.node == node { entry.before } else { 0 }
     }
 }

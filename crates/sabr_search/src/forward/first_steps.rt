@@ -15,10 +15,7 @@ use sabr_model::NoMemory;
 use std::alloc::Allocator;
 
 /// Adds a node and when it is reached, if it is reached at all.
-fn put_step<A: Allocator + Copy>(
-    first: &mut Vec<Visit, A>,
-    step: Visit,
-) -> Result<(), NoMemory>
+fn put_step<A: Allocator + Copy>(first: &mut Vec<Visit, A>, step: Visit) -> Result<(), NoMemory>
     ensures kept { OnOk result ((k : ℕ) (s : Visit) → slice_get first.old.items k ≡ Some s → slice_get first.new.items k ≡ Some s) }
     ensures put { OnOk result (step.at < never → (k : ℕ) × (slice_get first.new.items k ≡ Some step)) }
     ensures only { OnOk result ((k : ℕ) (s : Visit) → slice_get first.new.items k ≡ Some s → (slice_get first.old.items k ≡ Some s) ⊎ ((step ≡ s) × (step.at < never))) }

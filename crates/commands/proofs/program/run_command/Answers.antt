@@ -8,7 +8,7 @@ use Rattle.commands.proofs.program.run_command.Goals as goal
 pub returns-in-Ok : goal.returns-in-Ok
 returns-in-Ok g c =
     let named : named_in (subcommand_rows_of c.args.matches.now) ≡ command_named c.in-Some.name.now =
-        named_by _ _ (name_given _ ∙ sym (rw c.in-Some.is at c.subcommand.ensures.name)) in
+    named_by _ _ (name_given _ ∙ sym (rw c.in-Some.is at c.subcommand.ensures.name)) in
     inl (record {
       name = c.in-Some-command_named.command;
       found = found_of c.in-Some.words.now;
@@ -20,7 +20,7 @@ returns-in-Ok g c =
 pub returns-in-Err : goal.returns-in-Err
 returns-in-Err g c =
     let named : named_in (subcommand_rows_of c.args.matches.now) ≡ command_named c.in-Some.name.now =
-        named_by _ _ (name_given _ ∙ sym (rw c.in-Some.is at c.subcommand.ensures.name)) in
+    named_by _ _ (name_given _ ∙ sym (rw c.in-Some.is at c.subcommand.ensures.name)) in
     let (out, err, left) = c.in-Err.ensures.not_run in
     inl (record {
       name = c.in-Some-command_named.command;
