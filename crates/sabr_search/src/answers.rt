@@ -30,8 +30,10 @@ use std::alloc::{Allocator, Global};
 use std::mem::replace;
 
 /// So many answers are kept; the oldest goes. With 1024, 1000 routes took 7 percent more instructions over a grid of 64 nodes
-/// and 10 over one of two satellite plans; with 16384 they took up to 2 percent more, over nine plans. This and the next
-/// constants, but for the prefix, were varied in a copy of this design in plain Rust, over these nine plans.
+/// and 10 over one of two satellite plans; with 16384 they took up to 2 percent more, over nine plans. To vary this and the
+/// next: `bench/figures.py --counts 1000 --only
+/// grid-8,relay-mars-500,relay-mars-2000,iridium,cube,dense-60,walker-66-5000,sparse-2000`; they were varied in a copy of
+/// this design in plain Rust.
 const SLOTS: usize = 4096;
 
 /// So many answers are compared for a question. With 4, relays took up to 17 percent more, satellites up to 31, and a small
@@ -40,12 +42,13 @@ const COMPARED: usize = 16;
 
 /// Questions that exclude more numbers aren't kept, since each list is copied. With 16, 60 nodes that all see each other took
 /// 7 percent more; with 256 nothing changed. Without a limit the ten thousandth route of a line of 20000 contacts took 4.25
-/// times the instructions of a native program, with this one 1.18.
+/// times the instructions of a native program, with this one 1.18. To vary it: `bench/further.py --parts long --only
+/// line-1000,dense-60`.
 const MOST_EXCLUDED: usize = 64;
 
 /// Questions after a longer prefix aren't kept: an answer lists the nodes that were shut. Without a limit 4096 answers of a
 /// line of 20000 contacts would take some 600 MB, with this one 4 MB. With 64 the half of all questions over a grid of 1600
-/// nodes weren't kept.
+/// nodes weren't kept. To vary it: `bench/figures.py --counts 1000 --only grid-40,line-19998`.
 const MOST_PREFIX: usize = 128;
 
 /// The answers to so many wide questions must have answered as many, or `REST` go by. With 16, the grid took 23 percent more,

@@ -19,7 +19,8 @@ use std::alloc::{Allocator, Global};
 
 /// How many questions are asked before what bounds every search is found. Finding it takes as long as several searches,
 /// and a list's first route, with the question whether another follows, takes two. With 1, runs for one route take 4 percent
-/// more instructions, the mean of 24 questions; with 3, those for ten routes take 0.3 percent more.
+/// more instructions, the mean of 24 questions; with 3, those for ten routes take 0.3 percent more. To vary it:
+/// `bench/figures.py --counts 1,10`, over all plans.
 const FIRST_QUESTIONS: u32 = 2;
 
 /// What is kept for the searches of one plan and request.

@@ -15,7 +15,8 @@ use std::marker::Model;
 pub const LAST_AT: u64 = 1099511627775;
 
 /// The ranks that are told apart; higher ones count as the last. With one rank, 100 routes over a grid of 1600 nodes took
-/// half more instructions, and 1000 over a satellite plan a third more, in a copy of this design in plain Rust.
+/// half more instructions, and 1000 over a satellite plan a third more, in a copy of this design in plain Rust. To vary it:
+/// `bench/figures.py --counts 100,1000 --only grid-40,iridium,cube`.
 const RANKS: u64 = 256;
 
 /// The nodes that an event may have. A plan has at most 40000.
