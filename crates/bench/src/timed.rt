@@ -3,7 +3,7 @@
 use crate::watch::Watch;
 use sabr_index::Index;
 use sabr_model::{NoMemory, Plan, Request, Route};
-use sabr_search::{BestOf, Excluded, Kept, Part};
+use sabr_search::{BestOf, BoundedPart, Excluded, Kept, Part, Sought};
 use std::alloc::Allocator;
 use std::cell::Cell;
 use std::time::Clock;
@@ -90,6 +90,19 @@ impl<'s, R: Clock, A: Allocator + Copy, B: BestOf<A>> BestOf<A> for Timed<'s, R,
         let answer = self
             .finder
             .best_beside(kept, index, request, prefix, excluded);
+        self.add(begin, self.finder.looks());
+        answer
+    }
+
+    fn best_up_to(
+        &mut self,
+        kept: &mut Kept<A>,
+        index: &Index<'_, A>,
+        request: &Request,
+        part: BoundedPart<'_>,
+    ) -> Result<Sought<A>, NoMemory> {
+        let begin = self.watch.nanoseconds();
+        let answer = self.finder.best_up_to(kept, index, request, part);
         self.add(begin, self.finder.looks());
         answer
     }

@@ -1,4 +1,5 @@
 pub mod ListingLemmas
 pub mod TreeLemmas
+pub mod GivingLemmas
 pub mod LoadingLemmas
 pub mod SessionLemmas

@@ -2,3 +2,5 @@
 pub mod Pages
 pub mod StandingPages
 pub mod Verdicts
+pub mod LeftSteps
+pub mod CutPages

@@ -12,3 +12,6 @@ pub mod DividedStates
 pub mod SoundSteps
 pub mod FirstTrees
 pub mod MergedIndex
+pub mod CutTrees
+pub mod CutDivided
+pub mod BoundedAnswers

@@ -2,3 +2,4 @@ pub mod listing
 pub mod tree
 pub mod session
 pub mod loading
+pub mod giving

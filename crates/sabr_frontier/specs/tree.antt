@@ -9,6 +9,7 @@ pub mod Asking
 pub mod Taking
 pub mod Left
 pub mod Room
+pub mod Cut
 pub mod Sound
 pub mod Prepared
 pub mod Root

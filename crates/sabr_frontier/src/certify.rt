@@ -1,6 +1,6 @@
 //! Whether a tree is the state of the place that it counts.
 
-ghost use Rattle.std.specs.Prelude.{◌≡◌, ◌↔◌, ◌+◌, ◌≤◌, length, slice_get, IfOk, IfSome, IfNone, IsTrue};
+ghost use Rattle.std.specs.Prelude.{◌≡◌, ◌↔◌, None, ◌+◌, ◌≤◌, length, slice_get, IfOk, IfSome, IfNone, IsTrue};
 ghost use Rattle.std.specs.List.{list_any};
 ghost use Rattle.std.specs.Option.{option_and_then, option_copied};
 ghost use Rattle.std.specs.Ordering.{is_lt};
@@ -66,6 +66,7 @@ impl<A: Allocator + Copy> Tree<A> {
 
     /// Returns true if each part carries its least route: one search for each. It takes the memory of a search.
     fn carries_least<B: BestOf<A>>(&self, asker: &mut Asker<'_, B, A>) -> Result<bool, NoMemory>
+        requires unbounded { asker.old.asked.bound ≡ None }
         requires tree { IsTree asker.old.asked.plan.plan asker.old.asked.request (shape_of self.now) }
         ensures least { IfOk result (λ yes. IsTrue yes ↔ CarriesLeast asker.old.asked.plan.plan asker.old.asked.request (shown (shape_of self.now))) }
         ensures called { asker.new.calls ≤ asker.old.calls + length self.now.nodes.items }
@@ -86,6 +87,7 @@ impl<A: Allocator + Copy> Tree<A> {
     /// carried route is, and each part carries its least route (law 5).
     pub fn is_placed<B: BestOf<A>>(&self, asker: &mut Asker<'_, B, A>) -> Result<bool, NoMemory>
         requires plan { IsPlan asker.old.asked.plan.plan }
+        requires unbounded { asker.old.asked.bound ≡ None }
         requires tree { IsTree asker.old.asked.plan.plan asker.old.asked.request (shape_of self.now) }
         requires room { IsRoomy self.now }
         ensures placed { IfOk result (λ yes. IsTrue yes ↔ (shown (shape_of self.now) ≡ state_at asker.old.asked.plan.plan asker.old.asked.request (shown (shape_of self.now)).emitted)) }

@@ -3,6 +3,7 @@
 pub mod asker;
 mod divide;
 mod gather;
+pub mod least_keys;
 mod other_end;
 mod peek;
 mod take;

@@ -77,6 +77,7 @@ impl<'p, B: BestOf<A>, A: Allocator + Copy> Session<'p, B, A> {
     /// Starts a session of what the asker asks for.
     fn begin(asker: Asker<'p, B, A>) -> Result<Session<'p, B, A>, NoMemory>
         requires rules { IsPlan asker.asked.plan.plan }
+        requires unbounded { asker.asked.bound ≡ None }
         requires limits { IsRequest asker.asked.request }
         ensures { IfOk result (λ s. s ≡ started asker.entry.asked.plan asker.entry.asked.request (asker.entry.calls + 1)) }
     {
@@ -95,6 +96,7 @@ impl<'p, B: BestOf<A>, A: Allocator + Copy> Session<'p, B, A> {
     /// Makes a session over a tree that no page has changed.
     pub(crate) fn of_tree(asker: Asker<'p, B, A>, tree: Tree<A>) -> Session<'p, B, A>
         requires rules { IsPlan asker.asked.plan.plan }
+        requires unbounded { asker.asked.bound ≡ None }
         requires limits { IsRequest asker.asked.request }
         requires sound { IsTree asker.asked.plan.plan asker.asked.request (shape_of tree) }
         requires fresh { tree.journal.items ≡ [] }

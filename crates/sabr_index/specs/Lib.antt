@@ -3,3 +3,4 @@ pub mod Linking
 pub mod Incoming
 pub mod Grouping
 pub mod Index
+pub mod Looks

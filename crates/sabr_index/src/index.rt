@@ -3,39 +3,31 @@
 ghost use Rattle.std.specs.Prelude.{◌≡◌, ◌<◌, ◌^◌, ℕ, Some, IfOk, length, slice_get};
 ghost use Rattle.sabr_model.specs.plan.ContactEnds.{AreEnds};
 ghost use Rattle.sabr_model.specs.plan.Tabled.{IsTabled};
-ghost use Rattle.sabr_index.specs.Links.{AreLinksOf, AreLinksTo};
+ghost use Rattle.sabr_index.specs.Links.{AreLinksOf};
 
 use crate::building::link_nodes;
+use crate::counted_plan::CountedPlan;
 use crate::ends::ends_of_contacts;
-use crate::incoming::{IncomingLinks, incoming_links};
+use crate::incoming::incoming_links;
 use crate::link::Links;
 use crate::order::order_of_contacts;
-use crate::senders::Senders;
-use crate::table::LinkTable;
 use sabr_model::{Ends, NoMemory, Plan};
 use std::alloc::{Allocator, Global};
 use std::marker::Model;
 
-/// What searches read of a plan: for each node the links from it and the links to it. Contracts see the plan.
+/// A plan with what searches read of it. Contracts see the plan.
 #[derive(Drop)]
 pub struct Index<'p, A: Allocator + Copy = Global> {
-    /// The plan.
-    plan: &'p Plan<A>,
-    /// By node its links.
-    linked: LinkTable<A>,
-    /// By node the links to it.
-    incoming: IncomingLinks<A>,
+    /// The plan as searches hold it.
+    counted: CountedPlan<'p, A>,
 }
 
 impl<'p, A: Allocator + Copy> Model for Index<'p, A> {
     ghost use Rattle.sabr_model.specs.plan.Plan.{TabledPlan};
-    ghost use Rattle.sabr_index.specs.Index.{IsIndex};
 
     ghost Value = { TabledPlan };
 
-    ghost view = { λ i. i.plan.now };
-
-    ghost invariant = { λ i. IsIndex i.plan.now i.linked i.incoming.starts.items i.incoming.named.items };
+    ghost view = { λ i. i.counted };
 }
 
 impl<'p, A: Allocator + Copy> Index<'p, A> {
@@ -66,9 +58,7 @@ impl<'p, A: Allocator + Copy> Index<'p, A> {
         let linked = link_nodes(alloc, plan, order)?;
         let incoming = incoming_links(alloc, &linked)?;
         Ok(Index {
-            plan,
-            linked,
-            incoming,
+            counted: CountedPlan::over(plan, linked, incoming),
         })
     }
 
@@ -76,7 +66,14 @@ impl<'p, A: Allocator + Copy> Index<'p, A> {
     pub fn plan(&self) -> &'p Plan<A>
         ensures { result.now ≡ self.now }
     {
-        self.plan
+        self.counted.whole()
+    }
+
+    /// The plan as searches hold it: nothing leads from there to a contact's record but what counts a look.
+    pub fn counted(&self) -> &CountedPlan<'p, A>
+        ensures { result.now ≡ self.now }
+    {
+        &self.counted
     }
 
     /// The links of the node at an index of the table.
@@ -84,14 +81,6 @@ impl<'p, A: Allocator + Copy> Index<'p, A> {
         requires { index < length self.now.table }
         ensures { (node : ℕ) → slice_get self.now.table index ≡ Some node → AreLinksOf self.now node result.links.now result.passes.now }
     {
-        self.linked.of(index)
-    }
-
-    /// The links to the node at an index of the table, each with its sender.
-    pub fn senders(&self, index: usize) -> Senders<'_, A>
-        requires { index < length self.now.table }
-        ensures { (node : ℕ) → slice_get self.now.table index ≡ Some node → AreLinksTo self.now node result }
-    {
-        Senders::over(self.incoming.of(index), &self.linked)
+        self.counted.links(index)
     }
 }

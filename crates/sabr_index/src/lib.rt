@@ -3,16 +3,22 @@
 
 mod bounds;
 mod building;
+mod counted_plan;
 mod ends;
 mod grouping;
 mod incoming;
 mod index;
 mod link;
+mod looked;
+mod looks;
 mod order;
 mod rows;
 mod senders;
 mod table;
 
+pub use counted_plan::{CountedPlan, Followed};
 pub use index::Index;
 pub use link::{Link, LinkBounds, Links, Pass, Sender, SenderHead};
+pub use looked::Looked;
+pub use looks::{Looks, SetAside};
 pub use senders::Senders;

@@ -2,16 +2,18 @@
 
 /// A standing contact with a light time, among the contacts of one link in order of their starts. With it are bounds on
 /// the contacts before and after it, so that a search can skip most of them.
+///
+/// Other crates read its record by `look` alone; the bounds are for everybody.
 #[derive(Clone, Copy)]
 pub struct Pass {
     /// The contact's number.
-    pub number: u32,
+    pub(crate) number: u32,
     /// The one-way light time in seconds that is in force at its start.
-    pub light: u32,
+    pub(crate) light: u32,
     /// The first second at which the contact can be used.
-    pub start: u64,
+    pub(crate) start: u64,
     /// The first second at which the contact can no longer be used.
-    pub end: u64,
+    pub(crate) end: u64,
     /// The greatest end of this contact and those before it on the link.
     pub latest_end: u64,
     /// The least light time of this contact and those before it on the link.
@@ -21,7 +23,7 @@ pub struct Pass {
     /// The least number of this contact and those after it on the link.
     pub least_number_behind: u32,
     /// The index of its receiver in the table of nodes.
-    pub receiver: u16,
+    pub(crate) receiver: u16,
     /// A number of contacts after this one whose numbers surely follow its own one by one, if the link has that many.
     pub in_row_behind: u16,
 }

@@ -27,13 +27,6 @@ impl<A: Allocator + Copy> Numbers<A> {
         Numbers { items }
     }
 
-    /// Returns the vector that holds the list. It takes no memory.
-    pub fn into_vec(self) -> Vec<u32, A>
-        ensures { result.items ≡ self }
-    {
-        self.items
-    }
-
     /// The numbers, from the first to the last.
     pub fn as_slice(&self) -> &[u32]
         ensures { result.now ≡ self.now }

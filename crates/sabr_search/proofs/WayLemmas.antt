@@ -5,6 +5,7 @@ pub mod RoutesAndWays
 pub mod Prefixes
 pub mod PartWays
 pub mod Least
+pub mod Bounds
 pub mod Courses
 pub mod Shortness
 pub mod FaultsOfPrefixes

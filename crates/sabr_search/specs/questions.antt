@@ -8,3 +8,4 @@ pub mod Course
 pub mod Part
 pub mod FirstSteps
 pub mod WideTasks
+pub mod Bounded

@@ -6,25 +6,23 @@
 
 mod lists;
 mod payoff;
-pub mod wide;
+pub mod widening;
 
-ghost use Rattle.std.specs.Prelude.{◌≡◌, ◌^◌, ◌≤◌, ◌<◌, [], Some, All, IfOk, IfSome, IsTrue, OnOk, length, slice_get, slice_set};
+ghost use Rattle.std.specs.Prelude.{◌≡◌, ◌^◌, ◌≤◌, ◌<◌, [], Some, All, IfOk, IfSome, IsTrue, length, slice_get, slice_set, false};
 ghost use Rattle.sabr_search.specs.questions.Ways.{Leads};
-ghost use Rattle.sabr_search.specs.questions.Task.{IsTask, IsAsked, IsOfRequest, Takes, left_of};
-ghost use Rattle.sabr_search.specs.questions.WideTasks.{ShutsFewer};
+ghost use Rattle.sabr_search.specs.questions.Task.{IsTask, IsAsked, Takes, left_of};
+ghost use Rattle.sabr_search.specs.questions.Bounded.{bound_after};
 ghost use Rattle.sabr_search.specs.questions.FirstSteps.{tabled_of};
-ghost use Rattle.sabr_search.specs.answers.Answers.{narrowed};
-ghost use Rattle.sabr_search.specs.answers.KeptAnswers.{AllShut, Covers, IsAnswerTo, AnswersAt, IsFoundWay, IsAnswer, IsPut};
+ghost use Rattle.sabr_search.specs.answers.KeptAnswers.{AllShut, Covers, IsAnswerTo, AnswersAt, IsFoundWay, IsAnswer, IsPut, AreAnswers, is_kept_after, most_answers};
 
 use crate::answers::lists::Lists;
-use crate::answers::payoff::Payoff;
-use crate::answers::wide::shut_one;
+use crate::answers::widening::Breadth;
 use crate::backward::least_way::FoundWay;
-use crate::course::shut::Shut;
-use crate::links::looks::Looks;
+use crate::bound::Bound;
 use crate::question::Question;
 use crate::task::Task;
 use crate::visit::Visit;
+use sabr_index::Looks;
 use sabr_model::NoMemory;
 use std::alloc::{Allocator, Global};
 use std::mem::replace;
@@ -51,44 +49,24 @@ const MOST_EXCLUDED: usize = 64;
 /// nodes weren't kept. To vary it: `bench/figures.py --counts 1000 --only grid-40,line-19998`.
 const MOST_PREFIX: usize = 128;
 
-/// The answers to so many wide questions must have answered as many, or `REST` go by. With 16, the grid took 23 percent more,
-/// a satellite plan 7 percent more and another 4 percent fewer, and a small relay 3 percent fewer; with 256, the grid took 8
-/// percent more and the relay 13.
-const ASKED: u32 = 64;
-
-/// So many wide questions go by before one is asked again. With 256, the grid took 15 percent more and the relay 4; with 4096
-/// the grid took 1 percent fewer.
-const REST: u32 = 1024;
-
 /// The place of no answer.
 const NONE: usize = usize::MAX;
 
-/// Which nodes a question shuts: those of its prefix, those that each search from its start shuts, or these and those that an
-/// earlier answer needs shut.
-#[derive(Clone, Copy)]
-pub enum Breadth {
-    Own,
-    Wide,
-    Near,
-}
-
 /// An answer that would be the answer to a question, too, if its way passed no shut node.
 #[derive(Clone, Copy)]
-pub struct Near {
-    /// Its place.
-    place: usize,
-    /// How many nodes its question shut.
-    shut: usize,
+pub struct Near<'a> {
+    /// The nodes that its question shut.
+    pub shut: &'a [u32],
     /// The first shut node that its way passes.
-    node: usize,
+    pub node: usize,
 }
 
 /// What the answers that are kept tell of a question: the place of its answer, or else the near one whose question shut most
 /// nodes.
 #[derive(Clone, Copy)]
-pub struct Lookup {
+pub struct Recalled<'a> {
     pub place: Option<usize>,
-    pub near: Option<Near>,
+    pub near: Option<Near<'a>>,
 }
 
 /// What was asked, and the answer.
@@ -102,6 +80,8 @@ pub struct Answer<A: Allocator + Copy = Global> {
     pub lists: Lists<A>,
     /// When the way delivers.
     pub delivery: u64,
+    /// What each way is above, if none is listed.
+    pub bound: Bound,
     /// Which nodes the question shut.
     pub breadth: Breadth,
     /// The place of the answer that was put into the same bucket before.
@@ -117,26 +97,22 @@ pub struct Answers<A: Allocator + Copy = Global> {
     alloc: A,
     /// The answers.
     pub slots: Vec<Answer<A>, A>,
-    /// The slot that is filled next.
-    next: usize,
+    /// The slot of the oldest answer, once all are filled.
+    oldest: usize,
     /// By bucket the place of the latest answer.
     heads: Vec<u32, A>,
     /// The memory of an answer that went, for the next one.
     spare: Lists<A>,
-    /// Whether wide questions pay.
-    wide: Payoff,
-    /// Whether those near an answer pay.
-    nearer: Payoff,
 }
 
-/// Of a near answer and one at this place, the one whose question shut more nodes.
-fn more_shut(near: Option<Near>, place: usize, shut: usize, node: usize) -> Option<Near> {
-    if let Some(other) = near
-        && shut < other.shut
+/// Of two near answers, the one whose question shut more nodes, or else the second.
+fn more_shut<'a>(first: Option<Near<'a>>, second: Near<'a>) -> Option<Near<'a>> {
+    if let Some(other) = first
+        && second.shut.len() < other.shut.len()
     {
-        return near;
+        return first;
     }
-    Some(Near { place, shut, node })
+    Some(second)
 }
 
 /// Returns whether each of these nodes is shut. It begins with the last, since prefixes that begin alike differ at their ends.
@@ -186,7 +162,7 @@ impl<A: Allocator + Copy> Answer<A> {
         };
         let way = self.lists.way();
         for place in 0..way.len() {
-            if looks.left == 0 {
+            if looks.left() == 0 {
                 return false;
             }
             let Some(next) = task.arrive_by(looks, way[place], from.at, passed) else {
@@ -200,26 +176,27 @@ impl<A: Allocator + Copy> Answer<A> {
         from.node == task.goal() && from.at == self.delivery
     }
 
-    /// Returns whether it is the answer to a question, too, as far as the looks that are left show it. If its way passes
-    /// a shut node, notes that.
+    /// Returns whether it is the answer to a question up to a bound, too, as far as the looks that are left show it. If its
+    /// way passes a shut node, notes that.
     fn answers(
         &self,
         task: &Task<'_, A>,
         looks: &mut Looks,
         left: usize,
+        bound: Bound,
         passed: &mut usize,
     ) -> bool
         requires task { IsTask task.now }
         requires goal { slice_get task.now.table task.now.goal ≡ Some task.now.request.destination }
         requires answer { IsAnswer (tabled_of task.now) task.now.request self.now }
-        ensures { IsTrue result → IsAnswerTo self.now task.now left }
+        ensures { IsTrue result → IsAnswerTo self.now task.now left bound }
     {
         if !self.covers(task, left) {
             return false;
         }
         let hops = self.lists.way().len();
         if hops == 0 {
-            return true;
+            return bound.is_within(self.bound);
         }
         if hops > left {
             return false;
@@ -230,7 +207,9 @@ impl<A: Allocator + Copy> Answer<A> {
 
 /// Returns whether the answer to a question is kept: not if the prefix is empty, since no other one ends at the source, and
 /// not if too many numbers are excluded or the prefix is too long.
-fn is_kept<A: Allocator + Copy>(asked: &Question<'_, '_, '_, A>) -> bool {
+fn is_kept<A: Allocator + Copy>(asked: &Question<'_, '_, '_, A>) -> bool
+    ensures { result ≡ is_kept_after asked.now.prefix.now asked.now.task.now.excluded }
+{
     !asked.prefix.is_empty()
         && asked.prefix.len() <= MOST_PREFIX
         && asked.task.excluded().len() <= MOST_EXCLUDED
@@ -247,14 +226,6 @@ fn put_at<A: Allocator + Copy>(
 {
     let Answer { lists, .. } = replace(&mut slots[place], answer);
     lists
-}
-
-/// Which nodes a wide question shuts to which this answer is near.
-pub fn breadth_of(near: Option<Near>) -> Breadth {
-    match near {
-        Some(_) => Breadth::Near,
-        None => Breadth::Wide,
-    }
 }
 
 /// The bucket of a node and of the numbers that are excluded there.
@@ -274,70 +245,17 @@ impl<A: Allocator + Copy> Answers<A> {
         Answers {
             alloc,
             slots: Vec::new(alloc),
-            next: 0,
+            oldest: 0,
             heads: Vec::new(alloc),
             spare: Lists::new(alloc),
-            wide: Payoff::new(),
-            nearer: Payoff::new(),
         }
     }
 
-    /// Returns whether a wide question is to be asked for this one, to which this answer is near: it shuts fewer nodes, its
-    /// answer is kept, and some answer was kept before, so that others may come.
-    pub fn takes_wide(&mut self, asked: &Question<'_, '_, '_, A>, near: Option<Near>) -> bool
-        ensures { self.new.slots ≡ self.old.slots }
+    /// Returns whether a question may have its answer here: some answer is kept, and its own would be, too.
+    pub fn serves(&self, asked: &Question<'_, '_, '_, A>) -> bool
+        ensures { IsTrue result → IsTrue (is_kept_after asked.now.prefix.now asked.now.task.now.excluded) }
     {
-        if self.slots.is_empty() || asked.prefix.len() < 2 || !is_kept(asked) {
-            return false;
-        }
-        let Some(answer) = near else {
-            return self.wide.takes(ASKED, ASKED, REST);
-        };
-        if answer.shut.saturating_add(1) >= asked.task.shut_nodes().len() {
-            return false;
-        }
-        self.nearer.takes(ASKED, ASKED, REST)
-    }
-
-    /// Shuts the nodes that the near answer needs shut, and the one that its way passes, if there is such an answer.
-    pub fn shut_near(
-        &self,
-        shut: &mut Shut<A>,
-        task: &Task<'_, A>,
-        near: Option<Near>,
-    ) -> Result<(), NoMemory>
-        requires task { IsTask task.now }
-        requires fewer { ShutsFewer task.now shut.old }
-        requires request { IsOfRequest (narrowed task.now shut.old task.now.at) }
-        ensures fewer { OnOk result (ShutsFewer task.now shut.new) }
-        ensures request { OnOk result (IsOfRequest (narrowed task.now shut.new task.now.at)) }
-    {
-        let Some(near) = near else {
-            return Ok(());
-        };
-        let Some(answer) = self.slots.get(near.place) else {
-            return Ok(());
-        };
-        shut_one(shut, task, near.node)?;
-        let nodes = answer.lists.shut();
-        for place in 0..nodes.len() {
-            shut_one(shut, task, nodes[place] as usize)?;
-        }
-        Ok(())
-    }
-
-    /// Counts a question that the answer at this place has answered, if that is the answer to a wide one.
-    fn count_win(&mut self, place: usize)
-        ensures { self.new.slots ≡ self.old.slots }
-    {
-        if place >= self.slots.len() {
-            return;
-        }
-        match self.slots[place].breadth {
-            Breadth::Own => {}
-            Breadth::Wide => self.wide.win(),
-            Breadth::Near => self.nearer.win(),
-        }
+        !self.slots.is_empty() && is_kept(asked)
     }
 
     /// The place of the latest answer in a bucket.
@@ -349,71 +267,52 @@ impl<A: Allocator + Copy> Answers<A> {
     }
 
     /// The place of an answer that is the answer to this question, too; or else the near one whose question shut most nodes.
-    fn find(&self, task: &Task<'_, A>, looks: &mut Looks, left: usize) -> Lookup
-        requires task { IsTask task.now }
-        requires goal { slice_get task.now.table task.now.goal ≡ Some task.now.request.destination }
-        requires kept { All (IsAnswer (tabled_of task.now) task.now.request) self.now.slots.items }
-        ensures { IfSome result.place (λ place. AnswersAt self.now.slots.items place task.now left) }
+    pub fn recall(&self, asked: &Question<'_, '_, '_, A>, looks: &mut Looks) -> Recalled<'_>
+        requires asked { IsAsked asked.now.task.now asked.now.prefix.now }
+        requires kept { All (IsAnswer (tabled_of asked.now.task.now) asked.now.task.now.request) self.now.slots.items }
+        ensures { IfSome result.place (λ place. AnswersAt self.now.slots.items place asked.now.task.now (left_of asked.now.task.now asked.now.prefix.now) (bound_after asked.now.bound (length asked.now.prefix.now))) }
     {
-        let mut near: Option<Near> = None;
+        let task = asked.task;
+        let (left, bound) = (asked.left(), asked.bound_left());
+        let mut near: Option<Near<'_>> = None;
         let mut place = self.head(bucket_of(task.start(), task.excluded()));
         for _ in 0..COMPARED {
             let Some(answer) = self.slots.get(place) else {
-                return Lookup { place: None, near };
+                return Recalled { place: None, near };
             };
             let mut passed = NONE;
-            if answer.answers(task, looks, left, &mut passed) {
-                return Lookup {
+            if answer.answers(task, looks, left, bound, &mut passed) {
+                return Recalled {
                     place: Some(place),
                     near: None,
                 };
             }
             if passed != NONE {
-                near = more_shut(near, place, answer.lists.shut().len(), passed);
+                let shut = answer.lists.shut();
+                near = more_shut(near, Near { shut, node: passed });
             }
             place = answer.next;
         }
-        Lookup { place: None, near }
+        Recalled { place: None, near }
     }
 
-    /// The same for a question after a prefix, if its answer is kept. Counts an answer that is found.
-    pub fn recall(&mut self, asked: &Question<'_, '_, '_, A>, looks: &mut Looks) -> Lookup
-        requires asked { IsAsked asked.now.task.now asked.now.prefix.now }
-        requires kept { All (IsAnswer (tabled_of asked.now.task.now) asked.now.task.now.request) self.old.slots.items }
-        ensures slots { self.new.slots ≡ self.old.slots }
-        ensures some { IfSome result.place (λ place. AnswersAt self.old.slots.items place asked.now.task.now (left_of asked.now.task.now asked.now.prefix.now)) }
-    {
-        if !is_kept(asked) {
-            return Lookup {
-                place: None,
-                near: None,
-            };
-        }
-        let found = self.find(asked.task, looks, asked.left());
-        if let Some(place) = found.place {
-            self.count_win(place);
-        }
-        found
-    }
-
-    /// This place, if the answer there is the answer to a question, too; counts it then.
+    /// This place, if the answer there is the answer to a question, too.
     pub fn recall_at(
-        &mut self,
+        &self,
         place: usize,
         asked: &Question<'_, '_, '_, A>,
         looks: &mut Looks,
     ) -> Option<usize>
         requires asked { IsAsked asked.now.task.now asked.now.prefix.now }
-        requires kept { All (IsAnswer (tabled_of asked.now.task.now) asked.now.task.now.request) self.old.slots.items }
-        ensures slots { self.new.slots ≡ self.old.slots }
-        ensures some { IfSome result (λ place. AnswersAt self.old.slots.items place asked.now.task.now (left_of asked.now.task.now asked.now.prefix.now)) }
+        requires kept { All (IsAnswer (tabled_of asked.now.task.now) asked.now.task.now.request) self.now.slots.items }
+        ensures { IfSome result (λ place. AnswersAt self.now.slots.items place asked.now.task.now (left_of asked.now.task.now asked.now.prefix.now) (bound_after asked.now.bound (length asked.now.prefix.now))) }
     {
         let mut passed = NONE;
         let Some(answer) = self.slots.get(place) else {
             return None;
         };
-        if answer.answers(asked.task, looks, asked.left(), &mut passed) {
-            self.count_win(place);
+        let (left, bound) = (asked.left(), asked.bound_left());
+        if answer.answers(asked.task, looks, left, bound, &mut passed) {
             return Some(place);
         }
         None
@@ -429,17 +328,22 @@ impl<A: Allocator + Copy> Answers<A> {
         true
     }
 
-    /// Puts an answer into the slot that is next, and returns its place; or leaves it out, where a growth is refused.
+    /// Puts an answer into a new slot, or in place of the oldest one if there are enough, and returns its place; or leaves it
+    /// out, where a growth is refused.
     fn put(&mut self, answer: Answer<A>) -> Option<usize>
-        ensures { IsPut self.old.slots.items self.new.slots.items answer }
+        ensures put { IsPut self.old.slots.items self.new.slots.items answer }
+        ensures few { length self.old.slots.items ≤ most_answers → length self.new.slots.items ≤ most_answers }
     {
-        let place = self.next;
-        if place < self.slots.len() {
-            self.spare = put_at(&mut self.slots, place, answer);
-        } else {
-            self.slots.push(answer).ok()?;
+        let end = self.slots.len();
+        if end < SLOTS {
+            let Ok(()) = self.slots.push(answer) else {
+                return None;
+            };
+            return Some(end);
         }
-        self.next = place.saturating_add(1) % SLOTS;
+        let place = self.oldest % SLOTS;
+        self.spare = put_at(&mut self.slots, place, answer);
+        self.oldest = place + 1;
         Some(place)
     }
 
@@ -462,7 +366,7 @@ impl<A: Allocator + Copy> Answers<A> {
         bucket: usize,
     ) -> Result<Answer<A>, NoMemory>
         requires goal { slice_get task.now.table task.now.goal ≡ Some task.now.request.destination }
-        requires found { IsFoundWay task.now left found.now.numbers.items found.now.delivery }
+        requires found { IsFoundWay task.now left found.now.numbers.items found.now.delivery found.now.bound }
         ensures slots { self.new.slots ≡ self.old.slots }
         ensures answer { IfOk result (IsAnswer (tabled_of task.now) task.now.request) }
     {
@@ -477,6 +381,7 @@ impl<A: Allocator + Copy> Answers<A> {
             left,
             lists,
             delivery: found.delivery,
+            bound: found.bound,
             breadth,
             next: self.head(bucket),
         })
@@ -491,9 +396,9 @@ impl<A: Allocator + Copy> Answers<A> {
         breadth: Breadth,
     ) -> Option<usize>
         requires goal { slice_get task.now.table task.now.goal ≡ Some task.now.request.destination }
-        requires kept { All (IsAnswer (tabled_of task.now) task.now.request) self.old.slots.items }
-        requires found { IsFoundWay task.now left found.now.numbers.items found.now.delivery }
-        ensures { All (IsAnswer (tabled_of task.now) task.now.request) self.new.slots.items }
+        requires kept { AreAnswers (tabled_of task.now) task.now.request self.old.slots.items }
+        requires found { IsFoundWay task.now left found.now.numbers.items found.now.delivery found.now.bound }
+        ensures { AreAnswers (tabled_of task.now) task.now.request self.new.slots.items }
     {
         if !self.open() {
             return None;
@@ -512,9 +417,10 @@ impl<A: Allocator + Copy> Answers<A> {
     /// Keeps the answer to a question after a prefix, if it is one that is kept and no growth is refused.
     pub fn keep_after(&mut self, asked: &Question<'_, '_, '_, A>, found: &FoundWay<A>)
         requires asked { IsAsked asked.now.task.now asked.now.prefix.now }
-        requires kept { All (IsAnswer (tabled_of asked.now.task.now) asked.now.task.now.request) self.old.slots.items }
-        requires found { IsFoundWay asked.now.task.now (left_of asked.now.task.now asked.now.prefix.now) found.now.numbers.items found.now.delivery }
-        ensures { All (IsAnswer (tabled_of asked.now.task.now) asked.now.task.now.request) self.new.slots.items }
+        requires kept { AreAnswers (tabled_of asked.now.task.now) asked.now.task.now.request self.old.slots.items }
+        requires found { IsFoundWay asked.now.task.now (left_of asked.now.task.now asked.now.prefix.now) found.now.numbers.items found.now.delivery found.now.bound }
+        ensures kept { AreAnswers (tabled_of asked.now.task.now) asked.now.task.now.request self.new.slots.items }
+        ensures others { is_kept_after asked.now.prefix.now asked.now.task.now.excluded ≡ false → self.new.slots ≡ self.old.slots }
     {
         if is_kept(asked) {
             self.keep(asked.task, asked.left(), found, Breadth::Own);

@@ -2,11 +2,13 @@
 
 ghost use Rattle.std.specs.Prelude.{◌≡◌, ℕ, ◌+◌, ◌*◌, ◌≤◌, IfOk, IsTrue, length};
 ghost use Rattle.sabr_search.specs.questions.Part.{IsLeast};
+ghost use Rattle.sabr_search.specs.questions.Bounded.{IsSought, hops_sought};
 ghost use Rattle.sabr_search.specs.answers.Kept.{IsKept};
 ghost use Rattle.sabr_model.specs.routes.Route.{is_prefix};
 ghost use Rattle.sabr_model.specs.plan.Table.{node_count};
 ghost use Rattle.sabr_search.specs.questions.Told.{hops_told};
 
+use crate::bound::{BoundedPart, Sought};
 use crate::kept::Kept;
 use crate::links::finger::Excluded;
 use crate::part::Part;
@@ -73,8 +75,32 @@ pub trait BestOf<A: Allocator + Copy>: Drop {
         self.best(index.plan(), request, part)
     }
 
+    /// Does the same for the least route up to a bound; a greater one needn't be told. The call counts as one of `best`.
+    ///
+    /// # Errors
+    ///
+    /// [`NoMemory`] where a growth was refused. The finder and what is kept can be used again.
+    fn best_up_to(
+        &mut self,
+        kept: &mut Kept<A>,
+        index: &Index<'_, A>,
+        request: &Request,
+        part: BoundedPart<'_>,
+    ) -> Result<Sought<A>, NoMemory>
+        requires fits { IsTrue (is_prefix index.now.plan request.now part.prefix.now) }
+        requires kept { IsKept index.now request.now kept.old }
+        ensures sought { IfOk result (IsSought index.now.plan request.now part.entry.prefix.now part.entry.excluded.numbers.now part.entry.bound) }
+        ensures bound { looks_of self.new ≤ (3 * node_count index.now.plan.contacts + 1) * length index.now.plan.contacts }
+        ensures counted { IfOk result (λ answer. hops_sought answer ≤ looks_of self.new) }
+        ensures called { calls_of self.new ≡ calls_of self.old + 1 }
+        ensures kept { IsKept index.now request.now kept.new }
+    {
+        let found = self.best_beside(kept, index, request, part.prefix, part.excluded)?;
+        Ok(Sought::of(found))
+    }
+
     /// How many looks the last call of `best` took, each a use of a contact's record; 0 before the first call. Bounds beside
-    /// contacts, and what binary searches compare, aren't counted.
+    /// contacts, among them the starts that binary searches compare, aren't counted.
     fn looks(&self) -> u64
         ensures { result ≡ looks_of self.now };
 }

@@ -11,8 +11,8 @@ ghost use Rattle.sabr_search.specs.questions.Course.{IsCourse, IsEntered};
 
 use crate::course::closed::shut_closed;
 use crate::course::shut::Shut;
-use crate::links::looks::Looks;
-use sabr_model::{NoMemory, Plan, Request, Told};
+use sabr_index::{CountedPlan, Looks};
+use sabr_model::{NoMemory, Request, Told};
 use std::alloc::{Allocator, Global};
 
 /// Where some numbers lead, and when, and what the record of a route that begins with them holds of them.
@@ -53,7 +53,11 @@ fn common_front(one: &[u32], other: &[u32]) -> usize
 
 impl<A: Allocator + Copy> Course<A> {
     /// Opens a course at the source. None unless the plan has both the source and the destination.
-    pub fn open(alloc: A, plan: &Plan<A>, request: &Request) -> Result<Option<Course<A>>, NoMemory>
+    pub fn open(
+        alloc: A,
+        plan: &CountedPlan<'_, A>,
+        request: &Request,
+    ) -> Result<Option<Course<A>>, NoMemory>
         ensures plan { IsPlan plan.now.plan }
         ensures none { IfOk result (λ o. IfNone o ((s : List ℕ) → IsTrue (is_route plan.now.plan request.now s) → ⊥)) }
         ensures some { IfOk result (λ o. IfSome o (IsCourse plan.now request.now)) }
@@ -73,7 +77,7 @@ impl<A: Allocator + Copy> Course<A> {
         stops.push(Stop {
             node: source,
             at: request.at(),
-            told: Told::of(plan, &[]),
+            told: plan.told_of_none(),
         })?;
         Ok(Some(Course {
             numbers: Vec::new(alloc),
@@ -90,7 +94,7 @@ impl<A: Allocator + Copy> Course<A> {
     pub fn go(
         &mut self,
         looks: &mut Looks,
-        plan: &Plan<A>,
+        plan: &CountedPlan<'_, A>,
         request: &Request,
         prefix: &[u32],
     ) -> Result<Stop, NoMemory>
@@ -112,17 +116,17 @@ impl<A: Allocator + Copy> Course<A> {
         let mut last = self.stops[front];
         for place in front..prefix.len() {
             let number = prefix[place];
-            let Some(hop) = looks.hop(plan, number) else {
+            let followed = plan.follow(looks, last.told, &prefix[..place], number);
+            let Some(hop) = followed.hop else {
                 unreachable!();
             };
             let Some(at) = hop.arrive(request, last.at) else {
                 unreachable!();
             };
-            let told = last.told.extended(plan, &prefix[..place], number);
             last = Stop {
                 node: hop.receiver,
                 at,
-                told,
+                told: followed.told,
             };
             self.shut.put(last.node)?;
             self.stops.push(last)?;

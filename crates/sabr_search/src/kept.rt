@@ -6,15 +6,14 @@ ghost use Rattle.sabr_model.specs.routes.Arrival.{RouteRequest};
 ghost use Rattle.sabr_model.specs.routes.Route.{is_route};
 ghost use Rattle.sabr_search.specs.questions.Course.{IsCourse};
 ghost use Rattle.sabr_search.specs.answers.Kept.{IsKept};
-ghost use Rattle.sabr_search.specs.questions.Told.{looks_taken};
+ghost use Rattle.sabr_index.specs.Looks.{looks_taken};
 
 use crate::answers::Answers;
+use crate::answers::widening::Widening;
 use crate::course::Course;
-use crate::course::shut::Shut;
-use crate::links::looks::Looks;
 use crate::reach::Reach;
-use sabr_index::Index;
-use sabr_model::{NoMemory, Plan, Request};
+use sabr_index::{CountedPlan, Looks};
+use sabr_model::{NoMemory, Request};
 use std::alloc::{Allocator, Global};
 
 /// How many questions are asked before what bounds every search is found. Finding it takes as long as several searches,
@@ -36,8 +35,8 @@ pub struct Kept<A: Allocator + Copy = Global> {
     asked: u32,
     /// Answers to questions so far.
     pub(crate) answers: Answers<A>,
-    /// The nodes that the last wide question shut.
-    pub(crate) wide: Shut<A>,
+    /// Which wide questions are asked for more of them.
+    pub(crate) widening: Widening<A>,
     /// Where the last prefix led, if one is known; in a box, since each call takes it out and puts it back.
     pub(crate) course: Option<Box<Course<A>, A>>,
 }
@@ -52,14 +51,14 @@ impl<A: Allocator + Copy> Kept<A> {
             reach: Reach::new(alloc),
             asked: 0,
             answers: Answers::new(alloc),
-            wide: Shut::new(alloc),
+            widening: Widening::new(alloc),
             course: None,
         }
     }
 
     /// Begins a question. After the first ones it finds what bounds every search, once. Nothing is known if two looks at
     /// each contact aren't enough, or if a growth is refused.
-    pub fn open(&mut self, looks: &mut Looks, index: &Index<'_, A>, request: &Request)
+    pub fn open(&mut self, looks: &mut Looks, index: &CountedPlan<'_, A>, request: &Request)
         requires kept { IsKept index.now request.now self.old }
         requires few { looks_taken looks.old ≤ 2 * length index.now.plan.contacts }
         ensures kept { IsKept index.now request.now self.new }
@@ -72,7 +71,7 @@ impl<A: Allocator + Copy> Kept<A> {
         if self.asked <= FIRST_QUESTIONS {
             return;
         }
-        let aside = looks.set_aside(2 * index.plan().contacts().len() as u64);
+        let aside = looks.set_aside(2 * index.contacts());
         if let Ok(reach) = Reach::of(self.alloc, looks, index, request) {
             self.reach = reach;
         }
@@ -83,7 +82,7 @@ impl<A: Allocator + Copy> Kept<A> {
     pub fn take_course(
         &mut self,
         alloc: A,
-        plan: &Plan<A>,
+        plan: &CountedPlan<'_, A>,
         request: &Request,
     ) -> Result<Option<Box<Course<A>, A>>, NoMemory>
         requires kept { IsKept plan.now request.now self.old }

@@ -7,21 +7,22 @@ ghost use Rattle.sabr_model.specs.plan.Table.{node_count};
 ghost use Rattle.sabr_search.specs.questions.Part.{IsLeast};
 ghost use Rattle.sabr_search.specs.questions.Task.{IsAsked};
 ghost use Rattle.sabr_search.specs.layers.Late.{AreArrivals};
-ghost use Rattle.sabr_search.specs.questions.Told.{hops_told, looks_taken};
+ghost use Rattle.sabr_index.specs.Looks.{looks_taken};
+ghost use Rattle.sabr_search.specs.questions.Told.{hops_told};
 
 use crate::backward::deadlines::Deadlines;
 use crate::backward::from_goal::Aim;
 use crate::backward::since::Since;
 use crate::best::BestOf;
+use crate::bound::Bound;
 use crate::course::Course;
 use crate::forward::layers::Layers;
 use crate::kept::Kept;
 use crate::links::finger::Excluded;
-use crate::links::looks::Looks;
 use crate::part::Part;
 use crate::question::Question;
 use crate::task::Task;
-use sabr_index::Index;
+use sabr_index::{CountedPlan, Index, Looks};
 use sabr_model::{GhostCount, NoMemory, Plan, Request, Route, Told};
 use std::alloc::{Allocator, Global};
 
@@ -86,7 +87,12 @@ impl<A: Allocator + Copy> Layered<A> {
         ensures counted { IfOk result (λ answer. hops_told answer ≤ looks_taken self.new.looks) }
         ensures calls { self.new.calls ≡ self.old.calls }
     {
-        let asked = Question { task, prefix, told };
+        let asked = Question {
+            task,
+            prefix,
+            told,
+            bound: Bound::none(),
+        };
         let since = Since::of(&self.since);
         let mut first = Vec::new(self.alloc);
         let whole = task.first_steps(&mut self.looks, &mut first)?;
@@ -100,9 +106,13 @@ impl<A: Allocator + Copy> Layered<A> {
             delivery: 0,
         };
         let left = asked.left();
-        let found = self
-            .deadlines
-            .least_within(&mut self.layers, &aim, &mut self.looks, left)?;
+        let found = self.deadlines.least_within(
+            &mut self.layers,
+            &aim,
+            &mut self.looks,
+            left,
+            Bound::none(),
+        )?;
         let Some(way) = found else {
             unreachable!();
         };
@@ -112,7 +122,7 @@ impl<A: Allocator + Copy> Layered<A> {
     /// Finds the least route of a part.
     fn find(
         &mut self,
-        index: &Index<'_, A>,
+        index: &CountedPlan<'_, A>,
         request: &Request,
         prefix: &[u32],
         excluded: Excluded<'_>,
@@ -124,15 +134,14 @@ impl<A: Allocator + Copy> Layered<A> {
         ensures counted { IfOk result (λ answer. hops_told answer ≤ looks_taken self.new.looks) }
         ensures calls { self.new.calls ≡ self.old.calls }
     {
-        let plan = index.plan();
-        let opened = Course::open(self.alloc, plan, request)?;
+        let opened = Course::open(self.alloc, index, request)?;
         let Some(mut course) = opened else {
             return Ok(None);
         };
-        let stop = course.go(&mut self.looks, plan, request, prefix)?;
+        let stop = course.go(&mut self.looks, index, request, prefix)?;
         let task = Task::new(index, request, &course, excluded, stop);
         self.since.clear();
-        self.since.resize(plan.nodes(), task.at())?;
+        self.since.resize(index.nodes(), task.at())?;
         self.least_after(&task, prefix, stop.told)
     }
 }
@@ -152,7 +161,12 @@ impl<A: Allocator + Copy> BestOf<A> for Layered<A> {
         let Ok(index) = Index::new(self.alloc, plan) else {
             return Err(NoMemory);
         };
-        self.find(&index, request, part.prefix, Excluded::of(part.excluded))
+        self.find(
+            index.counted(),
+            request,
+            part.prefix,
+            Excluded::of(part.excluded),
+        )
     }
 
     fn best_beside(
@@ -165,7 +179,7 @@ impl<A: Allocator + Copy> BestOf<A> for Layered<A> {
     ) -> Result<Option<Route<A>>, NoMemory> {
         let _kept = kept;
         self.begin(Looks::many());
-        self.find(index, request, prefix, excluded)
+        self.find(index.counted(), request, prefix, excluded)
     }
 
     fn looks(&self) -> u64 {

@@ -4,6 +4,7 @@
 mod answers;
 mod backward;
 mod best;
+mod bound;
 mod course;
 mod fitting;
 mod forward;
@@ -20,6 +21,7 @@ mod task;
 mod visit;
 
 pub use best::BestOf;
+pub use bound::{Bound, BoundedPart, Sought};
 pub use fitting::fits;
 pub use kept::Kept;
 pub use laws::answers_stay;

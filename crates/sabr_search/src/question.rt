@@ -1,15 +1,17 @@
 //! A question after a prefix.
 
-ghost use Rattle.std.specs.Prelude.{◌≡◌, ◌++◌, ◌+◌, ◌-◌, ◌^◌, ◌≤◌, IfOk, OnErr, length, take};
+ghost use Rattle.std.specs.Prelude.{◌≡◌, ◌++◌, ◌+◌, ◌-◌, ◌^◌, ◌≤◌, ◌<◌, [], None, IfOk, OnErr, length, take};
 ghost use Rattle.sabr_model.specs.routes.Telling.{told_of};
 ghost use Rattle.sabr_search.specs.questions.Task.{IsAsked, left_of};
-ghost use Rattle.sabr_search.specs.answers.KeptAnswers.{IsFoundWay};
+ghost use Rattle.sabr_search.specs.layers.Picks.{IsLeastWay};
 ghost use Rattle.sabr_search.specs.answers.Answers.{IsAnswered};
-ghost use Rattle.sabr_search.specs.questions.Told.{hops_told, looks_taken};
+ghost use Rattle.sabr_index.specs.Looks.{looks_taken};
+ghost use Rattle.sabr_search.specs.questions.Told.{hops_told};
 
-use crate::links::looks::Looks;
+use crate::bound::Bound;
 use crate::task::Task;
-use sabr_model::{MOST_HOPS, NoMemory, Plan, Route, Told};
+use sabr_index::{CountedPlan, Looks};
+use sabr_model::{MOST_HOPS, NoMemory, Route, Told};
 use std::alloc::Allocator;
 
 /// What is asked of a search: the least route that begins with a prefix.
@@ -21,6 +23,8 @@ pub struct Question<'t, 'a, 'p, A: Allocator + Copy> {
     pub prefix: &'p [u32],
     /// What these tell.
     pub told: Told,
+    /// What is asked up to.
+    pub bound: Bound,
 }
 
 /// The numbers of a way after those of a prefix.
@@ -37,20 +41,25 @@ fn joined<A: Allocator + Copy>(
     Ok(contacts)
 }
 
-/// Finds what these numbers tell, from what the first of them tell. It reads no contact of those.
+/// Finds what these numbers tell, from what the first of them tell: one look for each, though no contact of the first is
+/// read.
 fn told_from<A: Allocator + Copy>(
-    plan: &Plan<A>,
+    plan: &CountedPlan<'_, A>,
+    looks: &mut Looks,
     known: Told,
     first: usize,
     numbers: &[u32],
 ) -> Told
     requires within { first ≤ length numbers.now }
+    requires few { length numbers.now ≤ looks.old.left }
     requires known { known ≡ told_of plan.now.plan (take first numbers.now) }
-    ensures { result ≡ told_of plan.now.plan numbers.now }
+    ensures counted { looks_taken looks.new ≡ looks_taken looks.old + length numbers.now }
+    ensures value { result ≡ told_of plan.now.plan numbers.now }
 {
+    looks.take_many(first as u64);
     let mut told = known;
     for place in first..numbers.len() {
-        told = told.extended(plan, &numbers[..place], numbers[place]);
+        told = plan.tell(looks, told, &numbers[..place], numbers[place]);
     }
     told
 }
@@ -70,6 +79,13 @@ impl<'t, 'a, 'p, A: Allocator + Copy> Question<'t, 'a, 'p, A> {
         others.min(left)
     }
 
+    /// What the bound leaves after the prefix.
+    pub fn bound_left(&self) -> Bound
+        ensures { result ≡ record { delivery = self.now.bound.delivery; hops = self.now.bound.hops - length self.now.prefix.now } }
+    {
+        self.bound.after(self.prefix.len())
+    }
+
     /// Returns the route that goes on by a way. None if there is no way.
     ///
     /// It takes one look for each contact of the route: those of the prefix count, too, though what they tell is known.
@@ -82,18 +98,19 @@ impl<'t, 'a, 'p, A: Allocator + Copy> Question<'t, 'a, 'p, A> {
     ) -> Result<Option<Route<A>>, NoMemory>
         requires few { length self.now.prefix.now + length way.now ≤ looks.old.left }
         requires told { self.now.told ≡ told_of self.now.task.now.plan self.now.prefix.now }
-        requires found { IsFoundWay self.now.task.now (left_of self.now.task.now self.now.prefix.now) way.now delivery }
+        requires found { 0 < length way.now → IsLeastWay self.now.task.now (left_of self.now.task.now self.now.prefix.now) (delivery + 1) way.now delivery }
         ensures refused { OnErr result (looks_taken looks.new ≡ looks_taken looks.old) }
         ensures looks { IfOk result (λ o. looks_taken looks.new ≡ looks_taken looks.old + hops_told o) }
         ensures hops { IfOk result (λ o. hops_told o - length self.now.prefix.now ≡ length way.now) }
-        ensures answered { IfOk result (IsAnswered self.now.task.now self.now.prefix.now) }
+        ensures none { way.now ≡ [] → IfOk result (λ o. o ≡ None) }
+        ensures answered { 0 < length way.now → IfOk result (IsAnswered self.now.task.now self.now.prefix.now) }
     {
         if way.is_empty() {
             return Ok(None);
         }
         let contacts = joined(alloc, self.prefix, way)?;
-        let numbers = looks.look_all(&contacts);
-        let told = told_from(self.task.plan(), self.told, self.prefix.len(), numbers);
+        let first = self.prefix.len();
+        let told = told_from(self.task.plan(), looks, self.told, first, &contacts);
         Ok(Some(told.route(contacts, delivery)))
     }
 }

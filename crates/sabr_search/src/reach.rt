@@ -10,9 +10,8 @@ use crate::backward::nearest::costs_of;
 use crate::course::Course;
 use crate::forward::soonest::soonest_of;
 use crate::links::finger::Excluded;
-use crate::links::looks::Looks;
 use crate::task::Task;
-use sabr_index::Index;
+use sabr_index::{CountedPlan, Looks};
 use sabr_model::{NoMemory, Request};
 use std::alloc::Allocator;
 
@@ -47,12 +46,11 @@ impl<A: Allocator + Copy> Reach<A> {
     pub fn of(
         alloc: A,
         looks: &mut Looks,
-        index: &Index<'_, A>,
+        plan: &CountedPlan<'_, A>,
         request: &Request,
     ) -> Result<Reach<A>, NoMemory>
-        ensures { IfOk result (λ reach. IsReach index.now request.now reach) }
+        ensures { IfOk result (λ reach. IsReach plan.now request.now reach) }
     {
-        let plan = index.plan();
         let opened = Course::open(alloc, plan, request)?;
         let Some(mut course) = opened else {
             return Ok(Reach::new(alloc));
@@ -62,7 +60,7 @@ impl<A: Allocator + Copy> Reach<A> {
             numbers: &[],
             rising: false,
         };
-        let task = Task::new(index, request, &course, excluded, source);
+        let task = Task::new(plan, request, &course, excluded, source);
         let late = latest_of(alloc, &task, looks)?;
         let mut hops = Vec::new(alloc);
         let costs = costs_of(alloc, &task, &mut hops)?;

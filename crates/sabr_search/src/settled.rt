@@ -1,38 +1,38 @@
 //! The finder that settles nodes first, and then makes only the layers that the least route needs.
 
-ghost use Rattle.std.specs.Prelude.{◌≡◌, ◌≤◌, ◌+◌, ◌*◌, IfOk, IfSome, IsTrue, length};
+ghost use Rattle.std.specs.Prelude.{◌≡◌, false, ◌≤◌, ◌+◌, ◌-◌, ◌*◌, [], IfOk, IfSome, IsTrue, length};
 ghost use Rattle.sabr_model.specs.routes.Asking.{most_hops};
 ghost use Rattle.sabr_model.specs.routes.Route.{is_prefix};
 ghost use Rattle.sabr_model.specs.routes.Telling.{told_of};
 ghost use Rattle.sabr_model.specs.plan.Table.{node_count};
 ghost use Rattle.sabr_search.specs.questions.Part.{IsLeast};
+ghost use Rattle.sabr_search.specs.questions.Bounded.{IsSought, IsCutUpTo, IsWhole, bound_after, hops_sought, is_up_to};
 ghost use Rattle.sabr_search.specs.questions.Task.{IsAsked, left_of};
-ghost use Rattle.sabr_search.specs.questions.Told.{hops_told, looks_taken, IsCut};
+ghost use Rattle.sabr_index.specs.Looks.{looks_taken};
+ghost use Rattle.sabr_search.specs.questions.Told.{hops_told, IsCut};
 ghost use Rattle.sabr_search.specs.answers.Kept.{IsKept};
-ghost use Rattle.sabr_search.specs.answers.KeptAnswers.{IsFoundWay, AnswersAt};
+ghost use Rattle.sabr_search.specs.answers.KeptAnswers.{IsFoundWay, AnswersAt, is_kept_after, way_hops};
 ghost use Rattle.sabr_search.specs.questions.FirstSteps.{tabled_of};
 ghost use Rattle.sabr_search.specs.layers.Late.{AreSince};
 ghost use Rattle.sabr_search.specs.layers.Settling.{IsBound};
 
-use crate::answers::breadth_of;
-use crate::answers::wide::shut_few;
 use crate::backward::least_way::FoundWay;
 use crate::best::BestOf;
+use crate::bound::{Bound, BoundedPart, Sought};
 use crate::kept::Kept;
 use crate::links::finger::Excluded;
-use crate::links::looks::Looks;
 use crate::part::Part;
 use crate::question::Question;
 use crate::reach::Reach;
 use crate::search::Search;
 use crate::task::Task;
-use sabr_index::Index;
+use sabr_index::{CountedPlan, Index, Looks};
 use sabr_model::{GhostCount, NoMemory, Plan, Request, Route, Told};
 use std::alloc::{Allocator, Global};
 
 impl<A: Allocator + Copy> Search<A> {
-    /// The place of a kept answer to the question, if there is one. If none is kept, a wide question may come first, and its
-    /// answer is kept.
+    /// The place of a kept answer to the question, if there is one. Otherwise a wide question may be asked and its answer kept,
+    /// which may be the answer to this one, too.
     fn find_kept(
         &mut self,
         kept: &mut Kept<A>,
@@ -42,33 +42,32 @@ impl<A: Allocator + Copy> Search<A> {
         requires asked { IsAsked asked.now.task.now asked.now.prefix.now }
         requires kept { IsKept (tabled_of asked.now.task.now) asked.now.task.now.request kept.old }
         ensures kept { IsKept (tabled_of asked.now.task.now) asked.now.task.now.request kept.new }
-        ensures some { IfOk result (λ o. IfSome o (λ place. AnswersAt kept.new.answers.slots.items place asked.now.task.now (left_of asked.now.task.now asked.now.prefix.now))) }
+        ensures others { is_kept_after asked.now.prefix.now asked.now.task.now.excluded ≡ false → kept.new.answers.slots ≡ kept.old.answers.slots }
+        ensures some { IfOk result (λ o. IfSome o (λ place. AnswersAt kept.new.answers.slots.items place asked.now.task.now (left_of asked.now.task.now asked.now.prefix.now) (bound_after asked.now.bound (length asked.now.prefix.now)))) }
     {
-        let task = asked.task;
+        if !kept.answers.serves(asked) {
+            return Ok(None);
+        }
         let recalled = kept.answers.recall(asked, looks);
         if let Some(place) = recalled.place {
             return Ok(Some(place));
         }
-        let near = recalled.near;
-        if !kept.answers.takes_wide(asked, near) {
+        let Some(breadth) = kept.widening.next(recalled.near, asked)? else {
             return Ok(None);
-        }
-        shut_few(&mut kept.wide, task)?;
-        kept.answers.shut_near(&mut kept.wide, task, near)?;
-        let question = task.with_shut(&kept.wide);
+        };
+        let wide = asked.task.with_shut(&kept.widening.shut);
         let left = asked.left();
-        let found = self.run(&question, &kept.reach, looks, left)?;
+        let found = self.run(&wide, &kept.reach, looks, left, asked.bound_left())?;
         let Some(way) = found else {
             return Ok(None);
         };
-        let newest = kept.answers.keep(&question, left, &way, breadth_of(near));
-        let Some(place) = newest else {
+        let Some(place) = kept.answers.keep(&wide, left, &way, breadth) else {
             return Ok(None);
         };
         Ok(kept.answers.recall_at(place, asked, looks))
     }
 
-    /// The least way of the question, by a search that never gives up.
+    /// The least way of the question up to its bound, by a search that never gives up.
     fn find_own(
         &mut self,
         asked: &Question<'_, '_, '_, A>,
@@ -80,47 +79,78 @@ impl<A: Allocator + Copy> Search<A> {
         requires soon { AreSince asked.now.task.now reach.now.soon.items }
         requires few { looks_taken looks.old ≤ 2 * length asked.now.task.now.plan.contacts }
         ensures bound { looks_taken looks.new ≤ 3 * length asked.now.task.now.table * length asked.now.task.now.plan.contacts }
-        ensures cut { IfOk result (λ way. asked.now.task.now.request.max_hops ≡ most_hops → looks_taken looks.new ≤ (2 * length way.numbers.items + 3) * length asked.now.task.now.plan.contacts) }
-        ensures found { IfOk result (λ way. IsFoundWay asked.now.task.now (left_of asked.now.task.now asked.now.prefix.now) way.numbers.items way.delivery) }
+        ensures cut { IfOk result (λ way. asked.now.task.now.request.max_hops ≡ most_hops → looks_taken looks.new ≤ (2 * way_hops (bound_after asked.now.bound (length asked.now.prefix.now)) way + 3) * length asked.now.task.now.plan.contacts) }
+        ensures found { IfOk result (λ way. IsFoundWay asked.now.task.now (left_of asked.now.task.now asked.now.prefix.now) way.numbers.items way.delivery way.bound) }
+        ensures enough { IfOk result (λ way. way.numbers.items ≡ [] → IsTrue (is_up_to way.bound asked.now.bound.delivery (asked.now.bound.hops - length asked.now.prefix.now))) }
     {
-        let found = self.run(asked.task, reach, looks, asked.left())?;
+        let found = self.run(asked.task, reach, looks, asked.left(), asked.bound_left())?;
         let Some(way) = found else {
             unreachable!();
         };
         Ok(way)
     }
 
-    /// The least route after the prefix: by an answer that is kept, or else by a search, whose answer is kept.
+    /// The least route after the prefix up to the bound: by an answer that is kept, or else by a search, whose answer is kept.
     fn least_beside(
+        &mut self,
+        kept: &mut Kept<A>,
+        asked: &Question<'_, '_, '_, A>,
+        looks: &mut Looks,
+    ) -> Result<Sought<A>, NoMemory>
+        requires asked { IsAsked asked.now.task.now asked.now.prefix.now }
+        requires told { asked.now.told ≡ told_of asked.now.task.now.plan asked.now.prefix.now }
+        requires few { looks_taken looks.old ≤ 2 * length asked.now.task.now.plan.contacts }
+        requires kept { IsKept (tabled_of asked.now.task.now) asked.now.task.now.request kept.old }
+        ensures kept { IsKept (tabled_of asked.now.task.now) asked.now.task.now.request kept.new }
+        ensures sought { IfOk result (IsSought asked.now.task.now.plan asked.now.task.now.request asked.now.prefix.now asked.now.task.now.excluded asked.now.bound) }
+        ensures whole { IfOk result (IsWhole asked.now.bound) }
+        ensures bound { looks_taken looks.new ≤ (3 * length asked.now.task.now.table + 1) * length asked.now.task.now.plan.contacts }
+        ensures counted { IfOk result (λ answer. hops_sought answer ≤ looks_taken looks.new) }
+        ensures cut { IfOk result (IsCutUpTo asked.now.task.now.plan asked.now.task.now.request.max_hops asked.now.bound asked.now.prefix.now (looks_taken looks.new)) }
+    {
+        let aside = looks.set_aside(asked.task.two_passes());
+        let found = self.find_kept(kept, asked, looks);
+        looks.put_back(aside);
+        if let Some(place) = found? {
+            let answer = &kept.answers.slots[place];
+            kept.widening.count_win(answer.breadth);
+            let way = answer.lists.way();
+            let route = asked.route(self.alloc, looks, way, answer.delivery)?;
+            return Ok(Sought::up_to(route, answer.bound));
+        }
+        let way = self.find_own(asked, &kept.reach, looks)?;
+        let route = asked.route(self.alloc, looks, &way.numbers, way.delivery)?;
+        kept.answers.keep_after(asked, &way);
+        Ok(Sought::up_to(route, way.bound))
+    }
+
+    /// The same for a part, after whose prefix the search starts.
+    fn least_after(
         &mut self,
         kept: &mut Kept<A>,
         task: &Task<'_, A>,
         looks: &mut Looks,
-        prefix: &[u32],
+        part: BoundedPart<'_>,
         told: Told,
-    ) -> Result<Option<Route<A>>, NoMemory>
-        requires asked { IsAsked task.now prefix.now }
-        requires told { told ≡ told_of task.now.plan prefix.now }
+    ) -> Result<Sought<A>, NoMemory>
+        requires asked { IsAsked task.now part.prefix.now }
+        requires told { told ≡ told_of task.now.plan part.prefix.now }
         requires few { looks_taken looks.old ≤ 2 * length task.now.plan.contacts }
         requires kept { IsKept (tabled_of task.now) task.now.request kept.old }
         ensures kept { IsKept (tabled_of task.now) task.now.request kept.new }
-        ensures least { IfOk result (IsLeast task.now.plan task.now.request prefix.now task.now.excluded) }
+        ensures sought { IfOk result (IsSought task.now.plan task.now.request part.entry.prefix.now task.now.excluded part.entry.bound) }
+        ensures whole { IfOk result (IsWhole part.entry.bound) }
         ensures bound { looks_taken looks.new ≤ (3 * length task.now.table + 1) * length task.now.plan.contacts }
-        ensures counted { IfOk result (λ answer. hops_told answer ≤ looks_taken looks.new) }
-        ensures cut { IfOk result (IsCut task.now.plan task.now.request.max_hops prefix.now (looks_taken looks.new)) }
+        ensures counted { IfOk result (λ answer. hops_sought answer ≤ looks_taken looks.new) }
+        ensures cut { IfOk result (IsCutUpTo task.now.plan task.now.request.max_hops part.entry.bound part.entry.prefix.now (looks_taken looks.new)) }
     {
-        let asked = Question { task, prefix, told };
-        let aside = looks.set_aside(task.two_passes());
-        let found = self.find_kept(kept, &asked, looks);
-        looks.put_back(aside);
-        if let Some(place) = found? {
-            let answer = &kept.answers.slots[place];
-            return asked.route(self.alloc, looks, answer.lists.way(), answer.delivery);
-        }
-        let way = self.find_own(&asked, &kept.reach, looks)?;
-        let route = asked.route(self.alloc, looks, &way.numbers, way.delivery)?;
-        kept.answers.keep_after(&asked, &way);
-        Ok(route)
+        let asked = Question {
+            task,
+            prefix: part.prefix,
+            told,
+            bound: part.bound,
+        };
+        self.least_beside(kept, &asked, looks)
     }
 }
 
@@ -164,11 +194,44 @@ impl<A: Allocator + Copy> Settled<A> {
         self.looks = looks;
     }
 
-    /// Finds the least route of a part, by what is kept or else by a search.
+    /// Finds the least route of a part up to a bound, by what is kept or else by a search.
     fn find(
         &mut self,
         kept: &mut Kept<A>,
-        index: &Index<'_, A>,
+        index: &CountedPlan<'_, A>,
+        request: &Request,
+        part: BoundedPart<'_>,
+    ) -> Result<Sought<A>, NoMemory>
+        requires fits { IsTrue (is_prefix index.now.plan request.now part.prefix.now) }
+        requires few { looks_taken self.old.looks ≤ length index.now.plan.contacts }
+        requires kept { IsKept index.now request.now kept.old }
+        ensures sought { IfOk result (IsSought index.now.plan request.now part.entry.prefix.now part.entry.excluded.numbers.now part.entry.bound) }
+        ensures whole { IfOk result (IsWhole part.entry.bound) }
+        ensures bound { looks_taken self.new.looks ≤ (3 * node_count index.now.plan.contacts + 1) * length index.now.plan.contacts }
+        ensures counted { IfOk result (λ answer. hops_sought answer ≤ looks_taken self.new.looks) }
+        ensures calls { self.new.calls ≡ self.old.calls }
+        ensures kept { IsKept index.now request.now kept.new }
+        ensures cut { IfOk result (IsCutUpTo index.now.plan request.now.max_hops part.entry.bound part.entry.prefix.now (looks_taken self.new.looks)) }
+    {
+        let taken = kept.take_course(self.alloc, index, request)?;
+        let Some(mut course) = taken else {
+            return Ok(Sought::None);
+        };
+        let stop = course.go(&mut self.looks, index, request, part.prefix)?;
+        kept.open(&mut self.looks, index, request);
+        let task = Task::new(index, request, &course, part.excluded, stop);
+        let answer = self
+            .search
+            .least_after(kept, &task, &mut self.looks, part, stop.told);
+        kept.course = Some(course);
+        answer
+    }
+
+    /// The same without a bound.
+    fn find_least(
+        &mut self,
+        kept: &mut Kept<A>,
+        index: &CountedPlan<'_, A>,
         request: &Request,
         prefix: &[u32],
         excluded: Excluded<'_>,
@@ -183,19 +246,16 @@ impl<A: Allocator + Copy> Settled<A> {
         ensures kept { IsKept index.now request.now kept.new }
         ensures cut { IfOk result (IsCut index.now.plan request.now.max_hops prefix.now (looks_taken self.new.looks)) }
     {
-        let plan = index.plan();
-        let taken = kept.take_course(self.alloc, plan, request)?;
-        let Some(mut course) = taken else {
-            return Ok(None);
+        let part = BoundedPart {
+            prefix,
+            excluded,
+            bound: Bound::none(),
         };
-        let stop = course.go(&mut self.looks, plan, request, prefix)?;
-        kept.open(&mut self.looks, index, request);
-        let task = Task::new(index, request, &course, excluded, stop);
-        let answer = self
-            .search
-            .least_beside(kept, &task, &mut self.looks, prefix, stop.told);
-        kept.course = Some(course);
-        answer
+        match self.find(kept, index, request, part)? {
+            Sought::Route(route) => Ok(Some(route)),
+            Sought::None => Ok(None),
+            Sought::Beyond => unreachable!(),
+        }
     }
 }
 
@@ -223,7 +283,7 @@ impl<A: Allocator + Copy> BestOf<A> for Settled<A> {
         };
         let mut kept = Kept::new(self.alloc);
         let excluded = Excluded::of(part.excluded);
-        self.find(&mut kept, &index, request, part.prefix, excluded)
+        self.find_least(&mut kept, index.counted(), request, part.prefix, excluded)
     }
 
     fn best_beside(
@@ -244,7 +304,27 @@ impl<A: Allocator + Copy> BestOf<A> for Settled<A> {
         ensures cut { IfOk result (IsCut index.now.plan request.now.max_hops prefix.now (looks_taken self.new.looks)) }
     {
         self.begin(Looks::many());
-        self.find(kept, index, request, prefix, excluded)
+        self.find_least(kept, index.counted(), request, prefix, excluded)
+    }
+
+    fn best_up_to(
+        &mut self,
+        kept: &mut Kept<A>,
+        index: &Index<'_, A>,
+        request: &Request,
+        part: BoundedPart<'_>,
+    ) -> Result<Sought<A>, NoMemory>
+        requires fits { IsTrue (is_prefix index.now.plan request.now part.prefix.now) }
+        requires kept { IsKept index.now request.now kept.old }
+        ensures sought { IfOk result (IsSought index.now.plan request.now part.entry.prefix.now part.entry.excluded.numbers.now part.entry.bound) }
+        ensures bound { looks_taken self.new.looks ≤ (3 * node_count index.now.plan.contacts + 1) * length index.now.plan.contacts }
+        ensures counted { IfOk result (λ answer. hops_sought answer ≤ looks_taken self.new.looks) }
+        ensures called { self.new.calls.count ≡ self.old.calls.count + 1 }
+        ensures kept { IsKept index.now request.now kept.new }
+        ensures cut { IfOk result (IsCutUpTo index.now.plan request.now.max_hops part.entry.bound part.entry.prefix.now (looks_taken self.new.looks)) }
+    {
+        self.begin(Looks::many());
+        self.find(kept, index.counted(), request, part)
     }
 
     fn looks(&self) -> u64 {

@@ -13,10 +13,9 @@ ghost use Rattle.sabr_search.specs.questions.Linked.{AreLinksAt, AreSendersAt};
 use crate::course::shut::Shut;
 use crate::course::{Course, Stop};
 use crate::links::finger::{Excluded, Finger};
-use crate::links::looks::Looks;
 use crate::visit::Visit;
-use sabr_index::{Index, Links, Pass, Senders};
-use sabr_model::{Hop, Plan, Request};
+use sabr_index::{CountedPlan, Links, Looked, Looks, Senders};
+use sabr_model::{Hop, Request};
 use std::alloc::Allocator;
 use std::marker::Model;
 
@@ -24,8 +23,8 @@ use std::marker::Model;
 /// excluded number first.
 #[derive(Drop)]
 pub struct Task<'a, A: Allocator + Copy> {
-    /// The index of the plan that is searched.
-    index: &'a Index<'a, A>,
+    /// The plan that is searched.
+    index: &'a CountedPlan<'a, A>,
     /// The request.
     request: &'a Request,
     /// For each node, whether it is shut.
@@ -52,7 +51,7 @@ impl<'a, A: Allocator + Copy> Model for Task<'a, A> {
 impl<'a, A: Allocator + Copy> Task<'a, A> {
     /// Makes a task from the last stop of a course.
     pub fn new(
-        index: &'a Index<'a, A>,
+        index: &'a CountedPlan<'a, A>,
         request: &'a Request,
         course: &'a Course<A>,
         excluded: Excluded<'a>,
@@ -107,10 +106,10 @@ impl<'a, A: Allocator + Copy> Task<'a, A> {
     }
 
     /// The plan that is searched.
-    pub fn plan(&self) -> &'a Plan<A>
+    pub fn plan(&self) -> &'a CountedPlan<'a, A>
         ensures { result.now ≡ tabled_of self.now }
     {
-        self.index.plan()
+        self.index
     }
 
     /// The request.
@@ -177,7 +176,9 @@ impl<'a, A: Allocator + Copy> Task<'a, A> {
         ensures looks { looks.old.left ≡ looks.new.left + 1 }
         ensures some { IfSome result (Arrives self.now number at) }
     {
-        let hop = looks.hop(self.index.plan(), number)?;
+        let Some(hop) = self.index.hop(looks, number) else {
+            return None;
+        };
         if self.shut.flags()[hop.receiver] {
             *passed = hop.receiver;
             return None;
@@ -194,7 +195,7 @@ impl<'a, A: Allocator + Copy> Task<'a, A> {
         ensures value { result ≡ length self.now.plan.contacts }
         ensures limit { result ≤ 2 ^ 60 }
     {
-        self.index.plan().contacts().len() as u64
+        self.index.contacts()
     }
 
     /// As many looks as two passes over all contacts take.
@@ -207,7 +208,7 @@ impl<'a, A: Allocator + Copy> Task<'a, A> {
     /// Returns how many passes of a link, from this one on, have numbers that no route takes after the prefix: 0 if a
     /// route may take this one, else at most as many as the pass knows in its row. A walk over passes keeps the finger.
     #[inline(always)]
-    pub fn excluded_from(&self, node: usize, pass: &Pass, finger: &mut Finger) -> usize
+    pub fn excluded_from(&self, node: usize, pass: &Looked<'_>, finger: &mut Finger) -> usize
         ensures none { result ≡ 0 → node ≡ self.now.start → has pass.now.number self.now.excluded ≡ false }
         ensures some { (j : ℕ) → j < result → (node ≡ self.now.start) × (has (pass.now.number + j) self.now.excluded ≡ true) }
         ensures in_row { result ≤ pass.now.in_row_behind + 1 }
@@ -215,7 +216,11 @@ impl<'a, A: Allocator + Copy> Task<'a, A> {
         if node != self.start {
             return 0;
         }
-        finger.counts(self.excluded, pass.number, pass.in_row_behind as u32)
+        finger.counts(
+            self.excluded,
+            pass.number(),
+            pass.pass().in_row_behind as u32,
+        )
     }
 
     /// Returns a light time with the margin, in seconds.

@@ -11,7 +11,9 @@ use Rattle.std.proofs.lemmas.List.{reverse-append, length_push}
 use Rattle.sabr_frontier.specs.listing.Listing.{one_step, next_route, given_first, steps, searches_for, searches_in}
 use Rattle.sabr_frontier.specs.tree.Shape.{Shape, numbers_of, shown, part_at}
 use Rattle.sabr_frontier.specs.tree.Undo.{CanUndoTimes, undone, undone_times, CanUndo, undone_by}
-use Rattle.sabr_frontier.specs.tree.Asking.{Asked}
+use Rattle.sabr_search.specs.declared.bound.Bound.{Bound}
+use Rattle.sabr_frontier.specs.tree.Asking.{Asked, best_for}
+use Rattle.sabr_frontier.specs.tree.Best.{best_of, best_up_to}
 use Rattle.sabr_frontier.specs.tree.Taking.{divided, IsTaken, fresh_nodes}
 use Rattle.sabr_frontier.specs.tree.Winners.{CarriesNone, CarriesSome, IsLeast, IsNext}
 use Rattle.sabr_frontier.specs.tree.Sound.{IsTree}
@@ -26,18 +28,20 @@ use Rattle.sabr_frontier.specs.listing.Step.{step_of}
 use Rattle.sabr_frontier.proofs.ListingLemmas.ListMembers.{Member-map_cases}
 use Rattle.sabr_frontier.proofs.ListingLemmas.NextPlace.{least_carried_none}
 use Rattle.sabr_frontier.proofs.ListingLemmas.AllRoutes.{by_key_exact}
+use Rattle.sabr_frontier.proofs.TreeLemmas.ListFronts.{length_fresh}
 use Rattle.sabr_frontier.proofs.TreeLemmas.SlotWinners.{standing_at}
 use Rattle.sabr_frontier.proofs.TreeLemmas.DividedStates.{shown_divided}
 use Rattle.sabr_frontier.proofs.TreeLemmas.SoundSteps.{tree_divided, undone_divided, can_undo}
 
 -- ---- what giving the least route that a node of a sound tree carries is
 
-length_fresh : (A : Type 0) (best : List ℕ → List ℕ → Option RouteRecord) (leaf : ℕ) (q rest : List ℕ) → length (fresh_nodes {A = A} best leaf q rest) ≡ length rest
-length_fresh A best leaf q [] = refl
-length_fresh A best leaf q (y ∷ rest) = ap suc (length_fresh A best leaf (q ++ y ∷ []) rest)
-
 pub new_nodes : (A : Type 0) (best : List ℕ → List ℕ → Option RouteRecord) (leaf : ℕ) (s : List ℕ) (d : ℕ) → d < length s → length (fresh_nodes {A = A} best leaf (take (d + 1) s) (drop (d + 1) s)) + 1 ≡ length s - d
 new_nodes A best leaf s d l = omega (arith, length_fresh A best leaf (take (d + 1) s) (drop (d + 1) s), length-drop (d + 1) s)
+
+-- without a bound the searches answer the least routes
+pub taken_whole : {A : Type 0} {a b : Asked} {t u : Shape A} {before after : List RouteRecord} {count : ℕ} → b ≡ a → a.bound ≡ None → IsTaken (best_for b) t u before after count → IsTaken (best_of a.plan.plan a.request) t u before after count
+taken_whole {a = a} {t = t} {u = u} {before = before} {after = after} {count = count} same none w =
+    subst (λ (o : Option Bound). IsTaken (best_up_to a.plan.plan a.request o) t u before after count) none (subst (λ (z : Asked). IsTaken (best_for z) t u before after count) same w)
 
 -- a step from one tree to another is the step of the state, and can be undone
 pub record IsGiven {A : Type 0} (p : ContactPlan) (r : RouteRequest) (t u : Shape A) : Type 0 where
@@ -67,7 +71,7 @@ module _ {A : Type 0} (p : ContactPlan) (r : RouteRequest) (good : IsPlan p) (t 
       can = can_undo p r good t is node n x stands carries;
     }
 
-  pub is_given : (u : Shape A) (before after : List RouteRecord) (count : ℕ) → IsTaken p r t u before after count → (g : IsGiven p r t u) × (after ≡ before ++ g.route ∷ []) × (count ≡ searches_for (shown t) g.route.contacts)
+  pub is_given : (u : Shape A) (before after : List RouteRecord) (count : ℕ) → IsTaken (best_of p r) t u before after count → (g : IsGiven p r t u) × (after ≡ before ++ g.route ∷ []) × (count ≡ searches_for (shown t) g.route.contacts)
   is_given u before after count w =
       let Q = λ (z : Shape A). (g : IsGiven p r t z) × (after ≡ before ++ g.route ∷ []) × (count ≡ searches_for (shown t) g.route.contacts) in
       subst Q (sym w.shape) (given_by w.node w.part w.route w.stands w.carries w.least, w.given, w.counted ∙ sym (searches_are p r t is w.node w.part w.route w.stands w.carries))

@@ -46,3 +46,8 @@ longer_next best s n l =
     ap (longer_go_on best (take n s)) (drop-cons s n 0 l)
     ∙ ap (λ z. is_some (best (take n s) (get_or s n 0 ∷ [])) || longer_go_on best z (drop (suc n) s)) (sym (take-suc s n 0 l))
     ∙ ap (λ m. is_some (best (take n s) (get_or s n 0 ∷ [])) || longer_go_on best (take m s) (drop m s)) next
+
+-- how many new nodes there are
+pub length_fresh : (A : Type 0) (best : List ℕ → List ℕ → Option RouteRecord) (leaf : ℕ) (q rest : List ℕ) → length (fresh_nodes {A = A} best leaf q rest) ≡ length rest
+length_fresh A best leaf q [] = refl
+length_fresh A best leaf q (y ∷ rest) = ap suc (length_fresh A best leaf (q ++ y ∷ []) rest)

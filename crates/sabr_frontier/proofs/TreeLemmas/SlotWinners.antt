@@ -357,3 +357,53 @@ module _ {A : Type 0} (nodes : List (Node A)) where
 
         other : (c : ℕ) → c ≢ p → winner_at (set ids p id) c ≡ winner_at ids c
         other c d = get_or-set_other ids p c id (record { 0 = 0 }) d
+
+-- ---- without slots
+
+-- some node carries a route that is no greater than any other's
+no_greater_there : {A : Type 0} (n : Node A) (nodes : List (Node A)) → (id : NodeId) × ((i : ℕ) → IsNoGreater (route_at (n ∷ nodes) id) (route_at (n ∷ nodes) (record { 0 = i })))
+no_greater_there {A} n [] = (record { 0 = 0 }, first) where
+  first : (i : ℕ) → IsNoGreater n.route (route_at (n ∷ []) (record { 0 = i }))
+  first zero = no_greater_itself n.route
+  first (suc i) = tt
+no_greater_there {A} n (m ∷ nodes) =
+    let w = no_greater_there m nodes in
+    let o : Option RouteRecord = route_at (m ∷ nodes) w.0 in
+    elim (is_lesser n.route o) as (λ b. is_lesser n.route o ≡ b → (id : NodeId) × ((i : ℕ) → IsNoGreater (route_at (n ∷ m ∷ nodes) id) (route_at (n ∷ m ∷ nodes) (record { 0 = i })))) [
+      | true ↦ λ e. (
+        record { 0 = 0 },
+        λ i. elim i as (λ i. IsNoGreater n.route (route_at (n ∷ m ∷ nodes) (record { 0 = i }))) [
+          | zero ↦ no_greater_itself n.route
+          | suc i ↦ no_greater_then n.route o (route_at (m ∷ nodes) (record { 0 = i })) (first_then n.route o e) (w.1 i)
+        ],
+      )
+      | false ↦ λ e. (
+        record { 0 = suc w.0.0 },
+        λ i. elim i as (λ i. IsNoGreater o (route_at (n ∷ m ∷ nodes) (record { 0 = i }))) [
+          | zero ↦ not_first n.route o e
+          | suc i ↦ w.1 i
+        ],
+      )
+    ] refl
+
+no_greater_none : (o p : Option RouteRecord) → o ≡ None → IsNoGreater o p → p ≡ None
+no_greater_none o None e h = refl
+no_greater_none None (Some y) e h = absurd h
+no_greater_none (Some x) (Some y) e h = absurd cc
+
+-- no node carries a route, or one carries the least
+pub carries_cases : {A : Type 0} (nodes : List (Node A)) → CarriesNone nodes ⊎ ((x : RouteRecord) × (id : NodeId) × IsFirst nodes id x)
+carries_cases [] = inl (λ id. refl)
+carries_cases (n ∷ nodes) =
+    let w = no_greater_there n nodes in
+    elim (route_at (n ∷ nodes) w.0) as (λ o. route_at (n ∷ nodes) w.0 ≡ o → CarriesNone (n ∷ nodes) ⊎ ((x : RouteRecord) × (id : NodeId) × IsFirst (n ∷ nodes) id x)) [
+      | None ↦ λ e. inl (λ id. no_greater_none (route_at (n ∷ nodes) w.0) (route_at (n ∷ nodes) id) e (w.1 id.0))
+      | Some x ↦ λ e. inr (
+        x,
+        w.0,
+        record {
+          carries = e;
+          least = λ id y f. subst (λ (z : Option RouteRecord × Option RouteRecord). IsNoGreater z.0 z.1) (λ i. (e i, f i)) (w.1 id.0);
+        },
+      )
+    ] refl

@@ -1,5 +1,5 @@
 -- What a session shows, and what holds of it.
-use Rattle.std.specs.Prelude.{◌≡◌, ℕ, ◌-◌, ◌<◌, zero, suc, List, [], ◌∷◌, length, reverse, Option}
+use Rattle.std.specs.Prelude.{◌≡◌, ℕ, ◌-◌, ◌<◌, zero, suc, List, [], ◌∷◌, length, reverse, Option, None}
 use Rattle.std.specs.Option.{option_map}
 use Rattle.sabr_model.specs.plan.Plan.{ContactPlan, TabledPlan, IsPlan}
 use Rattle.sabr_model.specs.routes.Arrival.{RouteRequest}
@@ -69,6 +69,7 @@ seen asker tree pages searches =
 
 pub record IsSession {A : Type 0} (asked : Asked) (tree : Tree A) (pages : List ℕ) : Type 0 where
   pub rules : IsPlan asked.plan.plan
+  pub unbounded : asked.bound ≡ None
   pub limits : IsRequest asked.request
   pub sound : IsSound asked.plan.plan asked.request (shape_of tree)
   pub starts : AreStarts (reverse pages) (length tree.journal.items)

@@ -1,6 +1,12 @@
 -- What a finder answers.
-use Rattle.std.specs.Prelude.{◌≡◌, ℕ, List, Option}
+use Rattle.std.specs.Prelude.{ℕ, List, length, if◌then◌else◌}
 use Rattle.std.specs.Option.{option_map}
+use Rattle.std.specs.declared.option.Option.{Option}
+use Rattle.std.specs.declared.option.Option.TheVariants.{Some, None}
+use Rattle.sabr_search.specs.declared.bound.Bound.{Bound}
+use Rattle.sabr_search.specs.declared.bound.Sought.{Sought}
+use Rattle.sabr_search.specs.declared.bound.Sought.TheVariants.{Route, None as NoRoute, Beyond}
+use Rattle.sabr_search.specs.questions.Bounded.{is_up_to}
 use Rattle.sabr_model.specs.plan.Plan.{ContactPlan}
 use Rattle.sabr_model.specs.routes.Arrival.{RouteRequest}
 use Rattle.sabr_model.specs.routes.Parts.{least_in}
@@ -10,5 +16,18 @@ use Rattle.sabr_model.specs.routes.Record.{RouteRecord, record_of}
 unfoldable pub best_of : ContactPlan → RouteRequest → List ℕ → List ℕ → Option RouteRecord
 best_of p r prefix excluded = option_map (record_of p r) (least_in p r prefix excluded)
 
-abbrev pub IsBest : ContactPlan → RouteRequest → List ℕ → List ℕ → Option RouteRecord → Type 0
-IsBest p r prefix excluded answer = answer ≡ best_of p r prefix excluded
+-- a route's record if it is up to the bound, and else none
+abbrev pub up_to : Bound → Option RouteRecord → Option RouteRecord
+up_to b None = None
+up_to b (Some x) = if is_up_to b x.delivery (length x.contacts) then Some x else None
+
+-- what of an answer is up to the bound
+abbrev pub found_up_to : {A : Type 0} → Bound → Sought A → Option RouteRecord
+found_up_to b (Route x) = up_to b (Some x)
+found_up_to b NoRoute = None
+found_up_to b Beyond = None
+
+-- the record of the least route of a part if it is up to the bound, where there is one
+abbrev pub best_up_to : ContactPlan → RouteRequest → Option Bound → List ℕ → List ℕ → Option RouteRecord
+best_up_to p r None prefix excluded = best_of p r prefix excluded
+best_up_to p r (Some b) prefix excluded = up_to b (best_of p r prefix excluded)

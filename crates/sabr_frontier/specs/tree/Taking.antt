@@ -75,21 +75,26 @@ divided_by t node x place wide found fresh = changed_by t node x (with_block pla
 abbrev pub wide_of : {A : Type 0} → Node A → List ℕ → List ℕ
 wide_of n s = put_in nat_cmp (slice_index s n.length) n.excluded
 
-abbrev pub divided : {A : Type 0} → ContactPlan → RouteRequest → Shape A → NodeId → Node A → RouteRecord → Shape A
-divided p r t node n x =
+-- that for what each search answers
+abbrev pub divided_with : {A : Type 0} → (List ℕ → List ℕ → Option RouteRecord) → Shape A → NodeId → Node A → RouteRecord → Shape A
+divided_with best t node n x =
     let s = x.contacts in
     let q = take (n.length + 1) s in
-    divided_by t node x (passing (stands_before t.leaves t.nodes q) t.index) (wide_of n s) (best_of p r (take n.length s) (wide_of n s)) (fresh_nodes (best_of p r) (length t.leaves) q (drop (n.length + 1) s))
+    divided_by t node x (passing (stands_before t.leaves t.nodes q) t.index) (wide_of n s) (best (take n.length s) (wide_of n s)) (fresh_nodes best (length t.leaves) q (drop (n.length + 1) s))
+
+-- that for the least routes
+abbrev pub divided : {A : Type 0} → ContactPlan → RouteRequest → Shape A → NodeId → Node A → RouteRecord → Shape A
+divided p r = divided_with (best_of p r)
 
 -- the least route that a node carries was given, with this number of searches: one for each hop of the route after the
 -- node's prefix
-pub record IsTaken {A : Type 0} (p : ContactPlan) (r : RouteRequest) (t u : Shape A) (before after : List RouteRecord) (count : ℕ) : Type 0 where
+pub record IsTaken {A : Type 0} (best : List ℕ → List ℕ → Option RouteRecord) (t u : Shape A) (before after : List RouteRecord) (count : ℕ) : Type 0 where
   pub node : NodeId
   pub part : Node A
   pub route : RouteRecord
   pub stands : slice_get t.nodes node.0 ≡ Some part
   pub carries : part.route ≡ Some route
   pub least : IsLeast t.nodes route
-  pub shape : u ≡ divided p r t node part route
+  pub shape : u ≡ divided_with best t node part route
   pub given : after ≡ before ++ route ∷ []
   pub counted : count ≡ length route.contacts - part.length

@@ -3,15 +3,28 @@
 ghost use Rattle.std.specs.Prelude.{◌≡◌, ◌+◌, IfOk, IsTrue};
 ghost use Rattle.std.specs.List.Sorted.{IsStrictlyIncreasing};
 ghost use Rattle.sabr_model.specs.routes.Route.{is_prefix};
-ghost use Rattle.sabr_frontier.specs.tree.Asking.{asked_of, asked_over};
-ghost use Rattle.sabr_frontier.specs.tree.Best.{IsBest};
+ghost use Rattle.sabr_frontier.specs.tree.Asking.{asked_of, asked_over, best_for};
+ghost use Rattle.sabr_frontier.specs.tree.Best.{found_up_to};
 
 use crate::plan_request::PlanRequest;
 use sabr_index::Index;
 use sabr_model::{NoMemory, Plan, Request, Route};
-use sabr_search::{BestOf, Excluded, Kept};
+use sabr_search::{BestOf, Bound, BoundedPart, Excluded, Kept, Sought};
 use std::alloc::{Allocator, Global};
 use std::marker::Model;
+
+/// The route that was found, if it is up to the bound.
+fn up_to<A: Allocator + Copy>(sought: Sought<A>, bound: Bound) -> Option<Route<A>>
+    ensures { result ≡ found_up_to bound sought }
+{
+    let Sought::Route(route) = sought else {
+        return None;
+    };
+    if bound.holds(route.delivery, route.contacts.as_slice().len()) {
+        return Some(route);
+    }
+    None
+}
 
 /// A finder with what it is asked for, and what is kept for its searches. Contracts see the plan, the request, and how
 /// often the finder was called.
@@ -27,6 +40,8 @@ pub struct Asker<'p, B: BestOf<A>, A: Allocator + Copy = Global> {
     finder: B,
     /// What is kept for its searches.
     kept: Kept<A>,
+    /// What is asked up to.
+    bound: Option<Bound>,
 }
 
 impl<'p, B: BestOf<A>, A: Allocator + Copy> Model for Asker<'p, B, A> {
@@ -35,7 +50,7 @@ impl<'p, B: BestOf<A>, A: Allocator + Copy> Model for Asker<'p, B, A> {
 
     ghost Value = { Asking };
 
-    ghost view = { λ a. record { asked = asked_over a.index a.request; calls = B.calls_of a.finder } };
+    ghost view = { λ a. record { asked = record (asked_over a.index a.request) { bound = a.bound }; calls = B.calls_of a.finder } };
 
     ghost invariant = { λ a. IsKept a.index a.request a.kept };
 }
@@ -58,6 +73,7 @@ impl<'p, B: BestOf<A>, A: Allocator + Copy> Asker<'p, B, A> {
             request: question.request,
             finder,
             kept,
+            bound: None,
         })
     }
 
@@ -71,6 +87,7 @@ impl<'p, B: BestOf<A>, A: Allocator + Copy> Asker<'p, B, A> {
             request: _,
             finder,
             kept: _,
+            bound: _,
         } = self;
         Asker {
             alloc,
@@ -78,7 +95,16 @@ impl<'p, B: BestOf<A>, A: Allocator + Copy> Asker<'p, B, A> {
             request,
             finder,
             kept: Kept::new(alloc),
+            bound: None,
         }
+    }
+
+    /// Asks only for routes up to a bound from now on; for all if there is none.
+    pub fn ask_up_to(&mut self, bound: Option<Bound>)
+        ensures bound { self.new.asked ≡ record self.old.asked { bound = bound } }
+        ensures calls { self.new.calls ≡ self.old.calls }
+    {
+        self.bound = bound;
     }
 
     /// The allocator of what is made.
@@ -107,19 +133,41 @@ impl<'p, B: BestOf<A>, A: Allocator + Copy> Asker<'p, B, A> {
         &self.request
     }
 
-    /// Asks for the least route of a part whose excluded numbers rise.
+    /// Asks for the least route of a part whose excluded numbers rise. One above the bound is none.
     #[tactic(auto, unfolding(crate::specs::tree::Best::best_of))]
-    pub fn ask(&mut self, prefix: &[u32], excluded: &[u32]) -> Result<Option<Route<A>>, NoMemory>
+    pub fn ask<'x>(
+        &mut self,
+        prefix: &'x [u32],
+        excluded: &'x [u32],
+    ) -> Result<Option<Route<A>>, NoMemory>
         requires fits { IsTrue (is_prefix self.old.asked.plan.plan self.old.asked.request prefix.now) }
         requires rising { IsStrictlyIncreasing excluded.now }
-        ensures best { IfOk result (IsBest self.old.asked.plan.plan self.old.asked.request prefix.now excluded.now) }
+        ensures best { IfOk result (λ found. found ≡ best_for self.old.asked prefix.now excluded.now) }
         ensures called { self.new.calls ≡ self.old.calls + 1 }
         ensures same { self.new.asked ≡ self.old.asked }
     {
+        self.index.plan().tell_rules();
         let excluded = Excluded {
             numbers: excluded,
             rising: true,
         };
-        self.finder.best_beside(&mut self.kept, &self.index, &self.request, prefix, excluded)
+        let Some(bound) = self.bound else {
+            return self.finder.best_beside(
+                &mut self.kept,
+                &self.index,
+                &self.request,
+                prefix,
+                excluded,
+            );
+        };
+        let part = BoundedPart {
+            prefix,
+            excluded,
+            bound,
+        };
+        let sought = self
+            .finder
+            .best_up_to(&mut self.kept, &self.index, &self.request, part)?;
+        Ok(up_to(sought, bound))
     }
 }

@@ -1,6 +1,6 @@
 //! Giving several routes, one after another.
 
-ghost use Rattle.std.specs.Prelude.{◌≡◌, ℕ, ◌+◌, ◌*◌, ◌≤◌, ◌++◌, length, IfOk, OnOk, OnErr};
+ghost use Rattle.std.specs.Prelude.{◌≡◌, ℕ, None, ◌+◌, ◌*◌, ◌≤◌, ◌++◌, length, IfOk, OnOk, OnErr};
 ghost use Rattle.sabr_model.specs.plan.Plan.{IsPlan};
 ghost use Rattle.sabr_model.specs.routes.Asking.{most_hops};
 ghost use Rattle.sabr_frontier.specs.tree.Asking.{records_for, steps_for};
@@ -25,6 +25,7 @@ impl<A: Allocator + Copy> Tree<A> {
         given: &mut Vec<Route<A>, A>,
     ) -> Result<u64, NoMemory>
         requires plan { IsPlan asker.old.asked.plan.plan }
+        requires unbounded { asker.old.asked.bound ≡ None }
         requires hops { asker.old.asked.request.max_hops ≤ most_hops }
         requires count { count ≤ most_routes }
         requires sound { IsSound asker.old.asked.plan.plan asker.old.asked.request (shape_of self.old) }

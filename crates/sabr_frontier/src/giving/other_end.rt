@@ -6,7 +6,7 @@ ghost use Rattle.sabr_model.specs.routes.Route.{is_path, is_route};
 ghost use Rattle.sabr_frontier.specs.tree.Left.{EndsOtherwise, IsOtherEnd};
 
 use crate::lists::holds;
-use sabr_index::{Index, Pass};
+use sabr_index::{Index, Looks, Pass};
 use sabr_model::{HopFault, Plan, Reached, Request, follow_hop};
 use std::alloc::Allocator;
 
@@ -65,7 +65,8 @@ fn ending_on<A: Allocator + Copy>(
     Some(number)
 }
 
-/// Returns the number of one of these passes on which the route may end, if one of the last does.
+/// Returns the number of one of these passes on which the route may end, if one of the last does. This is no search: the
+/// looks that it takes aren't told.
 fn ending_among<A: Allocator + Copy>(
     plan: &Plan<A>,
     request: &Request,
@@ -77,8 +78,10 @@ fn ending_among<A: Allocator + Copy>(
     ensures { IfSome result (IsOtherEnd plan.now.plan request.now end.entry.front.now end.entry.last end.entry.excluded.now) }
 {
     for pass in passes.iter().rev().take(MOST_PASSES) {
-        if pass.end > end.here.at {
-            if let Some(number) = ending_on(plan, request, end, pass.number) {
+        let mut looks = Looks::many();
+        let pass = pass.look(&mut looks);
+        if pass.end() > end.here.at {
+            if let Some(number) = ending_on(plan, request, end, pass.number()) {
                 return Some(number);
             }
         }

@@ -1,6 +1,6 @@
 //! Telling the least route that the tree carries, and whether a route would be left after it. Nothing is given.
 
-ghost use Rattle.std.specs.Prelude.{◌≡◌, ◌+◌, ◌≤◌, ◌<◌, ◌++◌, ◌||◌, take, drop, length, is_some, IfOk, OnOk, IsTrue};
+ghost use Rattle.std.specs.Prelude.{◌≡◌, ◌+◌, ◌≤◌, ◌<◌, ◌++◌, ◌||◌, None, take, drop, length, is_some, IfOk, OnOk, IsTrue};
 ghost use Rattle.sabr_model.specs.plan.Plan.{IsPlan};
 ghost use Rattle.sabr_model.specs.routes.Route.{is_route};
 ghost use Rattle.sabr_frontier.specs.listing.Listing.{next_route, searches_in};
@@ -68,6 +68,7 @@ fn part_goes_on<B: BestOf<A>, A: Allocator + Copy>(
 ) -> Result<bool, NoMemory>
     requires route { IsTrue (is_route asker.old.asked.plan.plan asker.old.asked.request route.now) }
     requires next { CanExclude part.now route.now }
+    requires unbounded { asker.old.asked.bound ≡ None }
     ensures ok { IfOk result (λ yes. yes ≡ part_goes_on (best_for asker.old.asked) part.now route.now) }
     ensures no_fewer { asker.old.calls ≤ asker.new.calls }
     ensures at_most { asker.new.calls + part.now.length ≤ asker.old.calls + length route.now }
@@ -98,6 +99,7 @@ impl<A: Allocator + Copy> Tree<A> {
         requires in_range { node.0 < length self.now.nodes.items }
         requires route { IsTrue (is_route asker.old.asked.plan.plan asker.old.asked.request route.now) }
         requires next { OfNode self.now.nodes.items node (λ n. CanExclude n route.now) }
+        requires unbounded { asker.old.asked.bound ≡ None }
         ensures ok { IfOk result (λ yes. OfNode self.now.nodes.items node (λ n. yes ≡ (others_carry self.now.nodes.items node || part_goes_on (best_for asker.old.asked) n route.now))) }
         ensures no_fewer { asker.old.calls ≤ asker.new.calls }
         ensures at_most { OfNode self.now.nodes.items node (λ n. asker.new.calls + n.length ≤ asker.old.calls + length route.now) }
@@ -117,6 +119,7 @@ impl<A: Allocator + Copy> Tree<A> {
         routes: &mut Vec<Route<A>, A>,
     ) -> Result<bool, NoMemory>
         requires plan { IsPlan asker.old.asked.plan.plan }
+        requires unbounded { asker.old.asked.bound ≡ None }
         requires tree { IsTree asker.old.asked.plan.plan asker.old.asked.request (shape_of self.now) }
         requires room { IsRoomy self.now }
 

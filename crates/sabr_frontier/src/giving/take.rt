@@ -3,6 +3,7 @@
 ghost use Rattle.std.specs.Prelude.{◌≡◌, ◌+◌, ◌≤◌, Some, IsSome, IfOk, OnErr};
 ghost use Rattle.sabr_model.specs.plan.Plan.{IsPlan};
 ghost use Rattle.sabr_frontier.specs.listing.Listing.{searches_in};
+ghost use Rattle.sabr_frontier.specs.tree.Asking.{best_for};
 ghost use Rattle.sabr_frontier.specs.tree.Shape.{shape_of, route_at, shown};
 ghost use Rattle.sabr_frontier.specs.tree.Undo.{IsRoomy};
 ghost use Rattle.sabr_frontier.specs.tree.Taking.{IsTaken};
@@ -42,7 +43,7 @@ impl<A: Allocator + Copy> Tree<A> {
         requires room { IsRoomy self.old }
 
         // The route is given, by so many searches.
-        ensures ok { IfOk result (IsTaken asker.old.asked.plan.plan asker.old.asked.request (shape_of self.old) (shape_of self.new) given.old.items given.new.items) }
+        ensures ok { IfOk result (IsTaken (best_for asker.old.asked) (shape_of self.old) (shape_of self.new) given.old.items given.new.items) }
         ensures called { IfOk result (λ n. asker.new.calls ≡ asker.old.calls + n) }
 
         // A refusal takes no more searches, and leaves the tree as it was.

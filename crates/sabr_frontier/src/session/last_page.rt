@@ -1,18 +1,22 @@
 //! The page after which a listing isn't gone on with.
 
-ghost use Rattle.std.specs.Prelude.{◌≡◌, ◌+◌, ◌≤◌, ◌++◌, is_some, IfOk, OnOk};
+ghost use Rattle.std.specs.Prelude.{◌≡◌, ◌+◌, ◌<◌, ◌≤◌, ◌++◌, None, drop, is_some, length, IfOk, OnOk};
 ghost use Rattle.sabr_model.specs.plan.Plan.{IsPlan};
-ghost use Rattle.sabr_model.specs.routes.Asking.{most_hops};
+ghost use Rattle.sabr_model.specs.routes.Asking.{IsRequest};
 ghost use Rattle.sabr_frontier.specs.listing.Listing.{most_routes, next_route, searches_in};
 ghost use Rattle.sabr_frontier.specs.session.LastPage.{IsLastPage};
 ghost use Rattle.sabr_frontier.specs.session.Session.{IsSound, started};
 ghost use Rattle.sabr_frontier.specs.tree.Asking.{records_for, steps_for};
 ghost use Rattle.sabr_frontier.specs.tree.Shape.{shape_of, shown};
+ghost use Rattle.sabr_frontier.specs.tree.Cut.{ShowsCut};
+ghost use Rattle.sabr_frontier.specs.tree.Taking.{OfNode};
 ghost use Rattle.sabr_frontier.specs.tree.Undo.{IsRoomy};
+ghost use Rattle.sabr_frontier.specs.giving.LeastKeys.{AreNoted, CarryKeys, carried_keys, keys_of};
 
 use crate::giving::asker::Asker;
+use crate::giving::least_keys::LeastKeys;
 use crate::session::Session;
-use crate::tree::Tree;
+use crate::tree::{Entry, Tree};
 use sabr_model::{NoMemory, Request, Route};
 use sabr_search::BestOf;
 use std::alloc::{Allocator, Global};
@@ -77,7 +81,8 @@ impl<A: Allocator + Copy> Tree<A> {
         routes: &mut Vec<Route<A>, A>,
     ) -> Result<bool, NoMemory>
         requires plan { IsPlan asker.old.asked.plan.plan }
-        requires hops { asker.old.asked.request.max_hops ≤ most_hops }
+        requires unbounded { asker.old.asked.bound ≡ None }
+        requires limits { IsRequest asker.old.asked.request }
         requires count { count ≤ most_routes }
         requires sound { IsSound asker.old.asked.plan.plan asker.old.asked.request (shape_of self.old) }
         requires room { IsRoomy self.old }
@@ -94,8 +99,61 @@ impl<A: Allocator + Copy> Tree<A> {
         if count == 0 {
             return Ok(!self.is_empty());
         }
-        self.gather(asker, count - 1, routes)?;
+        let gathered = self.gather_up_to(asker, count - 1, routes);
+        asker.ask_up_to(None);
+        gathered?;
         self.peek(asker, routes)
+    }
+
+    /// Gives the next `count` routes, or all that are left if they are fewer. Of the parts that they make, it looks for no
+    /// route that comes after so many that one more than them is still given before it.
+    fn gather_up_to<B: BestOf<A>>(
+        &mut self,
+        asker: &mut Asker<'_, B, A>,
+        count: u32,
+        routes: &mut Vec<Route<A>, A>,
+    ) -> Result<(), NoMemory>
+        requires plan { IsPlan asker.old.asked.plan.plan }
+        requires limits { IsRequest asker.old.asked.request }
+        requires count { count ≤ most_routes }
+        requires sound { IsSound asker.old.asked.plan.plan asker.old.asked.request (shape_of self.old) }
+        requires room { IsRoomy self.old }
+
+        // The routes are those of the steps. The tree shows the state after them, but for routes that its nodes don't carry,
+        // each after two others at the least.
+        ensures routes { OnOk result (routes.new.items ≡ routes.old.items ++ records_for asker.old.asked (steps_for asker.old.asked count (shown (shape_of self.old))).0) }
+        ensures state { OnOk result (ShowsCut asker.old.asked 2 (steps_for asker.old.asked count (shown (shape_of self.old))).1 (shape_of self.new)) }
+        ensures room { OnOk result (IsRoomy self.new) }
+
+        // It takes as many searches as the steps. The question stays, but for its bound.
+        ensures called { OnOk result (asker.new.calls ≡ asker.old.calls + searches_in asker.old.asked.plan.plan asker.old.asked.request count (shown (shape_of self.old))) }
+        ensures same { record asker.new.asked { bound = None } ≡ record asker.old.asked { bound = None } }
+    {
+        let mut keys = LeastKeys::new(asker.alloc(), count as usize + 2);
+        keys.note_all(self.nodes.as_slice())?;
+        for _ in 0..count {
+            if self.is_empty() {
+                return Ok(());
+            }
+            asker.ask_up_to(keys.bound());
+            self.take(asker, routes)?;
+            let Some(entry) = self.journal.as_slice().last() else {
+                unreachable!()
+            };
+            self.note_new(*entry, &mut keys)?;
+        }
+        Ok(())
+    }
+
+    /// Notes the keys of what the node of a journal's last entry carries, and of what the nodes carry that it didn't count.
+    fn note_new(&self, entry: Entry, keys: &mut LeastKeys<A>) -> Result<(), NoMemory>
+        requires in_range { entry.node.0 < length self.now.nodes.items }
+        requires within { entry.nodes ≤ length self.now.nodes.items }
+        requires fit { CarryKeys self.now.nodes.items }
+        ensures { OnOk result (OfNode self.now.nodes.items entry.node (λ n. AreNoted keys.old (keys_of n.route ++ carried_keys (drop entry.nodes self.now.nodes.items)) keys.new)) }
+    {
+        keys.note_carried(&self.nodes[entry.node.0])?;
+        keys.note_all(&self.nodes[entry.nodes..])
     }
 }
 

@@ -1,22 +1,31 @@
 -- What an answer after a prefix comes to: it is the least route, and the looks are within the bounds of a finder.
-use Rattle.std.proofs.Common.{◌≡◌, ◌≢◌, ◌⊎◌, inl, inr, ℕ, ◌+◌, ◌-◌, ◌*◌, ◌^◌, ◌<◌, ◌≤◌, min, true, false, cond, eqb, List, [], ◌∷◌, ◌++◌, length, Option, Some, None, refl, ap, arith, length-append}
+use Rattle.std.proofs.Common.{◌≡◌, ◌≢◌, ◌⊎◌, inl, inr, ℕ, ◌+◌, ◌-◌, ◌*◌, ◌^◌, ◌<◌, ◌≤◌, min, true, false, cond, eqb, List, [], ◌∷◌, ◌++◌, length, Option, Some, None, refl, ap, sym, subst, ◌∙◌, arith, length-append}
 use Rattle.std.specs.Prelude.{IsTrue, IfOk, OnErr}
 use Rattle.std.specs.declared.result.Result.{Result}
 use Rattle.std.specs.declared.result.Result.TheVariants.{Ok, Err}
 use Rattle.std.proofs.Math.Nat.{mul-le-mul, mul-le-mul_right}
-use Rattle.std.proofs.lemmas.Bool.{both_ways, eq-eqb, eqb-true}
+use Rattle.std.proofs.lemmas.Bool.{and_parts, both_ways, eq-eqb, eqb-true}
+use Rattle.sabr_model.specs.routes.Parts.{goes_on}
 use Rattle.sabr_model.specs.routes.Asking.{most_hops}
 use Rattle.sabr_model.specs.routes.Record.{RouteRecord}
 use Rattle.sabr_model.specs.routes.Route.{is_route}
-use Rattle.sabr_search.specs.declared.links.looks.Looks.{Looks}
+use Rattle.sabr_search.specs.declared.bound.Bound.{Bound}
+use Rattle.sabr_search.specs.declared.bound.Sought.TheVariants.{None as NoRoute, Beyond}
+use Rattle.sabr_index.specs.declared.looks.Looks.{Looks}
+use Rattle.sabr_search.specs.questions.Bounded.{IsBeyond, IsSought, IsCutUpTo, bound_after, hops_sought, is_none, is_up_to, sought_up_to}
 use Rattle.sabr_search.specs.questions.Part.{IsLeast}
 use Rattle.sabr_search.specs.questions.Task.{SearchTask, IsAsked, left_of}
 use Rattle.sabr_search.specs.layers.Picks.{IsLeastWay}
-use Rattle.sabr_search.specs.questions.Told.{hops_told, looks_taken, IsCut}
-use Rattle.sabr_search.specs.answers.Answers.{IsAnswered}
+use Rattle.sabr_index.specs.Looks.{looks_taken}
+use Rattle.sabr_search.specs.questions.Told.{hops_told}
+use Rattle.sabr_search.specs.answers.Answers.{HasNoWayWithin, IsWayBeyond, IsAnswered}
 use Rattle.sabr_search.specs.answers.KeptAnswers.{IsFoundWay}
 use Rattle.sabr_search.proofs.WayLemmas.Prefixes.{IsPrefix, prefix_facts}
+use Rattle.sabr_search.proofs.WayLemmas.Bounds.{above_before, still_above}
+use Rattle.sabr_search.proofs.WayLemmas.Least.{delivered}
+use Rattle.sabr_search.proofs.WayLemmas.PartWays.{IsPartWay, part_way}
 use Rattle.sabr_search.proofs.AnswerLemmas.Law.{contacts_few, prefix_few, found_is_least, none_is_least, behind_sizes}
+use Rattle.sabr_search.proofs.AnswerLemmas.BoundedWays.{none_beyond}
 use Rattle.sabr_search.proofs.WayLemmas.Shortness.{way_few}
 
 -- the hops that are left, with a limit and without one
@@ -31,9 +40,14 @@ left_cases task prefix =
     ] refl
 
 -- the way that is found has no more hops than are left
-found_short : (task : SearchTask) (left : ℕ) (numbers : List ℕ) (d : ℕ) → IsFoundWay task left numbers d → length numbers ≤ left
-found_short task left [] d found = omega arith
-found_short task left (n ∷ ns) d found = (found.some (omega arith)).within
+found_short : (task : SearchTask) (left : ℕ) (numbers : List ℕ) (d : ℕ) (b : Bound) → IsFoundWay task left numbers d b → length numbers ≤ left
+found_short task left [] d b found = omega arith
+found_short task left (n ∷ ns) d b found = (found.some (omega arith)).within
+
+-- an answer up to a bound has the hops of its route
+pub sought_hops : (A : Type 0) (own : Bound) (o : Option RouteRecord) → hops_sought {A = A} (sought_up_to {A = A} own o) ≡ hops_told o
+sought_hops A own None = elim (is_none own) as (λ t. hops_sought {A = A} (cond t NoRoute Beyond) ≡ 0) [ true ↦ refl | false ↦ refl ]
+sought_hops A own (Some route) = refl
 
 module _ (task : SearchTask) (prefix : List ℕ) (asked : IsAsked task prefix) where
   facts : IsPrefix task.plan task.request prefix
@@ -88,10 +102,66 @@ module _ (task : SearchTask) (prefix : List ℕ) (asked : IsAsked task prefix) w
   pub search_fits : (3 * left_of task prefix + 3) * length task.plan.contacts ≤ 2 ^ 60
   search_fits = omega (arith, product, contacts_few task.plan asked.task_is.plan)
 
-  pub route_fits : (numbers : List ℕ) (d : ℕ) (looks : Looks) → IsFoundWay task (left_of task prefix) numbers d → looks_taken looks ≤ 3 * length task.table * length task.plan.contacts → length prefix + length numbers ≤ looks.left
-  route_fits numbers d looks found few =
+  pub route_fits : (numbers : List ℕ) (d : ℕ) (b : Bound) (looks : Looks) → IsFoundWay task (left_of task prefix) numbers d b → looks_taken looks ≤ 3 * length task.table * length task.plan.contacts → length prefix + length numbers ≤ looks.left
+  route_fits numbers d b looks found few =
       let nodes : length task.table * length task.plan.contacts ≤ 40000 * 20000 = mul-le-mul {n₂ = 40000} {m₂ = 20000} asked.task_is.few (contacts_few task.plan asked.task_is.plan) in
-      omega (arith, few, nodes, contacts_few task.plan asked.task_is.plan, prefix_few task.plan task.request prefix facts, found_short task (left_of task prefix) numbers d found, left_less, asked.task_is.few)
+      omega (arith, few, nodes, contacts_few task.plan asked.task_is.plan, prefix_few task.plan task.request prefix facts, found_short task (left_of task prefix) numbers d b found, left_less, asked.task_is.few)
+
+  -- each route of the part is above a bound if each way is above what that leaves
+  beyond_is : (b : Bound) → IsWayBeyond task (left_of task prefix) (bound_after b (length prefix)) → IsBeyond task.plan task.request prefix task.excluded b
+  beyond_is b beyond s inside =
+      let p = task.plan in
+      let r = task.request in
+      let both = and_parts (is_route p r s) (goes_on prefix task.excluded s) inside in
+      let w : IsPartWay task prefix s = part_way task prefix asked.behind s both.0 both.1 in
+      let size : length s ≡ length prefix + length w.rest = ap length w.is ∙ length-append prefix w.rest in
+      let short = left_all w.rest (subst (λ (x : List ℕ). IsTrue (is_route p r x)) w.is both.0) in
+      ap (λ d. is_up_to b d (length s)) (delivered p r s w.delivery w.delivers) ∙ ap (is_up_to b w.delivery) size
+      ∙ above_before b (length prefix) w.delivery (length w.rest) (beyond w.rest w.delivery short w.way)
+
+  -- without a way the part has no route, or each is above the bound
+  unfound_sought : (A : Type 0) (b own : Bound) → IsWayBeyond task (left_of task prefix) own → IsTrue (is_up_to own b.delivery (b.hops - length prefix)) → IsSought {A = A} task.plan task.request prefix task.excluded b (sought_up_to {A = A} own None)
+  unfound_sought A b own beyond within =
+      let p = task.plan in
+      let r = task.request in
+      elim (is_none own) as (λ t. is_none own ≡ t → IsSought {A = A} p r prefix task.excluded b (cond t NoRoute Beyond)) [
+        | true ↦ λ on. answered_is_least None (none_beyond task asked.task_is (left_of task prefix) own on beyond)
+        | false ↦ λ off. beyond_is b (λ ns e short way. still_above own (bound_after b (length prefix)) e e (length ns) within (omega arith) (beyond ns e short way))
+      ] refl
+
+  -- there is an answer if there is a way
+  no_answer : (numbers : List ℕ) (d : ℕ) (own : Bound) → 0 < length numbers → IsFoundWay task (left_of task prefix) numbers d own → HasNoWayWithin task (left_of task prefix) → ⊥
+  no_answer numbers d own some found none = let least = found.some some in none numbers d least.within least.way
+
+  pub sought_told : (A : Type 0) (b own : Bound) (numbers : List ℕ) (d : ℕ) (o : Option RouteRecord) → IsFoundWay task (left_of task prefix) numbers d own → (numbers ≡ [] → IsTrue (is_up_to own b.delivery (b.hops - length prefix)))
+      → (numbers ≡ [] → o ≡ None) → (0 < length numbers → IsAnswered task prefix o) → IsSought {A = A} task.plan task.request prefix task.excluded b (sought_up_to {A = A} own o)
+  sought_told A b own [] d o found enough none answered = rw (none refl) (unfound_sought A b own (found.none refl) (enough refl))
+  sought_told A b own (n ∷ ns) d None found enough none answered = absurd (no_answer (n ∷ ns) d own (omega arith) found (answered (omega arith)))
+  sought_told A b own (n ∷ ns) d (Some route) found enough none answered = answered_is_least (Some route) (answered (omega arith))
+
+  -- a route that is told is no longer than the plan
+  pub sought_few : (numbers : List ℕ) (o : Option RouteRecord) → (numbers ≡ [] → o ≡ None) → (0 < length numbers → IsAnswered task prefix o) → hops_told o ≤ length task.plan.contacts
+  sought_few [] o none answered = omega (arith, ap hops_told (none refl))
+  sought_few (n ∷ ns) o none answered = answered_few o (answered (omega arith))
+
+  -- looks within two passes for each hop of the way, or of the bound, are within the bound with those of the route
+  pub sought_cut : (A : Type 0) (b own : Bound) (numbers xs : List ℕ) → xs ≡ numbers → (d : ℕ) (o : Option RouteRecord) (old new : ℕ) → IsFoundWay task (left_of task prefix) numbers d own → (numbers ≡ [] → o ≡ None) → (0 < length numbers → IsAnswered task prefix o)
+      → new ≡ old + hops_told o → hops_told o - length prefix ≡ length numbers
+      → (task.request.max_hops ≡ most_hops → old ≤ (2 * elim xs [ [] ↦ cond (is_none own) 0 (b.hops - length prefix) | n ∷ ns ↦ length numbers ] + 3) * length task.plan.contacts)
+      → IsCutUpTo {A = A} task.plan task.request.max_hops b prefix new (sought_up_to {A = A} own o)
+  sought_cut A b own numbers [] is d o old new found none answered looks hops few =
+      let nothing = none (sym is) in
+      let same : new ≡ old = omega (arith, looks, ap hops_told nothing) in
+      rw nothing
+      (elim (is_none own) as (λ t. (task.request.max_hops ≡ most_hops → old ≤ (2 * cond t 0 (b.hops - length prefix) + 3) * length task.plan.contacts) → IsCutUpTo {A = A} task.plan task.request.max_hops b prefix new (cond t NoRoute Beyond)) [
+        | true ↦ λ few most. omega (arith, same, few most)
+        | false ↦ λ few most. omega (arith, same, few most)
+      ] few)
+  sought_cut A b own numbers (n ∷ ns) is d None old new found none answered looks hops few = let some : 0 < length numbers = omega (arith, ap length is) in absurd (no_answer numbers d own some found (answered some))
+  sought_cut A b own numbers (n ∷ ns) is d (Some route) old new found none answered looks hops few = λ most.
+      let some : 0 < length numbers = omega (arith, ap length is) in
+      let passes : 1 * length task.plan.contacts ≤ length numbers * length task.plan.contacts = mul-le-mul_right (length task.plan.contacts) some in
+      rw hops (omega (arith, looks, few most, passes, answered_few (Some route) (answered some)))
 
   -- what a way that is found comes to, with its record
   module _ {E : Type 0} (result : Result (Option RouteRecord) E) (told : IfOk result (IsAnswered task prefix)) where
@@ -106,17 +176,3 @@ module _ (task : SearchTask) (prefix : List ℕ) (asked : IsAsked task prefix) w
       | Ok o ↦ λ is err ok. omega (arith, ok, few, answered_few o is)
       | Err e ↦ λ is err ok. omega (arith, err, few)
     ] told err ok
-
-    pub told_cut : (old new hops : ℕ) → IfOk result (λ o. new ≡ old + hops_told o) → IfOk result (λ o. hops_told o - length prefix ≡ hops) →
-        (task.request.max_hops ≡ most_hops → old ≤ (2 * hops + 3) * length task.plan.contacts) → IfOk result (IsCut task.plan task.request.max_hops prefix new)
-    told_cut old new hops looks many few =
-        elim result as (λ r. IfOk r (IsAnswered task prefix) → IfOk r (λ o. new ≡ old + hops_told o) → IfOk r (λ o. hops_told o - length prefix ≡ hops) → IfOk r (IsCut task.plan task.request.max_hops prefix new)) [
-          | Ok o ↦ λ is ok many most. cut o is ok many (few most)
-          | Err e ↦ λ is ok many. tt
-        ] told looks many
-      where
-        cut : (o : Option RouteRecord) → IsAnswered task prefix o → new ≡ old + hops_told o → hops_told o - length prefix ≡ hops → old ≤ (2 * hops + 3) * length task.plan.contacts → new ≤ (3 * (hops_told o - length prefix) + 3) * length task.plan.contacts
-        cut None is ok many le = rw many (omega (arith, ok, le))
-        cut (Some route) is ok many le =
-            let some : 1 * length task.plan.contacts ≤ hops * length task.plan.contacts = mul-le-mul_right (length task.plan.contacts) (omega (arith, many, ap length is.1, length-append prefix is.0, is.2.some)) in
-            rw many (omega (arith, ok, le, some, answered_few (Some route) is))

@@ -1,19 +1,24 @@
 -- What an answer that is kept is worth: by the law of answers, to each question that it covers.
-use Rattle.std.proofs.Common.{◌≡◌, inl, inr, ℕ, ◌+◌, ◌<◌, Bool, true, false, List, [], ◌∷◌, ◌++◌, length, take, drop, Some, slice_get, slice_index, slice_index_or, refl, ap, sym, subst, ◌∙◌, arith}
-use Rattle.std.specs.Prelude.{All}
-use Rattle.std.proofs.lemmas.Bool.{both_ways}
+use Rattle.std.proofs.Common.{◌≡◌, inl, inr, ℕ, ◌+◌, ◌<◌, Bool, true, false, List, [], ◌∷◌, ◌++◌, length, take, drop, Some, slice_get, slice_index, slice_index_or, slice_set, refl, ap, sym, subst, ◌∙◌, arith, length-append}
+use Rattle.std.specs.Prelude.{All, IsTrue}
+use Rattle.std.proofs.lemmas.Bool.{both_ways, cases_eq, cases_lt}
 use Rattle.std.proofs.lemmas.Grind.{common_steps}
+use Rattle.std.proofs.lemmas.List.{get_or-set_same, get_or-set_other, get_or_append_left, length-set}
+use Rattle.std.proofs.Math.Seq.{get_or-append_seam}
 use Rattle.std.proofs.lemmas.Option.{slice_get-get_or, slice_get_within, get_or_from_slice_get}
 use Rattle.sabr_model.specs.declared.contact.Contact.{Contact}
 use Rattle.sabr_model.specs.plan.Plan.{contact_named, has}
 use Rattle.sabr_search.specs.declared.answers.Answer.{Answer}
+use Rattle.sabr_search.specs.declared.bound.Bound.{Bound}
 use Rattle.sabr_search.specs.declared.visit.Visit.{Visit}
+use Rattle.sabr_search.specs.questions.Bounded.{is_up_to}
 use Rattle.sabr_search.specs.questions.Ways.{Leads}
 use Rattle.sabr_search.specs.questions.Task.{SearchTask, Takes, IsTask}
 use Rattle.sabr_search.specs.layers.Picks.{IsLeastWay}
 use Rattle.sabr_search.specs.questions.FirstSteps.{tabled_of}
-use Rattle.sabr_search.specs.answers.Answers.{narrowed, Narrows, HasNoWayWithin}
+use Rattle.sabr_search.specs.answers.Answers.{narrowed, Narrows, IsWayBeyond}
 use Rattle.sabr_search.specs.answers.KeptAnswers.{asked, AreListed, IsFoundWay, IsAnswer, Covers, IsAnswerTo, AnswersAt, IsPut, Arrives}
+use Rattle.sabr_search.proofs.WayLemmas.Bounds.{up_to_itself}
 use Rattle.sabr_search.proofs.WayLemmas.Staying.{answers_stay}
 use Rattle.sabr_search.proofs.WayLemmas.Ways.{Leads-append}
 use Rattle.sabr_search.proofs.WayLemmas.RoutesAndWays.{takes_timely}
@@ -106,13 +111,13 @@ module _ {A : Type 0} (task : SearchTask) (is : IsTask task) (goal_is : slice_ge
       by k off false at = at
       by k off true at = let listed = answer.listed k at in absurd (both_ways (slice_index_or task.shut k false) off (covers.shuts listed.0 k listed.1))
 
-  pub none_kept : (left : ℕ) → Covers a task left → a.lists.way ≡ [] → HasNoWayWithin task left
-  none_kept left covers none =
-      subst (λ t. HasNoWayWithin t left) (narrowed_is task a covers.node covers.same answer.flags answer.goal goals)
-      (answers_stay.none (asked (tabled_of task) task.request a answer.flags answer.goal) task.shut task.at a.left left is.nodes (narrows left covers) covers.fewer (answer.found.none none))
+  pub beyond_kept : (left : ℕ) → Covers a task left → a.lists.way ≡ [] → IsWayBeyond task left a.bound
+  beyond_kept left covers none =
+      subst (λ t. IsWayBeyond t left a.bound) (narrowed_is task a covers.node covers.same answer.flags answer.goal goals)
+      (answers_stay.beyond (asked (tabled_of task) task.request a answer.flags answer.goal) task.shut task.at a.left left a.bound a.bound is.nodes (narrows left covers) covers.fewer (up_to_itself a.bound) (answer.found.none none))
 
-  pub way_kept : (left : ℕ) → IsAnswerTo a task left → 0 < length a.lists.way → IsLeastWay task left (a.delivery + 1) a.lists.way a.delivery
-  way_kept left to some =
+  pub way_kept : (left : ℕ) (b : Bound) → IsAnswerTo a task left b → 0 < length a.lists.way → IsLeastWay task left (a.delivery + 1) a.lists.way a.delivery
+  way_kept left b to some =
       let was = asked (tabled_of task) task.request a answer.flags answer.goal in
       let same = narrowed_is task a to.covers.node to.covers.same answer.flags answer.goal goals in
       let way = to.way some in
@@ -134,31 +139,35 @@ module _ {A : Type 0} (task : SearchTask) (is : IsTask task) (goal_is : slice_ge
 
 -- what is told by the answer at a place
 module _ {A : Type 0} (task : SearchTask) (is : IsTask task) (goal_is : slice_get task.table task.goal ≡ Some task.request.destination) (answers : List (Answer A)) (all : All (IsAnswer (tabled_of task) task.request) answers)
-    (place left : ℕ) (at : AnswersAt answers place task left) (a : Answer A) (read : a ≡ slice_index_or answers place a) where
+    (place left : ℕ) (b : Bound) (at : AnswersAt answers place task left b) (a : Answer A) (read : a ≡ slice_index_or answers place a) where
   there : slice_get answers place ≡ Some a
   there = slice_get-get_or answers place a (slice_get_within answers place at.0 at.1) ∙ ap Some (sym read)
 
   one : IsAnswer (tabled_of task) task.request a
   one = subst (IsAnswer (tabled_of task) task.request) (get_or_from_slice_get answers place a a there) (all place a (slice_get_within answers place a there))
 
-  to : IsAnswerTo a task left
-  to = subst (λ x. IsAnswerTo x task left) (let q : Some at.0 ≡ Some a = sym at.1 ∙ there in cc (q)) at.2
+  to : IsAnswerTo a task left b
+  to = subst (λ x. IsAnswerTo x task left b) (let q : Some at.0 ≡ Some a = sym at.1 ∙ there in cc (q)) at.2
 
-  pub found_told : IsFoundWay task left a.lists.way a.delivery
+  pub found_told : IsFoundWay task left a.lists.way a.delivery a.bound
   found_told = record {
-    none = λ empty. none_kept task is goal_is a one left to.covers empty;
-    some = λ some. way_kept task is goal_is a one left to some;
+    none = λ empty. beyond_kept task is goal_is a one left to.covers empty;
+    some = λ some. way_kept task is goal_is a one left b to some;
   }
 
+  -- all that is up to the bound is up to its own
+  pub enough_told : a.lists.way ≡ [] → IsTrue (is_up_to a.bound b.delivery b.hops)
+  enough_told = to.none
+
 -- the answer to a question, kept
-pub kept_is : {A : Type 0} (task : SearchTask) (a : Answer A) → slice_get task.table task.goal ≡ Some task.request.destination → IsFoundWay task a.left a.lists.way a.delivery →
+pub kept_is : {A : Type 0} (task : SearchTask) (a : Answer A) → slice_get task.table task.goal ≡ Some task.request.destination → IsFoundWay task a.left a.lists.way a.delivery a.bound →
     a.from.node ≡ task.start → a.from.at ≡ task.at → a.lists.excluded ≡ task.excluded → AreListed task.shut a.lists.shut → IsAnswer (tabled_of task) task.request a
 kept_is task a goal_is found node at same listed = record {
   flags = task.shut;
   goal = task.goal;
   goal_is = goal_is;
   listed = listed;
-  found = subst (λ t. IsFoundWay t a.left a.lists.way a.delivery) (sym (asked_is task a node same at)) found;
+  found = subst (λ t. IsFoundWay t a.left a.lists.way a.delivery a.bound) (sym (asked_is task a node same at)) found;
 }
 
 -- what holds for those before and for the one that was put holds for all
@@ -168,3 +177,28 @@ put_all P old new a all one put = λ k d within. elim (put k (slice_index_or new
   | inr before ↦ (let there = slice_get_within old before.0 (slice_index_or new k d) before.1 in
       subst P (get_or_from_slice_get old before.0 (slice_index_or new k d) d before.1) (all before.0 d there))
 ]
+
+-- an answer behind the others, or in place of one of them
+pub put_behind : {A : Type 0} (old : List (Answer A)) (a : Answer A) → IsPut old (old ++ a ∷ []) a
+put_behind old a k x at = elim (cases_lt k (length old)) [
+  | inl before ↦ inr (k, slice_get-get_or old k x before ∙ ap Some (sym (get_or_append_left old (a ∷ []) x k before) ∙ there))
+  | inr behind ↦
+      (let last : k ≡ length old = omega (arith, behind, slice_get_within (old ++ a ∷ []) k x at, length-append old (a ∷ [])) in
+      inl (sym there ∙ ap (λ j. slice_index_or (old ++ a ∷ []) j x) last ∙ get_or-append_seam old a [] x))
+]
+  where
+    there : slice_index_or (old ++ a ∷ []) k x ≡ x
+    there = get_or_from_slice_get (old ++ a ∷ []) k x x at
+
+pub put_instead : {A : Type 0} (old : List (Answer A)) (place : ℕ) (a : Answer A) → IsPut old (slice_set old place a) a
+put_instead old place a k x at = elim (cases_eq k place) [
+  | inl same ↦
+      (let within : place < length old = omega (arith, same, slice_get_within (slice_set old place a) k x at, length-set old place a) in
+      inl (sym there ∙ ap (λ j. slice_index_or (slice_set old place a) j x) same ∙ get_or-set_same old place a x within))
+  | inr other ↦
+      (let within : k < length old = omega (arith, slice_get_within (slice_set old place a) k x at, length-set old place a) in
+      inr (k, slice_get-get_or old k x within ∙ ap Some (sym (get_or-set_other old place k a x other) ∙ there)))
+]
+  where
+    there : slice_index_or (slice_set old place a) k x ≡ x
+    there = get_or_from_slice_get (slice_set old place a) k x x at

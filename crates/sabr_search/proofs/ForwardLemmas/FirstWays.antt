@@ -29,11 +29,11 @@ pub goal_other : (task : SearchTask) → IsTask task → task.goal ≢ task.star
 goal_other task is same = both_ways (slice_index_or task.shut task.start false) (sym (ap (λ k. slice_index_or task.shut k false) same) ∙ is.goal_open) is.start_shut
 
 -- a node is settled and its contacts are taken
-module _ (task : SearchTask) (late costs : List ℕ) (settled : List Bool) (u t : ℕ) (arrival0 : List ℕ) (best0 : Best) (arrival hops : List ℕ) (queue : List Visit) (best : Best)
-    (state : AreSettling task late costs (slice_set settled u true) u t arrival hops queue best) (fallen : IsFallen (slice_set settled u true) arrival0 best0 arrival best) (taken : AreSettledTaken task costs (slice_set settled u true) arrival best.delivery)
+module _ (task : SearchTask) (until : ℕ) (late costs : List ℕ) (settled : List Bool) (u t : ℕ) (arrival0 : List ℕ) (best0 : Best) (arrival hops : List ℕ) (queue : List Visit) (best : Best)
+    (state : AreSettling task until late costs (slice_set settled u true) u t arrival hops queue best) (fallen : IsFallen (slice_set settled u true) arrival0 best0 arrival best) (taken : AreSettledTaken task costs (slice_set settled u true) arrival best.delivery)
     (other : task.goal ≢ u) where
   pub settled_next : slice_index_or (slice_set settled u true) task.start false ≡ true → slice_index arrival0 task.start ≡ task.at → slice_index_or settled task.goal false ≡ false →
-      AreClosed task.shut arrival0 task.at → AreSettled task late costs (slice_set settled u true) arrival hops queue best
+      AreClosed task.shut arrival0 task.at → AreSettled task until late costs (slice_set settled u true) arrival hops queue best
   settled_next start reached goal closed = record {
     flags = state.flags;
     many = state.many;
@@ -72,7 +72,7 @@ costs_fall task is late costs bound (n ∷ ns) w b v t open' since way =
     omega (arith, bound.lowers n w b way.0 way.1 way.2 open' since, costs_fall task is late costs bound ns way.0 way.1 v t way.2.unshut (omega (arith, later, since)) way.3)
 
 -- the search stops when no event comes before the delivery
-module _ (task : SearchTask) (is : IsTask task) (bounds costs : List ℕ) (bound : IsBound task bounds costs) (settled : List Bool) (arrival hops : List ℕ) (queue : List Visit) (best : Best) (was : AreSettled task bounds costs settled arrival hops queue best) where
+module _ (task : SearchTask) (is : IsTask task) (until : ℕ) (bounds costs : List ℕ) (bound : IsBound task bounds costs) (settled : List Bool) (arrival hops : List ℕ) (queue : List Visit) (best : Best) (was : AreSettled task until bounds costs settled arrival hops queue best) where
   -- a node is settled with that arrival, or it is too late there
   abbrev IsKnownAt : ℕ → ℕ → Type 0
   IsKnownAt v a = ((slice_index_or settled v false ≡ true) × (slice_index arrival v ≡ a)) ⊎ ((slice_index_or task.shut v false ≡ false) × (slice_index_or bounds v never ≤ a))
@@ -123,20 +123,24 @@ module _ (task : SearchTask) (is : IsTask task) (bounds costs : List ℕ) (bound
       ]
 
   -- the first delivery is the least if no way delivers before it
-  pub way_found : IsNoneBefore task best.delivery → IsFirstWay task best
+  pub way_found : IsNoneBefore task best.delivery → IsFirstWay task until best
   way_found least = record {
     least = least;
     none = λ zero_hops ns e way. elim was.found [
-      | inl none ↦ omega (arith, none.1, least ns e way, way_early task is ns task.start task.at task.goal e is.time way)
+      | inl none ↦ omega (arith, none.1, least ns e way)
       | inr found ↦ absurd (omega (arith, found.0))
     ];
-    some = λ hops. elim was.found [
+    sooner = λ hops. elim was.found [
       | inl none ↦ absurd (omega (arith, none.0))
       | inr found ↦ found.2
     ];
+    some = λ hops. elim was.found [
+      | inl none ↦ absurd (omega (arith, none.0))
+      | inr found ↦ found.3
+    ];
     early = λ hops. elim was.found [
       | inl none ↦ absurd (omega (arith, none.0))
-      | inr found ↦ way_early task is found.2.0 task.start task.at task.goal best.delivery is.time found.2.2
+      | inr found ↦ way_early task is found.3.0 task.start task.at task.goal best.delivery is.time found.3.2
     ];
     few = elim was.found [
       | inl none ↦ omega (arith, none.0, is.start_in)
@@ -144,7 +148,7 @@ module _ (task : SearchTask) (is : IsTask task) (bounds costs : List ℕ) (bound
     ];
   }
 
-  pub first_found : ((f : Visit) → Contains queue f → best.delivery ≤ f.at) → IsFirstWay task best
+  pub first_found : ((f : Visit) → Contains queue f → best.delivery ≤ f.at) → IsFirstWay task until best
   first_found stop = way_found (λ ns e way.
       elim (reached_by stop ns task.start task.at task.at task.goal e (inl (was.start_settled, was.start_reached)) (omega arith) bound.since way) [
         | inl late ↦ omega (arith, late, bound.there)
@@ -164,9 +168,9 @@ module _ (task : SearchTask) (is : IsTask task) (bounds costs : List ℕ) (bound
   ]
 
 -- an event of a settled node goes
-pub settled_stale : (task : SearchTask) (late costs : List ℕ) (settled : List Bool) (arrival hops : List ℕ) (queue queue' : List Visit) (best : Best) → AreSettled task late costs settled arrival hops queue best → IsQueue task late costs settled arrival queue' →
-    AreSettled task late costs settled arrival hops queue' best
-settled_stale task late costs settled arrival hops queue queue' best was rest = record {
+pub settled_stale : (task : SearchTask) (until : ℕ) (late costs : List ℕ) (settled : List Bool) (arrival hops : List ℕ) (queue queue' : List Visit) (best : Best) → AreSettled task until late costs settled arrival hops queue best → IsQueue task late costs settled arrival queue' →
+    AreSettled task until late costs settled arrival hops queue' best
+settled_stale task until late costs settled arrival hops queue queue' best was rest = record {
   flags = was.flags;
   many = was.many;
   start_settled = was.start_settled;
@@ -216,15 +220,15 @@ module _ (task : SearchTask) (is : IsTask task) (off settled : List Bool) (u : �
   pub start_sent : sent_by_settled task settled ≡ degree task task.start
   start_sent = omega (arith, ap (sent_by_settled task) settled_is, sent_grows task off u off_within (off_at u), count_none (senders task), ap (degree task) u_is)
 
-  module _ (late costs : List ℕ) (arrival : List ℕ) (opened : AreOpened task late arrival) where
+  module _ (until : ℕ) (late costs : List ℕ) (arrival : List ℕ) (opened : AreOpened task late arrival) where
     opened_by : AreBy task late arrival
     opened_by k open' = elim (cases_lt k (length arrival)) [
       | inl within ↦ omega (arith, opened.unreached k within open')
       | inr past ↦ omega (arith, index_past arrival k past)
     ]
 
-    pub start_state : IsBound task late costs → (hops : List ℕ) (queue : List Visit) (best : Best) → length hops ≡ length task.shut → queue ≡ [] → best.hops ≡ 0 → best.delivery ≡ latest_arrival + 1 → AreSettling task late costs settled u task.at arrival (slice_set hops u 0) queue best
-    start_state bound hops queue best hops_many empty none delivery = rw empty (record {
+    pub start_state : IsBound task late costs → (hops : List ℕ) (queue : List Visit) (best : Best) → length hops ≡ length task.shut → queue ≡ [] → best.hops ≡ 0 → best.delivery ≡ until → until ≤ latest_arrival + 1 → AreSettling task until late costs settled u task.at arrival (slice_set hops u 0) queue best
+    start_state bound hops queue best hops_many empty none delivery early = rw empty (record {
       on = ap (λ k. slice_index_or settled k false) u_is ∙ start_on;
       real = ([], sym no_hops, (sym u_is, refl));
       few = omega (arith, no_hops, one_settled);
@@ -244,16 +248,16 @@ module _ (task : SearchTask) (is : IsTask task) (off settled : List Bool) (u : �
       };
       hops_are = record { many = set_many hops u 0 ∙ hops_many; ways = λ k within open' less. absurd (omega (arith, opened.unreached k within open', less)) };
       found = inl (none, delivery);
-      sooner = omega (arith, delivery);
-      goal_late = omega (arith, delivery, bound.goal, opened.unreached task.goal (omega (arith, opened.flags, is.as_many, is.goal_in)) is.goal_open);
+      sooner = omega (arith, delivery, early);
+      goal_late = omega (arith, delivery, early, bound.goal, opened.unreached task.goal (omega (arith, opened.flags, is.as_many, is.goal_in)) is.goal_open);
     })
       where
         no_hops : slice_index (slice_set hops u 0) u ≡ 0
         no_hops = set_here hops u 0 (omega (arith, hops_many, u_is, is.start_in, is.as_many))
 
     -- and once all of them are taken
-    pub start_settled : (t : ℕ) (arrival' hops : List ℕ) (queue : List Visit) (best0 best : Best) → AreSettling task late costs settled u t arrival' hops queue best → IsFallen settled arrival best0 arrival' best →
-        ((n w x : ℕ) → Takes task n task.start task.at w x → IsKnown task.goal arrival' (best.delivery - slice_index costs w) w x) → AreSettled task late costs settled arrival' hops queue best
+    pub start_settled : (t : ℕ) (arrival' hops : List ℕ) (queue : List Visit) (best0 best : Best) → AreSettling task until late costs settled u t arrival' hops queue best → IsFallen settled arrival best0 arrival' best →
+        ((n w x : ℕ) → Takes task n task.start task.at w x → IsKnown task.goal arrival' (best.delivery - slice_index costs w) w x) → AreSettled task until late costs settled arrival' hops queue best
     start_settled t arrival' hops queue best0 best state fallen known =
         let start_at : slice_index arrival' task.start ≡ task.at = fallen.kept task.start start_on ∙ opened.start in
         record {
@@ -277,7 +281,7 @@ module _ (task : SearchTask) (is : IsTask task) (off settled : List Bool) (u : �
         }
 
 -- what holds after the node of the earliest event is settled
-module _ (task : SearchTask) (is : IsTask task) (late costs : List ℕ) (settled : List Bool) (arrival0 hops0 : List ℕ) (queue0 queue : List Visit) (best0 : Best) (e : Visit) (was : AreSettled task late costs settled arrival0 hops0 queue0 best0)
+module _ (task : SearchTask) (is : IsTask task) (until : ℕ) (late costs : List ℕ) (settled : List Bool) (arrival0 hops0 : List ℕ) (queue0 queue : List Visit) (best0 : Best) (e : Visit) (was : AreSettled task until late costs settled arrival0 hops0 queue0 best0)
     (moved : IsPermutation queue0 (e ∷ queue)) (first : All (λ (f : Visit). e.at ≤ f.at) queue) (unsettled : slice_index_or settled e.node false ≡ false) where
   pub next_within : e.node < length settled
   next_within = omega (arith, was.many, was.flags, head_inside task late costs settled arrival0 queue0 queue e was.queue_is moved first)
@@ -293,20 +297,20 @@ module _ (task : SearchTask) (is : IsTask task) (late costs : List ℕ) (settled
       (was.hops_are.ways e.node (head_inside task late costs settled arrival0 queue0 queue e was.queue_is moved first) (head_open task late costs settled arrival0 queue0 queue e was.queue_is moved first)
       (head_soon task late costs settled arrival0 queue0 queue e was.queue_is moved first)).1
 
-  pub next_state : IsBound task late costs → AreSettling task late costs (slice_set settled e.node true) e.node (slice_index arrival0 e.node) arrival0 hops0 queue best0
+  pub next_state : IsBound task late costs → AreSettling task until late costs (slice_set settled e.node true) e.node (slice_index arrival0 e.node) arrival0 hops0 queue best0
   next_state bound =
       let since : task.at ≤ slice_index arrival0 e.node = Leads-later (Takes task) (takes_timely task is.nodes) next_way.0 task.start task.at e.node (slice_index arrival0 e.node) next_way.2 in
-      settles task late costs settled arrival0 queue0 queue e was.queue_is moved first next_within unsettled hops0 best0 bound was.flags was.many was.closed since was.lowered was.sooner was.goal_late was.found was.hops_are
+      settles task late costs settled arrival0 queue0 queue e was.queue_is moved first next_within unsettled until hops0 best0 bound was.flags was.many was.closed since was.lowered was.sooner was.goal_late was.found was.hops_are
 
   pub next_counted : (settled' : List Bool) (old new : ℕ) → settled' ≡ slice_set settled e.node true → old ≤ new + sent_by_settled task settled + degree task e.node → old ≤ new + sent_by_settled task settled'
   next_counted settled' old new settled_is le = omega (arith, ap (sent_by_settled task) settled_is, next_sent)
 
   pub next_settled : (settled' : List Bool) (arrival hops : List ℕ) (queue' : List Visit) (best : Best) → settled' ≡ slice_set settled e.node true →
-      AreSettling task late costs (slice_set settled e.node true) e.node (slice_index arrival0 e.node) arrival hops queue' best → IsFallen (slice_set settled e.node true) arrival0 best0 arrival best → AreSettledTaken task costs (slice_set settled e.node true) arrival best.delivery →
-      AreSettled task late costs settled' arrival hops queue' best
+      AreSettling task until late costs (slice_set settled e.node true) e.node (slice_index arrival0 e.node) arrival hops queue' best → IsFallen (slice_set settled e.node true) arrival0 best0 arrival best → AreSettledTaken task costs (slice_set settled e.node true) arrival best.delivery →
+      AreSettled task until late costs settled' arrival hops queue' best
   next_settled settled' arrival hops queue' best settled_is state fallen taken =
       let other : task.goal ≢ e.node = λ same. head_other task late costs settled arrival0 queue0 queue e was.queue_is moved first (sym same) in
-      rw settled_is (settled_next task late costs settled e.node (slice_index arrival0 e.node) arrival0 best0 arrival hops queue' best state fallen taken other
+      rw settled_is (settled_next task until late costs settled e.node (slice_index arrival0 e.node) arrival0 best0 arrival hops queue' best state fallen taken other
       (flag_stays settled e.node task.start next_within was.start_settled) was.start_reached was.goal_unsettled was.closed)
 
 -- what a `Vec` of flags has at an index, at the usual default

@@ -40,7 +40,7 @@ layer_of bounds p (suc m) first less = elim (cases_lt p (slice_index bounds m)) 
 ]
 
 -- layers with one bound more
-module _ (task : SearchTask) (is : IsTask task) (hop : ℕ) (bounds arrival place : List ℕ) (reached : List Visit) (best : Best) (made : AreLayers task hop bounds arrival place reached best)
+module _ (task : SearchTask) (is : IsTask task) (until hop : ℕ) (bounds arrival place : List ℕ) (reached : List Visit) (best : Best) (made : AreLayers task until hop bounds arrival place reached best)
     (bounds' arrival' place' : List ℕ) (reached' : List Visit) (delivery : ℕ)
     (lowered : IsLowered task.shut task.goal task.at (slice_index bounds (hop + 1)) (GivenFrom task reached (slice_index bounds hop) (slice_index bounds (hop + 1))) arrival reached best.delivery arrival' place' reached' delivery)
     (known : IsKnownFrom task reached (slice_index bounds hop) (slice_index bounds (hop + 1)) arrival' delivery)
@@ -182,7 +182,7 @@ module _ (task : SearchTask) (is : IsTask task) (hop : ℕ) (bounds arrival plac
   }
 
   -- if the delivery falls, the new layer is the first that reaches the goal by then
-  pub layers_better : delivery < best.delivery → best.delivery ≤ never → AreLayers task (hop + 1) bounds' arrival' place' reached' (record { delivery = delivery; hops = hop + 1 })
+  pub layers_better : delivery < best.delivery → best.delivery ≤ until → AreLayers task until (hop + 1) bounds' arrival' place' reached' (record { delivery = delivery; hops = hop + 1 })
   layers_better sooner below = record {
     lists = lists';
     many = many';
@@ -206,7 +206,7 @@ module _ (task : SearchTask) (is : IsTask task) (hop : ℕ) (bounds arrival plac
   }
 
   -- if it doesn't, what was found stays
-  pub layers_same : best.delivery ≤ delivery → AreLayers task (hop + 1) bounds' arrival' place' reached' best
+  pub layers_same : best.delivery ≤ delivery → AreLayers task until (hop + 1) bounds' arrival' place' reached' best
   layers_same late = record {
     lists = lists';
     many = many';
@@ -233,11 +233,11 @@ module _ (task : SearchTask) (is : IsTask task) (hop : ℕ) (bounds arrival plac
       sames = omega (arith, lowered.lower)
 
 -- what is found is not later
-pub below_never : (task : SearchTask) (hop : ℕ) (bounds arrival place : List ℕ) (reached : List Visit) (best : Best) → AreLayers task hop bounds arrival place reached best → best.delivery ≤ never
-below_never task hop bounds arrival place reached best made = elim made.found [ inl none ↦ omega (arith, none.1) | inr found ↦ omega (arith, found.2) ]
+pub below_until : (task : SearchTask) (until hop : ℕ) (bounds arrival place : List ℕ) (reached : List Visit) (best : Best) → AreLayers task until hop bounds arrival place reached best → best.delivery ≤ until
+below_until task until hop bounds arrival place reached best made = elim made.found [ inl none ↦ omega (arith, none.1) | inr found ↦ omega (arith, found.2) ]
 
 -- the start is the first entry, and no entry is the goal's
-module _ (task : SearchTask) (is : IsTask task) (hop : ℕ) (bounds arrival place : List ℕ) (reached : List Visit) (best : Best) (made : AreLayers task hop bounds arrival place reached best) where
+module _ (task : SearchTask) (is : IsTask task) (until hop : ℕ) (bounds arrival place : List ℕ) (reached : List Visit) (best : Best) (made : AreLayers task until hop bounds arrival place reached best) where
   start_entry : Entry bounds reached 0 task.start task.at
   start_entry = (0, omega (arith, made.first_bound), omega (arith, made.second_bound), made.begins)
 
@@ -278,16 +278,16 @@ module _ (task : SearchTask) (is : IsTask task) (hop : ℕ) (bounds arrival plac
   }
 
 -- the layers with one more, whatever the new layer brings
-pub layers_next : (task : SearchTask) → IsTask task → (hop : ℕ) (bounds arrival place : List ℕ) (reached : List Visit) (best : Best) → AreLayers task hop bounds arrival place reached best →
+pub layers_next : (task : SearchTask) → IsTask task → (until hop : ℕ) (bounds arrival place : List ℕ) (reached : List Visit) (best : Best) → AreLayers task until hop bounds arrival place reached best →
     (bounds' arrival' place' : List ℕ) (reached' : List Visit) (delivery : ℕ) →
     IsLowered task.shut task.goal task.at (slice_index bounds (hop + 1)) (GivenFrom task reached (slice_index bounds hop) (slice_index bounds (hop + 1))) arrival reached best.delivery arrival' place' reached' delivery →
     IsKnownFrom task reached (slice_index bounds hop) (slice_index bounds (hop + 1)) arrival' delivery →
     bounds' ≡ bounds ++ length reached' ∷ [] → (best' : Best) → ((delivery < best.delivery) × (best' ≡ record { delivery = delivery; hops = hop + 1 })) ⊎ ((best.delivery ≤ delivery) × (best' ≡ best)) →
-    AreLayers task (hop + 1) bounds' arrival' place' reached' best'
-layers_next task is hop bounds arrival place reached best made bounds' arrival' place' reached' delivery lowered known bounds_is best' (inl better) =
-    rw better.1 (layers_better task is hop bounds arrival place reached best made bounds' arrival' place' reached' delivery lowered known bounds_is better.0 (below_never task hop bounds arrival place reached best made))
-layers_next task is hop bounds arrival place reached best made bounds' arrival' place' reached' delivery lowered known bounds_is best' (inr same) =
-    rw same.1 (layers_same task is hop bounds arrival place reached best made bounds' arrival' place' reached' delivery lowered known bounds_is same.0)
+    AreLayers task until (hop + 1) bounds' arrival' place' reached' best'
+layers_next task is until hop bounds arrival place reached best made bounds' arrival' place' reached' delivery lowered known bounds_is best' (inl better) =
+    rw better.1 (layers_better task is until hop bounds arrival place reached best made bounds' arrival' place' reached' delivery lowered known bounds_is better.0 (below_until task until hop bounds arrival place reached best made))
+layers_next task is until hop bounds arrival place reached best made bounds' arrival' place' reached' delivery lowered known bounds_is best' (inr same) =
+    rw same.1 (layers_same task is until hop bounds arrival place reached best made bounds' arrival' place' reached' delivery lowered known bounds_is same.0)
 
 -- the looks for one layer more are within those of all of them
 pub layer_more : (hop hops contacts : ℕ) → hop < hops → hop * contacts + contacts ≤ hops * contacts
@@ -309,9 +309,9 @@ spent_fewer old left hop hops contacts le so_far =
     omega (arith, all, so_far)
 
 -- layer 0 is the start alone
-pub layers_first : (task : SearchTask) (bounds arrival place : List ℕ) (reached : List Visit) → bounds ≡ 0 ∷ 1 ∷ [] → reached ≡ record { node = task.start; at = task.at } ∷ [] →
-    AreLists task.shut task.goal task.at 1 arrival place reached → AreLayers task 0 bounds arrival place reached (record { delivery = never; hops = 0 })
-layers_first task bounds arrival place reached bounds_is reached_is lists =
+pub layers_first : (task : SearchTask) (until : ℕ) (bounds arrival place : List ℕ) (reached : List Visit) → bounds ≡ 0 ∷ 1 ∷ [] → reached ≡ record { node = task.start; at = task.at } ∷ [] →
+    AreLists task.shut task.goal task.at 1 arrival place reached → AreLayers task until 0 bounds arrival place reached (record { delivery = until; hops = 0 })
+layers_first task until bounds arrival place reached bounds_is reached_is lists =
     rw (bounds_is, reached_is) (record {
       lists = rw reached_is at lists;
       many = refl;
@@ -337,16 +337,16 @@ layers_first task bounds arrival place reached bounds_is reached_is lists =
     one = record { node = task.start; at = task.at } ∷ []
 
 -- what is found within fewer hops is the best within more, if nothing is sooner there
-pub best_within : (task : SearchTask) (hop : ℕ) (bounds arrival place : List ℕ) (reached : List Visit) (best : Best) → AreLayers task hop bounds arrival place reached best →
-    (hops : ℕ) → hop ≤ hops → IsNoneSooner task hops best.delivery → IsBestWithin task hops best
-best_within task hop bounds arrival place reached best made hops within least = record {
+pub best_within : (task : SearchTask) (until hop : ℕ) (bounds arrival place : List ℕ) (reached : List Visit) (best : Best) → AreLayers task until hop bounds arrival place reached best →
+    (hops : ℕ) → hop ≤ hops → IsNoneSooner task hops best.delivery → IsBestWithin task until hops best
+best_within task until hop bounds arrival place reached best made hops within least = record {
   least = least;
   found = elim made.found [ inl none ↦ inl none | inr found ↦ inr (found.0, omega (arith, found.1), found.2, found.3) ];
 }
 
 -- ---- layers of which the last begins at `first`
 
-module _ (task : SearchTask) (is : IsTask task) (hop first begin : ℕ) (arrival place : List ℕ) (reached : List Visit) (best : Best) (made : AreMade task hop first arrival place reached best) (end : begin ≡ length reached) where
+module _ (task : SearchTask) (is : IsTask task) (until hop first begin : ℕ) (arrival place : List ℕ) (reached : List Visit) (best : Best) (made : AreMade task until hop first arrival place reached best) (end : begin ≡ length reached) where
   last : slice_index made.0 (hop + 1) ≡ begin
   last = made.2.last_bound ∙ sym end
 
@@ -354,19 +354,19 @@ module _ (task : SearchTask) (is : IsTask task) (hop first begin : ℕ) (arrival
   made_lists = rw last at made.2.lists
 
   pub made_sources : AreSources task reached first begin
-  made_sources = rw (made.1, last) at (sources_of task is hop made.0 arrival place reached best made.2)
+  made_sources = rw (made.1, last) at (sources_of task is until hop made.0 arrival place reached best made.2)
 
   -- one layer more begins after these
   pub made_next : (arrival' place' : List ℕ) (reached' : List Visit) (delivery : ℕ) → IsLowered task.shut task.goal task.at begin (GivenFrom task reached first begin) arrival reached best.delivery arrival' place' reached' delivery → IsKnownFrom task reached first begin arrival' delivery →
-      (best' : Best) → ((delivery < best.delivery) × (best' ≡ record { delivery = delivery; hops = hop + 1 })) ⊎ ((best.delivery ≤ delivery) × (best' ≡ best)) → AreMade task (hop + 1) begin arrival' place' reached' best'
+      (best' : Best) → ((delivery < best.delivery) × (best' ≡ record { delivery = delivery; hops = hop + 1 })) ⊎ ((best.delivery ≤ delivery) × (best' ≡ best)) → AreMade task until (hop + 1) begin arrival' place' reached' best'
   made_next arrival' place' reached' delivery lowered known best' which = (
     made.0 ++ length reached' ∷ [],
     index_before made.0 (length reached') (hop + 1) (omega (arith, made.2.many)) ∙ last,
-    layers_next task is hop made.0 arrival place reached best made.2 (made.0 ++ length reached' ∷ []) arrival' place' reached' delivery (rw (made.1, last) lowered) (rw (made.1, last) known) refl best' which,
+    layers_next task is until hop made.0 arrival place reached best made.2 (made.0 ++ length reached' ∷ []) arrival' place' reached' delivery (rw (made.1, last) lowered) (rw (made.1, last) known) refl best' which,
   )
 
 -- if the last layer is empty, no way comes before the best
-pub made_all : (task : SearchTask) → IsTask task → (hop first : ℕ) (arrival place : List ℕ) (reached : List Visit) (best : Best) → (made : AreMade task hop first arrival place reached best) → first ≡ length reached →
+pub made_all : (task : SearchTask) → IsTask task → (until hop first : ℕ) (arrival place : List ℕ) (reached : List Visit) (best : Best) → (made : AreMade task until hop first arrival place reached best) → first ≡ length reached →
     (ns : List ℕ) (e : ℕ) → Leads (Takes task) task.start task.at ns task.goal e → best.delivery ≤ e
-made_all task is hop first arrival place reached best made none ns e way =
-    least_of_all task is hop made.0 arrival place reached best made.2 (made.1 ∙ none ∙ sym made.2.last_bound) ns e way
+made_all task is until hop first arrival place reached best made none ns e way =
+    least_of_all task is until hop made.0 arrival place reached best made.2 (made.1 ∙ none ∙ sym made.2.last_bound) ns e way

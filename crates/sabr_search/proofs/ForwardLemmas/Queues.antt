@@ -75,9 +75,9 @@ way_same : (task : SearchTask) (v h i t x : ℕ) → i ≡ h → x ≡ t → IsW
 way_same task v h i t x hops at way = rw (hops, at) way
 
 -- the delivery is better, by one step more
-pub found_better : (task : SearchTask) → IsTask task → (late costs : List ℕ) (settled : List Bool) (u t n w h : ℕ) (arrival hops : List ℕ) (queue : List Visit) (best : Best) (delivery : ℕ) → AreSettling task late costs settled u t arrival hops queue best →
-    h ≡ slice_index hops u → delivery < best.delivery → w ≡ task.goal → Takes task n u t w delivery → AreSettling task late costs settled u t arrival hops queue (record { delivery = delivery; hops = h + 1 })
-found_better task is late costs settled u t n w h arrival hops queue best delivery so_far h_is less at step = record {
+pub found_better : (task : SearchTask) → IsTask task → (until : ℕ) (late costs : List ℕ) (settled : List Bool) (u t n w h : ℕ) (arrival hops : List ℕ) (queue : List Visit) (best : Best) (delivery : ℕ) → AreSettling task until late costs settled u t arrival hops queue best →
+    h ≡ slice_index hops u → delivery < best.delivery → w ≡ task.goal → Takes task n u t w delivery → AreSettling task until late costs settled u t arrival hops queue (record { delivery = delivery; hops = h + 1 })
+found_better task is until late costs settled u t n w h arrival hops queue best delivery so_far h_is less at step = record {
   on = so_far.on;
   real = so_far.real;
   few = so_far.few;
@@ -88,18 +88,24 @@ found_better task is late costs settled u t n w h arrival hops queue best delive
   lowered = so_far.lowered;
   queue_is = so_far.queue_is;
   hops_are = so_far.hops_are;
-  found = inr (omega arith, omega (arith, h_is, so_far.few), rw at at (way_more task is n u h t w delivery (rw h_is so_far.real) step));
+  found = inr (omega arith, omega (arith, h_is, so_far.few), by, rw at at (way_more task is n u h t w delivery (rw h_is so_far.real) step));
   sooner = omega (arith, less, so_far.sooner);
   goal_late = omega (arith, less, so_far.goal_late);
 }
+  where
+    by : delivery < until
+    by = elim so_far.found [
+      | inl none ↦ omega (arith, none.1, less)
+      | inr found ↦ omega (arith, found.2, less)
+    ]
 
 -- what is reached sooner is open
-pub open_sooner : (task : SearchTask) (late costs : List ℕ) (settled : List Bool) (u t w b : ℕ) (arrival hops : List ℕ) (queue : List Visit) (best : Best) → AreSettling task late costs settled u t arrival hops queue best →
+pub open_sooner : (task : SearchTask) (until : ℕ) (late costs : List ℕ) (settled : List Bool) (u t w b : ℕ) (arrival hops : List ℕ) (queue : List Visit) (best : Best) → AreSettling task until late costs settled u t arrival hops queue best →
     t ≤ b → b < slice_index arrival w → slice_index_or task.shut w false ≡ false
-open_sooner task late costs settled u t w b arrival hops queue best so_far later less = false_from_ne_true (slice_index_or task.shut w false) (λ on. omega (arith, so_far.closed w on))
+open_sooner task until late costs settled u t w b arrival hops queue best so_far later less = false_from_ne_true (slice_index_or task.shut w false) (λ on. omega (arith, so_far.closed w on))
 
 -- an open node is reached sooner, and an event waits for it
-module _ (task : SearchTask) (is : IsTask task) (late costs : List ℕ) (settled : List Bool) (u t n b h : ℕ) (event : Visit) (arrival hops : List ℕ) (queue queue' : List Visit) (best : Best) (so_far : AreSettling task late costs settled u t arrival hops queue best)
+module _ (task : SearchTask) (is : IsTask task) (until : ℕ) (late costs : List ℕ) (settled : List Bool) (u t n b h : ℕ) (event : Visit) (arrival hops : List ℕ) (queue queue' : List Visit) (best : Best) (so_far : AreSettling task until late costs settled u t arrival hops queue best)
     (later : t ≤ b) (within : event.node < length arrival) (less : b < slice_index arrival event.node) (other : event.node ≢ task.goal) (step : Takes task n u t event.node b) (h_is : h ≡ slice_index hops u)
     (at_is : event.at ≡ b + slice_index costs event.node) (moved : IsPermutation (event ∷ queue) queue') where
   abbrev w : ℕ
@@ -163,7 +169,7 @@ module _ (task : SearchTask) (is : IsTask task) (late costs : List ℕ) (settled
         ];
       }
 
-  pub pushed : AreSettling task late costs settled u t (slice_set arrival w b) (slice_set hops w (h + 1)) queue' best
+  pub pushed : AreSettling task until late costs settled u t (slice_set arrival w b) (slice_set hops w (h + 1)) queue' best
   pushed = record {
     on = so_far.on;
     real = way_same task u _ _ t t (set_other hops w (h + 1) u apart) refl so_far.real;
@@ -293,9 +299,9 @@ module _ (task : SearchTask) (bounds costs : List ℕ) (settled : List Bool) (ar
     }
 
     -- so its contacts can be taken
-    pub settles : (hops : List ℕ) (best : Best) → IsBound task bounds costs → length arrival ≡ length task.shut → length settled ≡ length task.shut → AreClosed task.shut arrival task.at → task.at ≤ slice_index arrival e.node → AreBy task bounds arrival → best.delivery ≤ latest_arrival + 1 →
-        best.delivery ≤ slice_index arrival task.goal → IsFirst task settled best → AreHops task bounds settled arrival hops → AreSettling task bounds costs (slice_set settled e.node true) e.node (slice_index arrival e.node) arrival hops queue' best
-    settles hops best bound flags many closed since lowered sooner goal_late found hops_are = record {
+    pub settles : (until : ℕ) (hops : List ℕ) (best : Best) → IsBound task bounds costs → length arrival ≡ length task.shut → length settled ≡ length task.shut → AreClosed task.shut arrival task.at → task.at ≤ slice_index arrival e.node → AreBy task bounds arrival → best.delivery ≤ latest_arrival + 1 →
+        best.delivery ≤ slice_index arrival task.goal → IsFirst task until settled best → AreHops task bounds settled arrival hops → AreSettling task until bounds costs (slice_set settled e.node true) e.node (slice_index arrival e.node) arrival hops queue' best
+    settles until hops best bound flags many closed since lowered sooner goal_late found hops_are = record {
       on = flag_here settled e.node within;
       real = (hops_are.ways e.node head_inside head_open head_soon).1;
       few = omega (arith, (hops_are.ways e.node head_inside head_open head_soon).0, count_more settled e.node within unsettled);
@@ -313,7 +319,7 @@ module _ (task : SearchTask) (bounds costs : List ℕ) (settled : List Bool) (ar
       };
       sooner = sooner;
       goal_late = goal_late;
-      found = elim found [ inl none ↦ inl none | inr way ↦ inr (way.0, omega (arith, way.1, count_more settled e.node within unsettled), way.2) ];
+      found = elim found [ inl none ↦ inl none | inr way ↦ inr (way.0, omega (arith, way.1, count_more settled e.node within unsettled), way.2, way.3) ];
     }
 
   -- an event of a node that is settled already goes

@@ -83,7 +83,7 @@ none_is p r prefix excluded good none =
     let listed = routes_are_listed p r good in
     find_none (goes_on prefix excluded) (routes p r) (λ m inside passes. none m ((listed.members m).0 (Contains-from_in (routes p r) m inside)) passes)
 
-delivered : (p : ContactPlan) (r : RouteRequest) (s : List ℕ) (d : ℕ) → arrival_after p r r.at s ≡ Some d → delivery_of p r s ≡ d
+pub delivered : (p : ContactPlan) (r : RouteRequest) (s : List ℕ) (d : ℕ) → arrival_after p r r.at s ≡ Some d → delivery_of p r s ≡ d
 delivered p r s d e = ap (λ o. unwrap_or o 0) e
 
 -- of a part with no way within the limits the least route is none

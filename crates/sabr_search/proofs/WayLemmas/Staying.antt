@@ -1,9 +1,13 @@
 -- Ways of a search that shuts more nodes and starts later are ways of the other one, and end there no later.
 use Rattle.std.proofs.Common.{ℕ, ◌≤◌, Bool, List, [], ◌∷◌, length, arith}
+use Rattle.std.specs.Prelude.{IsTrue}
+use Rattle.sabr_search.specs.declared.bound.Bound.{Bound}
+use Rattle.sabr_search.specs.questions.Bounded.{is_up_to}
 use Rattle.sabr_search.specs.questions.Ways.{Leads}
 use Rattle.sabr_search.specs.questions.Task.{SearchTask, HasNodes, Takes}
 use Rattle.sabr_search.specs.layers.Picks.{IsLeastWay}
-use Rattle.sabr_search.specs.answers.Answers.{narrowed, Narrows, HasNoWayWithin, AnswersStay}
+use Rattle.sabr_search.specs.answers.Answers.{narrowed, Narrows, HasNoWayWithin, IsWayBeyond, AnswersStay}
+use Rattle.sabr_search.proofs.WayLemmas.Bounds.{still_above}
 use Rattle.sabr_search.proofs.WayLemmas.Ways.{Leads-earlier}
 use Rattle.sabr_search.proofs.WayLemmas.RoutesAndWays.{takes_timely}
 
@@ -35,8 +39,14 @@ module _ (task : SearchTask) (shut : List Bool) (at : ℕ) (nodes : HasNodes tas
   none_stays : (hops fewer : ℕ) → fewer ≤ hops → HasNoWayWithin task hops → HasNoWayWithin (narrowed task shut at) fewer
   none_stays hops fewer less none ns e within other = let sooner = no_later ns e other in none ns sooner.0 (omega (arith, within, less)) sooner.2
 
+  beyond_stays : (hops fewer : ℕ) (b c : Bound) → fewer ≤ hops → IsTrue (is_up_to b c.delivery c.hops) → IsWayBeyond task hops b → IsWayBeyond (narrowed task shut at) fewer c
+  beyond_stays hops fewer b c less within beyond ns e short other =
+      let sooner = no_later ns e other in
+      still_above b c sooner.0 e (length ns) within sooner.1 (beyond ns sooner.0 (omega (arith, short, less)) sooner.2)
+
 pub answers_stay : AnswersStay
 answers_stay = record {
   least = λ task shut at hops fewer ceiling s d nodes narrows less least short way. least_stays task shut at nodes narrows hops fewer ceiling s d less least short way;
   none = λ task shut at hops fewer nodes narrows less none. none_stays task shut at nodes narrows hops fewer less none;
+  beyond = λ task shut at hops fewer b c nodes narrows less within beyond. beyond_stays task shut at nodes narrows hops fewer b c less within beyond;
 }

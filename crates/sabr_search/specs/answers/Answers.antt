@@ -1,8 +1,10 @@
 -- The law of kept answers: an answer to one question answers later ones, too.
-use Rattle.std.specs.Prelude.{◌≡◌, ℕ, ◌+◌, ◌≤◌, Bool, false, List, ◌++◌, length, slice_index_or}
+use Rattle.std.specs.Prelude.{◌≡◌, ℕ, ◌+◌, ◌≤◌, Bool, false, IsTrue, List, ◌++◌, length, slice_index_or}
 use Rattle.std.specs.declared.option.Option.{Option}
 use Rattle.std.specs.declared.option.Option.TheVariants.{Some, None}
 use Rattle.sabr_model.specs.routes.Record.{RouteRecord}
+use Rattle.sabr_search.specs.declared.bound.Bound.{Bound}
+use Rattle.sabr_search.specs.questions.Bounded.{is_up_to}
 use Rattle.sabr_search.specs.questions.Told.{IsTold}
 use Rattle.sabr_search.specs.questions.Ways.{Leads}
 use Rattle.sabr_search.specs.questions.Task.{SearchTask, HasNodes, Takes, left_of}
@@ -21,14 +23,21 @@ pub record Narrows (task : SearchTask) (shut : List Bool) (at : ℕ) : Type 0 wh
 abbrev pub HasNoWayWithin : SearchTask → ℕ → Type 0
 HasNoWayWithin task hops = (ns : List ℕ) (e : ℕ) → length ns ≤ hops → Leads (Takes task) task.start task.at ns task.goal e → ⊥
 
+-- each way of at most h hops to the goal is above the bound
+abbrev pub IsWayBeyond : SearchTask → ℕ → Bound → Type 0
+IsWayBeyond task hops b = (ns : List ℕ) (e : ℕ) → length ns ≤ hops → Leads (Takes task) task.start task.at ns task.goal e → is_up_to b e (length ns) ≡ false
+
 -- The least way stays the least if more nodes are shut, the search starts no earlier and no more hops are left. It has
--- to be one that may still be taken and delivers at the same second. If there was no way, there still is none.
+-- to be one that may still be taken and delivers at the same second. If there was no way, there still is none. If each way
+-- was above a bound, each is above whatever is up to that.
 pub record AnswersStay : Type 0 where
   pub least : (task : SearchTask) (shut : List Bool) (at hops fewer ceiling : ℕ) (s : List ℕ) (d : ℕ) → HasNodes task.plan task.table → Narrows task shut at → fewer ≤ hops
       → IsLeastWay task hops ceiling s d → length s ≤ fewer → Leads (Takes (narrowed task shut at)) task.start at s task.goal d
       → IsLeastWay (narrowed task shut at) fewer ceiling s d
   pub none : (task : SearchTask) (shut : List Bool) (at hops fewer : ℕ) → HasNodes task.plan task.table → Narrows task shut at → fewer ≤ hops
       → HasNoWayWithin task hops → HasNoWayWithin (narrowed task shut at) fewer
+  pub beyond : (task : SearchTask) (shut : List Bool) (at hops fewer : ℕ) (b c : Bound) → HasNodes task.plan task.table → Narrows task shut at → fewer ≤ hops
+      → IsTrue (is_up_to b c.delivery c.hops) → IsWayBeyond task hops b → IsWayBeyond (narrowed task shut at) fewer c
 
 -- the answer after a prefix: the route goes on by the least way, or no way leads to the goal
 abbrev pub IsAnswered : SearchTask → List ℕ → Option RouteRecord → Type 0

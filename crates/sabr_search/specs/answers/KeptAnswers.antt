@@ -1,5 +1,5 @@
 -- Answers that are kept: of which question each is the answer, and which questions it answers by the law of answers.
-use Rattle.std.specs.Prelude.{◌≡◌, ◌⊎◌, ℕ, ◌+◌, ◌≤◌, ◌<◌, Bool, true, false, List, [], length, slice_get, slice_index_or}
+use Rattle.std.specs.Prelude.{◌≡◌, ◌⊎◌, ℕ, ◌+◌, ◌≤◌, ◌<◌, Bool, true, false, IsTrue, nat_lt, nat_le, ◌&&◌, All, List, [], ◌∷◌, length, slice_get, slice_index_or, if◌then◌else◌}
 use Rattle.std.specs.declared.option.Option.TheVariants.{Some}
 use Rattle.sabr_model.specs.declared.contact.Contact.{Contact}
 use Rattle.sabr_model.specs.plan.Plan.{TabledPlan, contact_named}
@@ -9,7 +9,10 @@ use Rattle.sabr_search.specs.declared.visit.Visit.{Visit}
 use Rattle.sabr_search.specs.questions.Ways.{Leads}
 use Rattle.sabr_search.specs.questions.Task.{SearchTask, Takes}
 use Rattle.sabr_search.specs.layers.Picks.{IsLeastWay}
-use Rattle.sabr_search.specs.answers.Answers.{HasNoWayWithin}
+use Rattle.sabr_search.specs.declared.backward.least_way.FoundWay.{FoundWay}
+use Rattle.sabr_search.specs.declared.bound.Bound.{Bound}
+use Rattle.sabr_search.specs.questions.Bounded.{is_none, is_up_to}
+use Rattle.sabr_search.specs.answers.Answers.{IsWayBeyond}
 
 -- what was asked, with these nodes shut and this goal
 abbrev pub asked : {A : Type 0} → TabledPlan → RouteRequest → Answer A → List Bool → ℕ → SearchTask
@@ -29,18 +32,35 @@ pub record IsListing (shut : List Bool) (nodes : List ℕ) : Type 0 where
   pub all : AllShut shut nodes
   pub once : (i j k : ℕ) → slice_get nodes i ≡ Some k → slice_get nodes j ≡ Some k → i ≡ j
 
--- the numbers of the least way and when it delivers, or no numbers where there is no way
-pub record IsFoundWay (task : SearchTask) (left : ℕ) (numbers : List ℕ) (delivery : ℕ) : Type 0 where
-  pub none : numbers ≡ [] → HasNoWayWithin task left
+-- the numbers of the least way and when it delivers, or no numbers where each way is above the bound
+pub record IsFoundWay (task : SearchTask) (left : ℕ) (numbers : List ℕ) (delivery : ℕ) (b : Bound) : Type 0 where
+  pub none : numbers ≡ [] → IsWayBeyond task left b
   pub some : 0 < length numbers → IsLeastWay task left (delivery + 1) numbers delivery
 
--- the answer to a question to the destination: the least way, or no numbers where there is none
+-- the hops of the way, 0 if there is none, or as many as the bound asked for has, where each way is above it
+abbrev pub way_hops : {A : Type 0} → Bound → FoundWay A → ℕ
+way_hops b way = elim way.numbers.items [ [] ↦ (if is_none way.bound then 0 else b.hops) | n ∷ ns ↦ length way.numbers.items ]
+
+-- the answer to a question to the destination: the least way, or no numbers where each is above its bound
 pub record IsAnswer {A : Type 0} (p : TabledPlan) (r : RouteRequest) (a : Answer A) : Type 0 where
   pub flags : List Bool
   pub goal : ℕ
   pub goal_is : slice_get p.table goal ≡ Some r.destination
   pub listed : AreListed flags a.lists.shut
-  pub found : IsFoundWay (asked p r a flags goal) a.left a.lists.way a.delivery
+  pub found : IsFoundWay (asked p r a flags goal) a.left a.lists.way a.delivery a.bound
+
+-- so many answers are kept
+abbrev pub most_answers : ℕ
+most_answers = 4096
+
+-- each of these is the answer to its question, and they are not too many
+abbrev pub AreAnswers : {A : Type 0} → TabledPlan → RouteRequest → List (Answer A) → Type 0
+AreAnswers p r answers = All (IsAnswer p r) answers × (length answers ≤ most_answers)
+
+-- the answer after a prefix is kept if that has some contacts, since no other prefix ends at the source, and not too many,
+-- and if not too many numbers are excluded
+abbrev pub is_kept_after : List ℕ → List ℕ → Bool
+is_kept_after prefix excluded = nat_lt 0 (length prefix) && (nat_le (length prefix) 128 && nat_le (length excluded) 64)
 
 -- the search starts at the same node and no earlier, excludes the same numbers, shuts these nodes, too, and leaves no more hops
 pub record Covers {A : Type 0} (a : Answer A) (task : SearchTask) (left : ℕ) : Type 0 where
@@ -50,14 +70,16 @@ pub record Covers {A : Type 0} (a : Answer A) (task : SearchTask) (left : ℕ) :
   pub same : a.lists.excluded ≡ task.excluded
   pub shuts : AllShut task.shut a.lists.shut
 
--- and its way, if it has one, may be taken still, and delivers at the same second
-pub record IsAnswerTo {A : Type 0} (a : Answer A) (task : SearchTask) (left : ℕ) : Type 0 where
+-- and its way, if it has one, may be taken still, and delivers at the same second; else all that is up to the bound is up to
+-- its own
+pub record IsAnswerTo {A : Type 0} (a : Answer A) (task : SearchTask) (left : ℕ) (b : Bound) : Type 0 where
   pub covers : Covers a task left
+  pub none : a.lists.way ≡ [] → IsTrue (is_up_to a.bound b.delivery b.hops)
   pub way : 0 < length a.lists.way → (length a.lists.way ≤ left) × Leads (Takes task) task.start task.at a.lists.way task.goal a.delivery
 
 -- so the answer at this place
-abbrev pub AnswersAt : {A : Type 0} → List (Answer A) → ℕ → SearchTask → ℕ → Type 0
-AnswersAt {A} answers place task left = (a : Answer A) × (slice_get answers place ≡ Some a) × IsAnswerTo a task left
+abbrev pub AnswersAt : {A : Type 0} → List (Answer A) → ℕ → SearchTask → ℕ → Bound → Type 0
+AnswersAt {A} answers place task left b = (a : Answer A) × (slice_get answers place ≡ Some a) × IsAnswerTo a task left b
 
 -- each of these is the one that was put there, or was among them before
 abbrev pub IsPut : {A : Type 0} → List (Answer A) → List (Answer A) → Answer A → Type 0

@@ -1,6 +1,6 @@
 -- Layers made backward from the goal: for each node, the first second that is too late so far; and the entries, layer
 -- by layer, the goal's first.
-use Rattle.std.specs.Prelude.{◌≡◌, ◌≢◌, ◌⊎◌, ℕ, ◌+◌, ◌*◌, ◌≤◌, ◌<◌, List, [], ◌∷◌, ◌++◌, length, false, slice_get, slice_set, slice_index, slice_index_or}
+use Rattle.std.specs.Prelude.{◌≡◌, ◌≢◌, ◌⊎◌, ℕ, ◌+◌, ◌≤◌, ◌<◌, List, [], ◌∷◌, ◌++◌, length, false, slice_get, slice_set, slice_index, slice_index_or}
 use Rattle.std.specs.declared.option.Option.TheVariants.{Some}
 use Rattle.sabr_search.specs.declared.backward.deadlines.Deadline.{Deadline}
 use Rattle.sabr_search.specs.questions.Ways.{Leads}
@@ -128,7 +128,3 @@ HasWayAt task hops d = (ns : List ℕ) × (length ns ≤ hops) × Leads (Takes t
 -- no way of at most so many hops leads to the goal by second d
 abbrev pub IsNoneWithin : SearchTask → ℕ → ℕ → Type 0
 IsNoneWithin task hops d = (ns : List ℕ) (e : ℕ) → length ns ≤ hops → Leads (Takes task) task.start task.at ns task.goal e → d < e
-
--- no such way, or so few looks are left that finding it may take more: a layer takes one for each contact
-abbrev pub IsNoneSeen : SearchTask → ℕ → ℕ → ℕ → Type 0
-IsNoneSeen task hops d left = (left < hops * length task.plan.contacts) ⊎ IsNoneWithin task hops d

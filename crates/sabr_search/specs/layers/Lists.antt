@@ -1,5 +1,5 @@
 -- The lists that keep hop layers: for each node the least arrival so far and the place of an entry, and the entries.
-use Rattle.std.specs.Prelude.{◌≡◌, ◌≢◌, ℕ, ◌+◌, ◌≤◌, ◌<◌, ◌⊎◌, List, length, map, take, drop, Bool, true, false, slice_get, slice_index, slice_index_or}
+use Rattle.std.specs.Prelude.{◌≡◌, ◌≢◌, ℕ, ◌≤◌, ◌<◌, ◌⊎◌, List, length, map, take, drop, Bool, true, false, slice_get, slice_index, slice_index_or}
 use Rattle.sabr_search.specs.declared.visit.Visit.{Visit}
 use Rattle.sabr_search.specs.declared.forward.layers.Layers.{Layers}
 use Rattle.std.specs.declared.option.Option.TheVariants.{Some}

@@ -19,19 +19,19 @@ pub record AreOpened (task : SearchTask) (late arrival : List ℕ) : Type 0 wher
   pub start : slice_index arrival task.start ≡ task.at
   pub unreached : (k : ℕ) → k < length arrival → slice_index_or task.shut k false ≡ false → slice_index arrival k ≡ slice_index_or late k never
 
--- no delivery is found, or one within so many hops
-abbrev pub IsFound : SearchTask → ℕ → Best → Type 0
-IsFound task hop best =
-    ((best.hops ≡ 0) × (best.delivery ≡ never))
-    ⊎ ((0 < best.hops) × (best.hops ≤ hop) × (best.delivery < never) × ((ns : List ℕ) × (length ns ≡ best.hops) × Leads (Takes task) task.start task.at ns task.goal best.delivery))
+-- no delivery is found before second `until`, or one within so many hops
+abbrev pub IsFound : SearchTask → ℕ → ℕ → Best → Type 0
+IsFound task until hop best =
+    ((best.hops ≡ 0) × (best.delivery ≡ until))
+    ⊎ ((0 < best.hops) × (best.hops ≤ hop) × (best.delivery < until) × ((ns : List ℕ) × (length ns ≡ best.hops) × Leads (Takes task) task.start task.at ns task.goal best.delivery))
 
--- the least delivery within so many hops, and the hops of a way with it; no hops if no way leads to the goal
-pub record IsBestWithin (task : SearchTask) (hops : ℕ) (best : Best) : Type 0 where
+-- the least delivery within so many hops, and the hops of a way with it; no hops if no way delivers before second `until`
+pub record IsBestWithin (task : SearchTask) (until hops : ℕ) (best : Best) : Type 0 where
   pub least : (ns : List ℕ) (e : ℕ) → length ns ≤ hops → Leads (Takes task) task.start task.at ns task.goal e → best.delivery ≤ e
-  pub found : IsFound task hops best
+  pub found : IsFound task until hops best
 
--- layers up to `hop` are made
-pub record AreLayers (task : SearchTask) (hop : ℕ) (bounds arrival place : List ℕ) (reached : List Visit) (best : Best) : Type 0 where
+-- layers up to `hop` are made, of what comes before second `until`
+pub record AreLayers (task : SearchTask) (until hop : ℕ) (bounds arrival place : List ℕ) (reached : List Visit) (best : Best) : Type 0 where
   pub lists : AreLists task.shut task.goal task.at (slice_index bounds (hop + 1)) arrival place reached
   pub many : length bounds ≡ hop + 2
   pub first_bound : slice_index bounds 0 ≡ 0
@@ -42,8 +42,8 @@ pub record AreLayers (task : SearchTask) (hop : ℕ) (bounds arrival place : Lis
   pub apart : (h p q : ℕ) (e f : Visit) → h ≤ hop → slice_index bounds h ≤ p → slice_index bounds h ≤ q → p < slice_index bounds (h + 1) → q < slice_index bounds (h + 1) → slice_get reached p ≡ Some e → slice_get reached q ≡ Some f → e.node ≡ f.node → p ≡ q
   pub real : (h v a : ℕ) → Entry bounds reached h v a → (ns : List ℕ) × (length ns ≡ h) × Leads (Takes task) task.start task.at ns v a
   pub taken : IsTaken (Takes task) (Entry bounds reached) hop best.delivery
-  pub found : IsFound task hop best
+  pub found : IsFound task until hop best
 
 -- and the last of them begins at `first`
-abbrev pub AreMade : SearchTask → ℕ → ℕ → List ℕ → List ℕ → List Visit → Best → Type 0
-AreMade task hop first arrival place reached best = (bounds : List ℕ) × (slice_index bounds hop ≡ first) × AreLayers task hop bounds arrival place reached best
+abbrev pub AreMade : SearchTask → ℕ → ℕ → ℕ → List ℕ → List ℕ → List Visit → Best → Type 0
+AreMade task until hop first arrival place reached best = (bounds : List ℕ) × (slice_index bounds hop ≡ first) × AreLayers task until hop bounds arrival place reached best

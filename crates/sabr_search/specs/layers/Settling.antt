@@ -71,18 +71,18 @@ pub record AreHops (task : SearchTask) (late : List ℕ) (settled : List Bool) (
   pub many : length hops ≡ length task.shut
   pub ways : (k : ℕ) → k < length arrival → slice_index_or task.shut k false ≡ false → slice_index arrival k < slice_index_or late k never → (slice_index hops k ≤ settled_count settled) × IsWayTo task k (slice_index hops k) (slice_index arrival k)
 
--- no delivery is found, or one by a way of no more hops than there are settled nodes
-abbrev pub IsFirst : SearchTask → List Bool → Best → Type 0
-IsFirst task settled best =
-    ((best.hops ≡ 0) × (best.delivery ≡ latest_arrival + 1))
-    ⊎ ((0 < best.hops) × (best.hops ≤ settled_count settled) × IsWayTo task task.goal best.hops best.delivery)
+-- no delivery is found before second `until`, or one that is sooner by a way of no more hops than there are settled nodes
+abbrev pub IsFirst : SearchTask → ℕ → List Bool → Best → Type 0
+IsFirst task until settled best =
+    ((best.hops ≡ 0) × (best.delivery ≡ until))
+    ⊎ ((0 < best.hops) × (best.hops ≤ settled_count settled) × (best.delivery < until) × IsWayTo task task.goal best.hops best.delivery)
 
 -- no open node's arrival is later than what is too late there
 abbrev pub AreBy : SearchTask → List ℕ → List ℕ → Type 0
 AreBy task late arrival = (k : ℕ) → slice_index_or task.shut k false ≡ false → slice_index arrival k ≤ slice_index_or late k never
 
 -- what holds while the contacts of node u are taken, which is settled and reached at t
-pub record AreSettling (task : SearchTask) (late costs : List ℕ) (settled : List Bool) (u t : ℕ) (arrival hops : List ℕ) (queue : List Visit) (best : Best) : Type 0 where
+pub record AreSettling (task : SearchTask) (until : ℕ) (late costs : List ℕ) (settled : List Bool) (u t : ℕ) (arrival hops : List ℕ) (queue : List Visit) (best : Best) : Type 0 where
   pub on : slice_index_or settled u false ≡ true
   pub real : IsWayTo task u (slice_index hops u) t
   pub few : slice_index hops u < settled_count settled
@@ -93,13 +93,13 @@ pub record AreSettling (task : SearchTask) (late costs : List ℕ) (settled : Li
   pub lowered : AreBy task late arrival
   pub queue_is : IsQueue task late costs settled arrival queue
   pub hops_are : AreHops task late settled arrival hops
-  pub found : IsFirst task settled best
+  pub found : IsFirst task until settled best
   pub sooner : best.delivery ≤ latest_arrival + 1
   pub goal_late : best.delivery ≤ slice_index arrival task.goal
 
 -- so it is with what a search keeps, while the contacts of an event's node are taken
-abbrev pub StaySettling : {A : Type 0} → SearchTask → (late costs : List ℕ) → List Bool → Visit → Settling A → Best → Type 0
-StaySettling task late costs settled event s best = AreSettling task late costs settled event.node event.at s.arrival.items s.hops.items s.queue best
+abbrev pub StaySettling : {A : Type 0} → SearchTask → ℕ → (late costs : List ℕ) → List Bool → Visit → Settling A → Best → Type 0
+StaySettling task until late costs settled event s best = AreSettling task until late costs settled event.node event.at s.arrival.items s.hops.items s.queue best
 
 -- what these passes bring from node u at t is known
 abbrev pub IsKnownOver : SearchTask → List Pass → ℕ → ℕ → (costs arrival : List ℕ) → ℕ → Type 0
@@ -117,7 +117,7 @@ AreSettledTaken task costs settled arrival best =
     (v n w b : ℕ) → slice_index_or settled v false ≡ true → Takes task n v (slice_index arrival v) w b → IsKnown task.goal arrival (best - slice_index costs w) w b
 
 -- what holds between two events
-pub record AreSettled (task : SearchTask) (late costs : List ℕ) (settled : List Bool) (arrival hops : List ℕ) (queue : List Visit) (best : Best) : Type 0 where
+pub record AreSettled (task : SearchTask) (until : ℕ) (late costs : List ℕ) (settled : List Bool) (arrival hops : List ℕ) (queue : List Visit) (best : Best) : Type 0 where
   pub flags : length arrival ≡ length task.shut
   pub many : length settled ≡ length task.shut
   pub start_settled : slice_index_or settled task.start false ≡ true
@@ -127,20 +127,21 @@ pub record AreSettled (task : SearchTask) (late costs : List ℕ) (settled : Lis
   pub lowered : AreBy task late arrival
   pub queue_is : IsQueue task late costs settled arrival queue
   pub hops_are : AreHops task late settled arrival hops
-  pub found : IsFirst task settled best
+  pub found : IsFirst task until settled best
   pub sooner : best.delivery ≤ latest_arrival + 1
   pub goal_late : best.delivery ≤ slice_index arrival task.goal
   pub taken : AreSettledTaken task costs settled arrival best.delivery
 
 -- so it is with what a search keeps
-abbrev pub StaySettled : {A : Type 0} → SearchTask → (late costs : List ℕ) → Settling A → Best → Type 0
-StaySettled task late costs s best = AreSettled task late costs s.settled.items s.arrival.items s.hops.items s.queue best
+abbrev pub StaySettled : {A : Type 0} → SearchTask → ℕ → (late costs : List ℕ) → Settling A → Best → Type 0
+StaySettled task until late costs s best = AreSettled task until late costs s.settled.items s.arrival.items s.hops.items s.queue best
 
--- what a search found: no way to the goal comes before the delivery, and some way comes then with that number of hops,
--- fewer than there are nodes; or no way leads there
-pub record IsFirstWay (task : SearchTask) (best : Best) : Type 0 where
+-- what a search before second `until` found: no way to the goal comes before the delivery, and some way comes then with that
+-- number of hops, fewer than there are nodes; or no way comes there before that second
+pub record IsFirstWay (task : SearchTask) (until : ℕ) (best : Best) : Type 0 where
   pub least : (ns : List ℕ) (e : ℕ) → Leads (Takes task) task.start task.at ns task.goal e → best.delivery ≤ e
-  pub none : best.hops ≡ 0 → (ns : List ℕ) (e : ℕ) → Leads (Takes task) task.start task.at ns task.goal e → ⊥
+  pub none : best.hops ≡ 0 → (ns : List ℕ) (e : ℕ) → Leads (Takes task) task.start task.at ns task.goal e → until ≤ e
+  pub sooner : 0 < best.hops → best.delivery < until
   pub some : 0 < best.hops → IsWayTo task task.goal best.hops best.delivery
   pub early : 0 < best.hops → best.delivery ≤ latest_arrival
   pub few : best.hops < length task.table

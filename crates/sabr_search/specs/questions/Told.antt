@@ -1,25 +1,16 @@
 -- What a finder reports of a route that is found.
-use Rattle.std.specs.Prelude.{◌≡◌, ℕ, ◌+◌, ◌-◌, ◌*◌, ◌^◌, ◌≤◌, List, length}
+use Rattle.std.specs.Prelude.{◌≡◌, ℕ, ◌+◌, ◌-◌, ◌*◌, ◌≤◌, List, length}
 use Rattle.std.specs.declared.option.Option.{Option}
 use Rattle.std.specs.declared.option.Option.TheVariants.{Some, None}
 use Rattle.sabr_model.specs.plan.Plan.{ContactPlan}
 use Rattle.sabr_model.specs.routes.Route.{until_of, entry_of}
 use Rattle.sabr_model.specs.routes.Record.{RouteRecord}
 use Rattle.sabr_model.specs.routes.Asking.{most_hops}
-use Rattle.sabr_search.specs.declared.links.looks.Looks.{Looks}
 
 -- the number of hops of an answer, 0 if there is no route
 abbrev pub hops_told : Option RouteRecord → ℕ
 hops_told None = 0
 hops_told (Some route) = length route.contacts
-
--- more looks than a search ever needs
-abbrev pub many_looks : ℕ
-many_looks = 2 ^ 64 - 1
-
--- the looks that a finder took of these many
-abbrev pub looks_taken : Looks → ℕ
-looks_taken looks = many_looks - looks.left
 
 -- without a limit on hops, the answer took no more looks than three passes over all contacts for each hop after the
 -- prefix, and three more

@@ -8,15 +8,14 @@ ghost use Rattle.sabr_search.specs.questions.Linked.{IsLinkWithin};
 ghost use Rattle.sabr_search.specs.layers.Deadlines.{IsApart};
 ghost use Rattle.sabr_search.specs.questions.FirstSteps.{AreFirstSteps};
 ghost use Rattle.sabr_search.specs.layers.Settling.{AreReal};
-ghost use Rattle.sabr_search.specs.layers.Late.{InTimeFor, AreLateAfter, IsNotedLate, IsToldLate, IsToldOver, IsToldByHead, IsLayerTold, AreArrivals, AreMet, IsNoneSeen};
+ghost use Rattle.sabr_search.specs.layers.Late.{InTimeFor, AreLateAfter, IsNotedLate, IsToldLate, IsToldOver, IsToldByHead, IsLayerTold, AreArrivals, AreMet, IsNoneWithin};
 
 use crate::backward::deadlines::{Deadline, Deadlines};
 use crate::backward::since::Since;
-use crate::links::looks::Looks;
 use crate::links::over_link::{WalkedLink, is_soonest};
 use crate::task::Task;
 use crate::visit::Visit;
-use sabr_index::{Sender, SenderHead};
+use sabr_index::{Looks, Sender, SenderHead};
 use sabr_model::NoMemory;
 use std::alloc::Allocator;
 
@@ -161,7 +160,7 @@ impl<A: Allocator + Copy> Deadlines<A> {
             if from.bounds.latest_end <= self.late.at(from.node) {
                 continue;
             }
-            if from.passes.len() as u64 > looks.left {
+            if from.passes.len() as u64 > looks.left() {
                 return Ok(false);
             }
             self.take_sender(aim, looks, from, to, left)?;
@@ -245,8 +244,8 @@ impl<A: Allocator + Copy> Deadlines<A> {
     }
 
     /// Makes layers backward from the goal until the start is in time for one, each with at most one look for each
-    /// contact. Returns how many hops that layer is from the goal. None if the start is in time for none of `hops`
-    /// layers, if a layer is empty, or if more looks might be needed than are left.
+    /// contact. Returns how many hops that layer is from the goal; `hops` if the start is in time for none of so many
+    /// layers. None if more looks might be needed than are left.
     pub fn make_back(
         &mut self,
         aim: &Aim<'_, '_, '_, A>,
@@ -259,10 +258,11 @@ impl<A: Allocator + Copy> Deadlines<A> {
         requires steps { AreFirstSteps aim.now.task.now aim.now.first.now }
         requires real { AreReal aim.now.task.now aim.now.first.now }
         ensures counted { looks.old.left ≤ looks.new.left + hops * length aim.now.task.now.plan.contacts }
-        ensures within { IfOk result (λ o. IfSome o (λ left. left < hops)) }
-        ensures layers { IfOk result (λ o. IfSome o (λ left. looks.old.left ≤ looks.new.left + (left + 1) * length aim.now.task.now.plan.contacts)) }
-        ensures met { IfOk result (λ o. IfSome o (λ left. AreMet aim.now.task.now aim.now.since.now aim.now.delivery left self.new.ends.items self.new.place.items self.new.entries.items)) }
-        ensures none { IfOk result (λ o. IfNone o (IsNoneSeen aim.now.task.now hops aim.now.delivery looks.old.left)) }
+        ensures within { IfOk result (λ o. IfSome o (λ left. left ≤ hops)) }
+        ensures layers { IfOk result (λ o. IfSome o (λ left. left < hops → looks.old.left ≤ looks.new.left + (left + 1) * length aim.now.task.now.plan.contacts)) }
+        ensures met { IfOk result (λ o. IfSome o (λ left. left < hops → AreMet aim.now.task.now aim.now.since.now aim.now.delivery left self.new.ends.items self.new.place.items self.new.entries.items)) }
+        ensures beyond { IfOk result (λ o. IfSome o (λ left. left ≡ hops → IsNoneWithin aim.now.task.now hops aim.now.delivery)) }
+        ensures none { IfOk result (λ o. IfNone o (looks.old.left < hops * length aim.now.task.now.plan.contacts)) }
     {
         self.first_back(aim.task, aim.delivery)?;
         for left in 0..hops {
@@ -270,7 +270,7 @@ impl<A: Allocator + Copy> Deadlines<A> {
                 return Ok(Some(left));
             }
             if self.ends[left] == self.ends[left + 1] {
-                return Ok(None);
+                return Ok(Some(hops));
             }
             let whole = self.next_back(aim, looks, left)?;
             if !whole {
@@ -279,6 +279,6 @@ impl<A: Allocator + Copy> Deadlines<A> {
             let end = self.entries.len();
             self.ends.push(end)?;
         }
-        Ok(None)
+        Ok(Some(hops))
     }
 }

@@ -9,11 +9,10 @@ ghost use Rattle.sabr_search.specs.layers.Latest.{IsWhole, IsBegun, AreRising, A
 
 use crate::forward::layers::NEVER;
 use crate::forward::queue::{LAST_AT, Queue};
-use crate::links::looks::Looks;
 use crate::links::over_link::{WalkedLink, is_soonest};
 use crate::task::Task;
 use crate::visit::Visit;
-use sabr_index::Sender;
+use sabr_index::{Looks, Sender};
 use sabr_model::NoMemory;
 use std::alloc::Allocator;
 
@@ -126,7 +125,7 @@ impl<A: Allocator + Copy> Latest<A> {
             if from.bounds.latest_end <= latest {
                 continue;
             }
-            if from.passes.len() as u64 > looks.left {
+            if from.passes.len() as u64 > looks.left() {
                 return Ok(false);
             }
             self.take_sender(task, looks, from, to, before)?;

@@ -9,11 +9,10 @@ ghost use Rattle.sabr_search.specs.layers.Picks.{IsAtMost, IsLeastStep, IsPicked
 
 use crate::backward::deadlines::Deadlines;
 use crate::backward::from_goal::Aim;
-use crate::links::looks::Looks;
 use crate::links::over_link::{WalkedLink, link_passes};
 use crate::task::Task;
 use crate::visit::Visit;
-use sabr_index::Links;
+use sabr_index::{Links, Looks};
 use sabr_model::NoMemory;
 use std::alloc::Allocator;
 
@@ -102,7 +101,7 @@ impl<A: Allocator + Copy> Deadlines<A> {
         for hop in 0..left + 1 {
             self.point_at(left - hop);
             let links = task.links(from.node);
-            if links.passes.len() as u64 > looks.left {
+            if links.passes.len() as u64 > looks.left() {
                 return Ok(None);
             }
             let least = self.least_step(task, looks, left - hop, from, links);

@@ -6,13 +6,14 @@ ghost use Rattle.sabr_search.specs.questions.Task.{HasNodes, is_closed};
 ghost use Rattle.sabr_search.specs.questions.Course.{AreShut};
 
 use crate::course::shut::Shut;
-use sabr_model::{NoMemory, Plan, Request};
+use sabr_index::CountedPlan;
+use sabr_model::{NoMemory, Request};
 use std::alloc::Allocator;
 
 /// Shuts the nodes to avoid. All are open before.
 fn shut_avoided<A: Allocator + Copy>(
     shut: &mut Shut<A>,
-    plan: &Plan<A>,
+    plan: &CountedPlan<'_, A>,
     request: &Request,
 ) -> Result<(), NoMemory>
     requires nodes { HasNodes plan.now.plan plan.now.table }
@@ -31,7 +32,7 @@ fn shut_avoided<A: Allocator + Copy>(
 /// Shuts the source and the nodes to avoid. All are open before.
 pub fn shut_closed<A: Allocator + Copy>(
     shut: &mut Shut<A>,
-    plan: &Plan<A>,
+    plan: &CountedPlan<'_, A>,
     request: &Request,
 ) -> Result<(), NoMemory>
     requires nodes { HasNodes plan.now.plan plan.now.table }

@@ -7,10 +7,10 @@ ghost use Rattle.sabr_search.specs.questions.FirstSteps.{ComesTo, AreFirstSteps}
 ghost use Rattle.sabr_search.specs.layers.Settling.{AreReal};
 
 use crate::forward::layers::NEVER;
-use crate::links::looks::Looks;
 use crate::links::over_link::{WalkedLink, link_passes};
 use crate::task::Task;
 use crate::visit::Visit;
+use sabr_index::Looks;
 use sabr_model::NoMemory;
 use std::alloc::Allocator;
 
@@ -48,7 +48,7 @@ impl<'a, A: Allocator + Copy> Task<'a, A> {
         let links = self.links(from.node);
         for link in links.links {
             let passes = link_passes(links, link);
-            if passes.len() as u64 > looks.left {
+            if passes.len() as u64 > looks.left() {
                 return Ok(false);
             }
             if self.shut()[link.receiver as usize] {

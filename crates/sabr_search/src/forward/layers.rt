@@ -8,10 +8,10 @@ ghost use Rattle.sabr_search.specs.layers.Lists.{IsPlaced, StayLinked, IsLayer, 
 ghost use Rattle.sabr_search.specs.questions.FirstSteps.{IsNoneBefore};
 ghost use Rattle.sabr_search.specs.layers.Made.{AreOpened, IsBestWithin};
 
-use crate::links::looks::Looks;
 use crate::links::over_link::{WalkedLink, link_passes};
 use crate::task::Task;
 use crate::visit::Visit;
+use sabr_index::Looks;
 use sabr_model::NoMemory;
 use std::alloc::Allocator;
 
@@ -263,29 +263,30 @@ impl<A: Allocator + Copy> Layers<A> {
     }
 
     /// Makes layers until the goal is reached by `lower`, before which no way delivers, no node is new, or the hops are used
-    /// up. Returns the least delivery; none if more looks might be needed than are left.
+    /// up. Returns the least delivery, without hops if none comes before `until`; none if more looks might be needed than
+    /// are left.
     pub fn make(
         &mut self,
         task: &Task<'_, A>,
         looks: &mut Looks,
         hops: usize,
         lower: u64,
+        until: u64,
     ) -> Result<Option<Best>, NoMemory>
         requires task { IsTask task.now }
-        requires sooner { lower < never }
         requires lower { IsNoneBefore task.now lower }
         ensures counted { looks.old.left ≤ looks.new.left + hops * length task.now.plan.contacts }
         ensures none { IfOk result (λ o. IfNone o (looks.old.left < hops * length task.now.plan.contacts)) }
-        ensures best { IfOk result (λ o. IfSome o (IsBestWithin task.now hops)) }
+        ensures best { IfOk result (λ o. IfSome o (IsBestWithin task.now until hops)) }
     {
         self.first_layer(task)?;
         let mut best = Best {
-            delivery: NEVER,
+            delivery: until,
             hops: 0,
         };
         let mut first = 0;
         for hop in 0..hops {
-            if task.one_pass() > looks.left {
+            if task.one_pass() > looks.left() {
                 return Ok(None);
             }
             let begin = self.reached.len();

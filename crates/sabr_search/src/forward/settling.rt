@@ -10,13 +10,12 @@ ghost use Rattle.sabr_search.specs.questions.FirstSteps.{AreFirstSteps};
 ghost use Rattle.sabr_search.specs.layers.Settling.{IsBound, AreReal, AreArrivalsBy, IsFirstWay, StaySettling, StaySettled, IsKnownOver, IsFallen, AreSettledTaken};
 
 use crate::backward::since::seconds_of;
-use crate::forward::layers::{Best, UNDELIVERED, open_nodes};
+use crate::forward::layers::{Best, open_nodes};
 use crate::forward::queue::Queue;
-use crate::links::looks::Looks;
 use crate::links::over_link::{WalkedLink, link_passes};
 use crate::task::Task;
 use crate::visit::Visit;
-use sabr_index::{Link, Links};
+use sabr_index::{Link, Links, Looks};
 use sabr_model::NoMemory;
 use std::alloc::Allocator;
 
@@ -31,6 +30,8 @@ pub struct Forward<'t, 'a, 'b, A: Allocator + Copy> {
     pub costs: &'b [u64],
     /// For each node, the hops of such a way, as far as the list goes.
     pub hops: &'b [u64],
+    /// No delivery from this second on is looked for; no later than after every arrival.
+    pub until: u64,
 }
 
 impl<'t, 'a, 'b, A: Allocator + Copy> Forward<'t, 'a, 'b, A> {
@@ -128,9 +129,9 @@ impl<A: Allocator + Copy> Settling<A> {
         requires sooner { step.at + slice_index forward.now.costs.now step.node < best.delivery }
         requires news { step.node ≢ forward.now.task.now.goal → step.at < slice_index self.old.arrival.items step.node }
         requires step { slice_index_or forward.now.task.now.shut step.node false ≡ false → (n : ℕ) × Takes forward.now.task.now n event.node event.at step.node step.at }
-        requires state { StaySettling forward.now.task.now forward.now.late.now forward.now.costs.now self.old.settled.items event self.old best }
+        requires state { StaySettling forward.now.task.now forward.now.until forward.now.late.now forward.now.costs.now self.old.settled.items event self.old best }
         ensures settled { self.new.settled ≡ self.old.settled }
-        ensures state { IfOk result (StaySettling forward.now.task.now forward.now.late.now forward.now.costs.now self.old.settled.items event self.new) }
+        ensures state { IfOk result (StaySettling forward.now.task.now forward.now.until forward.now.late.now forward.now.costs.now self.old.settled.items event self.new) }
         ensures fallen { IfOk result (λ b. IsFallen self.old.settled.items self.old.arrival.items best self.new.arrival.items b) }
         ensures known { IfOk result (λ b. IsKnown forward.now.task.now.goal self.new.arrival.items (b.delivery - slice_index forward.now.costs.now step.node) step.node step.at) }
         ensures pushes { OnOk result (length self.new.queue ≤ length self.old.queue + 1) }
@@ -169,10 +170,10 @@ impl<A: Allocator + Copy> Settling<A> {
         requires link { IsLinkWithin forward.now.task.now link.from link.to link.passes.now link.bounds }
         requires receiver { link.to < length forward.now.task.now.table }
         requires few { length link.passes.now ≤ looks.old.left }
-        requires state { StaySettling forward.now.task.now forward.now.late.now forward.now.costs.now self.old.settled.items event self.old best }
+        requires state { StaySettling forward.now.task.now forward.now.until forward.now.late.now forward.now.costs.now self.old.settled.items event self.old best }
         ensures settled { self.new.settled ≡ self.old.settled }
         ensures looks { looks.old.left ≤ looks.new.left + length link.entry.passes.now }
-        ensures state { IfOk result (StaySettling forward.now.task.now forward.now.late.now forward.now.costs.now self.old.settled.items event self.new) }
+        ensures state { IfOk result (StaySettling forward.now.task.now forward.now.until forward.now.late.now forward.now.costs.now self.old.settled.items event self.new) }
         ensures fallen { IfOk result (λ b. IsFallen self.old.settled.items self.old.arrival.items best self.new.arrival.items b) }
         ensures known { IfOk result (λ b. IsKnownOver forward.now.task.now link.entry.passes.now link.entry.from event.at forward.now.costs.now self.new.arrival.items b.delivery) }
         ensures pushes { OnOk result (length self.new.queue + looks.new.left ≤ length self.old.queue + looks.old.left) }
@@ -204,11 +205,11 @@ impl<A: Allocator + Copy> Settling<A> {
         requires reached { slice_index self.old.arrival.items event.node ≡ event.at }
         requires links { AreLinksAt forward.now.task.now event.node links.links.now links.passes.now }
         requires few { length links.passes.now ≤ looks.old.left }
-        requires state { StaySettling forward.now.task.now forward.now.late.now forward.now.costs.now (slice_set self.old.settled.items event.node true) event self.old best }
+        requires state { StaySettling forward.now.task.now forward.now.until forward.now.late.now forward.now.costs.now (slice_set self.old.settled.items event.node true) event self.old best }
         requires taken { AreSettledTaken forward.now.task.now forward.now.costs.now self.old.settled.items self.old.arrival.items best.delivery }
         ensures settled { self.new.settled.items ≡ slice_set self.old.settled.items event.node true }
         ensures looks { looks.old.left ≤ looks.new.left + length links.entry.passes.now }
-        ensures state { IfOk result (StaySettling forward.now.task.now forward.now.late.now forward.now.costs.now (slice_set self.old.settled.items event.node true) event self.new) }
+        ensures state { IfOk result (StaySettling forward.now.task.now forward.now.until forward.now.late.now forward.now.costs.now (slice_set self.old.settled.items event.node true) event self.new) }
         ensures fallen { IfOk result (λ b. IsFallen (slice_set self.old.settled.items event.node true) self.old.arrival.items best self.new.arrival.items b) }
         ensures taken { IfOk result (λ b. AreSettledTaken forward.now.task.now forward.now.costs.now (slice_set self.old.settled.items event.node true) self.new.arrival.items b.delivery) }
         ensures pushes { OnOk result (length self.new.queue + looks.new.left ≤ length self.old.queue + looks.old.left) }
@@ -238,6 +239,7 @@ impl<A: Allocator + Copy> Settling<A> {
         first: &[Visit],
     ) -> Result<Best, NoMemory>
         requires task { IsTask forward.now.task.now }
+        requires until { forward.now.until ≤ latest_arrival + 1 }
         requires bound { IsBound forward.now.task.now forward.now.late.now forward.now.costs.now }
         requires inside { (k : ℕ) (s : Visit) → slice_get first.now k ≡ Some s → s.node < length forward.now.task.now.table }
         requires steps { AreFirstSteps forward.now.task.now first.now }
@@ -247,7 +249,7 @@ impl<A: Allocator + Copy> Settling<A> {
         requires settled { self.old.settled.items ≡ replicate (length forward.now.task.now.shut) false }
         requires queue { self.old.queue ≡ [] }
         ensures settled { self.new.settled.items ≡ slice_set self.old.settled.items forward.now.task.now.start true }
-        ensures state { IfOk result (StaySettled forward.now.task.now forward.now.late.now forward.now.costs.now self.new) }
+        ensures state { IfOk result (StaySettled forward.now.task.now forward.now.until forward.now.late.now forward.now.costs.now self.new) }
     {
         let event = Visit {
             at: forward.task.at(),
@@ -256,7 +258,7 @@ impl<A: Allocator + Copy> Settling<A> {
         self.hops[event.node] = 0;
         self.settled[event.node] = true;
         let mut best = Best {
-            delivery: UNDELIVERED,
+            delivery: forward.until,
             hops: 0,
         };
         for place in 0..first.len() {
@@ -278,13 +280,14 @@ impl<A: Allocator + Copy> Settling<A> {
         first: &[Visit],
     ) -> Result<Option<Best>, NoMemory>
         requires task { IsTask forward.now.task.now }
+        requires until { forward.now.until ≤ latest_arrival + 1 }
         requires bound { IsBound forward.now.task.now forward.now.late.now forward.now.costs.now }
         requires inside { (k : ℕ) (s : Visit) → slice_get first.now k ≡ Some s → s.node < length forward.now.task.now.table }
         requires steps { AreFirstSteps forward.now.task.now first.now }
         requires real { AreReal forward.now.task.now first.now }
         ensures counted { looks.old.left + degree forward.now.task.now forward.now.task.now.start ≤ looks.new.left + length forward.now.task.now.plan.contacts }
         ensures none { IfOk result (λ o. IfNone o (looks.old.left + degree forward.now.task.now forward.now.task.now.start < length forward.now.task.now.plan.contacts)) }
-        ensures first { IfOk result (λ o. IfSome o (IsFirstWay forward.now.task.now)) }
+        ensures first { IfOk result (λ o. IfSome o (IsFirstWay forward.now.task.now forward.now.until)) }
         ensures arrivals { IfOk result (λ o. IfSome o (λ best. AreArrivalsBy forward.now.task.now forward.now.costs.now self.new.arrival.items best.delivery)) }
     {
         self.first_events(forward)?;
@@ -295,7 +298,7 @@ impl<A: Allocator + Copy> Settling<A> {
             }
             if !self.settled[event.node] {
                 let links = forward.task.links(event.node);
-                if links.passes.len() as u64 > looks.left {
+                if links.passes.len() as u64 > looks.left() {
                     return Ok(None);
                 }
                 let reached = Visit {
@@ -318,10 +321,11 @@ impl<A: Allocator + Copy> Settling<A> {
         first: &mut Vec<Visit, A>,
     ) -> Result<Option<Best>, NoMemory>
         requires task { IsTask forward.now.task.now }
+        requires until { forward.now.until ≤ latest_arrival + 1 }
         requires bound { IsBound forward.now.task.now forward.now.late.now forward.now.costs.now }
         ensures counted { looks.old.left ≤ looks.new.left + length forward.now.task.now.plan.contacts }
         ensures none { IfOk result (λ o. IfNone o (looks.old.left < length forward.now.task.now.plan.contacts)) }
-        ensures way { IfOk result (λ o. IfSome o (IsFirstWay forward.now.task.now)) }
+        ensures way { IfOk result (λ o. IfSome o (IsFirstWay forward.now.task.now forward.now.until)) }
         ensures arrivals { IfOk result (λ o. IfSome o (λ best. AreArrivalsBy forward.now.task.now forward.now.costs.now self.new.arrival.items best.delivery)) }
         ensures steps { IfOk result (λ o. IfSome o (λ _. AreFirstSteps forward.now.task.now first.new.items)) }
         ensures real { IfOk result (λ o. IfSome o (λ _. AreReal forward.now.task.now first.new.items)) }

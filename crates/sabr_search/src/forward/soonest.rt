@@ -6,9 +6,10 @@ ghost use Rattle.sabr_search.specs.questions.FirstSteps.{tabled_of};
 ghost use Rattle.sabr_search.specs.layers.Latest.{IsWhole};
 ghost use Rattle.sabr_search.specs.layers.Reach.{AreLateFor, AreSoonFor};
 
+use crate::forward::layers::UNDELIVERED;
 use crate::forward::settling::{Forward, Settling};
-use crate::links::looks::Looks;
 use crate::task::Task;
+use sabr_index::Looks;
 use sabr_model::NoMemory;
 use std::alloc::Allocator;
 
@@ -39,6 +40,7 @@ pub fn soonest_of<A: Allocator + Copy>(
         late,
         costs: &[],
         hops: &[],
+        until: UNDELIVERED,
     };
     let mut settling = Settling::new(alloc);
     let mut first = Vec::new(alloc);

@@ -7,9 +7,9 @@ ghost use Rattle.sabr_search.specs.questions.Linked.{IsLinkWithin, HasNumber};
 
 use crate::backward::pick::{Step, is_at_most};
 use crate::links::finger::Finger;
-use crate::links::looks::Looks;
 use crate::links::over_link::{WalkedLink, comes_late, first_open, rules_out};
 use crate::task::Task;
+use sabr_index::Looks;
 use std::alloc::Allocator;
 
 impl<'a, A: Allocator + Copy> Task<'a, A> {
@@ -41,26 +41,27 @@ impl<'a, A: Allocator + Copy> Task<'a, A> {
         let mut finger = Finger::new();
         let mut place = first_open(passes, at);
         while place < passes.len() {
-            let pass = looks.look(&passes[place]);
-            if is_at_most(chosen, pass.least_number_behind) {
+            let pass = passes[place].look(looks);
+            if is_at_most(chosen, pass.pass().least_number_behind) {
                 return chosen;
             }
-            let excluded = self.excluded_from(link.from, pass, &mut finger);
+            let excluded = self.excluded_from(link.from, &pass, &mut finger);
             if excluded > 0 {
                 place += excluded.min(passes.len() - place);
                 continue;
             }
-            if comes_late(pass, at, before) {
+            if comes_late(&pass, at, before) {
                 return chosen;
             }
             place += 1;
-            if is_at_most(chosen, pass.number) {
+            let number = pass.number();
+            if is_at_most(chosen, number) {
                 continue;
             }
-            let hop = self.hop_over(link.to, pass);
+            let hop = self.hop_over(link.to, &pass);
             if let Some(arrival) = self.arrive_before(at, &hop, before) {
                 chosen = Some(Step {
-                    number: pass.number,
+                    number,
                     node: link.to,
                     at: arrival,
                 });

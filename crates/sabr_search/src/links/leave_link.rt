@@ -5,20 +5,19 @@ ghost use Rattle.sabr_index.specs.declared.link.Pass.{Pass};
 ghost use Rattle.sabr_search.specs.questions.Task.{IsTask, Takes};
 ghost use Rattle.sabr_search.specs.questions.Linked.{IsLinkWithin, IsLeftBefore, AreInOrder, HasNumber};
 
-use crate::links::looks::Looks;
 use crate::links::over_link::WalkedLink;
 use crate::task::Task;
-use sabr_index::Pass;
+use sabr_index::{Looks, Pass};
 use std::alloc::Allocator;
 
-/// Returns the number of passes that start before `before`; these come first. A binary search: it compares the starts, by
-/// which passes are sorted.
+/// Returns the number of passes that start before `before`; these come first. A binary search: it asks passes for
+/// the bound that their starts are.
 fn started(passes: &[Pass], before: u64) -> usize
     requires { AreInOrder passes.now }
     ensures within { result ≤ length passes.now }
     ensures late { (k : ℕ) (x : Pass) → result ≤ k → slice_get passes.now k ≡ Some x → before ≤ x.start }
 {
-    passes.partition_point(|pass| pass.start < before)
+    passes.partition_point(|pass| pass.begins_before(before))
 }
 
 /// Returns the number of passes of a link that start before `before`; the first is counted even if it starts later.
@@ -66,11 +65,11 @@ impl<'a, A: Allocator + Copy> Task<'a, A> {
         let mut last = latest;
         let end = begun(passes, before);
         for back in 0..end {
-            let pass = looks.look(&passes[end - 1 - back]);
-            if leaves_no_later(pass, before, last) {
+            let pass = passes[end - 1 - back].look(looks);
+            if leaves_no_later(pass.pass(), before, last) {
                 return last;
             }
-            let hop = self.hop_over(link.to, pass);
+            let hop = self.hop_over(link.to, &pass);
             last = last.max(self.leave_before(&hop, before));
         }
         last

@@ -8,9 +8,8 @@ ghost use Rattle.sabr_search.specs.questions.Steps.{IsHopAt};
 ghost use Rattle.sabr_search.specs.questions.Linked.{IsPassAt, IsLinkWithin, AreInOrder, HasNumber, passes_of};
 
 use crate::links::finger::Finger;
-use crate::links::looks::Looks;
 use crate::task::Task;
-use sabr_index::{Link, LinkBounds, Links, Pass};
+use sabr_index::{Link, LinkBounds, Links, Looked, Looks, Pass};
 use sabr_model::Hop;
 use std::alloc::Allocator;
 
@@ -66,15 +65,15 @@ pub fn first_open(passes: &[Pass], at: u64) -> usize
 
 /// Returns true if, by its start and the light times from it on, what is at the sender at `at` arrives at `before` or later
 /// over this pass and over each one after it. The margin is left out.
-pub fn comes_late(pass: &Pass, at: u64, before: u64) -> bool
+pub fn comes_late(pass: &Looked<'_>, at: u64, before: u64) -> bool
     ensures { IsTrue result → before ≤ max at pass.now.start + pass.now.least_light_behind }
 {
-    before.saturating_sub(at.max(pass.start)) <= pass.least_light_behind as u64
+    before.saturating_sub(at.max(pass.start())) <= pass.pass().least_light_behind as u64
 }
 
 impl<'a, A: Allocator + Copy> Task<'a, A> {
     /// Returns the record of a pass that was looked at.
-    pub fn hop_over(&self, to: usize, pass: &Pass) -> Hop
+    pub fn hop_over(&self, to: usize, pass: &Looked<'_>) -> Hop
         requires pass { (node : ℕ) × IsPassAt self.now node to pass.now }
         requires task { IsTask self.now }
         ensures value { IsHopAt self.now pass.now.number result }
@@ -82,10 +81,10 @@ impl<'a, A: Allocator + Copy> Task<'a, A> {
         ensures receiver { result.receiver ≡ to }
     {
         Hop {
-            start: pass.start,
-            end: pass.end,
+            start: pass.start(),
+            end: pass.end(),
             receiver: to,
-            light: Some(pass.light),
+            light: Some(pass.light()),
         }
     }
 
@@ -113,16 +112,16 @@ impl<'a, A: Allocator + Copy> Task<'a, A> {
         let mut finger = Finger::new();
         let mut place = first_open(passes, at);
         while place < passes.len() {
-            let pass = looks.look(&passes[place]);
-            let excluded = self.excluded_from(link.from, pass, &mut finger);
+            let pass = passes[place].look(looks);
+            let excluded = self.excluded_from(link.from, &pass, &mut finger);
             if excluded > 0 {
                 place += excluded.min(passes.len() - place);
                 continue;
             }
-            if comes_late(pass, at, least) {
+            if comes_late(&pass, at, least) {
                 return least;
             }
-            let hop = self.hop_over(link.to, pass);
+            let hop = self.hop_over(link.to, &pass);
             if let Some(arrival) = self.arrive_before(at, &hop, least) {
                 if is_soonest(link.bounds.soonest, link.bounds.least_light, at, arrival) {
                     return arrival;

@@ -5,7 +5,7 @@ use Rattle.sabr_model.specs.plan.Plan.{contact_named, last_time}
 use Rattle.sabr_model.specs.routes.Arrival.{arrival}
 use Rattle.sabr_model.proofs.RouteLemmas.Follows.{ends_in_time}
 use Rattle.sabr_model.proofs.RouteLemmas.Paths.{arrival_after_push}
-use Rattle.commands.proofs.TextLemmas.SpelledTimes.{arrival_bound}
+use Rattle.sabr_frontier.proofs.GivingLemmas.EarlyRoutes.{arrival_bound}
 use Rattle.commands.proofs.TextLemmas.Explained.{hop_of, line_after_is, sent_before_end}
 use Rattle.commands.proofs.texts.hop_lines.hop_after.Goals as goal
 

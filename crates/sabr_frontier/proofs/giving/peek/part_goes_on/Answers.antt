@@ -1,8 +1,9 @@
-use Rattle.std.proofs.Common.{slice_index, subst, sym, ◌∙◌}
+use Rattle.std.proofs.Common.{slice_index, subst, sym, ap, ◌∙◌}
 use Rattle.std.specs.Cmp.{nat_cmp_total}
 use Rattle.std.specs.List.Sorted.{IsStrictlyIncreasing}
 use Rattle.sabr_model.specs.plan.Plan.{IsPlan, TabledPlan}
-use Rattle.sabr_frontier.specs.tree.Left.{EndsOtherwise}
+use Rattle.sabr_frontier.specs.tree.Best.{best_up_to}
+use Rattle.sabr_frontier.specs.tree.Left.{EndsOtherwise, part_goes_on}
 use Rattle.sabr_frontier.specs.tree.Taking.{wide_of}
 use Rattle.sabr_frontier.proofs.ListingLemmas.Rising.{Rises-put_in}
 use Rattle.sabr_frontier.proofs.TreeLemmas.TestBoundaries.{increasing}
@@ -20,7 +21,7 @@ returns-in-Some-clause-ok g c =
     subst (λ (t : TabledPlan). EndsOtherwise t.plan c.request.result.now s c.as_slice-excluded.result.now n) c.index.ensures c.in-Some.ensures in
     let of : EndsOtherwise p.plan r s c.as_slice-excluded.result.now n = subst (λ q. EndsOtherwise p.plan q s c.as_slice-excluded.result.now n) c.request.ensures over in
     let ends : EndsOtherwise p.plan r s c.args.part.now.excluded n = subst (λ xs. EndsOtherwise p.plan r s xs n) c.as_slice-excluded.ensures of in
-    sym (goes_on_otherwise p.plan r good c.args.part.now s n c.requires.next ends)
+    sym (ap (λ o. part_goes_on (best_up_to p.plan r o) c.args.part.now s) c.requires.unbounded ∙ goes_on_otherwise p.plan r good c.args.part.now s n c.requires.next ends)
 
 pub ask-requires-clause-rising : goal.ask-requires-clause-rising
 ask-requires-clause-rising g c =

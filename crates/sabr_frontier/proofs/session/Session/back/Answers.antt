@@ -29,6 +29,7 @@ invariant_of-self-2 g c =
     let same = c.undo_to.ensures.former in
     record {
       rules = c.self.invariant.rules;
+      unbounded = c.self.invariant.unbounded;
       limits = c.self.invariant.limits;
       sound = subst (IsSound s.asker.asked.plan.plan s.asker.asked.request) (sym same) before.0;
       starts = subst (AreStarts (reverse c.pop.new.self.items)) (sym (ap (λ (z : Shape g.row.A.Denot). length z.journal) same ∙ before.1)) starts.1;

@@ -4,7 +4,7 @@ use Rattle.sabr_frontier.specs.tree.Asking.{Asked}
 use Rattle.sabr_frontier.specs.tree.Shape.{Shape, shape_of, shown}
 use Rattle.sabr_frontier.specs.session.Session.{AreStarts, IsSession, IsSound, former_of}
 use Rattle.sabr_frontier.specs.tree.Root.{root}
-use Rattle.sabr_frontier.specs.tree.Best.{best_of}
+use Rattle.sabr_frontier.specs.tree.Best.{best_of, best_up_to}
 use Rattle.sabr_frontier.proofs.TreeLemmas.FirstTrees.{root_is_tree, shown_root}
 use Rattle.sabr_frontier.proofs.session.Session.begin.Goals as goal
 
@@ -17,10 +17,11 @@ invariant_of-result g c =
     let p = c.args.asker.asked.plan.plan in
     let r = c.args.asker.asked.request in
     let asked = c.ask.ensures.same in
-    let best = c.in_ok-found.ensures.best in
+    let best = c.in_ok-found.ensures.best ∙ ap (λ o. best_up_to p r o [] []) c.requires.unbounded in
     let same : shape_of c.in_ok-tree.tree ≡ root (best_of p r [] []) = c.in_ok-tree.ensures.shape ∙ ap root best in
     subst (λ (a : Asked). IsSession a c.in_ok-tree.tree c.new.result.items) (sym asked) (record {
       rules = c.requires.rules;
+      unbounded = c.requires.unbounded;
       limits = c.requires.limits;
       sound = subst (IsSound p r) (sym same) (root_is_tree g.row.A.Denot p r c.requires.rules);
       starts = subst (λ z. AreStarts (reverse z) (length c.in_ok-tree.tree.journal.items)) (sym c.new.ensures.items) (ap (λ (z : Shape g.row.A.Denot). length z.journal) same);
@@ -33,7 +34,7 @@ returns g c =
     let p = c.args.asker.asked.plan.plan in
     let r = c.args.asker.asked.request in
     let asked = c.ask.ensures.same in
-    let best = c.in_ok-found.ensures.best in
+    let best = c.in_ok-found.ensures.best ∙ ap (λ o. best_up_to p r o [] []) c.requires.unbounded in
     let same : shape_of c.in_ok-tree.tree ≡ root (best_of p r [] []) = c.in_ok-tree.ensures.shape ∙ ap root best in
     let state = ap shown same ∙ shown_root g.row.A.Denot p r in
     let former = ap (λ z. former_of (reverse z) (shape_of c.in_ok-tree.tree)) c.new.ensures.items in

@@ -10,6 +10,7 @@ invariant_of-result g c =
     let none : length c.args.tree.journal.items ≡ 0 = ap length c.requires.fresh in
     record {
       rules = c.requires.rules;
+      unbounded = c.requires.unbounded;
       limits = c.requires.limits;
       sound = subst (λ n. IsSoundFor p r n (shape_of c.args.tree)) (sym none) c.requires.sound;
       starts = subst (λ z. AreStarts (reverse z) (length c.args.tree.journal.items)) (sym c.new-pages.ensures.items) none;

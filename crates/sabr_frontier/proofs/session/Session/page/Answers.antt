@@ -89,6 +89,7 @@ invariant_of-self-in-Ok g c =
     let journal = ap (λ (z : Shape g.row.A.Denot). length z.journal) c.settle.ensures.same in
     subst (λ (a : Asked). IsSession a c.settle.new.self c.push_reserved.new.self.items) (sym c.gather.ensures.same) (record {
       rules = c.self.invariant.rules;
+      unbounded = c.self.invariant.unbounded;
       limits = c.self.invariant.limits;
       sound = subst (IsSound s.asker.asked.plan.plan s.asker.asked.request) (sym c.settle.ensures.same) c.in-Ok.ensures.sound;
       starts = subst (λ z. AreStarts z (length c.settle.new.self.journal.items)) (sym pages) (omega (arith, more, journal), subst (AreStarts (reverse s.pages.items)) (sym start) c.self.invariant.starts);
@@ -120,6 +121,7 @@ invariant_of-self-in-Err-1 g c =
     let same : shape_of c.undo_to.new.self ≡ t = c.undo_to.ensures.former ∙ ap (λ n. tree_before n (shape_of c.gather.new.self)) start ∙ c.in-Err.ensures.back in
     subst (λ (a : Asked). IsSession a c.undo_to.new.self c.reserve.new.self.items) (sym c.gather.ensures.same) (record {
       rules = c.self.invariant.rules;
+      unbounded = c.self.invariant.unbounded;
       limits = c.self.invariant.limits;
       sound = subst (IsSound s.asker.asked.plan.plan s.asker.asked.request) (sym same) c.self.invariant.sound;
       starts = subst (λ z. AreStarts (reverse z) (length c.undo_to.new.self.journal.items)) (sym c.reserve.ensures.items) (subst (AreStarts (reverse s.pages.items)) (sym (ap (λ (z : Shape g.row.A.Denot). length z.journal) same)) c.self.invariant.starts);

@@ -6,6 +6,7 @@ use Rattle.std.proofs.lemmas.Bool.{cases_lt}
 use Rattle.sabr_model.specs.routes.Route.{is_prefix}
 use Rattle.sabr_frontier.specs.declared.tree.Node.{Node}
 use Rattle.sabr_frontier.specs.tree.Asking.{Asked, best_for}
+use Rattle.sabr_frontier.specs.tree.Best.{best_of, best_up_to}
 use Rattle.sabr_frontier.specs.tree.Shape.{shape_of, prefix_of}
 use Rattle.sabr_frontier.proofs.TreeLemmas.ModifiedPlaces.{get_there}
 use Rattle.sabr_frontier.proofs.TreeLemmas.TestBoundaries.{increasing}
@@ -32,7 +33,7 @@ returns-then-not-is_same-clause-least g c =
     let n = c.node-item.result in
     let here = subst (λ (xs : List (Node g.row.A.Denot)). slice_get xs c.loop-node.node-index ≡ Some n) c.deref-node-items.ensures.value (get_there c.deref-node-items.result.now c.loop-node.node-index n c.loop-node-test.true c.node-item.is) in
     let front = c.prefix-front.ensures ∙ ap (λ l. prefix_of l n) c.as_slice.ensures.value in
-    let found = c.in_ok-found.ensures.best ∙ (λ i. best_for (c.loop-node.invariant.same i) (front i) (c.as_slice-in-loop-node.ensures i)) in
+    let found = c.in_ok-found.ensures.best ∙ (λ i. best_for (c.loop-node.invariant.same i) (front i) (c.as_slice-in-loop-node.ensures i)) ∙ ap (λ o. best_up_to p r o (prefix_of t.leaves n) n.excluded) c.requires.unbounded in
     ((λ h. absurd (true≢false (sym h))), (λ h. absurd (true≢false (sym (c.is_same.ensures.1 (found ∙ sym (least_best p r t c.requires.tree h c.loop-node.node-index n here))) ∙ c.if-not-is_same.true))))
 
 pub loop-node-preserved : goal.loop-node-preserved
@@ -44,13 +45,13 @@ loop-node-preserved g c = record {
       let at = c.loop-node.node-index in
       let here = subst (λ (xs : List (Node g.row.A.Denot)). slice_get xs at ≡ Some n) c.deref-node-items.ensures.value (get_there c.deref-node-items.result.now at n c.loop-node-test.true c.node-item.is) in
       let front = c.prefix-front.ensures ∙ ap (λ z. prefix_of z n) c.as_slice.ensures.value in
-      let found = c.in_ok-found.ensures.best ∙ (λ j. best_for (c.loop-node.invariant.same j) (front j) (c.as_slice-in-loop-node.ensures j)) in
+      let found = c.in_ok-found.ensures.best ∙ (λ j. best_for (c.loop-node.invariant.same j) (front j) (c.as_slice-in-loop-node.ensures j)) ∙ ap (λ o. best_up_to p r o (prefix_of c.args.self.now.leaves.items n) n.excluded) c.requires.unbounded in
       elim (cases_lt i at) [
         | inl k ↦ c.loop-node.invariant.least i m k e
         | inr k ↦
             let at_end : at ≡ i = omega arith in
             let same : n ≡ m = let f : Some n ≡ Some m = sym here ∙ ap (slice_get c.args.self.now.nodes.items) at_end ∙ e in cc in
-            subst (λ (z : Node g.row.A.Denot). z.route ≡ best_for c.args.asker.now.asked (prefix_of c.args.self.now.leaves.items z) z.excluded) same (sym (c.is_same.ensures.0 c.if-not-is_same.false) ∙ found)
+            subst (λ (z : Node g.row.A.Denot). z.route ≡ best_of p r (prefix_of c.args.self.now.leaves.items z) z.excluded) same (sym (c.is_same.ensures.0 c.if-not-is_same.false) ∙ found)
       ];
   called = omega (arith, c.in_ok-found.ensures.called, c.loop-node.invariant.called);
   same = c.ask.ensures.same ∙ c.loop-node.invariant.same;

@@ -4,8 +4,7 @@ use Rattle.sabr_model.proofs.ListLemmas.Answered.{on_err}
 use Rattle.sabr_frontier.specs.tree.Asking.{Asked}
 use Rattle.sabr_frontier.specs.tree.Shape.{shape_of, shown}
 use Rattle.sabr_frontier.specs.tree.Sound.{IsTree}
-use Rattle.sabr_frontier.specs.tree.Taking.{IsTaken}
-use Rattle.sabr_frontier.proofs.SessionLemmas.Pages.{is_given, IsOnTheWay, at_first, one_on, at_end, sound_tree, counts_on, counts_idle, counts_none, counts_first}
+use Rattle.sabr_frontier.proofs.SessionLemmas.Pages.{is_given, IsOnTheWay, at_first, one_on, at_end, sound_tree, counts_on, counts_idle, counts_none, counts_first, taken_whole}
 use Rattle.sabr_frontier.specs.listing.Listing.{searches_in}
 use Rattle.sabr_frontier.proofs.tree.Tree.gather.Goals as goal
 
@@ -42,7 +41,7 @@ overflow_add-searches g c =
     let p = c.args.asker.now.asked.plan.plan in
     let r = c.args.asker.now.asked.request in
     let t = shape_of c.loop.self in
-    let taken = subst (λ (a : Asked). IsTaken a.plan.plan a.request t (shape_of c.take.new.self) c.loop.given.items c.take.new.given.items c.in_ok-searches.field-0) c.loop.invariant.same c.in_ok-searches.ensures.ok in
+    let taken = taken_whole c.loop.invariant.same c.requires.unbounded c.in_ok-searches.ensures.ok in
     let step = is_given p r c.requires.plan t (sound_tree p r (length t.journal) t c.loop.invariant.way.sound) _ _ _ _ taken in
     omega (arith, step.0.few, step.2, c.loop.invariant.few, c.requires.hops, c.requires.count, c.loop-test.true)
 
@@ -53,7 +52,7 @@ loop-preserved g c =
     let t = shape_of c.loop.self in
     let first = shape_of c.args.self.now in
     let before = c.args.given.now.items in
-    let taken = subst (λ (a : Asked). IsTaken a.plan.plan a.request t (shape_of c.take.new.self) c.loop.given.items c.take.new.given.items c.in_ok-searches.field-0) c.loop.invariant.same c.in_ok-searches.ensures.ok in
+    let taken = taken_whole c.loop.invariant.same c.requires.unbounded c.in_ok-searches.ensures.ok in
     let step = is_given p r c.requires.plan t (sound_tree p r (length t.journal) t c.loop.invariant.way.sound) _ _ _ _ taken in
     let u = shape_of c.take.new.self in
     let left : c.args.count - c.loop.counter ≡ suc (c.args.count - (c.loop.counter + 1)) = omega (arith, c.loop-test.true) in

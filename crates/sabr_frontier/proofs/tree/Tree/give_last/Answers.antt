@@ -1,14 +1,15 @@
-use Rattle.std.proofs.Common.{◌≡◌, refl, ◌+◌, ◌-◌, List, ◌++◌, ℕ, inl, length, arith, ap, sym, subst, ◌∙◌, zero, suc, [], Some, None, append_assoc, append-nil}
+use Rattle.std.proofs.Common.{◌≡◌, refl, ◌+◌, ◌-◌, List, ◌++◌, ℕ, inl, arith, ap, sym, subst, ◌∙◌, zero, suc, [], Some, None, append_assoc, append-nil}
 use Rattle.std.specs.Prelude.{is_some, Result, IfOk, OnOk, Ok, Err}
 use Rattle.sabr_model.specs.routes.Record.{record_of, RouteRecord}
 use Rattle.sabr_frontier.specs.listing.Listing.{next_route, given_first, one_step, searches_in, steps}
 use Rattle.sabr_frontier.specs.listing.State.{State}
 use Rattle.sabr_frontier.specs.tree.Asking.{Asked, records_for, steps_for}
-use Rattle.sabr_frontier.specs.tree.Shape.{shape_of, shown}
+use Rattle.sabr_frontier.specs.tree.Shape.{Shape, shape_of, shown}
 use Rattle.sabr_frontier.specs.tree.Sound.{IsTree}
-use Rattle.sabr_frontier.proofs.SessionLemmas.Pages.{idle, more_is, sound_tree, counts_go, counts_none, counts_stop, steps_go, steps_none, steps_stop}
+use Rattle.sabr_frontier.proofs.SessionLemmas.CutPages.{IsSameStep, cut_peek, cut_tree}
+use Rattle.sabr_frontier.proofs.SessionLemmas.Pages.{idle, more_is, counts_go, counts_none, counts_stop, steps_go, steps_none, steps_stop}
 use Rattle.std.proofs.lemmas.List.{map-append}
-use Rattle.sabr_model.specs.plan.Plan.{ContactPlan}
+use Rattle.sabr_model.specs.plan.Plan.{ContactPlan, IsPlan}
 use Rattle.sabr_model.specs.routes.Arrival.{RouteRequest}
 use Rattle.sabr_frontier.proofs.tree.Tree.give_last.Goals as goal
 
@@ -57,25 +58,28 @@ counts_then p r (suc m) n s =
       | Some w ↦ λ e. omega (arith, all, counts_go p r s w.1 w.0 (m + n) e, counts_go p r s w.1 w.0 m e, ap then (steps_go p r s w.1 w.0 m e), counts_then p r m n w.1)
     ] refl
 
--- so many steps from s, and one more, asked for in the same way from the state that they reach
-module _ (a : Asked) (s : State) (k count : ℕ) (less : k + 1 ≡ count) (a₁ : Asked) (s₁ : State) (same : a₁ ≡ a) (state : s₁ ≡ (steps_for a k s).1) where
-  page_is : steps_for a count s ≡ and_then (steps_for a k s) (steps_for a₁ 1 s₁)
-  page_is = ap (λ n. steps_for a n s) (sym less) ∙ steps_then a.plan.plan a.request k 1 s ∙ (λ i. and_then (steps_for a k s) (steps_for (sym same i) 1 (sym state i)))
+-- so many steps from s, and one more, asked for in the same way from a tree that tells the same of it
+module _ {A : Type 0} (a : Asked) (s : State) (k count : ℕ) (less : k + 1 ≡ count) (b : Asked) (t : Shape A) (same : b ≡ a) (step : IsSameStep a (steps_for a k s).1 t) where
+  page_is : steps_for a count s ≡ and_then (steps_for a k s) (steps_for a 1 (steps_for a k s).1)
+  page_is = ap (λ n. steps_for a n s) (sym less) ∙ steps_then a.plan.plan a.request k 1 s
 
-  all_given : (before xs ys : List RouteRecord) → xs ≡ before ++ records_for a (steps_for a k s).0 → ys ≡ xs ++ records_for a₁ (steps_for a₁ 1 s₁).0 → ys ≡ before ++ records_for a (steps_for a count s).0
+  all_given : (before xs ys : List RouteRecord) → xs ≡ before ++ records_for a (steps_for a k s).0 → ys ≡ xs ++ records_for b (steps_for b 1 (shown t)).0 → ys ≡ before ++ records_for a (steps_for a count s).0
   all_given before xs ys first last =
-      last ∙ (λ i. first i ++ records_for (same i) (steps_for a₁ 1 s₁).0)
-      ∙ append_assoc before (records_for a (steps_for a k s).0) (records_for a (steps_for a₁ 1 s₁).0)
-      ∙ sym (ap (λ (z : List (List ℕ) × State). before ++ records_for a z.0) page_is ∙ ap (λ z. before ++ z) (map-append (record_of a.plan.plan a.request) (steps_for a k s).0 (steps_for a₁ 1 s₁).0))
+      let last_route = records_for a (steps_for a 1 (steps_for a k s).1).0 in
+      last ∙ (λ i. first i ++ records_for (same i) (steps_for (same i) 1 (shown t)).0)
+      ∙ ap (λ z. (before ++ records_for a (steps_for a k s).0) ++ records_for a z) step.routes
+      ∙ append_assoc before (records_for a (steps_for a k s).0) last_route
+      ∙ sym (ap (λ (z : List (List ℕ) × State). before ++ records_for a z.0) page_is ∙ ap (λ z. before ++ z) (map-append (record_of a.plan.plan a.request) (steps_for a k s).0 (steps_for a 1 (steps_for a k s).1).0))
 
-  left_after_last : is_some (next_route a₁.plan.plan a₁.request (steps_for a₁ 1 s₁).1) ≡ is_some (next_route a.plan.plan a.request (steps_for a count s).1)
+  left_after_last : is_some (next_route b.plan.plan b.request (steps_for b 1 (shown t)).1) ≡ is_some (next_route a.plan.plan a.request (steps_for a count s).1)
   left_after_last =
-      (λ i. is_some (next_route (same i).plan.plan (same i).request (steps_for a₁ 1 s₁).1))
-      ∙ sym (ap (λ (z : List (List ℕ) × State). is_some (next_route a.plan.plan a.request z.1)) page_is)
+      (λ i. is_some (next_route (same i).plan.plan (same i).request (steps_for (same i) 1 (shown t)).1))
+      ∙ step.more ∙ sym (ap (λ (z : List (List ℕ) × State). is_some (next_route a.plan.plan a.request z.1)) page_is)
 
-  all_searches : searches_in a.plan.plan a.request k s + searches_in a₁.plan.plan a₁.request 1 s₁ ≡ searches_in a.plan.plan a.request count s
+  all_searches : searches_in a.plan.plan a.request k s + searches_in b.plan.plan b.request 1 (shown t) ≡ searches_in a.plan.plan a.request count s
   all_searches =
-      (λ i. searches_in a.plan.plan a.request k s + searches_in (same i).plan.plan (same i).request 1 (state i))
+      (λ i. searches_in a.plan.plan a.request k s + searches_in (same i).plan.plan (same i).request 1 (shown t))
+      ∙ ap (λ n. searches_in a.plan.plan a.request k s + n) step.searches
       ∙ sym (ap (λ n. searches_in a.plan.plan a.request n s) (sym less) ∙ counts_then a.plan.plan a.request k 1 s)
 
 pub returns-then-count-eq0-clause-routes : goal.returns-then-count-eq0-clause-routes
@@ -94,28 +98,45 @@ returns-then-count-eq0-clause-more g c =
     more_is p r c.requires.plan t c.requires.sound c.is_empty.result c.is_empty.ensures.none c.is_empty.ensures.some
     ∙ ap (λ (z : List (List ℕ) × State). is_some (next_route p r z.1)) none
 
+-- what is asked for once there is no bound again
+unbound : {a b : Asked} (c : Asked) → b ≡ record c { bound = None } → record c { bound = None } ≡ record a { bound = None } → a.bound ≡ None → b ≡ a
+unbound {a = a} c set same none = set ∙ same ∙ (λ i. record a { bound = sym none i })
+
 pub peek-requires-clause-tree : goal.peek-requires-clause-tree
 peek-requires-clause-tree g c =
     let a = c.args.asker.now.asked in
-    let t = shape_of c.gather.new.self in
-    subst (λ (b : Asked). IsTree b.plan.plan b.request t) (sym c.gather.ensures.same) (sound_tree a.plan.plan a.request (length t.journal) t c.gather.ensures.sound)
+    let t = shape_of c.gather_up_to-gathered.new.self in
+    let same = unbound c.gather_up_to-gathered.new.asker.asked c.ask_up_to.ensures.bound c.gather_up_to-gathered.ensures.same c.requires.unbounded in
+    subst (λ (b : Asked). IsTree b.plan.plan b.request t) (sym same) (cut_tree a 2 (steps_for a (c.args.count - 1) (shown (shape_of c.args.self.now))).1 t (c.in_ok-gathered.ensures {u = tt}).state)
+
+pub peek-requires-clause-plan : goal.peek-requires-clause-plan
+peek-requires-clause-plan g c =
+    let same = unbound c.gather_up_to-gathered.new.asker.asked c.ask_up_to.ensures.bound c.gather_up_to-gathered.ensures.same c.requires.unbounded in
+    subst (λ (b : Asked). IsPlan b.plan.plan) (sym same) c.requires.plan
+
+pub peek-requires-clause-unbounded : goal.peek-requires-clause-unbounded
+peek-requires-clause-unbounded g c = ap (λ (b : Asked). b.bound) c.ask_up_to.ensures.bound
 
 pub returns : goal.returns
 returns g c =
     let a = c.args.asker.now.asked in
-    let b = c.gather.new.asker.asked in
+    let b = c.ask_up_to.new.self.asked in
     let k = c.args.count - 1 in
     let less : k + 1 ≡ c.args.count = omega arith in
-    let given = c.in_ok-gather.ensures in
+    let given = c.in_ok-gathered.ensures {u = tt} in
     let first = shown (shape_of c.args.self.now) in
-    let then = shown (shape_of c.gather.new.self) in
-    let same = c.gather.ensures.same in
+    let t = shape_of c.gather_up_to-gathered.new.self in
+    let same = unbound c.gather_up_to-gathered.new.asker.asked c.ask_up_to.ensures.bound c.gather_up_to-gathered.ensures.same c.requires.unbounded in
     let told = c.peek.ensures in
-    let all = all_searches a first k c.args.count less b then same given.state in
+    let step = cut_peek a (steps_for a k first).1 t c.requires.plan given.state in
+    let all = all_searches a first k c.args.count less b t same step in
     record {
-      routes = then_ok c.peek.result told.routes (λ _. all_given a first k c.args.count less b then same given.state c.args.routes.now.items c.gather.new.given.items c.peek.new.routes.items given.routes);
-      more = then_ok c.peek.result told.more (λ more h. h ∙ left_after_last a first k c.args.count less b then same given.state);
-      no_fewer = always_ok c.peek.result (omega (arith, given.called, told.no_fewer));
-      at_most = always_ok c.peek.result (omega (arith, given.called, given.searches, told.at_most, all));
+      routes = then_ok c.peek.result told.routes (λ _. all_given a first k c.args.count less b t same step c.args.routes.now.items c.gather_up_to-gathered.new.routes.items c.peek.new.routes.items given.routes);
+      more = then_ok c.peek.result told.more (λ more h. h ∙ left_after_last a first k c.args.count less b t same step);
+      no_fewer = always_ok c.peek.result (omega (arith, given.called, c.ask_up_to.ensures.calls, told.no_fewer));
+      at_most = always_ok c.peek.result (omega (arith, given.called, c.ask_up_to.ensures.calls, told.at_most, all));
       same = told.same ∙ same;
     }
+
+pub returns-in_err-gathered-clause-same : goal.returns-in_err-gathered-clause-same
+returns-in_err-gathered-clause-same g c = unbound c.gather_up_to-gathered.new.asker.asked c.ask_up_to.ensures.bound c.gather_up_to-gathered.ensures.same c.requires.unbounded

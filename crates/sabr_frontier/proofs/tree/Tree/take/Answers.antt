@@ -9,12 +9,11 @@ use Rattle.sabr_model.proofs.ListLemmas.Answered.{on_err}
 use Rattle.sabr_frontier.specs.declared.tree.Node.{Node}
 use Rattle.sabr_frontier.specs.declared.tree.NodeId.{NodeId}
 use Rattle.sabr_frontier.specs.tree.Shape.{Shape, order_of, shape_of, route_at, route_of, numbers_of}
-use Rattle.sabr_frontier.specs.tree.Best.{best_of}
 use Rattle.sabr_frontier.specs.tree.Undo.{modify}
 use Rattle.sabr_frontier.specs.tree.Winners.{AreWinners, IsFirst}
 use Rattle.sabr_frontier.specs.tree.Asking.{Asked, best_for}
 use Rattle.sabr_frontier.specs.tree.Sound.{CanExclude, IsTree}
-use Rattle.sabr_frontier.specs.tree.Taking.{IsTaken, changed_by, divided, fresh_after, nodes_then, wide_of}
+use Rattle.sabr_frontier.specs.tree.Taking.{IsTaken, changed_by, divided_with, fresh_after, nodes_then, wide_of}
 use Rattle.sabr_frontier.specs.tree.Prepared.{carrying, excluding, given_by}
 use Rattle.sabr_frontier.proofs.TreeLemmas.ModifiedPlaces.{length-modify, modify_front, get_front, get_same}
 use Rattle.sabr_frontier.proofs.TreeLemmas.Excluding.{carried_then}
@@ -22,7 +21,7 @@ use Rattle.sabr_frontier.proofs.TreeLemmas.CarryingNodes.{IsKnown, known, inside
 use Rattle.sabr_frontier.proofs.TreeLemmas.SlotWinners.{winners_same}
 use Rattle.sabr_frontier.proofs.SessionLemmas.Pages.{new_nodes, counts_known}
 use Rattle.sabr_frontier.proofs.TreeLemmas.IndexedNodes.{tree_indexed}
-use Rattle.sabr_frontier.proofs.TreeLemmas.SoundSteps.{tree_divided}
+use Rattle.sabr_frontier.proofs.TreeLemmas.CutDivided.{tree_divided_up_to}
 use Rattle.sabr_frontier.proofs.tree.Tree.take.Goals as goal
 
 -- a number more excluded changes no route
@@ -115,8 +114,9 @@ change-requires g c =
 
 pub returns-clause-ok : goal.returns-clause-ok
 returns-clause-ok g c =
-    let p = c.args.asker.now.asked.plan.plan in
-    let r = c.args.asker.now.asked.request in
+    let a = c.args.asker.now.asked in
+    let p = a.plan.plan in
+    let r = a.request in
     let node = c.in-Some.node in
     let found = c.in_ok-found.found in
     let u = shape_of c.reserve-2.new.self in
@@ -124,16 +124,16 @@ returns-clause-ok g c =
     let e = then_is k c.numbers-2.ensures (omega (arith, c.len.ensures)) c.in_ok-found.ensures.ok in
     let s = numbers_are k c.numbers-2.ensures in
     let first : length c.reserve-2.new.self.winners.items ≡ length u.nodes = omega (arith, c.in_ok-reserve-2.ensures.room.count) in
-    let best = c.in_ok-found.ensures.found k.part k.stands ∙ (λ i. best_of p r (take k.part.length (s i)) (wide_of k.part (s i))) in
+    let best = c.in_ok-found.ensures.found k.part k.stands ∙ (λ i. best_for a (take k.part.length (s i)) (wide_of k.part (s i))) in
     let nodes = nodes_found k e found ∙ (λ i. nodes_then u.nodes node (wide_of k.part k.route.contacts) (best i) (fresh k)) in
-    let D = divided p r u node k.part k.route in
+    let D = divided_with (best_for a) u node k.part k.route in
     let tree = subst (IsTree p r) (sym c.reserve-2.ensures.same) c.requires.tree in
     let shape = c.change.ensures.shape k.route (carries_then k e)
     ∙ (λ i. given_by (record u { nodes = c.divide.new.nodes.items }) node k.route found (first i))
     ∙ (λ i. changed_by u node k.route (order_of (u.leaves ++ k.route ∷ []) (nodes i)) (nodes i))
-    ∙ (λ i. record D { index = sym (tree_indexed p r D (tree_divided p r c.requires.plan u tree node k.part k.route k.stands k.carries)) i }) in
+    ∙ (λ i. record D { index = sym (tree_indexed p r D (tree_divided_up_to p r c.requires.plan a.bound u tree node k.part k.route k.stands k.carries)) i }) in
     let counted : c.len-2.result - c.len-3.result + 1 ≡ length k.route.contacts - k.part.length = omega (arith, long_then k e, k.can.longer, c.len-2.ensures, c.len-3.ensures, first) in
-    subst (λ z. IsTaken p r z (shape_of c.change.new.self) c.args.given.now.items c.push_reserved.new.self.items (c.len-2.result - c.len-3.result + 1)) c.reserve-2.ensures.same (record {
+    subst (λ z. IsTaken (best_for a) z (shape_of c.change.new.self) c.args.given.now.items c.push_reserved.new.self.items (c.len-2.result - c.len-3.result + 1)) c.reserve-2.ensures.same (record {
       node = node;
       part = k.part;
       route = k.route;

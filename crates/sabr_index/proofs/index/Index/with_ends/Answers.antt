@@ -11,8 +11,8 @@ incoming_links-requires g c =
       few = made.few;
     }
 
-pub invariant_of-result : goal.invariant_of-result
-invariant_of-result g c =
+pub over-requires : goal.over-requires
+over-requires g c =
     let made = c.in_ok-linked.ensures {u = tt} in
     let is = c.in_ok-incoming.ensures {u = tt} in
     record {

@@ -11,10 +11,10 @@ answers-requires-clause-answer g c =
     let lookup = rw c.deref.ensures.value at c.in-Some.ensures.lookup in
     subst (IsAnswer (tabled_of task) task.request) (sym lookup.1) (c.requires.kept c.args.place answer lookup.3.0)
 
-pub returns-then-answers-clause-some : goal.returns-then-answers-clause-some
-returns-then-answers-clause-some g c =
+pub returns-then-answers : goal.returns-then-answers
+returns-then-answers g c =
     let items = c.args.self.now.slots.items in
     let answer = c.in-Some.answer.now in
     let lookup = rw c.deref.ensures.value at c.in-Some.ensures.lookup in
     let there : slice_get items c.args.place ≡ Some answer = slice_get-get_or items c.args.place answer lookup.3.0 ∙ ap Some (sym lookup.1) in
-    (answer, there, (rw c.left.ensures at c.if-answers.ensures) refl)
+    (answer, there, (rw (c.left-left.ensures, c.bound_left-bound.ensures) at c.if-answers.ensures) refl)

@@ -7,7 +7,7 @@ use Rattle.sabr_model.proofs.RouteLemmas.Paths.{IsHop}
 use Rattle.sabr_search.specs.declared.course.Stop.{Stop}
 use Rattle.sabr_search.specs.questions.Task.{is_closed}
 use Rattle.sabr_search.specs.questions.Course.{AreShut, IsStop, AreStops}
-use Rattle.sabr_search.proofs.LinkLemmas.PlanFacts.{has_nodes}
+use Rattle.sabr_search.proofs.LinkLemmas.PlanFacts.{has_nodes, hop_small}
 use Rattle.sabr_search.proofs.WayLemmas.Prefixes.{prefix_facts}
 use Rattle.sabr_search.proofs.WayLemmas.Courses.{shut_more, closed_more, hop_at, stop_after, arrival_at, taken_back, same_stops, stops_more, behind_passed, task_passed}
 use Rattle.sabr_search.proofs.WayLemmas.Shortness.{nodes_few}
@@ -77,7 +77,7 @@ unreachable-requires-in_default-hop g c =
     let prefix = c.args.prefix.now in
     let i = c.loop-place.place in
     let step = hop_at c.args.plan.now.plan c.args.request.now prefix c.requires.fits i (slice_index prefix i) (slice_get-get_or prefix i 0 c.loop-place-test.true) in
-    let e : None ≡ Some step.contact = sym c.in_default-hop.ensures.value ∙ step.named in cc
+    let e : None ≡ Some step.contact = sym (rw c.in_default-hop.is at c.follow-followed.ensures.hop) ∙ step.named in cc
 
 pub unreachable-requires-in_default-arrive : goal.unreachable-requires-in_default-arrive
 unreachable-requires-in_default-arrive g c =
@@ -85,12 +85,15 @@ unreachable-requires-in_default-arrive g c =
     let i = c.loop-place.place in
     let n = slice_index prefix i in
     let step = hop_at c.args.plan.now.plan c.args.request.now prefix c.requires.fits i n (slice_get-get_or prefix i 0 c.loop-place-test.true) in
-    let a = arrival_at c.args.plan.now c.args.request.now (take i prefix) n step c.loop-place.last c.loop-place.invariant.here c.in-Some-hop.hop c.in-Some-hop.ensures.value in
+    let a = arrival_at c.args.plan.now c.args.request.now (take i prefix) n step c.loop-place.last c.loop-place.invariant.here c.in-Some-hop.hop (rw c.in-Some-hop.is at c.follow-followed.ensures.hop) in
     let e : None ≡ Some step.arrived = sym c.in_default-arrive.is ∙ c.arrive.ensures ∙ a.2 in cc
+
+pub arrive-requires : goal.arrive-requires
+arrive-requires g c = hop_small c.args.plan.now c.requires.course.plan _ c.in-Some-hop.hop (rw c.in-Some-hop.is at c.follow-followed.ensures.hop)
 
 pub put-requires : goal.put-requires
 put-requires g c =
-    let hop = c.in-Some-hop.ensures.value in
+    let hop = rw c.in-Some-hop.is at c.follow-followed.ensures.hop in
     omega (arith, c.loop-place.invariant.shuts.many, slice_get_within c.args.plan.now.table c.in-Some-hop.hop.receiver hop.contact.to hop.is.receiver)
 
 pub loop-place-preserved : goal.loop-place-preserved
@@ -103,14 +106,14 @@ loop-place-preserved g c =
     let so_far = c.loop-place.invariant in
     let at : slice_get prefix i ≡ Some n = slice_get-get_or prefix i 0 c.loop-place-test.true in
     let step : IsHop p.plan r (take i prefix) n = hop_at p.plan r prefix c.requires.fits i n at in
-    let hop = c.in-Some-hop.ensures.value in
+    let hop = rw c.in-Some-hop.is at c.follow-followed.ensures.hop in
     let a = arrival_at p r (take i prefix) n step c.loop-place.last so_far.here c.in-Some-hop.hop hop in
     let there : c.in-Some-arrive.at ≡ step.arrived = (let q : Some c.in-Some-arrive.at ≡ Some step.arrived = sym c.in-Some-arrive.is ∙ c.arrive.ensures ∙ a.2 in cc (q)) in
     let to : slice_get p.table c.in-Some-hop.hop.receiver ≡ Some step.contact.to = hop.is.receiver ∙ ap (λ (d : Contact). Some d.to) a.0 in
-    let next : Stop = record { node = c.in-Some-hop.hop.receiver; at = c.in-Some-arrive.at; told = c.extended-told.result } in
-    let here : IsStop p r (take (i + 1) prefix) next = stop_after p r prefix i n at step c.loop-place.last next so_far.here to (a.1 ∙ ap Some (sym there)) c.extended-told.ensures in
+    let next : Stop = record { node = c.in-Some-hop.hop.receiver; at = c.in-Some-arrive.at; told = c.follow-followed.result.told } in
+    let here : IsStop p r (take (i + 1) prefix) next = stop_after p r prefix i n at step c.loop-place.last next so_far.here to (a.1 ∙ ap Some (sym there)) c.follow-followed.ensures.told in
     record {
-      counted = omega (arith, so_far.counted, c.hop.ensures.counted);
+      counted = omega (arith, so_far.counted, c.follow-followed.ensures.counted);
       many = ap length c.in_ok-push.ensures.items ∙ (stops_more p r prefix i c.loop-place.self.stops.items next so_far.many so_far.stops here).0;
       stops = subst (AreStops p r prefix) (sym c.in_ok-push.ensures.items) (stops_more p r prefix i c.loop-place.self.stops.items next so_far.many so_far.stops here).1;
       here = here;

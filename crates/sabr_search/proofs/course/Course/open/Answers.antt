@@ -26,7 +26,7 @@ pub returns-clause-some : goal.returns-clause-some
 returns-clause-some g c =
     let p = c.args.plan.now in
     let r = c.args.request.now in
-    let stop : Stop = record { node = c.in-Some.source; at = c.at.result; told = c.of.result } in
+    let stop : Stop = record { node = c.in-Some.source; at = c.at.result; told = c.told_of_none.result } in
     let one : c.push.new.self.items ≡ stop ∷ [] = c.in_ok-push.ensures.items ∙ ap (λ xs. xs ++ stop ∷ []) c.new-stops.ensures.items in
     let none = c.new.ensures.items in
     record {
@@ -36,7 +36,7 @@ returns-clause-some g c =
       asked = c.from.ensures.limits;
       fits = rw none (empty_is_prefix p.plan r);
       many = ap length one ∙ ap (λ xs. length xs + 1) (sym none);
-      stops = rw none (subst (AreStops p r []) (sym one) (first_stop p r stop (c.in-Some.ensures ∙ ap Some c.from.ensures.value) c.at.ensures.value c.of.ensures));
+      stops = rw none (subst (AreStops p r []) (sym one) (first_stop p r stop (c.in-Some.ensures ∙ ap Some c.from.ensures.value) c.at.ensures.value c.told_of_none.ensures));
       shuts = rw none c.in_ok-shut_closed.ensures;
       goal_is = c.in-Some-node_index.ensures ∙ ap Some c.to.ensures.value;
     }

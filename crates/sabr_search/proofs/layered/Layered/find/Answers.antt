@@ -4,7 +4,7 @@ use Rattle.std.specs.Option.{option_map}
 use Rattle.sabr_model.specs.routes.Record.{record_of}
 use Rattle.sabr_model.specs.plan.Table.{node_count}
 use Rattle.sabr_search.specs.questions.Task.{SearchTask, IsTask, IsBehind, task_of}
-use Rattle.sabr_search.specs.questions.Told.{looks_taken}
+use Rattle.sabr_index.specs.Looks.{looks_taken}
 use Rattle.sabr_search.proofs.WayLemmas.Prefixes.{prefix_facts}
 use Rattle.sabr_search.proofs.WayLemmas.Least.{none_is}
 use Rattle.sabr_search.proofs.AnswerLemmas.Law.{contacts_few, prefix_few}
@@ -15,28 +15,28 @@ pub go-requires-clause-course : goal.go-requires-clause-course
 go-requires-clause-course g c = rw c.in-Some.is at c.in_ok-opened.ensures.some
 
 pub go-requires-clause-fits : goal.go-requires-clause-fits
-go-requires-clause-fits g c = rw c.plan-plan.ensures c.requires.fits
+go-requires-clause-fits g c = c.requires.fits
 
 pub returns-in_err-stop-clause-bound : goal.returns-in_err-stop-clause-bound
 returns-in_err-stop-clause-bound g c =
-    let course = rw (c.in-Some.is, c.plan-plan.ensures) at c.in_ok-opened.ensures.some in
+    let course = rw c.in-Some.is at c.in_ok-opened.ensures.some in
     entered_looks c.args.index.now c.args.request.now c.args.prefix.now course.tabled (prefix_facts c.args.index.now.plan c.args.request.now c.args.prefix.now c.requires.fits) (node_count c.args.index.now.plan.contacts) (looks_taken c.go.new.looks) course.nodes (omega (arith, c.go.ensures.looks, c.requires.few))
 
 pub returns-in_err-resize-clause-bound : goal.returns-in_err-resize-clause-bound
 returns-in_err-resize-clause-bound g c =
-    let course = rw (c.in-Some.is, c.plan-plan.ensures) at c.in_ok-opened.ensures.some in
+    let course = rw c.in-Some.is at c.in_ok-opened.ensures.some in
     entered_looks c.args.index.now c.args.request.now c.args.prefix.now course.tabled (prefix_facts c.args.index.now.plan c.args.request.now c.args.prefix.now c.requires.fits) (node_count c.args.index.now.plan.contacts) (looks_taken c.go.new.looks) course.nodes (omega (arith, c.go.ensures.looks, c.requires.few))
 
 pub returns-in_default-clause-least : goal.returns-in_default-clause-least
 returns-in_default-clause-least g c =
     let p = c.args.index.now.plan in
     let r = c.args.request.now in
-    let none = rw (c.plan-plan.ensures, c.in_default.is) at c.in_ok-opened.ensures.none in
-    sym (ap (option_map (record_of p r)) (none_is p r c.args.prefix.now c.args.excluded.numbers.now (rw c.plan-plan.ensures at c.open.ensures.plan) (λ m route on. none m route)))
+    let none = rw c.in_default.is at c.in_ok-opened.ensures.none in
+    sym (ap (option_map (record_of p r)) (none_is p r c.args.prefix.now c.args.excluded.numbers.now (c.open.ensures.plan) (λ m route on. none m route)))
 
 pub least_after-requires-clause-asked : goal.least_after-requires-clause-asked
 least_after-requires-clause-asked g c =
-    let found = rw c.plan-plan.ensures at c.in_ok-stop.ensures.entered in
+    let found = c.in_ok-stop.ensures.entered in
     let both = found c.args.excluded.numbers.now in
     rw c.new-task.ensures (record {
       task_is = both.0;
@@ -54,11 +54,11 @@ least_after-requires-clause-arrivals g c =
     let p = c.args.index.now in
     let r = c.args.request.now in
     let task : SearchTask = task_of p r c.go.new.self.shut c.args.excluded.numbers.now c.in_ok-stop.stop.node c.in_ok-stop.stop.at c.go.new.self.goal in
-    let found = rw c.plan-plan.ensures at c.in_ok-stop.ensures.entered in
+    let found = c.in_ok-stop.ensures.entered in
     let both : IsTask task × IsBehind task c.args.prefix.now = found c.args.excluded.numbers.now in
     let cleared = c.clear.ensures.items in
     let at : c.at.result ≡ task.at = c.at.ensures ∙ ap (λ (t : SearchTask). t.at) c.new-task.ensures in
-    let n_is : c.nodes.result ≡ length task.shut = omega (arith, both.0.as_many, (rw c.plan-plan.ensures at c.nodes.ensures.table)) in
+    let n_is : c.nodes.result ≡ length task.shut = omega (arith, both.0.as_many, (c.nodes.ensures.table)) in
     let filled : c.resize.new.self.items ≡ replicate c.nodes.result task.at = filled _ _ c.at.result _ _ cleared (omega (arith, ap length cleared)) c.in_ok-resize.ensures.items ∙ ap (replicate c.nodes.result) at in
     rw (c.new-task.ensures, filled) (arrivals_since task both.0 c.nodes.result n_is)
 
@@ -66,4 +66,4 @@ pub go-requires-clause-few : goal.go-requires-clause-few
 go-requires-clause-few g c =
     let p = c.args.index.now.plan in
     let facts = prefix_facts p c.args.request.now c.args.prefix.now c.requires.fits in
-    omega (arith, c.requires.few, contacts_few p (rw c.plan-plan.ensures at c.open.ensures.plan), prefix_few p c.args.request.now c.args.prefix.now facts)
+    omega (arith, c.requires.few, contacts_few p (c.open.ensures.plan), prefix_few p c.args.request.now c.args.prefix.now facts)

@@ -7,23 +7,23 @@ pub go-requires-clause-course : goal.go-requires-clause-course
 go-requires-clause-course g c = rw c.in-Some.is at c.in_ok-opened.ensures.some
 
 pub go-requires-clause-fits : goal.go-requires-clause-fits
-go-requires-clause-fits g c = rw c.plan-plan.ensures (empty_fits c.args.index.now.plan c.args.request.now _ refl)
+go-requires-clause-fits g c = empty_fits c.args.plan.now.plan c.args.request.now _ refl
 
 pub latest_of-requires : goal.latest_of-requires
 latest_of-requires g c =
-    let found = rw c.plan-plan.ensures at c.in_ok-source.ensures.entered in
+    let found = c.in_ok-source.ensures.entered in
     let both = found _ in
     record { whole = rw c.new-task.ensures (whole_task _ both.0 both.1 refl) }
 
 pub costs_of-requires : goal.costs_of-requires
 costs_of-requires g c =
-    let found = rw c.plan-plan.ensures at c.in_ok-source.ensures.entered in
+    let found = c.in_ok-source.ensures.entered in
     let both = found _ in
     record { whole = rw c.new-task.ensures (whole_task _ both.0 both.1 refl) }
 
 pub soonest_of-requires : goal.soonest_of-requires
 soonest_of-requires g c =
-    let found = rw c.plan-plan.ensures at c.in_ok-source.ensures.entered in
+    let found = c.in_ok-source.ensures.entered in
     let both = found _ in
     record {
       whole = rw c.new-task.ensures (whole_task _ both.0 both.1 refl);

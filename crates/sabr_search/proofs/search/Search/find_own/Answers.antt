@@ -21,5 +21,8 @@ pub returns-clause-cut : goal.returns-clause-cut
 returns-clause-cut g c = λ most.
     let task = c.args.asked.now.task.now in
     let prefix = c.args.asked.now.prefix.now in
-    let few = (rw (c.in-Some.is, c.left.ensures) at c.in_ok-found.ensures.cut) (left_free task prefix c.requires.asked most) in
+    let few = (rw (c.in-Some.is, c.left.ensures, c.bound_left.ensures) at c.in_ok-found.ensures.cut) (left_free task prefix c.requires.asked most) in
     omega (arith, few, c.requires.few)
+
+pub returns-clause-enough : goal.returns-clause-enough
+returns-clause-enough g c = rw (c.in-Some.is, c.bound_left.ensures) at c.in_ok-found.ensures.enough

@@ -2,14 +2,22 @@ use Rattle.std.proofs.Common.{ℕ, ◌+◌, ◌*◌, ◌<◌, ◌≤◌, Option,
 use Rattle.std.specs.Prelude.{IfOk, IfSome, IfNone}
 use Rattle.std.specs.declared.result.Result.{Result}
 use Rattle.std.specs.declared.result.Result.TheVariants.{Ok, Err}
+use Rattle.sabr_search.specs.questions.FirstSteps.{IsNoneBefore}
 use Rattle.sabr_search.proofs.WayLemmas.EarliestSeconds.{arrivals_lowered}
+use Rattle.sabr_search.proofs.AnswerLemmas.UpTo.{any_up_to, none_by}
 use Rattle.sabr_search.proofs.search.Search.run.Goals as goal
 
 pub returns-then-first-eq0-clause-found : goal.returns-then-first-eq0-clause-found
-returns-then-first-eq0-clause-found g c = record {
-  none = λ empty ns e within way. (rw c.in-Some.is at c.in_ok-reached.ensures.way).none c.if-first-eq0.true ns e way;
-  some = λ some. absurd (omega (arith, some, ap length c.none.ensures));
-}
+returns-then-first-eq0-clause-found g c =
+    let task = c.args.task.now in
+    let none : IsNoneBefore task _ = rw c.until.ensures at ((rw c.in-Some.is at c.in_ok-reached.ensures.way).none c.if-first-eq0.true) in
+    record {
+      none = λ empty. rw (c.beyond.ensures.bound, c.at_any_hops.ensures) (none_by task c.requires.task c.args.hops c.args.bound (λ ns e within way. none ns e way));
+      some = λ some. absurd (omega (arith, some, ap length c.beyond.ensures.numbers));
+    }
+
+pub returns-then-first-eq0-clause-enough : goal.returns-then-first-eq0-clause-enough
+returns-then-first-eq0-clause-enough g c = λ empty. rw (c.beyond.ensures.bound, c.at_any_hops.ensures) (any_up_to c.args.bound (omega arith) (omega arith))
 
 pub least_within-requires-clause-arrivals : goal.least_within-requires-clause-arrivals
 least_within-requires-clause-arrivals g c =
@@ -17,8 +25,8 @@ least_within-requires-clause-arrivals g c =
     arrivals_lowered c.args.task.now (length c.shut.result.now) c.deref-4.result.now c.deref-5.result.now c.deref-6.result.now c.in-Some.first.delivery (omega (arith, ap length c.shut.ensures, c.requires.task.as_many)) (rw c.deref-6.ensures.value c.requires.soon)
     (rw (c.deref-4.ensures.value, c.deref-5.ensures.value) (rw c.deref-2.ensures.value at by))
 
-pub least_by-requires-clause-arrivals : goal.least_by-requires-clause-arrivals
-least_by-requires-clause-arrivals g c =
+pub least_up_to-requires-clause-arrivals : goal.least_up_to-requires-clause-arrivals
+least_up_to-requires-clause-arrivals g c =
     let by = rw c.in-Some.is at c.in_ok-reached.ensures.arrivals in
     arrivals_lowered c.args.task.now (length c.shut.result.now) c.deref-4.result.now c.deref-5.result.now c.deref-6.result.now c.in-Some.first.delivery (omega (arith, ap length c.shut.ensures, c.requires.task.as_many)) (rw c.deref-6.ensures.value c.requires.soon)
     (rw (c.deref-4.ensures.value, c.deref-5.ensures.value) (rw c.deref-2.ensures.value at by))
@@ -29,17 +37,11 @@ least_within-requires-clause-steps g c = rw c.deref-7.ensures.value (rw c.in-Som
 pub least_within-requires-clause-real : goal.least_within-requires-clause-real
 least_within-requires-clause-real g c = rw c.deref-7.ensures.value (rw c.in-Some.is at c.in_ok-reached.ensures.real)
 
-pub least_by-requires-clause-steps : goal.least_by-requires-clause-steps
-least_by-requires-clause-steps g c = rw c.deref-7.ensures.value (rw c.in-Some.is at c.in_ok-reached.ensures.steps)
+pub least_up_to-requires-clause-steps : goal.least_up_to-requires-clause-steps
+least_up_to-requires-clause-steps g c = rw c.deref-7.ensures.value (rw c.in-Some.is at c.in_ok-reached.ensures.steps)
 
-pub least_by-requires-clause-real : goal.least_by-requires-clause-real
-least_by-requires-clause-real g c = rw c.deref-7.ensures.value (rw c.in-Some.is at c.in_ok-reached.ensures.real)
-
-pub least_by-requires-clause-way : goal.least_by-requires-clause-way
-least_by-requires-clause-way g c =
-    let first = rw c.in-Some.is at c.in_ok-reached.ensures.way in
-    let way = first.some (omega (arith, c.if-first-eq0.false)) in
-    (way.0, omega (arith, way.1, c.if-first-hops.false), way.2)
+pub least_up_to-requires-clause-real : goal.least_up_to-requires-clause-real
+least_up_to-requires-clause-real g c = rw c.deref-7.ensures.value (rw c.in-Some.is at c.in_ok-reached.ensures.real)
 
 -- what it gave up for may be more
 gave_up : {T E : Type 0} (result : Result (Option T) E) (old mid more all : ℕ) → IfOk result (λ o. IfNone o (mid < more)) → old + more ≤ mid + all → IfOk result (λ o. IfNone o (old < all))
@@ -55,27 +57,24 @@ returns-then-first-hops-clause-none g c =
 pub returns-clause-none : goal.returns-clause-none
 returns-clause-none g c =
     let contacts = length c.args.task.now.plan.contacts in
-    gave_up c.least_by.result c.args.looks.now.left c.run.new.looks.left (2 * (c.args.hops * contacts)) ((3 * c.args.hops + 1) * contacts) c.least_by.ensures.none (omega (arith, c.run.ensures.counted))
+    gave_up c.least_up_to.result c.args.looks.now.left c.run.new.looks.left (2 * (c.args.hops * contacts)) ((3 * c.args.hops + 1) * contacts) c.least_up_to.ensures.none (omega (arith, c.run.ensures.counted))
+
+pub least_up_to-requires-clause-some : goal.least_up_to-requires-clause-some
+least_up_to-requires-clause-some g c =
+    let way = (rw c.in-Some.is at c.in_ok-reached.ensures.way).some (omega (arith, c.if-first-eq0.false)) in
+    (way.0, omega (arith, way.1, c.if-first-hops.false), way.2)
+
+-- what a clause says of a way that is found, and what follows
+in_case : {T E : Type 0} (result : Result (Option T) E) (P Q : T → Type 0) → ((x : T) → P x → Q x) → IfOk result (λ o. IfSome o P) → IfOk result (λ o. IfSome o Q)
+in_case (Ok None) P Q follows is = tt
+in_case (Ok (Some x)) P Q follows is = follows x is
+in_case (Err e) P Q follows is = tt
 
 -- the first way has fewer hops than there are nodes, so that only a limit forbids it
-forbidden : {T E : Type 0} (result : Result (Option T) E) (Q : Type 0) (P : T → Type 0) → (Q → ⊥) → IfOk result (λ o. IfSome o (λ way. Q → P way))
-forbidden (Ok None) Q P none = tt
-forbidden (Ok (Some way)) Q P none = λ q. absurd (none q)
-forbidden (Err e) Q P none = tt
-
 pub returns-then-first-hops-clause-cut : goal.returns-then-first-hops-clause-cut
 returns-then-first-hops-clause-cut g c =
     let first = rw c.in-Some.is at c.in_ok-reached.ensures.way in
-    let none : length c.args.task.now.table ≤ c.args.hops + 1 → ⊥ = λ all. omega (arith, all, first.few, c.if-first-hops.true) in
-    forbidden c.least_within.result (length c.args.task.now.table ≤ c.args.hops + 1) (λ way. c.args.looks.now.left ≤ c.least_within.new.looks.left + (2 * length way.numbers.items + 1) * length c.args.task.now.plan.contacts) none
-
-cut_more : {T E : Type 0} (result : Result (Option T) E) (Q : Type 0) (size : T → ℕ) (old mid new c : ℕ) → IfOk result (λ o. IfSome o (λ way. mid ≤ new + 2 * (size way * c))) → old ≤ mid + c →
-    IfOk result (λ o. IfSome o (λ way. Q → old ≤ new + (2 * size way + 1) * c))
-cut_more (Ok None) Q size old mid new c few le = tt
-cut_more (Ok (Some way)) Q size old mid new c few le = λ q. omega (arith, few, le)
-cut_more (Err e) Q size old mid new c few le = tt
+    in_case c.least_within.result _ _ (λ way is all. absurd (omega (arith, all, first.few, c.if-first-hops.true))) c.least_within.ensures.enough
 
 pub returns-clause-cut : goal.returns-clause-cut
-returns-clause-cut g c =
-    cut_more c.least_by.result (length c.args.task.now.table ≤ c.args.hops + 1) (λ way. length way.numbers.items) c.args.looks.now.left c.run.new.looks.left c.least_by.new.looks.left (length c.args.task.now.plan.contacts)
-    c.least_by.ensures.cut c.run.ensures.counted
+returns-clause-cut g c = in_case c.least_up_to.result _ _ (λ way is all. omega (arith, is, c.run.ensures.counted)) c.least_up_to.ensures.cut

@@ -1,7 +1,6 @@
-use Rattle.std.proofs.Common.{◌≡◌, inl, inr, Some, slice_get, sym, ◌∙◌, arith, ap, Bor}
+use Rattle.std.proofs.Common.{◌≡◌, inl, inr, Some, slice_get, sym, ◌∙◌, arith, ap}
 use Rattle.std.proofs.lemmas.Option.{slice_get-get_or, slice_get_within}
 use Rattle.std.proofs.lemmas.Bool.{cases_lt}
-use Rattle.sabr_index.specs.declared.link.Pass.{Pass}
 use Rattle.sabr_search.proofs.LinkLemmas.PlanFacts.{hop_arrives}
 use Rattle.sabr_search.proofs.ForwardLemmas.Forward.{step_of_hop, last_or_before}
 use Rattle.sabr_search.proofs.LinkLemmas.OverLinks.{no_pass, none_ended, none_excluded, late_over, ruled_out, pass_takes, step_at, step_over}
@@ -30,8 +29,8 @@ returns-then-comes_late-clause-full g c = λ n w b has s.
     let task = c.args.self.now in
     let passes = c.args.link.passes.now in
     let i = c.loop-place.place in
-    let pass = c.look-pass.result.now in
-    let here : slice_get passes i ≡ Some pass = slice_get-get_or passes i no_pass c.loop-place-test.true ∙ ap (λ (z : Bor Pass). Some z.now) (sym c.look-pass.ensures.same) in
+    let pass = c.look-pass.result in
+    let here : slice_get passes i ≡ Some pass = slice_get-get_or passes i no_pass c.loop-place-test.true ∙ ap Some (sym c.look-pass.ensures.same) in
     let step = step_over task passes n c.args.link.from c.args.at w b has s in
     elim (cases_lt has.0 i) [
       | inl before ↦ c.loop-place.invariant.full has.0 has.1 w b before has.2 step
@@ -44,8 +43,8 @@ pub hop_over-hop-requires-clause-pass : goal.hop_over-hop-requires-clause-pass
 hop_over-hop-requires-clause-pass g c =
     let passes = c.args.link.passes.now in
     let i = c.loop-place.place in
-    let pass = c.look-pass.result.now in
-    let here : slice_get passes i ≡ Some pass = slice_get-get_or passes i no_pass c.loop-place-test.true ∙ ap (λ (z : Bor Pass). Some z.now) (sym c.look-pass.ensures.same) in
+    let pass = c.look-pass.result in
+    let here : slice_get passes i ≡ Some pass = slice_get-get_or passes i no_pass c.loop-place-test.true ∙ ap Some (sym c.look-pass.ensures.same) in
     (c.args.link.from, c.requires.link.0.each i pass here)
 
 pub loop-place-preserved-then-excluded-gt0 : goal.loop-place-preserved-then-excluded-gt0
@@ -53,8 +52,8 @@ loop-place-preserved-then-excluded-gt0 g c =
     let task = c.args.self.now in
     let passes = c.args.link.passes.now in
     let i = c.loop-place.place in
-    let pass = c.look-pass.result.now in
-    let here : slice_get passes i ≡ Some pass = slice_get-get_or passes i no_pass c.loop-place-test.true ∙ ap (λ (z : Bor Pass). Some z.now) (sym c.look-pass.ensures.same) in
+    let pass = c.look-pass.result in
+    let here : slice_get passes i ≡ Some pass = slice_get-get_or passes i no_pass c.loop-place-test.true ∙ ap Some (sym c.look-pass.ensures.same) in
     let so_far = c.loop-place.invariant in
     record {
       within = omega (arith, c.loop-place-test.true);
@@ -77,8 +76,8 @@ loop-place-preserved g c =
     let i = c.loop-place.place in
     let u = c.args.link.from in
     let t = c.args.at in
-    let pass = c.look-pass.result.now in
-    let here : slice_get passes i ≡ Some pass = slice_get-get_or passes i no_pass c.loop-place-test.true ∙ ap (λ (z : Bor Pass). Some z.now) (sym c.look-pass.ensures.same) in
+    let pass = c.look-pass.result in
+    let here : slice_get passes i ≡ Some pass = slice_get-get_or passes i no_pass c.loop-place-test.true ∙ ap Some (sym c.look-pass.ensures.same) in
     let so_far = c.loop-place.invariant in
     let hop = c.hop_over-hop.result in
     let is_hop = c.hop_over-hop.ensures.value in
@@ -123,8 +122,8 @@ pub returns-then-is_soonest-clause-sound : goal.returns-then-is_soonest-clause-s
 returns-then-is_soonest-clause-sound g c = λ less open'.
     let task = c.args.self.now in
     let passes = c.args.link.passes.now in
-    let pass = c.look-pass.result.now in
-    let here : slice_get passes c.loop-place.place ≡ Some pass = slice_get-get_or passes c.loop-place.place no_pass c.loop-place-test.true ∙ ap (λ (z : Bor Pass). Some z.now) (sym c.look-pass.ensures.same) in
+    let pass = c.look-pass.result in
+    let here : slice_get passes c.loop-place.place ≡ Some pass = slice_get-get_or passes c.loop-place.place no_pass c.loop-place-test.true ∙ ap Some (sym c.look-pass.ensures.same) in
     let got = c.in-Some.ensures.some in (
       pass.number,
       pass_takes task c.requires.task c.args.link.from c.args.link.to c.args.at pass c.in-Some.arrival c.hop_over-hop.result (c.requires.link.0.each c.loop-place.place pass here) c.hop_over-hop.ensures.receiver c.hop_over-hop.ensures.value open' (c.excluded_from-excluded.ensures.none (omega (arith, c.if-excluded-gt0.false))) got.0,

@@ -1,7 +1,6 @@
-use Rattle.std.proofs.Common.{◌≡◌, inl, inr, Some, slice_get, refl, arith, ap, sym, ◌∙◌, Bor}
+use Rattle.std.proofs.Common.{◌≡◌, inl, inr, Some, slice_get, refl, arith, ap, sym, ◌∙◌}
 use Rattle.std.proofs.lemmas.Option.{slice_get-get_or, slice_get_within}
 use Rattle.std.proofs.lemmas.Bool.{cases_lt}
-use Rattle.sabr_index.specs.declared.link.Pass.{Pass}
 use Rattle.sabr_search.proofs.ForwardLemmas.Forward.{step_of_hop, last_or_before}
 use Rattle.sabr_search.proofs.LinkLemmas.OverLinks.{no_pass, none_ended, none_excluded, late_over, ruled_out, pass_takes, step_at, step_over, same_number, at_most_more}
 use Rattle.sabr_search.proofs.task.Task.least_over.Goals as goal
@@ -26,8 +25,8 @@ returns-then-comes_late-clause-full g c = λ n w b has s early.
     let task = c.args.self.now in
     let passes = c.args.link.passes.now in
     let i = c.loop-place.place in
-    let pass = c.look-pass.result.now in
-    let here : slice_get passes i ≡ Some pass = slice_get-get_or passes i no_pass c.loop-place-test.true ∙ ap (λ (z : Bor Pass). Some z.now) (sym c.look-pass.ensures.same) in
+    let pass = c.look-pass.result in
+    let here : slice_get passes i ≡ Some pass = slice_get-get_or passes i no_pass c.loop-place-test.true ∙ ap Some (sym c.look-pass.ensures.same) in
     let step = step_over task passes n c.args.link.from c.args.at w b has s in
     rw (← has.3) (elim (cases_lt has.0 i) [
       | inl before ↦ c.loop-place.invariant.full has.0 has.1 w b before has.2 step early
@@ -42,28 +41,28 @@ returns-then-is_at_most-clause-full g c = λ n w b has s early.
     let task = c.args.self.now in
     let passes = c.args.link.passes.now in
     let i = c.loop-place.place in
-    let pass = c.look-pass.result.now in
-    let here : slice_get passes i ≡ Some pass = slice_get-get_or passes i no_pass c.loop-place-test.true ∙ ap (λ (z : Bor Pass). Some z.now) (sym c.look-pass.ensures.same) in
+    let pass = c.look-pass.result in
+    let here : slice_get passes i ≡ Some pass = slice_get-get_or passes i no_pass c.loop-place-test.true ∙ ap Some (sym c.look-pass.ensures.same) in
     let step = step_over task passes n c.args.link.from c.args.at w b has s in
     rw (← has.3) (elim (cases_lt has.0 i) [
       | inl before ↦ c.loop-place.invariant.full has.0 has.1 w b before has.2 step early
-      | inr behind ↦ at_most_more c.loop-place.chosen pass.least_number_behind has.1.number (c.requires.link.0.kept i has.0 pass has.1 behind here has.2).number_behind (c.is_at_most.ensures.at_most c.if-is_at_most.true)
+      | inr behind ↦ at_most_more c.loop-place.chosen pass.least_number_behind has.1.number (c.requires.link.0.kept i has.0 pass has.1 behind here has.2).number_behind (rw c.pass.ensures at (c.is_at_most.ensures.at_most c.if-is_at_most.true))
     ])
 
 pub hop_over-hop-requires-clause-pass : goal.hop_over-hop-requires-clause-pass
 hop_over-hop-requires-clause-pass g c =
     let passes = c.args.link.passes.now in
     let i = c.loop-place.place in
-    let pass = c.look-pass.result.now in
-    let here : slice_get passes i ≡ Some pass = slice_get-get_or passes i no_pass c.loop-place-test.true ∙ ap (λ (z : Bor Pass). Some z.now) (sym c.look-pass.ensures.same) in
+    let pass = c.look-pass.result in
+    let here : slice_get passes i ≡ Some pass = slice_get-get_or passes i no_pass c.loop-place-test.true ∙ ap Some (sym c.look-pass.ensures.same) in
     (c.args.link.from, c.requires.link.0.each i pass here)
 
 pub loop-place-preserved-then-is_at_most-2 : goal.loop-place-preserved-then-is_at_most-2
 loop-place-preserved-then-is_at_most-2 g c =
     let passes = c.args.link.passes.now in
     let i = c.loop-place.place in
-    let pass = c.look-pass.result.now in
-    let here : slice_get passes i ≡ Some pass = slice_get-get_or passes i no_pass c.loop-place-test.true ∙ ap (λ (z : Bor Pass). Some z.now) (sym c.look-pass.ensures.same) in
+    let pass = c.look-pass.result in
+    let here : slice_get passes i ≡ Some pass = slice_get-get_or passes i no_pass c.loop-place-test.true ∙ ap Some (sym c.look-pass.ensures.same) in
     let so_far = c.loop-place.invariant in
     record {
       within = omega (arith, c.loop-place-test.true);
@@ -74,7 +73,7 @@ loop-place-preserved-then-is_at_most-2 g c =
       sound = so_far.sound;
       full = λ k x w b less at s early. elim (last_or_before k i less) [
         | inl before ↦ so_far.full k x w b before at s early
-        | inr same ↦ rw (← same_number passes i k pass x here at same) (c.is_at_most-in-loop-place.ensures.at_most c.if-is_at_most-2.true)
+        | inr same ↦ rw (← same_number passes i k pass x here at same) (rw c.number-number.ensures at (c.is_at_most-in-loop-place.ensures.at_most c.if-is_at_most-2.true))
       ];
     }
 
@@ -83,8 +82,8 @@ loop-place-preserved-then-excluded-gt0 g c =
     let task = c.args.self.now in
     let passes = c.args.link.passes.now in
     let i = c.loop-place.place in
-    let pass = c.look-pass.result.now in
-    let here : slice_get passes i ≡ Some pass = slice_get-get_or passes i no_pass c.loop-place-test.true ∙ ap (λ (z : Bor Pass). Some z.now) (sym c.look-pass.ensures.same) in
+    let pass = c.look-pass.result in
+    let here : slice_get passes i ≡ Some pass = slice_get-get_or passes i no_pass c.loop-place-test.true ∙ ap Some (sym c.look-pass.ensures.same) in
     let so_far = c.loop-place.invariant in
     record {
       within = omega (arith, c.loop-place-test.true);
@@ -106,8 +105,8 @@ loop-place-preserved-in-Some g c =
     let i = c.loop-place.place in
     let u = c.args.link.from in
     let t = c.args.at in
-    let pass = c.look-pass.result.now in
-    let here : slice_get passes i ≡ Some pass = slice_get-get_or passes i no_pass c.loop-place-test.true ∙ ap (λ (z : Bor Pass). Some z.now) (sym c.look-pass.ensures.same) in
+    let pass = c.look-pass.result in
+    let here : slice_get passes i ≡ Some pass = slice_get-get_or passes i no_pass c.loop-place-test.true ∙ ap Some (sym c.look-pass.ensures.same) in
     let so_far = c.loop-place.invariant in
     let hop = c.hop_over-hop.result in
     let got = c.in-Some.ensures.some in
@@ -117,10 +116,10 @@ loop-place-preserved-in-Some g c =
       looked = omega (arith, so_far.looked, c.look-pass.ensures.counted);
       some_looks = inr (omega (arith, so_far.looked, c.look-pass.ensures.counted));
       lower = λ n h. c.is_at_most-in-loop-place.ensures.above c.if-is_at_most-2.false n (so_far.lower n h);
-      sound = inr (refl, got.1, λ open'. pass_takes task c.requires.task u c.args.link.to t pass c.in-Some.arrival hop (c.requires.link.0.each i pass here) c.hop_over-hop.ensures.receiver c.hop_over-hop.ensures.value open' (c.excluded_from-excluded.ensures.none (omega (arith, c.if-excluded-gt0.false))) got.0);
+      sound = rw c.number-number.ensures (inr (refl, got.1, λ open'. pass_takes task c.requires.task u c.args.link.to t pass c.in-Some.arrival hop (c.requires.link.0.each i pass here) c.hop_over-hop.ensures.receiver c.hop_over-hop.ensures.value open' (c.excluded_from-excluded.ensures.none (omega (arith, c.if-excluded-gt0.false))) got.0));
       full = λ k x w b less at s early. elim (last_or_before k i less) [
         | inl before ↦ c.is_at_most-in-loop-place.ensures.above c.if-is_at_most-2.false x.number (so_far.full k x w b before at s early)
-        | inr same ↦ omega (arith, same_number passes i k pass x here at same)
+        | inr same ↦ omega (arith, same_number passes i k pass x here at same, c.number-number.ensures)
       ];
     }
 
@@ -131,8 +130,8 @@ loop-place-preserved g c =
     let i = c.loop-place.place in
     let u = c.args.link.from in
     let t = c.args.at in
-    let pass = c.look-pass.result.now in
-    let here : slice_get passes i ≡ Some pass = slice_get-get_or passes i no_pass c.loop-place-test.true ∙ ap (λ (z : Bor Pass). Some z.now) (sym c.look-pass.ensures.same) in
+    let pass = c.look-pass.result in
+    let here : slice_get passes i ≡ Some pass = slice_get-get_or passes i no_pass c.loop-place-test.true ∙ ap Some (sym c.look-pass.ensures.same) in
     let so_far = c.loop-place.invariant in
     let hop = c.hop_over-hop.result in
     record {

@@ -1,7 +1,6 @@
-use Rattle.std.proofs.Common.{◌≡◌, ◌-◌, inl, inr, Some, slice_get, arith, ap, sym, ◌∙◌, Bor}
+use Rattle.std.proofs.Common.{◌≡◌, ◌-◌, inl, inr, Some, slice_get, arith, ap, sym, ◌∙◌}
 use Rattle.std.proofs.lemmas.Option.{slice_get-get_or}
 use Rattle.std.proofs.lemmas.Bool.{cases_lt, cases_eq}
-use Rattle.sabr_index.specs.declared.link.Pass.{Pass}
 use Rattle.sabr_search.proofs.LinkLemmas.PlanFacts.{hop_at_window}
 use Rattle.sabr_search.proofs.ForwardLemmas.Forward.{step_of_hop}
 use Rattle.sabr_search.proofs.LinkLemmas.OverLinks.{no_pass, starts_late, none_later, pass_takes, step_at, step_over}
@@ -23,22 +22,22 @@ returns-then-leaves_no_later-clause-full g c = λ n t w b has s less.
     let task = c.args.self.now in
     let passes = c.args.link.passes.now in
     let i = c.begun-end.result - 1 - c.loop-back.back in
-    let pass = c.look-pass.result.now in
-    let here : slice_get passes i ≡ Some pass = slice_get-get_or passes i no_pass (omega (arith, c.loop-back-test.true, c.begun-end.ensures.within)) ∙ ap (λ (z : Bor Pass). Some z.now) (sym c.look-pass.ensures.same) in
+    let pass = c.look-pass.result in
+    let here : slice_get passes i ≡ Some pass = slice_get-get_or passes i no_pass (omega (arith, c.loop-back-test.true, c.begun-end.ensures.within)) ∙ ap Some (sym c.look-pass.ensures.same) in
     let step = step_over task passes n c.args.link.from t w b has s in
     elim (cases_lt i has.0) [
       | inl above ↦ c.loop-back.invariant.full has.0 has.1 t w b (omega (arith, above, c.loop-back-test.true)) has.2 step less
       | inr below ↦
           none_later task c.requires.task c.args.link.from c.args.link.to passes c.requires.link.0 c.loop-back.last c.args.before i pass here
-          (c.leaves_no_later.ensures c.if-leaves_no_later.true) has.0 has.1 t w b below has.2 step less
+          (rw c.pass.ensures at (c.leaves_no_later.ensures c.if-leaves_no_later.true)) has.0 has.1 t w b below has.2 step less
     ]
 
 pub hop_over-hop-requires-clause-pass : goal.hop_over-hop-requires-clause-pass
 hop_over-hop-requires-clause-pass g c =
     let passes = c.args.link.passes.now in
     let i = c.begun-end.result - 1 - c.loop-back.back in
-    let pass = c.look-pass.result.now in
-    let here : slice_get passes i ≡ Some pass = slice_get-get_or passes i no_pass (omega (arith, c.loop-back-test.true, c.begun-end.ensures.within)) ∙ ap (λ (z : Bor Pass). Some z.now) (sym c.look-pass.ensures.same) in
+    let pass = c.look-pass.result in
+    let here : slice_get passes i ≡ Some pass = slice_get-get_or passes i no_pass (omega (arith, c.loop-back-test.true, c.begun-end.ensures.within)) ∙ ap Some (sym c.look-pass.ensures.same) in
     (c.args.link.from, c.requires.link.0.each i pass here)
 
 pub leave_before-requires-clause-window : goal.leave_before-requires-clause-window
@@ -50,8 +49,8 @@ loop-back-preserved g c =
     let passes = c.args.link.passes.now in
     let i = c.begun-end.result - 1 - c.loop-back.back in
     let u = c.args.link.from in
-    let pass = c.look-pass.result.now in
-    let here : slice_get passes i ≡ Some pass = slice_get-get_or passes i no_pass (omega (arith, c.loop-back-test.true, c.begun-end.ensures.within)) ∙ ap (λ (z : Bor Pass). Some z.now) (sym c.look-pass.ensures.same) in
+    let pass = c.look-pass.result in
+    let here : slice_get passes i ≡ Some pass = slice_get-get_or passes i no_pass (omega (arith, c.loop-back-test.true, c.begun-end.ensures.within)) ∙ ap Some (sym c.look-pass.ensures.same) in
     let so_far = c.loop-back.invariant in
     let hop = c.hop_over-hop.result in
     let is_hop = c.hop_over-hop.ensures.value in

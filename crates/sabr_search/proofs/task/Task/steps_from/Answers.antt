@@ -72,8 +72,8 @@ returns-clause-whole g c = λ yes' n w b s.
     let on = c.loop-link.invariant.links.whole n c.args.from.at w b s in
     c.loop-link.invariant.come on.0 on.1 n w b (omega (arith, slice_get_within c.links-links.result.links.now on.0 on.1 on.2, c.loop-link-test.false)) on.2 on.3 s
 
-pub returns-then-passes-looks-clause-all : goal.returns-then-passes-looks-clause-all
-returns-then-passes-looks-clause-all g c = λ no.
+pub returns-then-passes-left-clause-all : goal.returns-then-passes-left-clause-all
+returns-then-passes-left-clause-all g c = λ no.
     let so_far = c.loop-link.invariant in
     let link = link_here _ _ _ _ so_far.links _ c.loop-link-test.true _ c.link_passes-passes.ensures in
-    omega (arith, so_far.placed _ link.here, link.few, c.if-passes-looks.true, so_far.links.few)
+    omega (arith, so_far.placed _ link.here, link.few, c.if-passes-left.true, c.left.ensures, so_far.links.few)

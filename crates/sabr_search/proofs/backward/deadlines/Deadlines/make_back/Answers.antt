@@ -1,4 +1,4 @@
-use Rattle.std.proofs.Common.{◌≡◌, inl, inr, ◌+◌, ◌++◌, [], ◌∷◌, length, slice_index, ap, sym, ◌∙◌, arith}
+use Rattle.std.proofs.Common.{◌≡◌, ◌+◌, ◌++◌, [], ◌∷◌, length, slice_index, ap, sym, ◌∙◌, arith}
 use Rattle.std.proofs.lemmas.Option.{slice_get_within}
 use Rattle.sabr_search.specs.declared.visit.Visit.{Visit}
 use Rattle.sabr_search.proofs.ForwardLemmas.LayerEntries.{read_at}
@@ -32,7 +32,7 @@ returns-then-is_met-clause-met g c =
     let by = c.is_met.ensures.met c.if-is_met.true in
     let s : Visit = by.1 in
     let step = c.requires.real by.0 s by.2 in
-    record {
+    λ less. record {
       late = own.late;
       places = own.place.items;
       made = made;
@@ -62,26 +62,26 @@ loop-left-preserved g c =
           (c.in_ok-push.ensures.items ∙ ap (λ xs. xs ++ c.len-end.result ∷ []) same_ends ∙ ap (λ k. old.ends.items ++ k ∷ []) many);
     }
 
-pub returns-then-index-clause-none : goal.returns-then-index-clause-none
-returns-then-index-clause-none g c =
+pub returns-then-index-clause-beyond : goal.returns-then-index-clause-beyond
+returns-then-index-clause-beyond g c =
     let left = c.loop-left.left in
     let old = c.loop-left.self in
     let made = c.loop-left.invariant.made in
     let empty : slice_index old.ends.items left ≡ slice_index old.ends.items (left + 1) =
     sym (read_at old.ends.items left c.index.result.now (omega (arith, made.many)) c.index.ensures) ∙ c.if-index.true ∙ read_at old.ends.items (left + 1) c.index-in-loop-left.result.now (omega (arith, made.many)) c.index-in-loop-left.ensures in
     let none = none_by c.args.aim.now.task.now c.requires.task _ _ left old.ends.items old.late old.place.items old.entries.items made empty c.requires.arrivals in
-    inr (λ ns e le way. omega (arith, none ns e way))
+    λ same ns e le way. omega (arith, none ns e way)
 
-pub returns-clause-none : goal.returns-clause-none
-returns-clause-none g c =
+pub returns-clause-beyond : goal.returns-clause-beyond
+returns-clause-beyond g c =
     let old = c.loop-left.self in
-    inr (λ ns e le way. fewest c.args.aim.now.task.now c.requires.task _ _ c.loop-left.left old.ends.items old.late old.place.items old.entries.items c.loop-left.invariant.made c.requires.arrivals ns e (omega (arith, le, c.loop-left-test.false)) way)
+    λ same ns e le way. fewest c.args.aim.now.task.now c.requires.task _ _ c.loop-left.left old.ends.items old.late old.place.items old.entries.items c.loop-left.invariant.made c.requires.arrivals ns e (omega (arith, le, c.loop-left-test.false)) way
 
 pub returns-then-is_met-clause-counted : goal.returns-then-is_met-clause-counted
 returns-then-is_met-clause-counted g c = spent_fewer _ _ _ _ _ (omega arith) c.loop-left.invariant.counted
 
 pub returns-then-is_met-clause-layers : goal.returns-then-is_met-clause-layers
-returns-then-is_met-clause-layers g c = spent_fewer _ _ _ _ _ (omega arith) c.loop-left.invariant.counted
+returns-then-is_met-clause-layers g c = λ less. spent_fewer _ _ _ _ _ (omega arith) c.loop-left.invariant.counted
 
 pub returns-then-index-clause-counted : goal.returns-then-index-clause-counted
 returns-then-index-clause-counted g c = spent_fewer _ _ _ _ _ (omega arith) c.loop-left.invariant.counted
@@ -93,7 +93,7 @@ pub returns-then-not-whole-clause-counted : goal.returns-then-not-whole-clause-c
 returns-then-not-whole-clause-counted g c = spent_more _ _ _ _ _ _ c.loop-left-test.true c.loop-left.invariant.counted c.next_back.ensures.counted
 
 pub returns-then-not-whole-clause-none : goal.returns-then-not-whole-clause-none
-returns-then-not-whole-clause-none g c = inl (none_more _ _ _ _ _ c.loop-left-test.true c.loop-left.invariant.counted (c.in_ok-whole.ensures.none c.if-not-whole.true))
+returns-then-not-whole-clause-none g c = none_more _ _ _ _ _ c.loop-left-test.true c.loop-left.invariant.counted (c.in_ok-whole.ensures.none c.if-not-whole.true)
 
 pub returns-in_err-push-clause-counted : goal.returns-in_err-push-clause-counted
 returns-in_err-push-clause-counted g c = spent_more _ _ _ _ _ _ c.loop-left-test.true c.loop-left.invariant.counted c.next_back.ensures.counted

@@ -45,8 +45,8 @@ least_step-least-requires-clause-ends g c = rw (c.point_at.ensures.ends, c.point
 pub least_step-least-requires-clause-open : goal.least_step-least-requires-clause-open
 least_step-least-requires-clause-open g c = rw c.point_at.ensures.entries (entries_open c.args.aim.now.task.now c.requires.task _ _ _ _ _ _ c.loop-hop.invariant.met)
 
-pub returns-then-links-looks-clause-none : goal.returns-then-links-looks-clause-none
-returns-then-links-looks-clause-none g c = omega (arith, c.if-links-looks.true, c.loop-hop.invariant.counted, passes g (goal.at.returns-then-links-looks-clause-none g c).After-links-links, layer_more c.loop-hop.hop (c.args.left + 1) (length c.args.aim.now.task.now.plan.contacts) c.loop-hop-test.true)
+pub returns-then-links-left-clause-none : goal.returns-then-links-left-clause-none
+returns-then-links-left-clause-none g c = omega (arith, c.if-links-left.true, c.left.ensures, c.loop-hop.invariant.counted, passes g (goal.at.returns-then-links-left-clause-none g c).After-links-links, layer_more c.loop-hop.hop (c.args.left + 1) (length c.args.aim.now.task.now.plan.contacts) c.loop-hop-test.true)
 
 pub unreachable-requires : goal.unreachable-requires
 unreachable-requires g c =

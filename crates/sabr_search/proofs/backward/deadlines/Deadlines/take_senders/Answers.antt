@@ -85,12 +85,12 @@ loop-place-preserved g c =
           one.told;
     }
 
-pub returns-then-from-looks-clause-none : goal.returns-then-from-looks-clause-none
-returns-then-from-looks-clause-none g c =
-    omega (arith, c.if-from-looks.true, c.loop-place.invariant.counted, (passes_within c.args.aim.now.task.now c.args.to.node c.senders-senders.result c.senders-senders.ensures c.loop-place.place _ c.at-from.ensures.link).1)
+pub returns-then-from-left-clause-none : goal.returns-then-from-left-clause-none
+returns-then-from-left-clause-none g c =
+    omega (arith, c.if-from-left.true, c.left.ensures, c.loop-place.invariant.counted, (passes_within c.args.aim.now.task.now c.args.to.node c.senders-senders.result c.senders-senders.ensures c.loop-place.place _ c.at-from.ensures.link).1)
 
-pub returns-then-from-looks-clause-counted : goal.returns-then-from-looks-clause-counted
-returns-then-from-looks-clause-counted g c =
+pub returns-then-from-left-clause-counted : goal.returns-then-from-left-clause-counted
+returns-then-from-left-clause-counted g c =
     omega (arith, c.loop-place.invariant.counted, (passes_within c.args.aim.now.task.now c.args.to.node c.senders-senders.result c.senders-senders.ensures c.loop-place.place _ c.at-from.ensures.link).1)
 
 pub returns-in_err-take_sender-clause-counted : goal.returns-in_err-take_sender-clause-counted

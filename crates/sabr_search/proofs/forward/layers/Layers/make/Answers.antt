@@ -9,50 +9,48 @@ pub loop-hop-init : goal.loop-hop-init
 loop-hop-init g c =
     let first = c.in_ok-first_layer.ensures in
     record {
-      layers = (0 ∷ 1 ∷ [], refl, layers_first c.args.task.now _ _ _ _ refl first.reached first.lists);
+      layers = (0 ∷ 1 ∷ [], refl, layers_first c.args.task.now c.args.until _ _ _ _ refl first.reached first.lists);
       counted = omega arith;
-      sooner = c.requires.sooner;
     }
 
 pub next_layer-requires-clause-sources : goal.next_layer-requires-clause-sources
-next_layer-requires-clause-sources g c = made_sources c.args.task.now c.requires.task c.loop-hop.hop c.loop-hop.first _ _ _ _ c.loop-hop.best c.loop-hop.invariant.layers (omega (arith, c.len-begin.ensures, c.loop-hop.self.reached.ok.0))
+next_layer-requires-clause-sources g c = made_sources c.args.task.now c.requires.task c.args.until c.loop-hop.hop c.loop-hop.first _ _ _ _ c.loop-hop.best c.loop-hop.invariant.layers (omega (arith, c.len-begin.ensures, c.loop-hop.self.reached.ok.0))
 
 pub next_layer-requires-clause-lists : goal.next_layer-requires-clause-lists
-next_layer-requires-clause-lists g c = made_lists c.args.task.now c.requires.task c.loop-hop.hop c.loop-hop.first _ _ _ _ c.loop-hop.best c.loop-hop.invariant.layers (omega (arith, c.len-begin.ensures, c.loop-hop.self.reached.ok.0))
+next_layer-requires-clause-lists g c = made_lists c.args.task.now c.requires.task c.args.until c.loop-hop.hop c.loop-hop.first _ _ _ _ c.loop-hop.best c.loop-hop.invariant.layers (omega (arith, c.len-begin.ensures, c.loop-hop.self.reached.ok.0))
 
 -- one layer more
-made : (g : Over) (c : After-len-end g) → AreMade c.args.task.now (c.loop-hop.hop + 1) c.len-begin.result c.next_layer.new.self.arrival.items c.next_layer.new.self.place.items c.next_layer.new.self.reached.items c.if-delivery-best.best
+made : (g : Over) (c : After-len-end g) → AreMade c.args.task.now c.args.until (c.loop-hop.hop + 1) c.len-begin.result c.next_layer.new.self.arrival.items c.next_layer.new.self.place.items c.next_layer.new.self.reached.items c.if-delivery-best.best
 made g c =
-    made_next c.args.task.now c.requires.task c.loop-hop.hop c.loop-hop.first c.len-begin.result _ _ _ c.loop-hop.best c.loop-hop.invariant.layers (omega (arith, c.len-begin.ensures, c.loop-hop.self.reached.ok.0)) _ _ _ c.in_ok-delivery.delivery c.in_ok-delivery.ensures.lowered c.in_ok-delivery.ensures.known c.if-delivery-best.best
+    made_next c.args.task.now c.requires.task c.args.until c.loop-hop.hop c.loop-hop.first c.len-begin.result _ _ _ c.loop-hop.best c.loop-hop.invariant.layers (omega (arith, c.len-begin.ensures, c.loop-hop.self.reached.ok.0)) _ _ _ c.in_ok-delivery.delivery c.in_ok-delivery.ensures.lowered c.in_ok-delivery.ensures.known c.if-delivery-best.best
     (elim c.if-delivery-best.branch [ then-delivery-best w ↦ inl (w.if-delivery-best.true, w.best-is) | else-delivery-best w ↦ inr (w.if-delivery-best.false, w.best-is) ])
 
 pub returns-then-best-lower-clause-best : goal.returns-then-best-lower-clause-best
 returns-then-best-lower-clause-best g c =
-    best_within c.args.task.now (c.loop-hop.hop + 1) _ _ _ _ _ (made g (goal.at.returns-then-best-lower-clause-best g c).After-len-end).2 c.args.hops (omega arith) (λ ns e le way. omega (arith, c.requires.lower ns e way, c.if-best-lower.true))
+    best_within c.args.task.now c.args.until (c.loop-hop.hop + 1) _ _ _ _ _ (made g (goal.at.returns-then-best-lower-clause-best g c).After-len-end).2 c.args.hops (omega arith) (λ ns e le way. omega (arith, c.requires.lower ns e way, c.if-best-lower.true))
 
 pub returns-then-end-begin-clause-best : goal.returns-then-end-begin-clause-best
 returns-then-end-begin-clause-best g c =
     let made = made g (goal.at.returns-then-end-begin-clause-best g c).After-len-end in
-    best_within c.args.task.now (c.loop-hop.hop + 1) _ _ _ _ _ made.2 c.args.hops (omega arith)
-    (λ ns e le way. made_all c.args.task.now c.requires.task (c.loop-hop.hop + 1) c.len-begin.result _ _ _ c.if-delivery-best.best made (omega (arith, c.len-end.ensures, c.next_layer.new.self.reached.ok.0, c.if-end-begin.true)) ns e way)
+    best_within c.args.task.now c.args.until (c.loop-hop.hop + 1) _ _ _ _ _ made.2 c.args.hops (omega arith)
+    (λ ns e le way. made_all c.args.task.now c.requires.task c.args.until (c.loop-hop.hop + 1) c.len-begin.result _ _ _ c.if-delivery-best.best made (omega (arith, c.len-end.ensures, c.next_layer.new.self.reached.ok.0, c.if-end-begin.true)) ns e way)
 
 pub loop-hop-preserved : goal.loop-hop-preserved
 loop-hop-preserved g c = record {
   layers = made g (goal.at.loop-hop-preserved g c).After-len-end;
   counted = omega (arith, c.next_layer.ensures.looks, c.loop-hop.invariant.counted);
-  sooner = c.if-best-lower.false;
 }
 
 pub returns-clause-best : goal.returns-clause-best
 returns-clause-best g c =
     let made = c.loop-hop.invariant.layers.2 in
-    best_within c.args.task.now c.loop-hop.hop _ _ _ _ _ made c.args.hops (omega arith) (λ ns e le way. least_within c.args.task.now c.requires.task c.loop-hop.hop _ _ _ _ _ made ns e (omega (arith, le)) way)
+    best_within c.args.task.now c.args.until c.loop-hop.hop _ _ _ _ _ made c.args.hops (omega arith) (λ ns e le way. least_within c.args.task.now c.requires.task c.args.until c.loop-hop.hop _ _ _ _ _ made ns e (omega (arith, le)) way)
 
-pub returns-then-one_pass-looks-clause-counted : goal.returns-then-one_pass-looks-clause-counted
-returns-then-one_pass-looks-clause-counted g c = spent_fewer _ _ _ _ _ (omega arith) c.loop-hop.invariant.counted
+pub returns-then-one_pass-left-clause-counted : goal.returns-then-one_pass-left-clause-counted
+returns-then-one_pass-left-clause-counted g c = spent_fewer _ _ _ _ _ (omega arith) c.loop-hop.invariant.counted
 
-pub returns-then-one_pass-looks-clause-none : goal.returns-then-one_pass-looks-clause-none
-returns-then-one_pass-looks-clause-none g c = none_more _ _ _ _ _ c.loop-hop-test.true c.loop-hop.invariant.counted (omega (arith, c.one_pass.ensures.value, c.if-one_pass-looks.true))
+pub returns-then-one_pass-left-clause-none : goal.returns-then-one_pass-left-clause-none
+returns-then-one_pass-left-clause-none g c = none_more _ _ _ _ _ c.loop-hop-test.true c.loop-hop.invariant.counted (omega (arith, c.one_pass.ensures.value, c.if-one_pass-left.true, c.left.ensures))
 
 pub returns-in_err-delivery-clause-counted : goal.returns-in_err-delivery-clause-counted
 returns-in_err-delivery-clause-counted g c = spent_more _ _ _ _ _ _ c.loop-hop-test.true c.loop-hop.invariant.counted c.next_layer.ensures.looks

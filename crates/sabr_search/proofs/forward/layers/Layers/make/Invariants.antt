@@ -1,10 +1,9 @@
-use Rattle.std.proofs.Common.{◌+◌, ◌*◌, ◌≤◌, ◌<◌, length}
+use Rattle.std.proofs.Common.{◌+◌, ◌*◌, ◌≤◌, length}
 use Rattle.sabr_search.specs.layers.Made.{AreMade}
 use Rattle.sabr_search.proofs.forward.layers.Layers.make.Given as goal
 
 abbrev pub invariant-loop-hop : goal.invariant-loop-hop
 invariant-loop-hop g l = record {
-  layers : AreMade l.task l.hop l.first l.self.arrival.items l.self.place.items l.self.reached.items l.best;
+  layers : AreMade l.task l.until l.hop l.first l.self.arrival.items l.self.place.items l.self.reached.items l.best;
   counted : l.fn.looks.left ≤ l.looks.left + l.hop * length l.task.plan.contacts;
-  sooner : l.lower < l.best.delivery;
 }

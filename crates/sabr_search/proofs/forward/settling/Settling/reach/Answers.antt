@@ -18,7 +18,7 @@ returns-then-node-goal-clause-state g c =
     let at : c.args.step.node ≡ task.goal = c.if-node-goal.true ∙ c.goal.ensures in
     let step = c.requires.step (ap (λ k. slice_index_or task.shut k false) at ∙ c.requires.task.goal_open) in
     let hops = read_hops c.args.self.now.settled.items c.args.self.now.hops.items c.args.event.node c.index.result.now c.requires.state.on (c.requires.state.many ∙ sym c.requires.state.hops_are.many) c.index.ensures in
-    found_better task c.requires.task _ _ _ _ _ step.0 c.args.step.node c.index.result.now _ _ _ _ c.args.step.at c.requires.state hops (omega (arith, c.requires.sooner)) at step.1
+    found_better task c.requires.task _ _ _ _ _ _ step.0 c.args.step.node c.index.result.now _ _ _ _ c.args.step.at c.requires.state hops (omega (arith, c.requires.sooner)) at step.1
 
 pub returns : goal.returns
 returns g c =
@@ -29,14 +29,14 @@ returns g c =
     let within : w < length c.args.self.now.arrival.items = omega (arith, state.flags, c.requires.task.as_many, c.requires.receiver) in
     let other : w ≢ task.goal = λ same. c.if-node-goal.false (same ∙ sym c.goal.ensures) in
     let less : b < slice_index c.args.self.now.arrival.items w = c.requires.news other in
-    let step = c.requires.step (open_sooner task _ _ _ _ _ w b _ _ _ _ state c.requires.later less) in
+    let step = c.requires.step (open_sooner task _ _ _ _ _ _ w b _ _ _ _ state c.requires.later less) in
     let hops = read_hops c.args.self.now.settled.items c.args.self.now.hops.items c.args.event.node c.index.result.now state.on (state.many ∙ sym state.hops_are.many) c.index.ensures in
     let event : Visit = record { at = b + c.cost-cost.result; node = w } in
     let at_is : event.at ≡ b + slice_index c.args.forward.now.costs.now w = omega (arith, c.cost-cost.ensures) in
     record {
       settled = refl;
-      state = pushed task c.requires.task _ _ _ c.args.event.node c.args.event.at step.0 b _ event _ _ _ _ c.args.best state c.requires.later within less other step.1 hops at_is c.in_ok-push.ensures.ok;
-      fallen = pushed_falls task c.requires.task _ _ _ c.args.event.node c.args.event.at step.0 b _ event _ _ _ _ c.args.best state c.requires.later within less other step.1 hops at_is c.in_ok-push.ensures.ok;
+      state = pushed task c.requires.task _ _ _ _ c.args.event.node c.args.event.at step.0 b _ event _ _ _ _ c.args.best state c.requires.later within less other step.1 hops at_is c.in_ok-push.ensures.ok;
+      fallen = pushed_falls task c.requires.task c.args.forward.now.until _ _ _ c.args.event.node c.args.event.at step.0 b _ event _ _ _ _ c.args.best state c.requires.later within less other step.1 hops at_is c.in_ok-push.ensures.ok;
       known = search rules;
       pushes = omega (arith, length_permutation _ _ c.in_ok-push.ensures.ok);
     }

@@ -38,27 +38,27 @@ settle-requires-clause-state g c =
     let within : c.in-Some.event.node < length c.loop-event.self.settled.items = omega (arith, was.flags, was.many, head_inside _ _ _ _ _ _ _ c.in-Some.event was.queue_is c.in-Some.ensures.moved c.in-Some.ensures.first) in
     let off : slice_index_or c.loop-event.self.settled.items c.in-Some.event.node false ≡ false = sym (read_flag c.loop-event.self.settled.items c.in-Some.event.node c.index.result.now within c.index.ensures) ∙ c.if-not-index.true in
     let at = read_at c.loop-event.self.arrival.items c.in-Some.event.node c.index-then-not-index.result.now (omega (arith, was.many, was.flags, within)) c.index-then-not-index.ensures in
-    rw at (next_state c.args.forward.now.task.now c.requires.task _ _ _ _ _ _ _ _ c.in-Some.event was c.in-Some.ensures.moved c.in-Some.ensures.first off c.requires.bound)
+    rw at (next_state c.args.forward.now.task.now c.requires.task _ _ _ _ _ _ _ _ _ c.in-Some.event was c.in-Some.ensures.moved c.in-Some.ensures.first off c.requires.bound)
 
 pub links-links-requires-clause-node : goal.links-links-requires-clause-node
 links-links-requires-clause-node g c =
     let was = c.loop-event.invariant.settled in
     omega (arith, was.flags, c.requires.task.as_many, head_inside _ _ _ _ _ _ _ c.in-Some.event was.queue_is c.in-Some.ensures.moved c.in-Some.ensures.first)
 
-pub returns-then-links-looks-clause-none : goal.returns-then-links-looks-clause-none
-returns-then-links-looks-clause-none g c =
+pub returns-then-links-left-clause-none : goal.returns-then-links-left-clause-none
+returns-then-links-left-clause-none g c =
     let was = c.loop-event.invariant.settled in
     let within : c.in-Some.event.node < length c.loop-event.self.settled.items = omega (arith, was.flags, was.many, head_inside _ _ _ _ _ _ _ c.in-Some.event was.queue_is c.in-Some.ensures.moved c.in-Some.ensures.first) in
     let off : slice_index_or c.loop-event.self.settled.items c.in-Some.event.node false ≡ false = sym (read_flag c.loop-event.self.settled.items c.in-Some.event.node c.index.result.now within c.index.ensures) ∙ c.if-not-index.true in
-    let most = next_most c.args.forward.now.task.now c.requires.task _ _ _ _ _ _ _ _ c.in-Some.event was c.in-Some.ensures.moved c.in-Some.ensures.first off in
-    omega (arith, most, c.loop-event.invariant.counted, c.if-links-looks.true, c.links-links.ensures.few)
+    let most = next_most c.args.forward.now.task.now c.requires.task _ _ _ _ _ _ _ _ _ c.in-Some.event was c.in-Some.ensures.moved c.in-Some.ensures.first off in
+    omega (arith, most, c.loop-event.invariant.counted, c.if-links-left.true, c.left.ensures, c.links-links.ensures.few)
 
 pub returns-in_err-best-2-clause-counted : goal.returns-in_err-best-2-clause-counted
 returns-in_err-best-2-clause-counted g c =
     let was = c.loop-event.invariant.settled in
     let within : c.in-Some.event.node < length c.loop-event.self.settled.items = omega (arith, was.flags, was.many, head_inside _ _ _ _ _ _ _ c.in-Some.event was.queue_is c.in-Some.ensures.moved c.in-Some.ensures.first) in
     let off : slice_index_or c.loop-event.self.settled.items c.in-Some.event.node false ≡ false = sym (read_flag c.loop-event.self.settled.items c.in-Some.event.node c.index.result.now within c.index.ensures) ∙ c.if-not-index.true in
-    let most = next_most c.args.forward.now.task.now c.requires.task _ _ _ _ _ _ _ _ c.in-Some.event was c.in-Some.ensures.moved c.in-Some.ensures.first off in
+    let most = next_most c.args.forward.now.task.now c.requires.task _ _ _ _ _ _ _ _ _ c.in-Some.event was c.in-Some.ensures.moved c.in-Some.ensures.first off in
     omega (arith, most, c.loop-event.invariant.counted, c.settle.ensures.looks, c.links-links.ensures.few)
 
 pub loop-event-smaller-then-not-index : goal.loop-event-smaller-then-not-index
@@ -73,8 +73,8 @@ loop-event-preserved-then-not-index g c =
     let arrives = read_at c.loop-event.self.arrival.items c.in-Some.event.node c.index-then-not-index.result.now (omega (arith, was.many, was.flags, within)) c.index-then-not-index.ensures in
     let settled = c.in_ok-best-2.ensures in
     record {
-      counted = next_counted task c.requires.task _ _ _ _ _ _ _ _ c.in-Some.event was c.in-Some.ensures.moved c.in-Some.ensures.first off _ _ _ settled.settled (omega (arith, settled.looks, c.links-links.ensures.few, c.loop-event.invariant.counted));
-      settled = next_settled task c.requires.task _ _ _ _ _ _ _ _ c.in-Some.event was c.in-Some.ensures.moved c.in-Some.ensures.first off _ _ _ _ _
+      counted = next_counted task c.requires.task _ _ _ _ _ _ _ _ _ c.in-Some.event was c.in-Some.ensures.moved c.in-Some.ensures.first off _ _ _ settled.settled (omega (arith, settled.looks, c.links-links.ensures.few, c.loop-event.invariant.counted));
+      settled = next_settled task c.requires.task _ _ _ _ _ _ _ _ _ c.in-Some.event was c.in-Some.ensures.moved c.in-Some.ensures.first off _ _ _ _ _
           settled.settled (rw arrives at settled.state) settled.fallen settled.taken;
     }
 
@@ -88,27 +88,27 @@ loop-event-preserved g c =
     let on = sym (read_flag c.loop-event.self.settled.items c.in-Some.event.node c.index.result.now within c.index.ensures) ∙ c.if-not-index.false in
     record {
       counted = c.loop-event.invariant.counted;
-      settled = settled_stale _ _ _ _ _ _ _ _ _ was (queue_stale _ _ _ _ _ _ _ c.in-Some.event was.queue_is c.in-Some.ensures.moved c.in-Some.ensures.first on);
+      settled = settled_stale _ _ _ _ _ _ _ _ _ _ was (queue_stale _ _ _ _ _ _ _ c.in-Some.event was.queue_is c.in-Some.ensures.moved c.in-Some.ensures.first on);
     }
 
 pub returns-then-event-best-clause-first : goal.returns-then-event-best-clause-first
 returns-then-event-best-clause-first g c =
     let was = c.loop-event.invariant.settled in
-    first_found c.args.forward.now.task.now c.requires.task _ _ c.requires.bound _ _ _ _ c.loop-event.best was
+    first_found c.args.forward.now.task.now c.requires.task _ _ _ c.requires.bound _ _ _ _ c.loop-event.best was
     (λ f there. omega (arith, c.if-event-best.true, waits_later _ _ _ _ _ _ _ c.in-Some.event was.queue_is c.in-Some.ensures.moved c.in-Some.ensures.first f there))
 
 pub returns-clause-first : goal.returns-clause-first
 returns-clause-first g c =
-    first_found c.args.forward.now.task.now c.requires.task _ _ c.requires.bound _ _ _ _ c.loop-event.best c.loop-event.invariant.settled
+    first_found c.args.forward.now.task.now c.requires.task _ _ _ c.requires.bound _ _ _ _ c.loop-event.best c.loop-event.invariant.settled
     (λ f there. (let none = rw c.in_default.ensures.none at there in absurd (omega (arith, none.1))))
 
 pub returns-then-event-best-clause-arrivals : goal.returns-then-event-best-clause-arrivals
 returns-then-event-best-clause-arrivals g c =
     let was = c.loop-event.invariant.settled in
-    arrivals_found c.args.forward.now.task.now c.requires.task _ _ c.requires.bound _ _ _ _ c.loop-event.best was
+    arrivals_found c.args.forward.now.task.now c.requires.task _ _ _ c.requires.bound _ _ _ _ c.loop-event.best was
     (λ f there. omega (arith, c.if-event-best.true, waits_later _ _ _ _ _ _ _ c.in-Some.event was.queue_is c.in-Some.ensures.moved c.in-Some.ensures.first f there))
 
 pub returns-clause-arrivals : goal.returns-clause-arrivals
 returns-clause-arrivals g c =
-    arrivals_found c.args.forward.now.task.now c.requires.task _ _ c.requires.bound _ _ _ _ c.loop-event.best c.loop-event.invariant.settled
+    arrivals_found c.args.forward.now.task.now c.requires.task _ _ _ c.requires.bound _ _ _ _ c.loop-event.best c.loop-event.invariant.settled
     (λ f there. (let none = rw c.in_default.ensures.none at there in absurd (omega (arith, none.1))))

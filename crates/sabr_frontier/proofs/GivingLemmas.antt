@@ -1,0 +1,4 @@
+-- What a page keeps of the routes that it finds.
+pub mod KeptKeys
+pub mod EarlyRoutes
+pub mod CutWays

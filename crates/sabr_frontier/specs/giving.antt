@@ -1,0 +1,2 @@
+-- What a page keeps of the routes that it finds.
+pub mod LeastKeys

@@ -1,0 +1,167 @@
+//! A plan as searches hold it: who uses a contact's record takes a look.
+
+ghost use Rattle.std.specs.Prelude.{◌≡◌, ◌<◌, ◌≤◌, ◌+◌, ◌^◌, ◌++◌, ◌∷◌, [], ℕ, Some, None, MatchOption, IfSome, IsFalse, length, slice_get};
+ghost use Rattle.sabr_model.specs.plan.Plan.{IsPlan, contact_named, has};
+ghost use Rattle.sabr_model.specs.plan.Table.{node_count};
+ghost use Rattle.sabr_model.specs.plan.Tabled.{IsTabled, IsHopNamed};
+ghost use Rattle.sabr_model.specs.routes.Telling.{told_of};
+ghost use Rattle.sabr_index.specs.Index.{IsIndex};
+ghost use Rattle.sabr_index.specs.Links.{AreLinksOf, AreLinksTo};
+
+use crate::incoming::IncomingLinks;
+use crate::link::Links;
+use crate::looks::Looks;
+use crate::senders::Senders;
+use crate::table::LinkTable;
+use sabr_model::{Hop, Plan, Told};
+use std::alloc::{Allocator, Global};
+use std::marker::Model;
+
+/// What searches read of a plan: for each node the links from it and the links to it, and a contact's record by its
+/// number, for a look. Contracts see the plan.
+#[derive(Drop)]
+pub struct CountedPlan<'p, A: Allocator + Copy = Global> {
+    /// The plan.
+    plan: &'p Plan<A>,
+    /// By node its links.
+    linked: LinkTable<A>,
+    /// By node the links to it.
+    incoming: IncomingLinks<A>,
+}
+
+impl<'p, A: Allocator + Copy> Model for CountedPlan<'p, A> {
+    ghost use Rattle.sabr_model.specs.plan.Plan.{TabledPlan};
+    ghost use Rattle.sabr_index.specs.Index.{IsIndex};
+
+    ghost Value = { TabledPlan };
+
+    ghost view = { λ i. i.plan.now };
+
+    ghost invariant = { λ i. IsIndex i.plan.now i.linked i.incoming.starts.items i.incoming.named.items };
+}
+
+/// What one look at a contact tells of a list of numbers that goes on by it: the contact as a search reads it, if one
+/// stands, and what the record of a route tells of the longer list.
+#[derive(Clone, Copy)]
+pub struct Followed {
+    pub hop: Option<Hop>,
+    pub told: Told,
+}
+
+impl<'p, A: Allocator + Copy> CountedPlan<'p, A> {
+    /// Puts a plan beside its links.
+    pub(crate) fn over(
+        plan: &'p Plan<A>,
+        linked: LinkTable<A>,
+        incoming: IncomingLinks<A>,
+    ) -> CountedPlan<'p, A>
+        requires { IsIndex plan.now linked incoming.starts.items incoming.named.items }
+        ensures { result ≡ plan.now }
+    {
+        CountedPlan {
+            plan,
+            linked,
+            incoming,
+        }
+    }
+
+    /// The plan.
+    pub(crate) fn whole(&self) -> &'p Plan<A>
+        ensures { result.now ≡ self.now }
+    {
+        self.plan
+    }
+
+    /// States that the plan obeys the rules of contact plans, for contracts. It does nothing.
+    pub fn tell_rules(&self)
+        ensures { IsPlan self.now.plan }
+    {
+        self.plan.tell_rules();
+    }
+
+    /// How many contacts stand.
+    pub fn contacts(&self) -> u64
+        ensures value { result ≡ length self.now.plan.contacts }
+        ensures limit { result ≤ 2 ^ 60 }
+    {
+        self.plan.contacts().len() as u64
+    }
+
+    /// The number of nodes that send or receive some standing contact.
+    pub fn nodes(&self) -> usize
+        ensures value { result ≡ node_count self.now.plan.contacts }
+        ensures table { result ≡ length self.now.table }
+        ensures tabled { IsTabled self.now }
+    {
+        self.plan.nodes()
+    }
+
+    /// Returns the index of a node that sends or receives some standing contact.
+    pub fn node_index(&self, node: u64) -> Option<usize>
+        ensures { MatchOption result (IsFalse (has node self.now.table)) (λ k. slice_get self.now.table k ≡ Some node) }
+    {
+        self.plan.node_index(node)
+    }
+
+    /// Returns the standing contact with this number, as a search reads it: one look.
+    #[inline(always)]
+    pub fn hop(&self, looks: &mut Looks, number: u32) -> Option<Hop>
+        requires few { 0 < looks.old.left }
+        ensures counted { looks.old.left ≡ looks.new.left + 1 }
+        ensures value { MatchOption result (contact_named self.now.plan number ≡ None) (IsHopNamed self.now number) }
+    {
+        looks.take();
+        self.plan.hop(number)
+    }
+
+    /// What the record of a route tells of no numbers.
+    pub fn told_of_none(&self) -> Told
+        ensures { result ≡ told_of self.now.plan [] }
+    {
+        Told::of(self.plan, &[])
+    }
+
+    /// Goes on by a contact, after a list of numbers of which the record of a route tells `told`: one look.
+    #[inline(always)]
+    pub fn follow(&self, looks: &mut Looks, told: Told, prefix: &[u32], number: u32) -> Followed
+        requires few { 0 < looks.old.left }
+        requires told { told ≡ told_of self.now.plan prefix.now }
+        ensures counted { looks.old.left ≡ looks.new.left + 1 }
+        ensures hop { MatchOption result.hop (contact_named self.now.plan number ≡ None) (IsHopNamed self.now number) }
+        ensures told { result.told ≡ told_of self.now.plan (prefix.now ++ number ∷ []) }
+    {
+        looks.take();
+        Followed {
+            hop: self.plan.hop(number),
+            told: told.extended(self.plan, prefix, number),
+        }
+    }
+
+    /// Does the same, and returns only what the record of a route tells then: one look.
+    #[inline(always)]
+    pub fn tell(&self, looks: &mut Looks, told: Told, prefix: &[u32], number: u32) -> Told
+        requires few { 0 < looks.old.left }
+        requires told { told ≡ told_of self.now.plan prefix.now }
+        ensures counted { looks.old.left ≡ looks.new.left + 1 }
+        ensures told { result ≡ told_of self.now.plan (prefix.now ++ number ∷ []) }
+    {
+        looks.take();
+        told.extended(self.plan, prefix, number)
+    }
+
+    /// The links of the node at an index of the table.
+    pub fn links(&self, index: usize) -> Links<'_>
+        requires { index < length self.now.table }
+        ensures { (node : ℕ) → slice_get self.now.table index ≡ Some node → AreLinksOf self.now node result.links.now result.passes.now }
+    {
+        self.linked.of(index)
+    }
+
+    /// The links to the node at an index of the table, each with its sender.
+    pub fn senders(&self, index: usize) -> Senders<'_, A>
+        requires { index < length self.now.table }
+        ensures { (node : ℕ) → slice_get self.now.table index ≡ Some node → AreLinksTo self.now node result }
+    {
+        Senders::over(self.incoming.of(index), &self.linked)
+    }
+}

@@ -1,0 +1,144 @@
+//! Wide questions: they shut fewer nodes than the question of a part, so that their answers serve other parts, too.
+
+ghost use Rattle.std.specs.Prelude.{IfOk, IfSome, OnOk};
+ghost use Rattle.sabr_search.specs.questions.Task.{IsTask, IsOfRequest};
+ghost use Rattle.sabr_search.specs.answers.Answers.{narrowed};
+ghost use Rattle.sabr_search.specs.questions.WideTasks.{ShutsFewer};
+
+use crate::answers::Near;
+use crate::answers::payoff::Payoff;
+use crate::course::closed::shut_closed;
+use crate::course::shut::Shut;
+use crate::question::Question;
+use crate::task::Task;
+use sabr_model::NoMemory;
+use std::alloc::{Allocator, Global};
+
+/// Which nodes a question shuts: those of its prefix, those that each search from its start shuts, or these and those that an
+/// earlier answer needs shut.
+#[derive(Clone, Copy)]
+pub enum Breadth {
+    Own,
+    Wide,
+    Near,
+}
+
+/// Wide questions, as long as they pay.
+#[derive(Drop)]
+pub struct Widening<A: Allocator + Copy = Global> {
+    /// Whether those pay that are near no answer.
+    wide: Payoff,
+    /// Whether those near an answer pay.
+    near: Payoff,
+    /// The nodes that the last one shut.
+    pub shut: Shut<A>,
+}
+
+/// Shuts the nodes that each search from the start of this one shuts: the source, those to avoid, and the start.
+fn shut_few<A: Allocator + Copy>(shut: &mut Shut<A>, task: &Task<'_, A>) -> Result<(), NoMemory>
+    requires task { IsTask task.now }
+    requires request { IsOfRequest task.now }
+    ensures fewer { OnOk result (ShutsFewer task.now shut.new) }
+    ensures request { OnOk result (IsOfRequest (narrowed task.now shut.new task.now.at)) }
+{
+    shut.open_all(task.shut().len())?;
+    shut_closed(shut, task.plan(), task.request())?;
+    shut.put(task.start())?;
+    Ok(())
+}
+
+/// Shuts one node more, if it is shut in the search.
+fn shut_one<A: Allocator + Copy>(
+    shut: &mut Shut<A>,
+    task: &Task<'_, A>,
+    node: usize,
+) -> Result<(), NoMemory>
+    requires task { IsTask task.now }
+    requires fewer { ShutsFewer task.now shut.old }
+    requires request { IsOfRequest (narrowed task.now shut.old task.now.at) }
+    ensures fewer { OnOk result (ShutsFewer task.now shut.new) }
+    ensures request { OnOk result (IsOfRequest (narrowed task.now shut.new task.now.at)) }
+{
+    let flags = task.shut();
+    if node < flags.len() && flags[node] {
+        shut.put(node)?;
+    }
+    Ok(())
+}
+
+/// Shuts the nodes that a near answer needs shut, and the one that its way passes.
+fn shut_near<A: Allocator + Copy>(
+    shut: &mut Shut<A>,
+    task: &Task<'_, A>,
+    near: Near<'_>,
+) -> Result<(), NoMemory>
+    requires task { IsTask task.now }
+    requires fewer { ShutsFewer task.now shut.old }
+    requires request { IsOfRequest (narrowed task.now shut.old task.now.at) }
+    ensures fewer { OnOk result (ShutsFewer task.now shut.new) }
+    ensures request { OnOk result (IsOfRequest (narrowed task.now shut.new task.now.at)) }
+{
+    shut_one(shut, task, near.node)?;
+    for node in near.shut {
+        shut_one(shut, task, *node as usize)?;
+    }
+    Ok(())
+}
+
+impl<A: Allocator + Copy> Widening<A> {
+    /// Has asked no wide question. It takes no memory.
+    pub fn new(alloc: A) -> Widening<A> {
+        Widening {
+            wide: Payoff::new(),
+            near: Payoff::new(),
+            shut: Shut::new(alloc),
+        }
+    }
+
+    /// Returns whether a wide question is to be asked for this one, to which an answer may be near: it must shut fewer nodes,
+    /// and such questions must pay.
+    fn pays(&mut self, near: Option<Near<'_>>, asked: &Question<'_, '_, '_, A>) -> bool {
+        if asked.prefix.len() < 2 {
+            return false;
+        }
+        let Some(answer) = near else {
+            return self.wide.takes();
+        };
+        if answer.shut.len().saturating_add(1) >= asked.task.shut_nodes().len() {
+            return false;
+        }
+        self.near.takes()
+    }
+
+    /// Shuts the nodes of the wide question to ask for this one, to which an answer may be near, and returns which they are.
+    /// None if no wide question is to be asked.
+    pub fn next(
+        &mut self,
+        near: Option<Near<'_>>,
+        asked: &Question<'_, '_, '_, A>,
+    ) -> Result<Option<Breadth>, NoMemory>
+        requires task { IsTask asked.now.task.now }
+        requires request { IsOfRequest asked.now.task.now }
+        ensures fewer { IfOk result (λ o. IfSome o (λ breadth. ShutsFewer asked.now.task.now self.new.shut)) }
+        ensures request { IfOk result (λ o. IfSome o (λ breadth. IsOfRequest (narrowed asked.now.task.now self.new.shut asked.now.task.now.at))) }
+    {
+        if !self.pays(near, asked) {
+            return Ok(None);
+        }
+        shut_few(&mut self.shut, asked.task)?;
+        let Some(answer) = near else {
+            return Ok(Some(Breadth::Wide));
+        };
+        shut_near(&mut self.shut, asked.task, answer)?;
+        Ok(Some(Breadth::Near))
+    }
+
+    /// Counts a question that has been answered by a kept answer, if that is the answer to a wide one.
+    pub fn count_win(&mut self, breadth: Breadth) {
+        match breadth {
+            Breadth::Own => {}
+            Breadth::Wide => self.wide.win(),
+            Breadth::Near => self.near.win(),
+        }
+    }
+}

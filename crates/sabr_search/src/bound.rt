@@ -1,0 +1,136 @@
+//! What a question asks up to, and its answer.
+
+ghost use Rattle.std.specs.Prelude.{◌≡◌, ◌≢◌, ◌-◌, ◌+◌, ◌≤◌, min};
+ghost use Rattle.sabr_search.specs.questions.Bounded.{at_any_hops, is_none, is_up_to, no_bound, sought_of, sought_up_to};
+ghost use Rattle.sabr_search.specs.questions.Task.{latest_arrival};
+
+use crate::forward::layers::{NEVER, UNDELIVERED};
+use crate::links::finger::Excluded;
+use sabr_model::Route;
+use std::alloc::{Allocator, Global};
+
+/// A delivery, and a number of hops with it. A route that delivers later, or then with more hops, isn't asked for.
+#[derive(Clone, Copy)]
+pub struct Bound {
+    pub delivery: u64,
+    pub hops: usize,
+}
+
+impl Bound {
+    /// Every route is up to this one.
+    pub fn none() -> Bound
+        ensures { result ≡ no_bound }
+    {
+        Bound {
+            delivery: NEVER,
+            hops: usize::MAX,
+        }
+    }
+
+    /// Returns true if a route with this delivery and so many hops is up to it.
+    pub fn holds(&self, delivery: u64, hops: usize) -> bool
+        ensures { result ≡ is_up_to self.now delivery hops }
+    {
+        delivery < self.delivery || (delivery == self.delivery && hops <= self.hops)
+    }
+
+    /// Returns true if every route is up to it.
+    pub fn is_none(&self) -> bool
+        ensures { result ≡ is_none self.now }
+    {
+        self.delivery >= UNDELIVERED
+    }
+
+    /// Returns true if all that is up to it is up to another one.
+    pub fn is_within(&self, other: Bound) -> bool
+        ensures { result ≡ is_up_to other self.now.delivery self.now.hops }
+    {
+        other.holds(self.delivery, self.hops)
+    }
+
+    /// What it leaves after so many hops.
+    pub fn after(&self, hops: usize) -> Bound
+        ensures { result ≡ record { delivery = self.now.delivery; hops = self.now.hops - hops } }
+    {
+        Bound {
+            delivery: self.delivery,
+            hops: self.hops.saturating_sub(hops),
+        }
+    }
+
+    /// The same with any number of hops at its second; none if every arrival is sooner.
+    pub fn at_any_hops(&self) -> Bound
+        ensures { result ≡ at_any_hops self.now }
+    {
+        if self.is_none() {
+            return Bound::none();
+        }
+        Bound {
+            delivery: self.delivery,
+            hops: usize::MAX,
+        }
+    }
+
+    /// The most hops that a way with this delivery has if it is up to it and has at most so many.
+    pub fn hops_at(&self, delivery: u64, hops: usize) -> usize
+        ensures most { result ≤ hops }
+        ensures same { delivery ≡ self.now.delivery → result ≡ min hops self.now.hops }
+        ensures other { delivery ≢ self.now.delivery → result ≡ hops }
+    {
+        if delivery == self.delivery {
+            return hops.min(self.hops);
+        }
+        hops
+    }
+
+    /// The first second at which a delivery is above it, or after every arrival.
+    pub fn until(&self) -> u64
+        ensures { result ≡ min (self.now.delivery + 1) (latest_arrival + 1) }
+    {
+        self.delivery.saturating_add(1).min(UNDELIVERED)
+    }
+}
+
+/// A part whose least route is asked for, if it is up to a bound.
+#[derive(Clone, Copy)]
+pub struct BoundedPart<'a> {
+    /// The contact numbers that each route of the part begins with.
+    pub prefix: &'a [u32],
+    /// The contact numbers that no route of the part takes next.
+    pub excluded: Excluded<'a>,
+    /// What is asked up to.
+    pub bound: Bound,
+}
+
+/// The answer to a question for the least route of a part up to a bound.
+#[derive(Drop)]
+pub enum Sought<A: Allocator + Copy = Global> {
+    /// The least route. It may be above the bound.
+    Route(Route<A>),
+    /// The part has no route.
+    None,
+    /// Each route of the part is above the bound.
+    Beyond,
+}
+
+impl<A: Allocator + Copy> Sought<A> {
+    /// The answer without a bound.
+    pub fn of(found: Option<Route<A>>) -> Sought<A>
+        ensures { result ≡ sought_of found }
+    {
+        match found {
+            Some(route) => Sought::Route(route),
+            None => Sought::None,
+        }
+    }
+
+    /// The answer where each route is above the bound unless one was found.
+    pub fn up_to(found: Option<Route<A>>, bound: Bound) -> Sought<A>
+        ensures { result ≡ sought_up_to bound found }
+    {
+        if found.is_none() && !bound.is_none() {
+            return Sought::Beyond;
+        }
+        Sought::of(found)
+    }
+}
