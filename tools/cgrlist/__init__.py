@@ -96,7 +96,7 @@ def losses(plan, asked, routes):
 
 def timetable(plan, asked, last):
     """The stretches of time, from a request's second to a last one, with the best route of each, as an iterator. Each takes
-    two runs of the program for each halving of the span, some 40 for a day.
+    some 40 runs of the program if the span is a day, and two more whenever the span is twice as long.
     """
     return stretches(program_over(plan), asked, second_of(last))
 

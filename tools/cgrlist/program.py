@@ -114,7 +114,7 @@ class Program:
 
     def latest(self, lists, lasts, holds):
         """For each of some lists of contacts with its request: the last second, of those from the request's on and up to
-        that in `lasts`, at which something holds, by bisection of all of them at once.
+        that in `lasts`, at which something holds. It is a binary search for all of them at once.
 
         `holds` is asked with the list's place, a second, and what the list does then. It must hold at the request's time,
         and at no second after one at which it doesn't.

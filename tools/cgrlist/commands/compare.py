@@ -8,10 +8,10 @@
     tools/compare .. --names FILE    nodes by their names, which can be given in place of numbers, too
     tools/compare .. --iso           times as 2030-01-01T02:47:22Z
 
-A contact is known by its nodes and its start, since one more contact gives all those after it another number. A route is
-known by its contacts. `number` is the contact's number in the new plan, or in the old one if it went. A route has its
-rank and its delivery over the old plan and over the new one, and `later` says how many seconds later it delivers now. A
-route may go because others came before it: then it is still there, after the first K.
+Contacts are compared by their nodes and their start, not by their numbers, since one more contact gives all those after
+it another number; routes are compared by their contacts. `number` is the contact's number in the new plan, or in the old
+one if it went. A route has its rank and its delivery over the old plan and over the new one, and `later` says how many
+seconds later it delivers now. A route may go because others came before it: then it still comes after the first K.
 
 T is 2031/03/03-01:00:00, 2031-03-03T01:00:00Z, 2031-03-03, now, or now+2h with s, m, h or d. All times are UTC. G may
 be - for standard input.

@@ -5,13 +5,14 @@
     tools/latest .. --names FILE    the route's nodes by their names, which can be given in place of numbers, too
     tools/latest .. --iso           times as 2030-01-01T02:47:22Z
 
-prints that second, and the best route from then on as `cgrlist first` prints it. A delivery at T is in time. The
+It prints that second, and the best route from then on, as `cgrlist first` prints it. A delivery at T is in time. The
 `until` of a report isn't that second: it is the earliest end among a route's contacts, which is often later.
 
 T is 2031/03/03-01:00:00, 2031-03-03T01:00:00Z, 2031-03-03, now, or now+2h with s, m, h or d. All times are UTC.
 
-The program is asked for the best route at several seconds, by binary search. It is proved that a bundle that is at the
-source later never arrives earlier (EveryWayIsListed in docs/proofs.md).
+The program is asked for the best route at some 30 seconds, each halfway between one that is in time and one that is too
+late. This misses none: it is proved that a bundle that is at the source later never arrives earlier (EveryWayIsListed in
+docs/proofs.md).
 
 Hints on standard error name what may be mistyped. They change neither the answer nor the status.
 
@@ -57,7 +58,7 @@ class Question:
         return start.route is not None and start.route.delivery <= self.deadline
 
     def latest_start(self, start):
-        """The latest start that is in time, by binary search from one that is."""
+        """The latest start that is in time, from one that is, by binary search."""
         too_late = self.deadline + 1
         while too_late - start.second > 1:
             middle = self.start_at((start.second + too_late) // 2)

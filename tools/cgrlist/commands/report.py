@@ -11,9 +11,10 @@
 Which routes:
     --without LIST                  as if these contacts were lost; the others keep their numbers
     --via N                         only routes through node N; K counts the routes before they are chosen
-    --fits BYTES                    only routes with room for so many bytes; K counts likewise
-    --distinct entry|nodes|contacts of routes with the same entry node, with a relay in common, or with a contact in
-                                    common, the first alone; here K counts those that are shown
+    --fits BYTES                    only routes with room for so many bytes; K counts as for --via
+    --distinct entry|nodes|contacts
+                                    of routes that share their entry node, a relay or a contact, only the first; here K
+                                    counts those that are shown
     --look N                        for --distinct with --via or --fits, look at N routes at most; 100000 if not given
 
 What of them, and how:
@@ -22,9 +23,9 @@ What of them, and how:
     --send-by                       the last second at which a bundle at the source still arrives over these contacts
     --lost                          in place of the routes: for each of their contacts what is best if it is lost, and how
                                     many seconds later it delivers
-    --choices G                     in place of --count: lists of contacts that a router chose, lines as `4,11,2` or
-                                    `31>22@2030-01-01T01:00:00Z,..`: the fault or the delivery, how many seconds it is
-                                    after the best, and the rank, if it is among 100000 routes
+    --choices G                     in place of --count: what a router chose, a file with lines as `4,11,2` or
+                                    `31>22@2030-01-01T01:00:00Z,..`. For each line its fault, or its delivery, how many
+                                    seconds that is after the best one, and its rank if that is at most 100000
     --csv                           comma-separated values; a time is 2030-01-01 02:47:22; with --hops a line a hop
     --json                          JSON, with `end` for whether the list ends there; with --requests a line a request
     --names FILE                    nodes by their names, which can be given in place of numbers, too; JSON has both
@@ -34,13 +35,14 @@ T is 2031/03/03-01:00:00, 2031-03-03T01:00:00Z, 2031-03-03, now, or now+2h with 
 be /dev/stdin, or - for requests. An answer ends as a report does: with `more`, or `end` if there are no further routes.
 Routes are printed as they come. Ctrl-C keeps those, and standard error then has a command that goes on.
 
-Each distinct route is asked for by itself, over the plan without what those before it have. So it has no rank, and what
-comes next is known at once. With --via, --fits or --report, the list is looked through instead, and ranks are told.
+Each distinct route is asked for by itself, over the plan without what those before it have. So it has no rank, and is
+found without going through the list. With --via, --fits or --report, the list is looked through, and ranks are told.
 
-Room is information and no promise: the least over the hops of rate times the seconds from sending to the contact's end.
-It leaves out other traffic, and that a later hop has to wait for bytes that an earlier, slower one is still sending.
-With --report, room, hops and --send-by need --from, --to and --at of the report. Where the plan has nodes above 2^53 - 1, which
-many readers of JSON would round, nodes are texts in JSON; and so are rooms if they can be so large.
+Room is information and no promise. At a hop it is the rate times the seconds from sending to the contact's end, and for
+a route the least of its hops. It leaves out other traffic, and that a later hop has to wait for bytes that an earlier,
+slower one is still sending. If --report gives the routes, --room, --hops and --send-by need the request's --from, --to
+and --at. Where the plan has nodes above 2^53 - 1, which many readers of JSON would round, nodes are texts in JSON; and
+so are rooms if they can be so large.
 
 Hints on standard error name what may be mistyped. They change neither the answer nor the status.
 

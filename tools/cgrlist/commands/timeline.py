@@ -18,17 +18,17 @@
     tools/timeline .. --html H                 a page to touch: the file H, which needs no network and no server
     tools/timeline --plan F --list             each contact with its number, one a line
 
-Each option may go with the others. With routes, only the links that they use are shown, the first route's first and in
-its order, and so on; --links and --nodes choose of all links. --used and --order route say the same, and --list has all
-links without --used. Of a request's or a report's routes, --via, --distinct and --look choose those that they choose
-for tools/report. --without draws the routes as if contacts were lost, which are crossed out. A plan is one that
-`cgrlist check` accepts. T is 2031/03/03-01:00:00, 2031-03-03T01:00:00Z, 2031-03-03, now, or now+2h with s, m, h or d.
+Each option may go with the others. With routes, only the links that they use are shown, those of the first route first
+and in its order, and so on, as if --used and --order route were given. --links and --nodes choose among all links, and
+--list has all links unless --used is given. --via, --fits, --distinct and --look choose routes as for tools/report.
+--without draws the routes that are left if contacts are lost, and crosses these contacts out. A plan is one that `cgrlist
+check` accepts. T is 2031/03/03-01:00:00, 2031-03-03T01:00:00Z, 2031-03-03, now, or now+2h with s, m, h or d.
 All times are UTC. A and B are nodes, by their numbers or by the names of --names. G may be /dev/stdin.
 
-The page has the picture with zoom and pan by mouse, touch and keys, the list of routes, and what each contact and route
-is. It finds contacts and nodes, and has all links if there are at most 60; a button shows the others. A click on a
-contact of a shown route, or Enter, tells the best of all routes without that contact, as the program answered when the
-page was made. The page has at most 1000 routes without --all. Its address keeps what is chosen, as
+The page has the picture, which mouse, touch and keys zoom and move, and the list of routes. It tells what each contact
+and route is, and finds contacts and nodes by a field. It shows all links if there are at most 60, or else those of the
+routes, and a button the others. A click on a contact of a shown route, or Enter, tells the best route without that
+contact, as the program answered when the page was made. The page has at most 1000 routes without --all. Its address keeps what is chosen, as
 H#lost=11&theme=dark.
 
 Status 0: done. 1: the routes or the names can't be used, or the routes are not of this plan. 2: the words can't be

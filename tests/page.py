@@ -1,12 +1,9 @@
-#!/usr/bin/env python3
 """Tries the page that tools/timeline --html writes, in a browser: what it shows, and what mouse, touch and keys do.
-
-    tests/page [PROGRAM]                PROGRAM: the program; the one that this clone built if not given
 
 What the page says is compared with what the program answers, over the plan and over the plan without a contact, and
 with values that were worked out by hand from examples/relay.txt. Without Chromium, its driver or selenium (on Debian
-the packages chromium, chromium-driver and python3-selenium), the browser's part doesn't run, and the last line says so.
-That line ends with 'N passed, M failed'.
+the packages chromium, chromium-driver and python3-selenium) only the file is looked at, and a line says so. The name of a
+check begins with its section, and only this section is driven if -k has the name.
 """
 
 import base64
@@ -18,9 +15,10 @@ import re
 import shutil
 import subprocess
 import sys
-import tempfile
 import time
-from contextlib import contextmanager
+from functools import cache, cached_property, partial
+
+from checking import TOP, Broken, Room, checks_of
 
 try:
     from selenium import webdriver
@@ -32,55 +30,26 @@ try:
     from selenium.webdriver.common.keys import Keys
 except ImportError:
     webdriver = None
-    DEBIAN = "/usr/bin/python3"  # Debian's packages are for its own Python
+    DEBIAN = "/usr/bin/python3"  # Debian's packages are for its own Python, under which the runner begins again
     has_selenium = [DEBIAN, "-c", "import selenium"]
     if os.path.realpath(sys.executable) != os.path.realpath(DEBIAN) and os.access(DEBIAN, os.X_OK):
         if subprocess.run(has_selenium, stderr=subprocess.DEVNULL).returncode == 0:
             os.execv(DEBIAN, [DEBIAN, *sys.argv])
 
-TOP = os.path.dirname(os.path.dirname(os.path.realpath(__file__)))
-PROGRAM = os.path.realpath(sys.argv[1] if len(sys.argv) > 1 else f"{TOP}/crates/cgrlist/out/cgrlist")
 RELAY = f"{TOP}/examples/relay.txt"
 ASKED = ["--from", "31", "--to", "1", "--at", "2030/01/01-00:45:00"]
 NAMES = {1: "control centre", 11: "north station", 12: "south station", 21: "low relay", 22: "high relay", 31: "lander"}
 MEASURED = 3  # so often is measured how long a page takes to open; the least counts
-passed = failed = 0
 
 
-def expect(what, wanted, found):
-    global passed, failed
-    if wanted == found:
-        passed += 1
-    else:
-        failed += 1
-        print(f"FAILED: {what}: wanted\n{wanted}\nfound\n{found}")
+def within(what, most, act, *given):
+    """A check that what is measured is at most so much."""
 
+    def found():
+        it = act(*given)
+        return f"at most {most}" if it <= most else it
 
-def expect_within(what, most, found):
-    expect(f"{what}: {found} is at most {most}", True, found <= most)
-
-
-# ---- The program's own answers ----------------------------------------------------------------------------------
-
-
-def ran(*words):
-    """A command's standard output, standard error and status."""
-    it = subprocess.run(words, stdout=subprocess.PIPE, stderr=subprocess.PIPE, text=True)
-    return it.stdout, it.stderr, it.returncode
-
-
-def routes_of(plan, count, asked=ASKED):
-    """The first routes, each as delivery, end and contacts."""
-    said = ran(PROGRAM, "first", "--plan", plan, *asked, "--count", str(count))[0]
-    found = re.findall(r"^\d+ delivery (\S+) .* until (\S+) contacts ([\d ]+)$", said, re.M)
-    return [(delivery, until, [*map(int, contacts.split())]) for delivery, until, contacts in found]
-
-
-def hops_of(plan, contacts, asked=ASKED):
-    """The hops over some contacts, each as contact, receiver, sending and arrival."""
-    said = ran(PROGRAM, "explain", "--plan", plan, *asked, "--contacts", ",".join(map(str, contacts)))[0]
-    found = re.findall(r"^hop \d+ contact (\d+) from \d+ to (\d+) send (\S+) arrive (\S+)$", said, re.M)
-    return [(int(contact), int(to), send, arrive) for contact, to, send, arrive in found]
+    return what, f"at most {most}", found
 
 
 def starts_of(plan):
@@ -95,14 +64,6 @@ def starts_of(plan):
     return dict(enumerate(found, 1))
 
 
-def without(plan, number, folder):
-    """A file with a plan whose contact is lost."""
-    path = f"{folder}/without-{number}.txt"
-    with open(path, "w", encoding="utf-8") as changed:
-        changed.write(f"{text_of(plan)}\nd contact {' '.join(starts_of(plan)[number])}\n")
-    return path
-
-
 def seconds(text):
     return calendar.timegm(time.strptime(text, "%Y/%m/%d-%H:%M:%S"))
 
@@ -111,19 +72,6 @@ def lasting(count):
     """A number of seconds in words, as the page has it."""
     parts = [(count // 86400, "d"), (count // 3600 % 24, "h"), (count // 60 % 60, "min"), (count % 60, "s")]
     return " ".join(f"{number} {unit}" for number, unit in parts if number)
-
-
-# ---- Pages ------------------------------------------------------------------------------------------------------
-
-
-def make(folder, name, *words):
-    """Writes a page, and returns its path."""
-    path = f"{folder}/{name}.html"
-    said, told, status = ran(f"{TOP}/tools/timeline", "--program", PROGRAM, *words, "--html", path)
-    expect(f"{name}: made", ("", 0), (said, status))
-    if status:
-        print(told)
-    return path
 
 
 def text_of(path):
@@ -136,77 +84,104 @@ def data_of(path):
     return json.loads(re.search(r'<script type="application/json" id="data">(.*?)</script>', text_of(path), re.S)[1])
 
 
-def names_file(folder):
-    path = f"{folder}/names.txt"
-    with open(path, "w", encoding="utf-8") as file:
-        file.writelines(f"{node} {name}\n" for node, name in NAMES.items())
-    return path
+class Pages(Room):
+    """The program's own answers, and pages."""
 
+    def __init__(self, program):
+        super().__init__()
+        self.program = program
+        names = self.file("names.txt", "".join(f"{node} {name}\n" for node, name in NAMES.items()))
+        self.relay = self.make("relay", "--plan", RELAY, "--names", names, *ASKED, "--count", "3")
 
-def ring_plan(folder, nodes, contacts, name):
-    """A plan in which each of some nodes sends to the next ones, again and again, for many contacts."""
-    path = f"{folder}/{name}.txt"
-    with open(path, "w", encoding="utf-8") as file:
-        file.write("@ 2030/01/01-00:00:00\n")
+    @cached_property
+    def browser(self):
+        return Browser()
+
+    def routes_of(self, plan, count, asked=ASKED):
+        """The first routes, each as delivery, end and contacts."""
+        said = self.run([self.program, "first", "--plan", plan, *asked, "--count", str(count)]).out
+        found = re.findall(r"^\d+ delivery (\S+) .* until (\S+) contacts ([\d ]+)$", said, re.M)
+        return [(delivery, until, [*map(int, contacts.split())]) for delivery, until, contacts in found]
+
+    def hops_of(self, plan, contacts, asked=ASKED):
+        """The hops over some contacts, each as contact, receiver, sending and arrival."""
+        numbers = ",".join(map(str, contacts))
+        said = self.run([self.program, "explain", "--plan", plan, *asked, "--contacts", numbers]).out
+        found = re.findall(r"^hop \d+ contact (\d+) from \d+ to (\d+) send (\S+) arrive (\S+)$", said, re.M)
+        return [(int(contact), int(to), send, arrive) for contact, to, send, arrive in found]
+
+    def without(self, plan, number):
+        """A file with a plan whose contact is lost."""
+        return self.file(f"without-{number}.txt", f"{text_of(plan)}\nd contact {' '.join(starts_of(plan)[number])}\n")
+
+    def timeline(self, name, *words, by=None):
+        """Runs tools/timeline for a page of that name."""
+        return self.run([f"{TOP}/tools/timeline", "--program", by or self.program, *words, "--html", f"{self.path}/{name}.html"])
+
+    def make(self, name, *words):
+        """Writes a page, and returns its path."""
+        ran = self.timeline(name, *words)
+        if ran.status or ran.out:
+            raise Broken(f"tools/timeline doesn't make the page {name}: {ran.all()}")
+        return f"{self.path}/{name}.html"
+
+    def ring_plan(self, nodes, contacts, name):
+        """A plan in which each of some nodes sends to the next ones, again and again, for many contacts."""
+        lines = ["@ 2030/01/01-00:00:00\n"]
         for node in range(1, nodes + 1):
             one, other = sorted((node, node % nodes + 1))
-            file.write(f"a range +0 +9000000 {one} {other} {node % 7}\n")
+            lines.append(f"a range +0 +9000000 {one} {other} {node % 7}\n")
         for place in range(contacts):
             sender, turn = place % nodes + 1, place // nodes
             window = f"+{turn * 1800 + sender * 5} +{turn * 1800 + 1200}"
-            file.write(f"a contact {window} {sender} {sender % nodes + 1} {1000 + turn}\n")
-    return path
+            lines.append(f"a contact {window} {sender} {sender % nodes + 1} {1000 + turn}\n")
+        return self.file(f"{name}.txt", "".join(lines))
 
 
-def try_files(folder):
-    """What can be tried without a browser: what stands in the file, and what is refused."""
-    relay = make(folder, "relay", "--plan", RELAY, "--names", names_file(folder), *ASKED, "--count", "3")
-    expect_within("the bytes of relay", 100_000, os.path.getsize(relay))
-    text = text_of(relay)
-    expect("nothing is loaded", [], re.findall(r"""https?:|\bsrc=|\bhref=|url\(|@import|\bfetch\(|XMLHttp""", text))
+# ---- The file ---------------------------------------------------------------------------------------------------
+
+
+def what_stands_there(room):
+    yield within("the bytes of relay", 100_000, os.path.getsize, room.relay)
+    text = text_of(room.relay)
+    yield "nothing is loaded", [], re.findall, r"""https?:|\bsrc=|\bhref=|url\(|@import|\bfetch\(|XMLHttp""", text
     for kind in ("style", "script"):
         inside = re.search(rf"<{kind}>(.*?)</{kind}>", text, re.S)[1]
         hashed = base64.b64encode(hashlib.sha256(inside.encode()).digest()).decode()
-        wanted = f"{kind}-src 'sha256-{hashed}'"
-        expect(f"the policy names the {kind}", True, wanted in text)
-    try_answers(folder, data_of(relay))
-    with open(f"{folder}/bad-names.txt", "w", encoding="utf-8") as file:
-        file.write("31 <!--<script & co\n")
-    bad = make(folder, "bad", "--plan", RELAY, "--names", f"{folder}/bad-names.txt", *ASKED, "--count", "1")
-    expect("a name with a tag stays a text", "<!--<script & co", data_of(bad)["names"][-1])
-    try_refusals(folder)
-    return relay
+        yield f"the policy names the {kind}", True, lambda: f"{kind}-src 'sha256-{hashed}'" in text
+    names = room.file("bad-names.txt", "31 <!--<script & co\n")
+    bad = room.make("bad", "--plan", RELAY, "--names", names, *ASKED, "--count", "1")
+    yield "a name with a tag stays a text", "<!--<script & co", lambda: data_of(bad)["names"][-1]
 
 
-def try_answers(folder, data):
-    """Whether what is written for each lost contact is what the program says of the plan without it."""
-    contacts = sorted({number for _, _, numbers in routes_of(RELAY, 3) for number in numbers})
-    expect("the contacts that may be lost", [2, 4, 5, 6, 11, 12], contacts)
-    expect("each has an answer", contacts, sorted(map(int, data["lost"])))
+def lost_contacts(room):
+    """What is written for each lost contact is what the program says of the plan without it."""
+    data = data_of(room.relay)
+    contacts = sorted({number for _, _, numbers in room.routes_of(RELAY, 3) for number in numbers})
+    yield "those that may be lost", [2, 4, 5, 6, 11, 12], lambda: contacts
+    yield "each has an answer", contacts, lambda: sorted(map(int, data["lost"]))
     for number in contacts:
         it, base = data["lost"][str(number)], data["base"]
         it = data["routes"][it] if isinstance(it, int) else it
-        best = routes_of(without(RELAY, number, folder), 1)[0]
-        wanted = [[contact, seconds(send), seconds(arrive)] for contact, _, send, arrive in hops_of(RELAY, best[2])]
+        best = room.routes_of(room.without(RELAY, number), 1)[0]
+        wanted = [[contact, seconds(send), seconds(arrive)] for contact, _, send, arrive in room.hops_of(RELAY, best[2])]
         found = [[contact, send + base, arrive + base] for contact, send, arrive in it["hops"]]
-        expect(f"the best route without contact {number}", wanted, found)
+        yield f"the best route without contact {number}", wanted, lambda: found
 
 
-def try_refusals(folder):
+def refusals(room):
     """A page isn't written if there are too many routes; they are refused before one is explained."""
-    stub, path = f"{folder}/stub", f"{folder}/refused.html"
-    with open(stub, "w", encoding="utf-8") as file:
-        route = "delivery 2030/01/01-01:00:01 hops 1 entry 22 until 2030/01/01-02:20:00 contacts 4"
-        file.write(f'#!/usr/bin/env bash\necho "$1" >>"$0.asked"\nseq -f "%g {route}" 1001\necho end\n')
-    os.chmod(stub, 0o755)
+    route = "delivery 2030/01/01-01:00:01 hops 1 entry 22 until 2030/01/01-02:20:00 contacts 4"
+    stub = room.stub("stub", f'#!/usr/bin/env bash\necho "$1" >>"$0.asked"\nseq -f "%g {route}" 1001\necho end\n')
     asked = ["--plan", RELAY, "--from", "31", "--to", "22", "--at", "2030/01/01-00:45:00", "--count", "1001"]
-    found = ran(f"{TOP}/tools/timeline", "--program", stub, *asked, "--html", path)
+    found = room.timeline("refused", *asked, by=stub)
     told = "there are 1001 routes, and a page has room for 1000: a smaller --count, --via and --distinct choose fewer"
-    expect("too many routes", ("", f"timeline: {told}; --all draws them\n", 2), found)
-    expect("none was explained", "first\n", text_of(f"{stub}.asked"))
-    expect("no page", False, os.path.exists(path))
-    found = ran(f"{TOP}/tools/timeline", "--plan", RELAY, "--html", f"{folder}/nowhere/page.html")
-    expect("no folder", ("", f"timeline: {folder}/nowhere/page.html: No such file or directory\n", 5), found)
+    yield "too many routes", (2, "", f"timeline: {told}; --all draws them\n"), lambda: tuple(found)
+    yield "none was explained", "first\n", room.read, "stub.asked"
+    yield "no page", False, os.path.exists, f"{room.path}/refused.html"
+    found = room.timeline("nowhere/page", "--plan", RELAY)
+    yield ("no folder", (5, "", f"timeline: {room.path}/nowhere/page.html: No such file or directory\n"),
+           lambda: tuple(found))
 
 
 # ---- The browser ------------------------------------------------------------------------------------------------
@@ -333,16 +308,6 @@ def started(options):
                 raise
 
 
-@contextmanager
-def browser(*size):
-    it = Browser(*size)
-    try:
-        yield it
-        expect("no complaint, and nothing loaded", [], it.faults())
-    finally:
-        it.driver.quit()
-
-
 # ---- What the page tells ----------------------------------------------------------------------------------------
 
 
@@ -351,51 +316,51 @@ def beside(time_text, other):
     return time_text[11:] if time_text[:10] == other[:10] else time_text
 
 
-def try_head(it):
+def head(it, room):
     """The head, and the list of routes beside the picture."""
-    expect("the title", "relay.txt", it.says("title"))
-    expect("the request", "31 lander → 1 control centre, bundle at the source 2030/01/01-00:45:00 UTC", it.says("asks"))
-    digest = ran(PROGRAM, "check", "--plan", RELAY)[0].split()[-1]
-    expect("the digest", digest, it.says("made").split()[-1])
-    best = routes_of(RELAY, 1)[0][0]
-    for at, (delivery, until, contacts) in enumerate(routes_of(RELAY, 3)):
-        hops = hops_of(RELAY, contacts)
+    yield "the title", "relay.txt", it.says, "title"
+    yield "the request", "31 lander → 1 control centre, bundle at the source 2030/01/01-00:45:00 UTC", it.says, "asks"
+    digest = room.run([room.program, "check", "--plan", RELAY]).out.split()[-1]
+    yield "the digest", digest, lambda: it.says("made").split()[-1]
+    best = room.routes_of(RELAY, 1)[0][0]
+    for at, (delivery, until, contacts) in enumerate(room.routes_of(RELAY, 3)):
+        hops = room.hops_of(RELAY, contacts)
         card = it.all("#routes .route")[at]
         told = card.text.split("\n")
-        expect(f"route {at + 1}: its rank", str(at + 1), told[0])
-        expect(f"route {at + 1}: its delivery", delivery, told[1])
+        yield f"route {at + 1}, its rank", str(at + 1), lambda: told[0]
+        yield f"route {at + 1}, its delivery", delivery, lambda: told[1]
         later = seconds(delivery) - seconds(best)
-        expect(f"route {at + 1}: how late", "best" if at == 0 else f"+ {lasting(later)}", told[2])
+        yield f"route {at + 1}, how late", "best" if at == 0 else f"+ {lasting(later)}", lambda: told[2]
         path = " → ".join(NAMES[node] for node in [31, *(to for _, to, _, _ in hops)])
-        expect(f"route {at + 1}: its nodes", path, told[3])
-        room = it.all("#routes .route .room")[at].get_attribute("title")
-        expect(f"route {at + 1}: its room", ["19200000 bytes", "138240000 bytes", "122880000 bytes"][at], room)
+        yield f"route {at + 1}, its nodes", path, lambda: told[3]
+        held = it.all("#routes .route .room")[at].get_attribute("title")
+        yield f"route {at + 1}, its room", ["19200000 bytes", "138240000 bytes", "122880000 bytes"][at], lambda: held
         took = lasting(seconds(delivery) - seconds("2030/01/01-00:45:00"))
         end = f"3 hops in {took} · until {beside(until, delivery)} · {['19.2', '138.2', '122.9'][at]} MB"
-        expect(f"route {at + 1}: its end", end, told[4])
-        try_single(it, at, delivery, hops)
+        yield f"route {at + 1}, its end", end, lambda: told[4]
+        yield from single(it, at, delivery, hops)
 
 
-def try_single(it, at, delivery, hops):
+def single(it, at, delivery, hops):
     """A click on a route's card singles it out, and shows its hops."""
     it.all("#routes .route")[at].click()
     it.settle()
-    expect(f"route {at + 1} is singled out", at, it.run("return chosen.route"))
-    expect("the others stand back", 1, it.run("return routes.filter((it) => !isFaint(it)).length"))
+    yield f"route {at + 1} is singled out", at, lambda: it.run("return chosen.route")
+    yield f"route {at + 1}, the others stand back", 1, it.run, "return routes.filter((it) => !isFaint(it)).length"
     rows = [[cell.text for cell in row.find_elements(By.TAG_NAME, "td")] for row in it.all("#routes li.on tr")[1:]]
     wanted = [
         [str(number), NAMES[to], beside(send, delivery), beside(arrive, delivery)] for number, to, send, arrive in hops
     ]
-    expect(f"route {at + 1}: its hops", wanted, [row[:4] for row in rows])
+    yield f"route {at + 1}, its hops", wanted, lambda: [row[:4] for row in rows]
     it.all("#routes .route")[at].click()
     it.settle()
-    expect("all are shown again", None, it.run("return chosen.route"))
+    yield f"route {at + 1}, all are shown again", None, it.run, "return chosen.route"
 
 
-def try_tips(it):
+def tips(it, _):
     """What the mouse tells of a contact and of a route. The values stand in the plan, and are reckoned from it."""
     it.hover(11)
-    expect("contact 11", """Contact 11
+    yield "contact 11", """Contact 11
 from
 22 high relay
 to
@@ -414,47 +379,47 @@ room
 337500000 bytes
 routes
 1
-Click: what if it is lost?""", it.says("tip"))
+Click: what if it is lost?""", it.says, "tip"
     it.hover(10)
     told = it.says("tip").split("\n")
     wanted = ["Contact 10", "2030/01/01-00:30:00", "525000000 bytes"]
-    expect("contact 10, of no route", wanted, [told[0], told[6], told[-1]])
+    yield "contact 10, of no route", wanted, lambda: [told[0], told[6], told[-1]]
     where = "const it = traced.find((it) => it.route.place === 0 && !it.isWait && it.right - it.left > 15);"
     it.mouse(*it.run(f"{where} return [(it.left + it.right) / 2, it.low]")).perform()
     it.settle()
     found = it.says("tip").split("\n")
-    expect("a hop's route", "Route 1: 2030/01/01-02:47:22", found[0])
-    expect("its second hop", ["11", "south station", "02:30:00", "02:47:19"], found[3].split("\t"))
+    yield "a hop's route", "Route 1: 2030/01/01-02:47:22", lambda: found[0]
+    yield "a hop's route, its second hop", ["11", "south station", "02:30:00", "02:47:19"], found[3].split, "\t"
     where = "const it = traced.filter((it) => it.route.place === 1 && it.isWait)[2];"
     it.mouse(*it.run(f"{where} return [(it.left + it.right) / 2 + 20, it.low]")).perform()
     it.settle()
-    expect("a wait", "waits at 21 low relay until 06:10:00", it.says("tip").split("\n")[-1])
+    yield "a wait", "waits at 21 low relay until 06:10:00", lambda: it.says("tip").split("\n")[-1]
 
 
-def try_losses(it, folder):
+def losses(it, room):
     """A click on each contact of a route says what the program says of the plan without it."""
-    first = routes_of(RELAY, 1)[0][0]
+    first = room.routes_of(RELAY, 1)[0][0]
     for number in (2, 4, 5, 6, 11, 12):
         it.run("showPlan()")
         it.settle()
         it.click(number)
         lines = it.says("lost").split("\n")
-        best = routes_of(without(RELAY, number, folder), 1)
+        best = room.routes_of(room.without(RELAY, number), 1)
         later = seconds(best[0][0]) - seconds(first)
-        nodes = [31, *(to for _, to, _, _ in hops_of(RELAY, best[0][2]))]
-        shown = [contacts for _, _, contacts in routes_of(RELAY, 3)]
+        nodes = [31, *(to for _, to, _, _ in room.hops_of(RELAY, best[0][2]))]
+        shown = [contacts for _, _, contacts in room.routes_of(RELAY, 3)]
         rank = f", route {shown.index(best[0][2]) + 1}" if best[0][2] in shown else ""
         wanted = [
             f"{lasting(later)} later" if later else "Route 1 still holds",
             f"Next is: {best[0][0]}",
             " → ".join(NAMES[node] for node in nodes) + rank,
         ]
-        expect(f"contact {number} lost", wanted, lines[1:4])
+        yield f"contact {number} lost", wanted, lambda: lines[1:4]
         struck = sum(number in contacts for contacts in shown)
-        expect(f"contact {number} lost: its routes are struck", struck, len(it.all("li.gone")))
-        expect(f"contact {number} lost: the address", True, f"lost={number}" in it.driver.current_url)
+        yield f"contact {number} lost, its routes are struck", struck, lambda: len(it.all("li.gone"))
+        yield f"contact {number} lost, the address", True, lambda: f"lost={number}" in it.driver.current_url
         it.click(number)
-        expect(f"contact {number} is there again", "", it.says("lost"))
+        yield f"contact {number} is there again", "", lambda: it.says("lost")
     it.run("showRoutes()")
     it.settle()
 
@@ -466,161 +431,159 @@ def width(span):
     return span[1] - span[0]
 
 
-def try_mouse(it):
+def mouse(it, _):
     """Wheel and drag."""
     before = it.view()
     it.wheel(-300)
     near = it.view()
-    expect("the wheel zooms", True, width(near) < width(before) * 0.8)
+    yield "the wheel zooms", True, lambda: width(near) < width(before) * 0.8
     it.mouse(700, 500).click_and_hold().move_by_offset(-200, 0).release().perform()
     it.settle()
     moved = it.view()
     shift = 200 / it.run("return plotWidth()") * width(near)
-    expect("a drag moves", True, abs(moved[0] - near[0] - shift) < shift / 20 and abs(width(moved) - width(near)) < 1)
+    yield "a drag moves", True, lambda: abs(moved[0] - near[0] - shift) < shift / 20 and abs(width(moved) - width(near)) < 1
     it.wheel(600)
-    expect("and zooms out", True, width(it.view()) > width(moved))
+    yield "the wheel zooms out", True, lambda: width(it.view()) > width(moved)
     for button, wider in (("in", False), ("out", True)):
         before = it.view()
         it.part(button).click()
         it.settle()
-        expect(f"the button {button}", wider, width(it.view()) > width(before))
+        yield f"the button {button}", wider, lambda: width(it.view()) > width(before)
     it.part("whole").click()
     it.settle()
-    expect("the whole plan", True, it.run("return view.first <= earliest && latest <= view.last"))
+    yield "the button for the whole plan", True, it.run, "return view.first <= earliest && latest <= view.last"
     it.part("fit").click()
     it.settle()
     in_view = "routes.every((it) => view.first < it.hops[0].send && it.delivery < view.last)"
-    expect("the routes", True, it.run(f"return {in_view}"))
+    yield "the button for the routes", True, lambda: it.run(f"return {in_view}")
     rows = it.run("return rows.list.length")
     it.part("some").click()
     it.settle()
-    expect("the links of the routes", (15, 5), (rows, it.run("return rows.list.length")))
+    yield "the links of the routes", (15, 5), lambda: (rows, it.run("return rows.list.length"))
     it.part("all").click()
     it.settle()
 
 
-def expect_said(it, wanted):
+def said(it, wanted):
     """What a screen reader is told begins with a text."""
-    expect("it is said", wanted, it.says("said")[: len(wanted)])
+    yield f"it is said, {re.split('[:.]', wanted)[0]}", wanted, lambda: it.says("said")[: len(wanted)]
 
 
-def try_keys(it, relay):
+def keys(it, _):
     """Everything by keys alone, from the first part of the page on."""
-    it.open(relay)
     reached, clear = [], []
     for _ in range(14):
         ActionChains(it.driver).send_keys(Keys.TAB).perform()
         reached.append(it.run("return document.activeElement.id || document.activeElement.className"))
         clear.append(it.run("return routes.filter((it) => !isFaint(it)).length"))
     wanted = ["find", "some", "all", "out", "in", "fit", "whole", "theme", "print", "chart"]
-    expect("Tab goes through the page", wanted, reached[:10])
-    expect("and the routes", ["route"] * 3, [it for it in reached[10:] if it == "route"])
-    expect("a route is singled out by the focus", [1] * 3, [count for count in clear[10:] if count == 1])
+    yield "Tab goes through the page", wanted, lambda: reached[:10]
+    yield "Tab goes through the routes", ["route"] * 3, lambda: [it for it in reached[10:] if it == "route"]
+    yield "a route is singled out by the focus", [1] * 3, lambda: [count for count in clear[10:] if count == 1]
     it.run("byId('chart').focus()")
     it.keys(Keys.ARROW_RIGHT)
-    expect_said(it, "Contact 4: from 31 lander, to 22 high relay, start 2030/01/01-01:00:00, end 02:20:00, lasts 1 h 20")
+    yield from said(it, "Contact 4: from 31 lander, to 22 high relay, start 2030/01/01-01:00:00, end 02:20:00, lasts 1 h 20")
     tip = it.says("tip")
-    expect("its tip", ("Contact 4", "Enter: what if it is lost?"), (tip.split("\n")[0], tip.split("\n")[-1]))
+    yield "the tip of contact 4", ("Contact 4", "Enter: what if it is lost?"), lambda: (tip.split("\n")[0], tip.split("\n")[-1])
     where = [*map(round, it.place(4))]
     it.keys("+")
-    expect("a zoom leaves it where it is", (where, tip), ([*map(round, it.place(4))], it.says("tip")))
+    yield "a zoom leaves it where it is", (where, tip), lambda: ([*map(round, it.place(4))], it.says("tip"))
     it.keys(Keys.SHIFT + Keys.ARROW_RIGHT + Keys.NULL)
-    expect("no tip after a move", False, it.part("tip").is_displayed())
+    yield "no tip after a move", False, lambda: it.part("tip").is_displayed()
     it.keys("0")
     for key, contact in ((Keys.ARROW_DOWN, 5), (Keys.ARROW_RIGHT, 6), (Keys.ARROW_UP, 4)):
         it.keys(key)
-        expect_said(it, f"Contact {contact}: from 31 lander, to ")
+        yield from said(it, f"Contact {contact}: from 31 lander, to ")
     it.keys(Keys.ENTER)
-    expect_said(it, "Contact 4 lost lander → high relay. 3 h 40 min later. Next is: 2030/01/01-06:27:22")
+    yield from said(it, "Contact 4 lost lander → high relay. 3 h 40 min later. Next is: 2030/01/01-06:27:22")
     it.keys(Keys.ESCAPE)
-    expect("Escape takes that back", "", it.says("lost"))
+    yield "Escape takes that back", "", it.says, "lost"
     before = it.view()
-    for keys, holds in (
-        ("+", lambda view: width(view) < width(before)),
-        ("-", lambda view: abs(width(view) - width(before)) < 2),
-        (Keys.SHIFT + Keys.ARROW_RIGHT, lambda view: view[0] > before[0]),
-        (Keys.NULL + "9", lambda view: width(view) > width(before) * 2),
-        ("0", lambda view: abs(view[0] - before[0]) < 2),
+    for name, pressed, holds in (
+        ("plus", "+", lambda view: width(view) < width(before)),
+        ("minus", "-", lambda view: abs(width(view) - width(before)) < 2),
+        ("Shift and an arrow", Keys.SHIFT + Keys.ARROW_RIGHT, lambda view: view[0] > before[0]),
+        ("9", Keys.NULL + "9", lambda view: width(view) > width(before) * 2),
+        ("0", "0", lambda view: abs(view[0] - before[0]) < 2),
     ):
-        it.keys(keys)
-        expect(f"the key {keys!r}", True, holds(it.view()))
+        it.keys(pressed)
+        yield f"the key {name}", True, lambda: holds(it.view())
 
 
-def try_finding(it):
+def finding(it, _):
     """Contacts and nodes are found."""
     it.keys("/")
-    expect("a slash goes to the field", "find", it.driver.switch_to.active_element.get_attribute("id"))
+    yield "a slash goes to the field", "find", it.driver.switch_to.active_element.get_attribute, "id"
     it.keys("12")
     hits = [hit.text.split("\n")[0] for hit in it.all("#found li")]
-    expect("a node and a contact", ["Node 12 south station", "Contact 12"], hits)
+    yield "a node and a contact", ["Node 12 south station", "Contact 12"], lambda: hits
     it.keys(Keys.ARROW_DOWN, Keys.ENTER)
-    expect_said(it, "Contact 12: from 21 low relay, to 12 south station")
+    yield from said(it, "Contact 12: from 21 low relay, to 12 south station")
     it.keys("/")
     it.keys("high", Keys.ENTER)
-    expect("a node by its name", "22 high relay ✕", it.part("one").text)
+    yield "a node by its name", "22 high relay ✕", lambda: it.part("one").text
     has_node = "[links[row.link].from, links[row.link].to].includes(shows.node)"
     wanted = len({tuple(link) for _, *link in starts_of(RELAY).values() if "22" in link})
-    expect("the links of the node", wanted, it.run(f"return rows.list.filter((row) => {has_node}).length"))
+    yield "the links of the node", wanted, lambda: it.run(f"return rows.list.filter((row) => {has_node}).length")
     it.part("one").click()
     it.settle()
-    expect("other links again", 15, it.run("return rows.list.length"))
+    yield "other links again", 15, it.run, "return rows.list.length"
     it.part("find").send_keys("nobody")
-    expect("nothing is found", "Nothing found", it.says("found"))
+    yield "nothing is found", "Nothing found", it.says, "found"
     it.keys(Keys.ESCAPE)
 
 
-def try_touch(it):
+def touch(it, _):
     """Two fingers zoom, one moves; a tap tells, and a second one loses."""
     it.command("Emulation.setTouchEmulationEnabled", enabled=True, maxTouchPoints=2)
     it.run("showRoutes()")
     it.settle()
     before = it.view()
     it.touch(*([(500 - 15 * step, 300), (600 + 15 * step, 300)] for step in range(9)))
-    expect("a pinch zooms", True, width(it.view()) < width(before) * 0.6)
+    yield "a pinch zooms", True, lambda: width(it.view()) < width(before) * 0.6
     before = it.view()
     it.touch(*([(600 - 20 * step, 500)] for step in range(9)))
-    expect("a finger moves", True, it.view()[0] > before[0])
+    yield "a finger moves", True, lambda: it.view()[0] > before[0]
     it.run("showRoutes()")
     it.settle()
     where = [tuple(it.place(12))]
     it.touch(where)
-    expect("a tap tells", True, it.says("tip").startswith("Contact 12\n") and "Tap again" in it.says("tip"))
-    expect("and loses nothing", "", it.says("lost"))
+    yield "a tap tells", True, lambda: it.says("tip").startswith("Contact 12\n") and "Tap again" in it.says("tip")
+    yield "a tap loses nothing", "", it.says, "lost"
     it.touch(where)
-    expect("a second one loses", "Contact 12 lost low relay → south station", it.says("lost").split("\n")[0])
+    yield "a second tap loses", "Contact 12 lost low relay → south station", lambda: it.says("lost").split("\n")[0]
     it.command("Emulation.setTouchEmulationEnabled", enabled=False)
     it.run("startOver()")
 
 
-def try_surroundings(it, relay):
+def surroundings(it, room):
     """Light and dark, prints, and what a screen reader reads."""
     back = "return getComputedStyle(document.body).backgroundColor"
-    expect("light", "rgb(255, 255, 255)", it.run(back))
+    yield "light", "rgb(255, 255, 255)", it.run, back
     it.part("theme").click()
-    expect("dark by the button", "rgb(13, 17, 23)", it.run(back))
+    yield "dark by the button", "rgb(13, 17, 23)", it.run, back
     it.part("theme").click()
     it.command("Emulation.setEmulatedMedia", features=[{"name": "prefers-color-scheme", "value": "dark"}])
-    it.open(relay)
-    expect("dark as the surroundings are", "rgb(13, 17, 23)", it.run(back))
+    it.open(room.relay)
+    yield "dark as the surroundings are", "rgb(13, 17, 23)", it.run, back
     it.command("Emulation.setEmulatedMedia", features=[])
-    it.open(relay, "#theme=dark&lost=11")
-    expect("dark, as the address says", "rgb(13, 17, 23)", it.run(back))
-    expect("lost, as the address says", "3 h 40 min later", it.says("lost").split("\n")[1])
-    it.open(relay)
+    it.open(room.relay, "#theme=dark&lost=11")
+    yield "dark, as the address says", "rgb(13, 17, 23)", it.run, back
+    yield "lost, as the address says", "3 h 40 min later", lambda: it.says("lost").split("\n")[1]
+    it.open(room.relay)
     printed = base64.b64decode(it.command("Page.printToPDF", preferCSSPageSize=True, printBackground=True)["data"])
-    expect("a print", (b"%PDF", True), (printed[:4], 1 <= len(re.findall(rb"/Type\s*/Page\b", printed)) <= 3))
+    yield "a print", (b"%PDF", True), lambda: (printed[:4], 1 <= len(re.findall(rb"/Type\s*/Page\b", printed)) <= 3)
     it.command("Emulation.setEmulatedMedia", media="print")
     display = "return getComputedStyle(document.querySelector(arguments[0])).display"
     parts = ("header", "#chart", "#legend", ".route", ".tools", "#over")
-    expect("what isn't printed", [".tools", "#over"], [part for part in parts if it.run(display, part) == "none"])
+    yield "what isn't printed", [".tools", "#over"], lambda: [part for part in parts if it.run(display, part) == "none"]
     it.command("Emulation.setEmulatedMedia", media="")
     tables = "dispatchEvent(new Event(arguments[0])); return document.querySelectorAll('.hops table').length"
     printed = [it.run(tables, event) for event in ("beforeprint", "afterprint")]
-    expect("the hops of all routes are printed", [3, 0], printed)
-    try_reader(it)
+    yield "the hops of all routes are printed", [3, 0], lambda: printed
 
 
-def try_reader(it):
+def reader(it, _):
     """Each part has a role and a name for a screen reader."""
     it.all("#routes .route")[0].click()
     it.settle()
@@ -631,37 +594,37 @@ def try_reader(it):
         ("combobox", "Find a contact or node"), ("button", "Zoom in"), ("button", "Light or dark"),
         ("button", "Contact 11 lost"), ("complementary", "Routes"), ("region", "Timeline"), ("toolbar", "View"),
     }
-    expect("roles and names", set(), wanted - found)
+    yield "roles and names", set(), lambda: wanted - found
     nameless = [role for role, name in found if role in ("button", "combobox", "application", "textbox") and not name]
-    expect("nothing is without a name", [], nameless)
+    yield "nothing is without a name", [], lambda: nameless
     it.all("#routes .route")[0].click()
 
 
 # ---- Other pages ------------------------------------------------------------------------------------------------
 
 
-def try_others(it, folder):
+def others(it, room):
     """A plan alone, lost contacts, ISO times, explained routes, no route, limits, names of links."""
-    it.open(make(folder, "alone", "--plan", RELAY))
-    expect("a plan alone", ("20 contacts", "No request: the plan alone"), (it.says("asks"), it.says("count")))
-    it.open(make(folder, "lost", "--plan", RELAY, "--without", "11,12", *ASKED, "--count", "2"))
+    it.open(room.make("alone", "--plan", RELAY))
+    yield "a plan alone", ("20 contacts", "No request: the plan alone"), lambda: (it.says("asks"), it.says("count"))
+    it.open(room.make("lost", "--plan", RELAY, "--without", "11,12", *ASKED, "--count", "2"))
     it.hover(11)
-    expect("a lost contact stays", "Contact 11, lost", it.says("tip").split("\n")[0])
-    wanted = routes_of(without(without(RELAY, 11, folder), 12, folder), 2)
-    expect("the routes without them", [route[0] for route in wanted], [it.text for it in it.all(".delivery")])
-    it.open(make(folder, "iso", "--plan", RELAY, "--iso", *ASKED, "--count", "1"))
-    expect("ISO times", "2030-01-01T02:47:22Z", it.all(".delivery")[0].text)
+    yield "a lost contact stays", "Contact 11, lost", lambda: it.says("tip").split("\n")[0]
+    wanted = room.routes_of(room.without(room.without(RELAY, 11), 12), 2)
+    yield "the routes without them", [route[0] for route in wanted], lambda: [it.text for it in it.all(".delivery")]
+    it.open(room.make("iso", "--plan", RELAY, "--iso", *ASKED, "--count", "1"))
+    yield "ISO times", "2030-01-01T02:47:22Z", lambda: it.all(".delivery")[0].text
     dates = it.run("return [dayText(0), tickLabel(0, { seconds: DAY, months: 0 })]")
-    expect("ISO dates", ["2030-01-01", "01-01"], dates)
-    it.open(make(folder, "explained", "--plan", RELAY, "--explained", f"{TOP}/examples/relay-routes.txt"))
-    expect("explained routes", ("3 routes", {}), (it.says("count"), data_of(f"{folder}/explained.html")["lost"]))
-    it.open(make(folder, "none", "--plan", RELAY, *ASKED, "--max-hops", "1", "--count", "1"))
-    expect("no route", ("No route", True), (it.says("count"), it.says("asks").endswith("UTC, --max-hops 1")))
+    yield "ISO dates", ["2030-01-01", "01-01"], lambda: dates
+    it.open(room.make("explained", "--plan", RELAY, "--explained", f"{TOP}/examples/relay-routes.txt"))
+    yield "explained routes", ("3 routes", {}), lambda: (it.says("count"), data_of(f"{room.path}/explained.html")["lost"])
+    it.open(room.make("none", "--plan", RELAY, *ASKED, "--max-hops", "1", "--count", "1"))
+    yield "no route", ("No route", True), lambda: (it.says("count"), it.says("asks").endswith("UTC, --max-hops 1"))
     between = ("--between", "2030-01-01T06:00:00Z", "2030-01-01T07:00:00Z")
-    it.open(make(folder, "between", "--plan", RELAY, *ASKED, "--count", "3", *between, "--used"))
-    expect("a span, and the routes' links", (3600, 5), (width(it.view()), it.run("return rows.list.length")))
-    it.open(make(folder, "empty", "--plan", "/dev/null"))
-    expect("an empty plan", "0 contacts", it.says("asks"))
+    it.open(room.make("between", "--plan", RELAY, *ASKED, "--count", "3", *between, "--used"))
+    yield "a span, and the routes' links", (3600, 5), lambda: (width(it.view()), it.run("return rows.list.length"))
+    it.open(room.make("empty", "--plan", "/dev/null"))
+    yield "an empty plan", "0 contacts", it.says, "asks"
 
 
 # ---- A week, many nodes, many contacts --------------------------------------------------------------------------
@@ -698,54 +661,68 @@ def panning(it):
     return round((it.spent() - before) / FRAMES, 1)
 
 
-def try_size(it, folder, nodes, contacts, name):
+def sizes(it, room):
     """A plan of so many contacts opens within a second, and pans at 30 frames a second at least, 33 ms for each."""
     asked = ["--from", "1", "--to", "5", "--at", "2030/01/01-00:10:00"]
-    plan = ring_plan(folder, nodes, contacts, name)
-    path = make(folder, name, "--plan", plan, *asked, "--count", "5")
-    expect_within(f"{name}: bytes", 1_000_000, os.path.getsize(path))
-    expect_within(f"{name}: milliseconds to open", 1000, opening(it, path))
-    it.part("all").click()
-    it.part("whole").click()
-    it.settle()
-    expect(f"{name}: contacts and links", [contacts, nodes], it.run("return [contactCount, rows.list.length]"))
-    expect_within(f"{name}: milliseconds for a frame", 33, panning(it))
-    delivery = routes_of(plan, 1, asked)[0][0]
-    expect(f"{name}: the best route", delivery, it.all(".delivery")[0].text)
+    for name, nodes, contacts in (("week", 20, 20 * 48 * 7), ("sixty", 60, 60 * 48), ("many", 200, 20000)):
+
+        @cache
+        def measured():
+            plan = room.ring_plan(nodes, contacts, name)
+            path = room.make(name, "--plan", plan, *asked, "--count", "5")
+            opened = opening(it, path)
+            it.part("all").click()
+            it.part("whole").click()
+            it.settle()
+            counts = it.run("return [contactCount, rows.list.length]")
+            best = room.routes_of(plan, 1, asked)[0][0], it.all(".delivery")[0].text
+            return os.path.getsize(path), opened, counts, panning(it), best
+
+        yield within(f"{name}, bytes", 1_000_000, lambda: measured()[0])
+        yield within(f"{name}, milliseconds to open", 1000, lambda: measured()[1])
+        yield f"{name}, contacts and links", [contacts, nodes], lambda: measured()[2]
+        yield within(f"{name}, milliseconds for a frame", 33, lambda: measured()[3])
+        yield f"{name}, the best route is the program's", True, lambda: len(set(measured()[4])) == 1 or measured()[4]
 
 
-def try_browser(folder, relay):
-    with browser() as it:
-        it.open(relay)
-        try_head(it)
-        try_tips(it)
-        try_losses(it, folder)
-        try_mouse(it)
-        try_keys(it, relay)
-        try_finding(it)
-        try_touch(it)
-        try_surroundings(it, relay)
-        try_others(it, folder)
-        try_size(it, folder, 20, 20 * 48 * 7, "week")  # each link opens every half hour
-        try_size(it, folder, 60, 60 * 48, "sixty")
-        try_size(it, folder, 200, 20000, "many")
-    with browser(390, 800) as it:
-        it.open(relay)
-        fits = it.run("return document.documentElement.scrollWidth <= innerWidth")
-        expect("a narrow page isn't wider than its window", True, fits)
+def narrow(room):
+    it = Browser(390, 800)
+    try:
+        it.open(room.relay)
+        yield ("a page isn't wider than its window", True,
+               lambda: it.run("return document.documentElement.scrollWidth <= innerWidth"))
+    finally:
+        it.driver.quit()
 
 
-def main():
-    left_out = ""
-    with tempfile.TemporaryDirectory() as folder:
-        relay = try_files(folder)
-        if lack():
-            left_out = f"the browser's part did not run, {lack()}; "
-        else:
-            try_browser(folder, relay)
-    print(f"page: {left_out}{passed} passed, {failed} failed")
-    return 1 if failed else 0
+# ---- The sections -----------------------------------------------------------------------------------------------
 
 
-if __name__ == "__main__":
-    sys.exit(main())
+def driven(section, room):
+    """What a section checks over the page of examples/relay.txt, and what the browser tells then."""
+    room.browser.open(room.relay)
+    yield from section(room.browser, room)
+    yield "no complaint, and nothing loaded", [], room.browser.faults
+
+
+SECTIONS = {it.__name__.replace("_", " "): it for it in (what_stands_there, lost_contacts, refusals)}
+DRIVEN = (head, tips, losses, mouse, keys, finding, touch, surroundings, reader, others, sizes)
+BROWSED = {**{it.__name__: partial(driven, it) for it in DRIVEN}, "narrow": narrow}
+
+
+def named(name, section, room):
+    for title, *further in section(room):
+        yield f"{name}: {title}", *further
+
+
+def checks(asked):
+    sections = SECTIONS if lack() else {**SECTIONS, **BROWSED}
+    if lack():
+        print(f"page: what a browser shows is left out, {lack()}")
+    alone, room = asked.text.partition(": ")[0], Pages(asked.program("cgrlist"))
+    chosen = [alone] if alone in sections else [*sections]
+    try:
+        yield from checks_of("page", room, [partial(named, it, sections[it]) for it in chosen])
+    finally:
+        if "browser" in vars(room):
+            room.browser.driver.quit()

@@ -1,13 +1,11 @@
-#!/usr/bin/env python3
 """Runs the commands that the documents show, and compares what they print with the answers shown below them.
-
-    tests/documented [PROGRAM]          PROGRAM: the program; the one that this clone built if not given
 
 In a Markdown file, a fence marked `sh` holds commands. If the next fence has no mark, it is their answer, all that they
 print. Otherwise what they print isn't compared. In the manual page a line of a display that begins with `$ ` is a
 command, and the lines below it are its answer. Each must end with status 0. The commands of a document run in their
-order, in a folder of its own that holds what they name of the clone. The lines that docs/formats.md shows for refusals
-are tried, too. The last line is 'N passed, M failed'.
+order, in a folder of its own that holds what they name of the clone; if only some are asked for, those before them run,
+too, and aren't checked. The lines that docs/formats.md shows for refusals are tried, too. A check is named after its
+command's document and line, and after the command's first words.
 """
 
 import os
@@ -15,10 +13,9 @@ import re
 import shutil
 import subprocess
 import sys
-import tempfile
 
-TOP = os.path.dirname(os.path.dirname(os.path.realpath(__file__)))
-BUILT = f"{TOP}/crates/cgrlist/out/cgrlist"
+from checking import TOP, Room, checks_of
+
 DOCUMENTS = ["README.md", "examples/README.md", "docs/formats.md", "docs/cgrlist.1"]
 NAMED = ["examples", "tools", "docs", "tests", "completions", "install"]  # what commands name of the clone
 SECONDS = 300
@@ -80,20 +77,6 @@ def commands_of(document, text):
     return [*markdown_commands(text), *refusal_commands(text)]
 
 
-def room_for(folder, program):
-    """Fills a folder with what commands name of a clone."""
-    for name in NAMED:
-        if os.path.isdir(f"{TOP}/{name}"):
-            shutil.copytree(f"{TOP}/{name}", f"{folder}/{name}", ignore=shutil.ignore_patterns("__pycache__"))
-        else:
-            shutil.copy2(f"{TOP}/{name}", folder)
-    os.makedirs(f"{folder}/crates/cgrlist/out")
-    os.makedirs(f"{folder}/bin")
-    for place in ("cgrlist", "crates/cgrlist/out/cgrlist", "bin/cgrlist"):
-        os.symlink(program, f"{folder}/{place}")
-    os.symlink(PYTHON or sys.executable, f"{folder}/bin/python3")
-
-
 def why_left_out(command):
     for text, reason in LEFT_OUT.items():
         if text in f"{command} ":
@@ -105,49 +88,66 @@ def why_left_out(command):
     return f"Python has no {module} here" if module and not PYTHON else None
 
 
-def run(command, folder):
-    """What a command prints, and its status."""
-    how = {**os.environ, "PATH": f"{folder}/bin:{os.environ['PATH']}", "HOME": folder, "LC_ALL": "C.UTF-8"}
-    try:
-        ran = subprocess.run(
-            ["bash", "-c", command],
-            cwd=folder,
-            env=how,
-            stdin=subprocess.DEVNULL,
-            stdout=subprocess.PIPE,
-            stderr=subprocess.STDOUT,
-            timeout=SECONDS,
-        )
-    except subprocess.TimeoutExpired:
-        return f"it had not ended after {SECONDS} seconds\n", 124
-    return ran.stdout.decode(errors="replace"), ran.returncode
+class Shown(Room):
+    """A folder for the commands of each document, which run one after another."""
+
+    def __init__(self, program):
+        super().__init__()
+        self.program = program
+        self.ended = {}  # how the commands of each document ended that were run
+
+    def room_for(self, document):
+        """A folder with what commands name of a clone."""
+        folder = f"{self.path}/{document}"
+        os.makedirs(f"{folder}/crates/cgrlist/out")
+        os.makedirs(f"{folder}/bin")
+        for name in NAMED:
+            if os.path.isdir(f"{TOP}/{name}"):
+                shutil.copytree(f"{TOP}/{name}", f"{folder}/{name}", ignore=shutil.ignore_patterns("__pycache__"))
+            else:
+                shutil.copy2(f"{TOP}/{name}", folder)
+        for place in ("cgrlist", "crates/cgrlist/out/cgrlist", "bin/cgrlist"):
+            os.symlink(self.program, f"{folder}/{place}")
+        os.symlink(PYTHON or sys.executable, f"{folder}/bin/python3")
+        return folder
+
+    def say(self, command, folder):
+        """What a command prints, and its status."""
+        how = {**os.environ, "PATH": f"{folder}/bin:{os.environ['PATH']}", "HOME": folder, "LC_ALL": "C.UTF-8"}
+        further = {"stdin": subprocess.DEVNULL, "stdout": subprocess.PIPE, "stderr": subprocess.STDOUT, "timeout": SECONDS}
+        try:
+            ran = subprocess.run(["bash", "-c", command], cwd=folder, env=how, **further)
+        except subprocess.TimeoutExpired:
+            return f"it had not ended after {SECONDS} seconds\n", 124
+        return ran.stdout.decode(errors="replace"), ran.returncode
+
+    def found(self, document, commands, answer):
+        """What the last of some commands prints, or if no answer is shown that it ends well; or else its status, too."""
+        if document not in self.ended:
+            self.ended[document] = self.room_for(document), []
+        folder, ended = self.ended[document]
+        for command in commands[len(ended) :]:
+            ended.append(self.say(command, folder))
+        said, status = ended[len(commands) - 1]
+        if status:
+            return f"{command}{said}status {status}"
+        return said if answer is not None else "status 0"
 
 
-def main():
-    program = os.path.realpath(sys.argv[1] if len(sys.argv) > 1 else BUILT)
-    passed = failed = 0
-    for document in DOCUMENTS:
-        with open(f"{TOP}/{document}", encoding="utf-8") as file:
-            text = file.read()
-        with tempfile.TemporaryDirectory() as folder:
-            room_for(folder, program)
-            for line, command, answer in commands_of(document, text):
-                reason = why_left_out(command)
-                if reason:
-                    print(f"documented: {document}:{line} left out: {reason}")
-                    continue
-                said, status = run(command, folder)
-                if status == 0 and answer in (None, said):
-                    passed += 1
-                    continue
-                failed += 1
-                print(f"FAILED: {document}:{line}, status {status}\n{command}printed\n{said}in place of\n{answer}")
-    if not passed:
-        failed += 1
-        print(f"FAILED: no command of the documents was run; is there a program {program}?")
-    print(f"documented: {passed} passed, {failed} failed")
-    return 1 if failed else 0
+def shown_in(document, asked, room):
+    with open(f"{TOP}/{document}", encoding="utf-8") as file:
+        shown = commands_of(document, file.read())
+    commands = []
+    for line, command, answer in shown:
+        title = f"{document}:{line} {command.strip().partition(chr(10))[0]}"
+        reason = why_left_out(command)
+        if not reason:
+            commands.append(command)
+            yield title, "status 0" if answer is None else answer, room.found, document, [*commands], answer
+        elif asked.text in title:
+            print(f"documented: {title}: left out, {reason}")
 
 
-if __name__ == "__main__":
-    sys.exit(main())
+def checks(asked):
+    sections = [lambda room, it=it: shown_in(it, asked, room) for it in DOCUMENTS]
+    return checks_of("documented", Shown(asked.program("cgrlist")), sections)
