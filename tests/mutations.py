@@ -56,7 +56,7 @@ class Tried(Room):
         for it, text in zip(places, texts):
             self.file(f"{folder}/m{it}.edit", f"file: src/lib.rt\n{text}")
         self.file("notes")
-        ran = self.run([f"{self.path}/clone/tools/mutations", "low"], PATH=f"{self.path}/bin:{os.environ['PATH']}")
+        ran = self.run(f"{self.path}/clone/tools/mutations --jobs 1 low", PATH=f"{self.path}/bin:{os.environ['PATH']}")
         told = re.sub("^mutations: |low/", "", "\n".join(sorted(ran.all().splitlines())), flags=re.M)
         return told, ", ".join(self.read("notes").splitlines())
 
