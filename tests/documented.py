@@ -1,7 +1,7 @@
 """Runs the commands that the documents show, and compares what they print with the answers shown below them.
 
 In a Markdown file, a fence marked `sh` holds commands. If the next fence has no mark, it is their answer, all that they
-print. Otherwise what they print isn't compared. In the manual page a line of a display that begins with `$ ` is a
+print but how far they are. Otherwise what they print isn't compared. In the manual page a line of a display that begins with `$ ` is a
 command, and the lines below it are its answer. Each must end with status 0. The commands of a document run in their
 order, in a folder of its own that holds what they name of the clone; if only some are asked for, those before them run,
 too, and aren't checked. The lines that docs/formats.md shows for refusals are tried, too. A check is named after its
@@ -29,6 +29,9 @@ LEFT_OUT = {
 # A command that calls such a program isn't run if it isn't installed, nor one that needs such a module of Python.
 NEEDS = ["parallel"]
 MODULES = {"examples/cluster.py": "distributed"}
+
+# What a tool tells each ten seconds of how far it is, as it may on a busy machine.
+PROGRESS = r"^\w+: (\d+ routes of \d+ looked at|\d+ of \d+ requests are answered|told up to ).*\n"
 
 
 def python_with(modules):
@@ -119,7 +122,7 @@ class Shown(Room):
             ran = subprocess.run(["bash", "-c", command], cwd=folder, env=how, **further)
         except subprocess.TimeoutExpired:
             return f"it had not ended after {SECONDS} seconds\n", 124
-        return ran.stdout.decode(errors="replace"), ran.returncode
+        return re.sub(PROGRESS, "", ran.stdout.decode(errors="replace"), flags=re.M), ran.returncode
 
     def found(self, document, commands, answer):
         """What the last of some commands prints, or if no answer is shown that it ends well; or else its status, too."""
