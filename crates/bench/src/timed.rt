@@ -3,7 +3,7 @@
 use crate::watch::Watch;
 use sabr_index::Index;
 use sabr_model::{NoMemory, Plan, Request, Route};
-use sabr_search::{BestOf, BoundedPart, Excluded, Kept, Part, Sought};
+use sabr_search::{BestOf, BoundedPart, Kept, Part, Sought};
 use std::alloc::Allocator;
 use std::cell::Cell;
 use std::time::Clock;
@@ -74,22 +74,6 @@ impl<'s, R: Clock, A: Allocator + Copy, B: BestOf<A>> BestOf<A> for Timed<'s, R,
     ) -> Result<Option<Route<A>>, NoMemory> {
         let begin = self.watch.nanoseconds();
         let answer = self.finder.best(plan, request, part);
-        self.add(begin, self.finder.looks());
-        answer
-    }
-
-    fn best_beside(
-        &mut self,
-        kept: &mut Kept<A>,
-        index: &Index<'_, A>,
-        request: &Request,
-        prefix: &[u32],
-        excluded: Excluded<'_>,
-    ) -> Result<Option<Route<A>>, NoMemory> {
-        let begin = self.watch.nanoseconds();
-        let answer = self
-            .finder
-            .best_beside(kept, index, request, prefix, excluded);
         self.add(begin, self.finder.looks());
         answer
     }

@@ -15,3 +15,5 @@ pub mod MergedIndex
 pub mod CutTrees
 pub mod CutDivided
 pub mod BoundedAnswers
+pub mod Floors
+pub mod SureTrees

@@ -6,6 +6,7 @@ pub mod Queue
 pub mod Index
 pub mod Best
 pub mod Asking
+pub mod Floors
 pub mod Taking
 pub mod Left
 pub mod Room

@@ -75,7 +75,7 @@ impl<A: Allocator + Copy> Tree<A> {
     {
         for node in self.nodes.iter() {
             let front = prefix(self.leaves.as_slice(), node);
-            let found = asker.ask(front, node.excluded.as_slice())?;
+            let found = asker.ask(front, node.excluded.as_slice(), 0)?;
             if !is_same(&found, &node.route) {
                 return Ok(false);
             }

@@ -38,6 +38,8 @@ pub struct Session<'p, B: BestOf<A>, A: Allocator + Copy = Global> {
     pages: Vec<usize, A>,
     /// The searches of the last call that counts them.
     searches: u64,
+    /// Whether a search began it. Then each part carries its least route.
+    is_sure: bool,
 }
 
 impl<'p, B: BestOf<A>, A: Allocator + Copy> Model for Session<'p, B, A> {
@@ -47,7 +49,7 @@ impl<'p, B: BestOf<A>, A: Allocator + Copy> Model for Session<'p, B, A> {
 
     ghost view = { λ s. seen s.asker s.tree s.pages.items s.searches };
 
-    ghost invariant = { λ s. IsSession s.asker.asked s.tree s.pages.items };
+    ghost invariant = { λ s. IsSession s.asker.asked s.tree s.pages.items s.is_sure };
 }
 
 impl<'p, B: BestOf<A>, A: Allocator + Copy> Session<'p, B, A> {
@@ -83,13 +85,14 @@ impl<'p, B: BestOf<A>, A: Allocator + Copy> Session<'p, B, A> {
     {
         let mut asker = asker;
         let alloc = asker.alloc();
-        let found = asker.ask(&[], &[])?;
+        let found = asker.ask(&[], &[], 0)?;
         let tree = Tree::root(alloc, found)?;
         Ok(Session {
             asker,
             tree,
             pages: Vec::new(alloc),
             searches: 1,
+            is_sure: true,
         })
     }
 
@@ -112,6 +115,7 @@ impl<'p, B: BestOf<A>, A: Allocator + Copy> Session<'p, B, A> {
             tree,
             pages,
             searches: 0,
+            is_sure: false,
         }
     }
 
@@ -155,7 +159,10 @@ impl<'p, B: BestOf<A>, A: Allocator + Copy> Session<'p, B, A> {
         }
         self.pages.reserve(1)?;
         let start = self.tree.journal.len();
-        match self.tree.gather(&mut self.asker, count, &mut given) {
+        match self
+            .tree
+            .gather(&mut self.asker, count, &mut given, self.is_sure)
+        {
             Ok(searches) => {
                 self.tree.settle(self.asker.alloc());
                 self.pages.push_reserved(start);

@@ -6,3 +6,4 @@ pub mod Around
 pub mod Soonest
 pub mod BoundedWays
 pub mod KeptAnswers
+pub mod Levels

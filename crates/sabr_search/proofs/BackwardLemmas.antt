@@ -7,3 +7,4 @@ pub mod LateLists
 pub mod LateMade
 pub mod LastSeconds
 pub mod Ended
+pub mod Whole

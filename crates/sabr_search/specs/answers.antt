@@ -3,3 +3,4 @@ pub mod AnswerLists
 pub mod KeptAnswers
 pub mod Kept
 pub mod Answers
+pub mod Early

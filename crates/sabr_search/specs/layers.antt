@@ -12,3 +12,4 @@ pub mod Reach
 pub mod Since
 pub mod Seconds
 pub mod Latest
+pub mod Level

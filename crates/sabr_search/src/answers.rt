@@ -2,10 +2,10 @@
 //!
 //! The answer for a node, a second, excluded numbers, shut nodes and hops left is the answer to every later question that
 //! shuts more, starts no earlier and leaves no more hops, as long as its way may be taken and delivers at the same second.
-//! Where there was none, there is none.
+//! Where there was none, there is none; and where each way was above a bound, each is above a lesser one.
 
 mod lists;
-mod payoff;
+pub mod payoff;
 pub mod widening;
 
 ghost use Rattle.std.specs.Prelude.{◌≡◌, ◌^◌, ◌≤◌, ◌<◌, [], Some, All, IfOk, IfSome, IsTrue, length, slice_get, slice_set, false};

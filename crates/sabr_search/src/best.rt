@@ -2,7 +2,7 @@
 
 ghost use Rattle.std.specs.Prelude.{◌≡◌, ℕ, ◌+◌, ◌*◌, ◌≤◌, IfOk, IsTrue, length};
 ghost use Rattle.sabr_search.specs.questions.Part.{IsLeast};
-ghost use Rattle.sabr_search.specs.questions.Bounded.{IsSought, hops_sought};
+ghost use Rattle.sabr_search.specs.questions.Bounded.{IsSought, IsFloor, IsWhole, hops_sought};
 ghost use Rattle.sabr_search.specs.answers.Kept.{IsKept};
 ghost use Rattle.sabr_model.specs.routes.Route.{is_prefix};
 ghost use Rattle.sabr_model.specs.plan.Table.{node_count};
@@ -75,7 +75,9 @@ pub trait BestOf<A: Allocator + Copy>: Drop {
         self.best(index.plan(), request, part)
     }
 
-    /// Does the same for the least route up to a bound; a greater one needn't be told. The call counts as one of `best`.
+    /// Does the same as `best_beside` for the least route up to a bound. A greater route needn't be told.
+    ///
+    /// The caller promises that no route of the part delivers before its floor.
     ///
     /// # Errors
     ///
@@ -88,14 +90,21 @@ pub trait BestOf<A: Allocator + Copy>: Drop {
         part: BoundedPart<'_>,
     ) -> Result<Sought<A>, NoMemory>
         requires fits { IsTrue (is_prefix index.now.plan request.now part.prefix.now) }
+        requires floor { IsFloor index.now.plan request.now part.prefix.now part.excluded.numbers.now part.floor }
         requires kept { IsKept index.now request.now kept.old }
         ensures sought { IfOk result (IsSought index.now.plan request.now part.entry.prefix.now part.entry.excluded.numbers.now part.entry.bound) }
+        ensures whole { IfOk result (IsWhole part.entry.bound) }
         ensures bound { looks_of self.new ≤ (3 * node_count index.now.plan.contacts + 1) * length index.now.plan.contacts }
         ensures counted { IfOk result (λ answer. hops_sought answer ≤ looks_of self.new) }
         ensures called { calls_of self.new ≡ calls_of self.old + 1 }
         ensures kept { IsKept index.now request.now kept.new }
     {
-        let found = self.best_beside(kept, index, request, part.prefix, part.excluded)?;
+        let _kept = kept;
+        let whole = Part {
+            prefix: part.prefix,
+            excluded: part.excluded.numbers,
+        };
+        let found = self.best(index.plan(), request, whole)?;
         Ok(Sought::of(found))
     }
 

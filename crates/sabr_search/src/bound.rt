@@ -100,6 +100,8 @@ pub struct BoundedPart<'a> {
     pub excluded: Excluded<'a>,
     /// What is asked up to.
     pub bound: Bound,
+    /// A second before which no route of the part delivers; 0 tells nothing.
+    pub floor: u64,
 }
 
 /// The answer to a question for the least route of a part up to a bound.

@@ -10,17 +10,14 @@ ghost use Rattle.sabr_index.specs.Looks.{looks_taken};
 
 use crate::answers::Answers;
 use crate::answers::widening::Widening;
+use crate::bound::BoundedPart;
 use crate::course::Course;
+use crate::level::Level;
+use crate::level::spending::Spending;
 use crate::reach::Reach;
 use sabr_index::{CountedPlan, Looks};
 use sabr_model::{NoMemory, Request};
 use std::alloc::{Allocator, Global};
-
-/// How many questions are asked before what bounds every search is found. Finding it takes as long as several searches,
-/// and a list's first route, with the question whether another follows, takes two. With 1, runs for one route take 4 percent
-/// more instructions, the mean of 24 questions; with 3, those for ten routes take 0.3 percent more. To vary it:
-/// `bench/figures.py --counts 1,10`, over all plans.
-const FIRST_QUESTIONS: u32 = 2;
 
 /// What is kept for the searches of one plan and request.
 ///
@@ -29,12 +26,14 @@ const FIRST_QUESTIONS: u32 = 2;
 pub struct Kept<A: Allocator + Copy = Global> {
     /// Where it takes its memory.
     alloc: A,
-    /// What bounds every search.
+    /// What is known of the ways of every question.
     pub(crate) reach: Reach<A>,
-    /// How many questions were asked until that was looked for.
-    asked: u32,
     /// Answers to questions so far.
     pub(crate) answers: Answers<A>,
+    /// Layers for one delivery.
+    pub(crate) level: Level<A>,
+    /// When they are made.
+    pub(crate) spending: Spending,
     /// Which wide questions are asked for more of them.
     pub(crate) widening: Widening<A>,
     /// Where the last prefix led, if one is known; in a box, since each call takes it out and puts it back.
@@ -49,32 +48,57 @@ impl<A: Allocator + Copy> Kept<A> {
         Kept {
             alloc,
             reach: Reach::new(alloc),
-            asked: 0,
             answers: Answers::new(alloc),
+            level: Level::new(alloc),
+            spending: Spending::new(),
             widening: Widening::new(alloc),
             course: None,
         }
     }
 
-    /// Begins a question. After the first ones it finds what bounds every search, once. Nothing is known if two looks at
+    /// Begins a question whose ways deliver no sooner than this. Makes layers for that delivery if the questions so far have
+    /// taken enough looks.
+    fn open_level(
+        &mut self,
+        looks: &mut Looks,
+        index: &CountedPlan<'_, A>,
+        request: &Request,
+        floor: u64,
+    )
+        requires kept { IsKept index.now request.now self.old }
+        ensures kept { IsKept index.now request.now self.new }
+    {
+        if floor == 0 {
+            return;
+        }
+        self.spending.begin(floor);
+        let soon = &self.reach.soon;
+        if soon.is_empty() || !self.spending.is_due() {
+            return;
+        }
+        let before = looks.left();
+        let _made = self.level.make(looks, index, request, soon, floor);
+        self.spending.pay(before.saturating_sub(looks.left()));
+    }
+
+    /// Begins a question: finds the reach, and layers for the part's floor, if they are due. Nothing is found if two looks at
     /// each contact aren't enough, or if a growth is refused.
-    pub fn open(&mut self, looks: &mut Looks, index: &CountedPlan<'_, A>, request: &Request)
+    pub fn open(
+        &mut self,
+        looks: &mut Looks,
+        index: &CountedPlan<'_, A>,
+        request: &Request,
+        part: BoundedPart<'_>,
+    )
         requires kept { IsKept index.now request.now self.old }
         requires few { looks_taken looks.old ≤ 2 * length index.now.plan.contacts }
         ensures kept { IsKept index.now request.now self.new }
         ensures looks { looks_taken looks.new ≤ 2 * length index.now.plan.contacts }
     {
-        if self.asked > FIRST_QUESTIONS {
-            return;
-        }
-        self.asked += 1;
-        if self.asked <= FIRST_QUESTIONS {
-            return;
-        }
         let aside = looks.set_aside(2 * index.contacts());
-        if let Ok(reach) = Reach::of(self.alloc, looks, index, request) {
-            self.reach = reach;
-        }
+        self.reach
+            .open(self.alloc, looks, index, request, part.bound.until());
+        self.open_level(looks, index, request, part.floor);
         looks.put_back(aside);
     }
 

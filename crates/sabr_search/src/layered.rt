@@ -14,7 +14,7 @@ use crate::backward::deadlines::Deadlines;
 use crate::backward::from_goal::Aim;
 use crate::backward::since::Since;
 use crate::best::BestOf;
-use crate::bound::Bound;
+use crate::bound::{Bound, BoundedPart, Sought};
 use crate::course::Course;
 use crate::forward::layers::Layers;
 use crate::kept::Kept;
@@ -92,6 +92,7 @@ impl<A: Allocator + Copy> Layered<A> {
             prefix,
             told,
             bound: Bound::none(),
+            floor: 0,
         };
         let since = Since::of(&self.since);
         let mut first = Vec::new(self.alloc);
@@ -169,17 +170,17 @@ impl<A: Allocator + Copy> BestOf<A> for Layered<A> {
         )
     }
 
-    fn best_beside(
+    fn best_up_to(
         &mut self,
         kept: &mut Kept<A>,
         index: &Index<'_, A>,
         request: &Request,
-        prefix: &[u32],
-        excluded: Excluded<'_>,
-    ) -> Result<Option<Route<A>>, NoMemory> {
+        part: BoundedPart<'_>,
+    ) -> Result<Sought<A>, NoMemory> {
         let _kept = kept;
         self.begin(Looks::many());
-        self.find(index.counted(), request, prefix, excluded)
+        let found = self.find(index.counted(), request, part.prefix, part.excluded)?;
+        Ok(Sought::of(found))
     }
 
     fn looks(&self) -> u64 {

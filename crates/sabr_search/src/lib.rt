@@ -11,6 +11,7 @@ mod forward;
 mod kept;
 mod laws;
 mod layered;
+mod level;
 mod links;
 mod part;
 mod question;

@@ -14,7 +14,7 @@ use sabr_index::{CountedPlan, Looks};
 use sabr_model::{MOST_HOPS, NoMemory, Route, Told};
 use std::alloc::Allocator;
 
-/// What is asked of a search: the least route that begins with a prefix.
+/// What is asked for a part: the least route after its prefix, up to a bound. The task is the search for its way.
 #[derive(Drop)]
 pub struct Question<'t, 'a, 'p, A: Allocator + Copy> {
     /// The search after the prefix.
@@ -25,6 +25,8 @@ pub struct Question<'t, 'a, 'p, A: Allocator + Copy> {
     pub told: Told,
     /// What is asked up to.
     pub bound: Bound,
+    /// A second before which no way after the prefix delivers; 0 tells nothing.
+    pub floor: u64,
 }
 
 /// The numbers of a way after those of a prefix.

@@ -2,11 +2,14 @@
 
 ghost use Rattle.std.specs.Prelude.{◌≡◌, ◌+◌, ◌*◌, ◌^◌, ◌≤◌, ◌<◌, [], IfOk, IfSome, IfNone, IsTrue, length};
 ghost use Rattle.sabr_search.specs.questions.Bounded.{is_up_to};
-ghost use Rattle.sabr_search.specs.questions.Task.{IsTask, most_nodes};
+ghost use Rattle.sabr_search.specs.questions.FirstSteps.{tabled_of};
+ghost use Rattle.sabr_search.specs.questions.Task.{IsOfRequest, IsTask, most_nodes};
 ghost use Rattle.sabr_search.specs.answers.KeptAnswers.{IsFoundWay, way_hops};
-ghost use Rattle.sabr_search.specs.layers.Late.{AreSince};
-ghost use Rattle.sabr_search.specs.layers.Settling.{IsBound};
+ghost use Rattle.sabr_search.specs.layers.Late.{AreSince, IsNoneSooner};
+ghost use Rattle.sabr_search.specs.layers.Level.{IsLevelOf};
+ghost use Rattle.sabr_search.specs.layers.Reach.{IsReach};
 
+use crate::answers::payoff::Payoff;
 use crate::backward::deadlines::Deadlines;
 use crate::backward::from_goal::Aim;
 use crate::backward::least_way::FoundWay;
@@ -14,12 +17,26 @@ use crate::backward::since::Since;
 use crate::bound::Bound;
 use crate::forward::layers::Layers;
 use crate::forward::settling::{Forward, Settling};
+use crate::level::Level;
+use crate::level::walk::{Walk, Walked};
 use crate::reach::Reach;
 use crate::task::Task;
 use crate::visit::Visit;
 use sabr_index::Looks;
 use sabr_model::NoMemory;
 use std::alloc::Allocator;
+
+/// How many questions whose limit on hops may bind settle nodes first, until it counts how many of them that answered. With
+/// 64 of them and half as the least, 1000 routes over eight plans took 3 percent more instructions, and over dense-60, whose
+/// limit mostly binds, 11; with 32, 1 and 3; and with no layers first, 16 and 87: all in a copy of this design in plain Rust.
+/// To vary it: `bench/further.py --parts limits`.
+const TRIES: u32 = 16;
+
+/// How many of them it must answer.
+const LEAST: u32 = 8;
+
+/// How many such questions begin with layers forward otherwise.
+const PAUSE: u32 = 1024;
 
 /// What a search keeps from call to call.
 #[derive(Drop)]
@@ -30,10 +47,14 @@ pub struct Search<A: Allocator + Copy> {
     first: Vec<Visit, A>,
     /// Nodes in order of arrival and of what the goal costs from there.
     settling: Settling<A>,
+    /// Whether that answers where a limit on hops may bind.
+    settles: Payoff,
     /// Layers forward, within a limit on hops.
     layers: Layers<A>,
     /// Layers backward.
     deadlines: Deadlines<A>,
+    /// A pick by layers for one delivery.
+    walk: Walk<A>,
 }
 
 impl<A: Allocator + Copy> Search<A> {
@@ -43,14 +64,93 @@ impl<A: Allocator + Copy> Search<A> {
             alloc,
             first: Vec::new(alloc),
             settling: Settling::new(alloc),
+            settles: Payoff::new(TRIES, LEAST, PAUSE),
             layers: Layers::new(alloc),
             deadlines: Deadlines::new(alloc),
+            walk: Walk::new(alloc),
         }
     }
 
-    /// Returns the least way of at most so many hops up to a bound, if there is one. If the first way has no more, its delivery
-    /// is the least, and layers backward find the way. Otherwise layers forward find the least delivery. None if more looks
-    /// might be needed than are left.
+    /// Returns the least way of at most so many hops up to a bound by layers for a delivery, before which none delivers; or
+    /// what each way is above. None if that would take too many looks, or came to too many dead ends.
+    pub fn run_level(
+        &mut self,
+        task: &Task<'_, A>,
+        level: &Level<A>,
+        looks: &mut Looks,
+        hops: usize,
+        bound: Bound,
+    ) -> Result<Option<FoundWay<A>>, NoMemory>
+        requires task { IsTask task.now }
+        requires level { IsLevelOf task.now level.now }
+        requires nodes { hops ≤ most_nodes }
+        requires floor { IsNoneSooner task.now hops level.now.delivery }
+        ensures found { IfOk result (λ o. IfSome o (λ way. IsFoundWay task.now hops way.numbers.items way.delivery way.bound)) }
+    {
+        let delivery = level.delivery;
+        let most = bound.hops_at(delivery, hops);
+        self.walk.begin();
+        for count in 1..most + 1 {
+            if level.is_late(task, count) {
+                continue;
+            }
+            let walked = self.walk.pick(level, task, looks, count)?;
+            match walked {
+                Walked::Picked => {
+                    let numbers = self.walk.numbers(self.alloc)?;
+                    return Ok(Some(FoundWay {
+                        numbers,
+                        delivery,
+                        bound: Bound::none(),
+                    }));
+                }
+                Walked::None => {}
+                Walked::GaveUp => return Ok(None),
+            }
+        }
+        let bound = Bound {
+            delivery,
+            hops: if most == hops { usize::MAX } else { most },
+        };
+        Ok(Some(FoundWay::beyond(self.alloc, bound)))
+    }
+
+    /// Returns what [`run`](Search::run) does, by layers forward for the least delivery and layers backward for its way.
+    fn run_within(
+        &mut self,
+        task: &Task<'_, A>,
+        reach: &Reach<A>,
+        looks: &mut Looks,
+        hops: usize,
+        bound: Bound,
+    ) -> Result<Option<FoundWay<A>>, NoMemory>
+        requires task { IsTask task.now }
+        requires soon { AreSince task.now reach.now.soon.items }
+        requires nodes { hops ≤ most_nodes }
+        ensures counted { looks.old.left ≤ looks.new.left + (3 * hops + 1) * length task.now.plan.contacts }
+        ensures none { IfOk result (λ o. IfNone o (looks.old.left < (3 * hops + 1) * length task.now.plan.contacts)) }
+        ensures found { IfOk result (λ o. IfSome o (λ way. IsFoundWay task.now hops way.numbers.items way.delivery way.bound)) }
+        ensures enough { IfOk result (λ o. IfSome o (λ way. way.numbers.items ≡ [] → IsTrue (is_up_to way.bound bound.delivery bound.hops))) }
+    {
+        let whole = task.first_steps(looks, &mut self.first)?;
+        if !whole {
+            return Ok(None);
+        }
+        let since = Since::soonest(task.shut().len(), &reach.soon);
+        let aim = Aim {
+            task,
+            since: &since,
+            first: &self.first,
+            delivery: 0,
+        };
+        self.deadlines
+            .least_within(&mut self.layers, &aim, looks, hops, bound)
+    }
+
+    /// Returns the least way of at most so many hops up to a bound, or what each way is above. If the first way that settling
+    /// finds has no more hops, its delivery is the least, and layers backward find the least way. Otherwise layers forward
+    /// find the least delivery before; where that was so mostly of late, they come first. None if more looks might be needed
+    /// than are left.
     pub fn run(
         &mut self,
         task: &Task<'_, A>,
@@ -60,7 +160,8 @@ impl<A: Allocator + Copy> Search<A> {
         bound: Bound,
     ) -> Result<Option<FoundWay<A>>, NoMemory>
         requires task { IsTask task.now }
-        requires bound { IsBound task.now reach.now.late.items reach.now.costs.items }
+        requires request { IsOfRequest task.now }
+        requires reach { IsReach (tabled_of task.now) task.now.request reach.now }
         requires soon { AreSince task.now reach.now.soon.items }
         requires nodes { hops ≤ most_nodes }
         ensures counted { looks.old.left ≤ looks.new.left + (3 * hops + 1) * length task.now.plan.contacts }
@@ -69,18 +170,24 @@ impl<A: Allocator + Copy> Search<A> {
         ensures found { IfOk result (λ o. IfSome o (λ way. IsFoundWay task.now hops way.numbers.items way.delivery way.bound)) }
         ensures enough { IfOk result (λ o. IfSome o (λ way. way.numbers.items ≡ [] → IsTrue (is_up_to way.bound bound.delivery bound.hops))) }
     {
+        let is_limited = hops + 1 < task.shut().len();
+        if is_limited && !self.settles.takes() {
+            return self.run_within(task, reach, looks, hops, bound);
+        }
+        let until = bound.until();
         let forward = Forward {
             task,
-            late: &reach.late,
+            late: reach.late_for(until),
             costs: &reach.costs,
             hops: &reach.hops,
-            until: bound.until(),
+            until,
         };
         let reached = self.settling.run(&forward, looks, &mut self.first)?;
         let Some(first) = reached else {
             return Ok(None);
         };
         if first.hops == 0 {
+            self.settles.win();
             return Ok(Some(FoundWay::beyond(self.alloc, bound.at_any_hops())));
         }
         let since = Since {
@@ -101,6 +208,7 @@ impl<A: Allocator + Copy> Search<A> {
                 .deadlines
                 .least_within(&mut self.layers, &aim, looks, hops, bound);
         }
+        self.settles.win();
         self.deadlines.least_up_to(&aim, looks, hops, bound)
     }
 }

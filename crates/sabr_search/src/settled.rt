@@ -6,20 +6,27 @@ ghost use Rattle.sabr_model.specs.routes.Route.{is_prefix};
 ghost use Rattle.sabr_model.specs.routes.Telling.{told_of};
 ghost use Rattle.sabr_model.specs.plan.Table.{node_count};
 ghost use Rattle.sabr_search.specs.questions.Part.{IsLeast};
-ghost use Rattle.sabr_search.specs.questions.Bounded.{IsSought, IsCutUpTo, IsWhole, bound_after, hops_sought, is_up_to};
-ghost use Rattle.sabr_search.specs.questions.Task.{IsAsked, left_of};
+ghost use Rattle.sabr_search.specs.questions.Bounded.{IsSought, IsCutUpTo, IsFloor, IsWhole, bound_after, hops_sought, is_up_to};
+ghost use Rattle.sabr_search.specs.questions.Task.{IsAsked, IsOfRequest, left_of};
 ghost use Rattle.sabr_index.specs.Looks.{looks_taken};
 ghost use Rattle.sabr_search.specs.questions.Told.{hops_told, IsCut};
+ghost use Rattle.sabr_search.specs.questions.WideTasks.{ShutsFewer};
+ghost use Rattle.sabr_search.specs.answers.Answers.{narrowed};
+ghost use Rattle.sabr_search.specs.answers.Early.{IsEarly};
 ghost use Rattle.sabr_search.specs.answers.Kept.{IsKept};
 ghost use Rattle.sabr_search.specs.answers.KeptAnswers.{IsFoundWay, AnswersAt, is_kept_after, way_hops};
 ghost use Rattle.sabr_search.specs.questions.FirstSteps.{tabled_of};
-ghost use Rattle.sabr_search.specs.layers.Late.{AreSince};
-ghost use Rattle.sabr_search.specs.layers.Settling.{IsBound};
+ghost use Rattle.sabr_search.specs.layers.Late.{IsNoneSooner};
+ghost use Rattle.sabr_search.specs.layers.Level.{IsLevel};
+ghost use Rattle.sabr_search.specs.layers.Reach.{IsReach};
 
+use crate::answers::widening::Breadth;
 use crate::backward::least_way::FoundWay;
 use crate::best::BestOf;
 use crate::bound::{Bound, BoundedPart, Sought};
 use crate::kept::Kept;
+use crate::level::Level;
+use crate::level::spending::Spending;
 use crate::links::finger::Excluded;
 use crate::part::Part;
 use crate::question::Question;
@@ -30,34 +37,68 @@ use sabr_index::{CountedPlan, Index, Looks};
 use sabr_model::{GhostCount, NoMemory, Plan, Request, Route, Told};
 use std::alloc::{Allocator, Global};
 
+/// An answer to a question before a search of its own.
+#[derive(Drop)]
+enum Early<A: Allocator + Copy> {
+    /// The one that is kept at this place.
+    Kept(usize),
+    /// A way, or what each way is above.
+    Way(FoundWay<A>),
+    /// None was found.
+    None,
+}
+
 impl<A: Allocator + Copy> Search<A> {
-    /// The place of a kept answer to the question, if there is one. Otherwise a wide question may be asked and its answer kept,
-    /// which may be the answer to this one, too.
-    fn find_kept(
+    /// The least way of the question by the layers for its floor, or what each way is above. None if there are no such
+    /// layers, if they don't pay just now, or if they don't tell enough for the bound.
+    fn find_level(
+        &mut self,
+        level: &Level<A>,
+        spending: &mut Spending,
+        asked: &Question<'_, '_, '_, A>,
+        looks: &mut Looks,
+    ) -> Result<Option<FoundWay<A>>, NoMemory>
+        requires asked { IsAsked asked.now.task.now asked.now.prefix.now }
+        requires floor { IsNoneSooner asked.now.task.now (left_of asked.now.task.now asked.now.prefix.now) asked.now.floor }
+        requires level { IsLevel (tabled_of asked.now.task.now) asked.now.task.now.request level.now }
+        ensures found { IfOk result (λ o. IfSome o (λ way. IsFoundWay asked.now.task.now (left_of asked.now.task.now asked.now.prefix.now) way.numbers.items way.delivery way.bound)) }
+        ensures enough { IfOk result (λ o. IfSome o (λ way. way.numbers.items ≡ [] → IsTrue (is_up_to way.bound asked.now.bound.delivery (asked.now.bound.hops - length asked.now.prefix.now)))) }
+    {
+        if !level.is_for(asked.floor) || !spending.takes() {
+            return Ok(None);
+        }
+        let bound = asked.bound_left();
+        let found = self.run_level(asked.task, level, looks, asked.left(), bound)?;
+        let Some(way) = found else {
+            return Ok(None);
+        };
+        if !way.tells(bound) {
+            return Ok(None);
+        }
+        spending.win();
+        Ok(Some(way))
+    }
+
+    /// The place of an answer to a wide question that is the answer to the question, too, if there is one; the answer is kept.
+    fn find_wide(
         &mut self,
         kept: &mut Kept<A>,
         asked: &Question<'_, '_, '_, A>,
         looks: &mut Looks,
+        breadth: Breadth,
     ) -> Result<Option<usize>, NoMemory>
         requires asked { IsAsked asked.now.task.now asked.now.prefix.now }
+        requires fewer { ShutsFewer asked.now.task.now kept.old.widening.shut }
+        requires request { IsOfRequest (narrowed asked.now.task.now kept.old.widening.shut asked.now.task.now.at) }
         requires kept { IsKept (tabled_of asked.now.task.now) asked.now.task.now.request kept.old }
         ensures kept { IsKept (tabled_of asked.now.task.now) asked.now.task.now.request kept.new }
-        ensures others { is_kept_after asked.now.prefix.now asked.now.task.now.excluded ≡ false → kept.new.answers.slots ≡ kept.old.answers.slots }
         ensures some { IfOk result (λ o. IfSome o (λ place. AnswersAt kept.new.answers.slots.items place asked.now.task.now (left_of asked.now.task.now asked.now.prefix.now) (bound_after asked.now.bound (length asked.now.prefix.now)))) }
     {
-        if !kept.answers.serves(asked) {
-            return Ok(None);
-        }
-        let recalled = kept.answers.recall(asked, looks);
-        if let Some(place) = recalled.place {
-            return Ok(Some(place));
-        }
-        let Some(breadth) = kept.widening.next(recalled.near, asked)? else {
-            return Ok(None);
-        };
         let wide = asked.task.with_shut(&kept.widening.shut);
         let left = asked.left();
+        let before = looks.left();
         let found = self.run(&wide, &kept.reach, looks, left, asked.bound_left())?;
+        kept.spending.search(before.saturating_sub(looks.left()));
         let Some(way) = found else {
             return Ok(None);
         };
@@ -65,6 +106,44 @@ impl<A: Allocator + Copy> Search<A> {
             return Ok(None);
         };
         Ok(kept.answers.recall_at(place, asked, looks))
+    }
+
+    /// The answer to the question within the looks that are left, if it is one that is kept, one by layers for its floor, or
+    /// that of a wide question. The own search's looks were set aside before.
+    fn find_early(
+        &mut self,
+        kept: &mut Kept<A>,
+        asked: &Question<'_, '_, '_, A>,
+        looks: &mut Looks,
+    ) -> Result<Early<A>, NoMemory>
+        requires asked { IsAsked asked.now.task.now asked.now.prefix.now }
+        requires floor { IsNoneSooner asked.now.task.now (left_of asked.now.task.now asked.now.prefix.now) asked.now.floor }
+        requires kept { IsKept (tabled_of asked.now.task.now) asked.now.task.now.request kept.old }
+        ensures kept { IsKept (tabled_of asked.now.task.now) asked.now.task.now.request kept.new }
+        ensures others { is_kept_after asked.now.prefix.now asked.now.task.now.excluded ≡ false → kept.new.answers.slots ≡ kept.old.answers.slots }
+        ensures early { IfOk result (IsEarly asked.now.task.now asked.now.prefix.now asked.now.bound kept.new.answers.slots.items) }
+    {
+        if !kept.answers.serves(asked) {
+            return match self.find_level(&kept.level, &mut kept.spending, asked, looks)? {
+                Some(way) => Ok(Early::Way(way)),
+                None => Ok(Early::None),
+            };
+        }
+        let recalled = kept.answers.recall(asked, looks);
+        if let Some(place) = recalled.place {
+            return Ok(Early::Kept(place));
+        }
+        let found = self.find_level(&kept.level, &mut kept.spending, asked, looks)?;
+        if let Some(way) = found {
+            return Ok(Early::Way(way));
+        }
+        let Some(breadth) = kept.widening.next(recalled.near, asked)? else {
+            return Ok(Early::None);
+        };
+        match self.find_wide(kept, asked, looks, breadth)? {
+            Some(place) => Ok(Early::Kept(place)),
+            None => Ok(Early::None),
+        }
     }
 
     /// The least way of the question up to its bound, by a search that never gives up.
@@ -75,8 +154,7 @@ impl<A: Allocator + Copy> Search<A> {
         looks: &mut Looks,
     ) -> Result<FoundWay<A>, NoMemory>
         requires asked { IsAsked asked.now.task.now asked.now.prefix.now }
-        requires bound { IsBound asked.now.task.now reach.now.late.items reach.now.costs.items }
-        requires soon { AreSince asked.now.task.now reach.now.soon.items }
+        requires reach { IsReach (tabled_of asked.now.task.now) asked.now.task.now.request reach.now }
         requires few { looks_taken looks.old ≤ 2 * length asked.now.task.now.plan.contacts }
         ensures bound { looks_taken looks.new ≤ 3 * length asked.now.task.now.table * length asked.now.task.now.plan.contacts }
         ensures cut { IfOk result (λ way. asked.now.task.now.request.max_hops ≡ most_hops → looks_taken looks.new ≤ (2 * way_hops (bound_after asked.now.bound (length asked.now.prefix.now)) way + 3) * length asked.now.task.now.plan.contacts) }
@@ -90,7 +168,8 @@ impl<A: Allocator + Copy> Search<A> {
         Ok(way)
     }
 
-    /// The least route after the prefix up to the bound: by an answer that is kept, or else by a search, whose answer is kept.
+    /// The least route after the prefix up to the bound: by an early answer, or else by the question's own search, whose
+    /// answer is kept.
     fn least_beside(
         &mut self,
         kept: &mut Kept<A>,
@@ -99,6 +178,7 @@ impl<A: Allocator + Copy> Search<A> {
     ) -> Result<Sought<A>, NoMemory>
         requires asked { IsAsked asked.now.task.now asked.now.prefix.now }
         requires told { asked.now.told ≡ told_of asked.now.task.now.plan asked.now.prefix.now }
+        requires floor { IsNoneSooner asked.now.task.now (left_of asked.now.task.now asked.now.prefix.now) asked.now.floor }
         requires few { looks_taken looks.old ≤ 2 * length asked.now.task.now.plan.contacts }
         requires kept { IsKept (tabled_of asked.now.task.now) asked.now.task.now.request kept.old }
         ensures kept { IsKept (tabled_of asked.now.task.now) asked.now.task.now.request kept.new }
@@ -109,16 +189,26 @@ impl<A: Allocator + Copy> Search<A> {
         ensures cut { IfOk result (IsCutUpTo asked.now.task.now.plan asked.now.task.now.request.max_hops asked.now.bound asked.now.prefix.now (looks_taken looks.new)) }
     {
         let aside = looks.set_aside(asked.task.two_passes());
-        let found = self.find_kept(kept, asked, looks);
+        let found = self.find_early(kept, asked, looks);
         looks.put_back(aside);
-        if let Some(place) = found? {
-            let answer = &kept.answers.slots[place];
-            kept.widening.count_win(answer.breadth);
-            let way = answer.lists.way();
-            let route = asked.route(self.alloc, looks, way, answer.delivery)?;
-            return Ok(Sought::up_to(route, answer.bound));
+        let early = found?;
+        match early {
+            Early::Kept(place) => {
+                let answer = &kept.answers.slots[place];
+                kept.widening.count_win(answer.breadth);
+                let way = answer.lists.way();
+                let route = asked.route(self.alloc, looks, way, answer.delivery)?;
+                return Ok(Sought::up_to(route, answer.bound));
+            }
+            Early::Way(way) => {
+                let route = asked.route(self.alloc, looks, &way.numbers, way.delivery)?;
+                return Ok(Sought::up_to(route, way.bound));
+            }
+            Early::None => {}
         }
+        let before = looks.left();
         let way = self.find_own(asked, &kept.reach, looks)?;
+        kept.spending.search(before.saturating_sub(looks.left()));
         let route = asked.route(self.alloc, looks, &way.numbers, way.delivery)?;
         kept.answers.keep_after(asked, &way);
         Ok(Sought::up_to(route, way.bound))
@@ -135,6 +225,7 @@ impl<A: Allocator + Copy> Search<A> {
     ) -> Result<Sought<A>, NoMemory>
         requires asked { IsAsked task.now part.prefix.now }
         requires told { told ≡ told_of task.now.plan part.prefix.now }
+        requires floor { IsNoneSooner task.now (left_of task.now part.prefix.now) part.floor }
         requires few { looks_taken looks.old ≤ 2 * length task.now.plan.contacts }
         requires kept { IsKept (tabled_of task.now) task.now.request kept.old }
         ensures kept { IsKept (tabled_of task.now) task.now.request kept.new }
@@ -149,6 +240,7 @@ impl<A: Allocator + Copy> Search<A> {
             prefix: part.prefix,
             told,
             bound: part.bound,
+            floor: part.floor,
         };
         self.least_beside(kept, &asked, looks)
     }
@@ -163,7 +255,7 @@ impl<A: Allocator + Copy> Search<A> {
 pub struct Settled<A: Allocator + Copy = Global> {
     /// The allocator of the buffers.
     alloc: A,
-    /// Nodes in order of arrival, and layers.
+    /// What its searches keep from call to call.
     search: Search<A>,
     /// The looks that the last call left.
     looks: Looks,
@@ -203,6 +295,7 @@ impl<A: Allocator + Copy> Settled<A> {
         part: BoundedPart<'_>,
     ) -> Result<Sought<A>, NoMemory>
         requires fits { IsTrue (is_prefix index.now.plan request.now part.prefix.now) }
+        requires floor { IsFloor index.now.plan request.now part.prefix.now part.excluded.numbers.now part.floor }
         requires few { looks_taken self.old.looks ≤ length index.now.plan.contacts }
         requires kept { IsKept index.now request.now kept.old }
         ensures sought { IfOk result (IsSought index.now.plan request.now part.entry.prefix.now part.entry.excluded.numbers.now part.entry.bound) }
@@ -218,44 +311,13 @@ impl<A: Allocator + Copy> Settled<A> {
             return Ok(Sought::None);
         };
         let stop = course.go(&mut self.looks, index, request, part.prefix)?;
-        kept.open(&mut self.looks, index, request);
+        kept.open(&mut self.looks, index, request, part);
         let task = Task::new(index, request, &course, part.excluded, stop);
         let answer = self
             .search
             .least_after(kept, &task, &mut self.looks, part, stop.told);
         kept.course = Some(course);
         answer
-    }
-
-    /// The same without a bound.
-    fn find_least(
-        &mut self,
-        kept: &mut Kept<A>,
-        index: &CountedPlan<'_, A>,
-        request: &Request,
-        prefix: &[u32],
-        excluded: Excluded<'_>,
-    ) -> Result<Option<Route<A>>, NoMemory>
-        requires fits { IsTrue (is_prefix index.now.plan request.now prefix.now) }
-        requires few { looks_taken self.old.looks ≤ length index.now.plan.contacts }
-        requires kept { IsKept index.now request.now kept.old }
-        ensures least { IfOk result (IsLeast index.now.plan request.now prefix.now excluded.entry.numbers.now) }
-        ensures bound { looks_taken self.new.looks ≤ (3 * node_count index.now.plan.contacts + 1) * length index.now.plan.contacts }
-        ensures counted { IfOk result (λ answer. hops_told answer ≤ looks_taken self.new.looks) }
-        ensures calls { self.new.calls ≡ self.old.calls }
-        ensures kept { IsKept index.now request.now kept.new }
-        ensures cut { IfOk result (IsCut index.now.plan request.now.max_hops prefix.now (looks_taken self.new.looks)) }
-    {
-        let part = BoundedPart {
-            prefix,
-            excluded,
-            bound: Bound::none(),
-        };
-        match self.find(kept, index, request, part)? {
-            Sought::Route(route) => Ok(Some(route)),
-            Sought::None => Ok(None),
-            Sought::Beyond => unreachable!(),
-        }
     }
 }
 
@@ -282,29 +344,17 @@ impl<A: Allocator + Copy> BestOf<A> for Settled<A> {
             return Err(NoMemory);
         };
         let mut kept = Kept::new(self.alloc);
-        let excluded = Excluded::of(part.excluded);
-        self.find_least(&mut kept, index.counted(), request, part.prefix, excluded)
-    }
-
-    fn best_beside(
-        &mut self,
-        kept: &mut Kept<A>,
-        index: &Index<'_, A>,
-        request: &Request,
-        prefix: &[u32],
-        excluded: Excluded<'_>,
-    ) -> Result<Option<Route<A>>, NoMemory>
-        requires fits { IsTrue (is_prefix index.now.plan request.now prefix.now) }
-        requires kept { IsKept index.now request.now kept.old }
-        ensures least { IfOk result (IsLeast index.now.plan request.now prefix.now excluded.entry.numbers.now) }
-        ensures bound { looks_taken self.new.looks ≤ (3 * node_count index.now.plan.contacts + 1) * length index.now.plan.contacts }
-        ensures counted { IfOk result (λ answer. hops_told answer ≤ looks_taken self.new.looks) }
-        ensures called { self.new.calls.count ≡ self.old.calls.count + 1 }
-        ensures kept { IsKept index.now request.now kept.new }
-        ensures cut { IfOk result (IsCut index.now.plan request.now.max_hops prefix.now (looks_taken self.new.looks)) }
-    {
-        self.begin(Looks::many());
-        self.find_least(kept, index.counted(), request, prefix, excluded)
+        let whole = BoundedPart {
+            prefix: part.prefix,
+            excluded: Excluded::of(part.excluded),
+            bound: Bound::none(),
+            floor: 0,
+        };
+        match self.find(&mut kept, index.counted(), request, whole)? {
+            Sought::Route(route) => Ok(Some(route)),
+            Sought::None => Ok(None),
+            Sought::Beyond => unreachable!(),
+        }
     }
 
     fn best_up_to(
@@ -315,8 +365,10 @@ impl<A: Allocator + Copy> BestOf<A> for Settled<A> {
         part: BoundedPart<'_>,
     ) -> Result<Sought<A>, NoMemory>
         requires fits { IsTrue (is_prefix index.now.plan request.now part.prefix.now) }
+        requires floor { IsFloor index.now.plan request.now part.prefix.now part.excluded.numbers.now part.floor }
         requires kept { IsKept index.now request.now kept.old }
         ensures sought { IfOk result (IsSought index.now.plan request.now part.entry.prefix.now part.entry.excluded.numbers.now part.entry.bound) }
+        ensures whole { IfOk result (IsWhole part.entry.bound) }
         ensures bound { looks_taken self.new.looks ≤ (3 * node_count index.now.plan.contacts + 1) * length index.now.plan.contacts }
         ensures counted { IfOk result (λ answer. hops_sought answer ≤ looks_taken self.new.looks) }
         ensures called { self.new.calls.count ≡ self.old.calls.count + 1 }

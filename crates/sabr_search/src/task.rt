@@ -1,4 +1,4 @@
-//! What a search asks, which doesn't change while it runs, and the arrival over one contact.
+//! What a search looks for, which doesn't change while it runs, and the arrival over one contact.
 
 ghost use Rattle.std.specs.Prelude.{◌≡◌, ℕ, ◌≤◌, ◌<◌, ◌+◌, ◌*◌, ◌^◌, Some, IfSome, IfNone, IsTrue, false, true, length};
 ghost use Rattle.sabr_model.specs.routes.Arrival.{cost};
@@ -19,7 +19,7 @@ use sabr_model::{Hop, Request};
 use std::alloc::Allocator;
 use std::marker::Model;
 
-/// What a search asks: the least way from a node and a second to the goal, to no node that is shut, which takes no
+/// What a search looks for: the least way from a node and a second to the goal, to no node that is shut, which takes no
 /// excluded number first.
 #[derive(Drop)]
 pub struct Task<'a, A: Allocator + Copy> {

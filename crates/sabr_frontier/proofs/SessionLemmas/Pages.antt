@@ -16,8 +16,9 @@ use Rattle.sabr_frontier.specs.tree.Asking.{Asked, best_for}
 use Rattle.sabr_frontier.specs.tree.Best.{best_of, best_up_to}
 use Rattle.sabr_frontier.specs.tree.Taking.{divided, IsTaken, fresh_nodes}
 use Rattle.sabr_frontier.specs.tree.Winners.{CarriesNone, CarriesSome, IsLeast, IsNext}
+use Rattle.sabr_frontier.specs.tree.Floors.{CarriesOnlyLeast}
 use Rattle.sabr_frontier.specs.tree.Sound.{IsTree}
-use Rattle.sabr_frontier.specs.session.Session.{IsSoundFor, IsSound, tree_before, former_of}
+use Rattle.sabr_frontier.specs.session.Session.{AreSure, IsSoundFor, IsSound, tree_before, former_of}
 use Rattle.sabr_frontier.proofs.TreeLemmas.CarryingNodes.{IsKnown, searches_are, carried_at, inside, next_is, record_is}
 use Rattle.std.specs.Option.{option_map}
 use Rattle.sabr_model.specs.routes.Route.{is_route}
@@ -130,6 +131,10 @@ module _ {A : Type 0} (p : ContactPlan) (r : RouteRequest) where
   pub sound_tree : (n : ℕ) (t : Shape A) → IsSoundFor p r n t → IsTree p r t
   sound_tree zero t h = h
   sound_tree (suc n) t h = h.0
+
+  pub sure_now : (ss : List ℕ) (t : Shape A) → AreSure p r ss t → CarriesOnlyLeast p r t
+  sure_now [] t h = h
+  sure_now (s ∷ ss) t h = h.0
 
   pub sound_taken : (t u : Shape A) → IsGiven p r t u → IsSound p r t → IsSound p r u
   sound_taken t u g h =

@@ -6,7 +6,7 @@ use Rattle.std.specs.declared.option.Option.TheVariants.{Some, None}
 use Rattle.sabr_search.specs.declared.bound.Bound.{Bound}
 use Rattle.sabr_search.specs.declared.bound.Sought.{Sought}
 use Rattle.sabr_search.specs.declared.bound.Sought.TheVariants.{Route, None as NoRoute, Beyond}
-use Rattle.sabr_search.specs.questions.Bounded.{is_up_to}
+use Rattle.sabr_search.specs.questions.Bounded.{is_up_to, no_bound}
 use Rattle.sabr_model.specs.plan.Plan.{ContactPlan}
 use Rattle.sabr_model.specs.routes.Arrival.{RouteRequest}
 use Rattle.sabr_model.specs.routes.Parts.{least_in}
@@ -21,11 +21,17 @@ abbrev pub up_to : Bound → Option RouteRecord → Option RouteRecord
 up_to b None = None
 up_to b (Some x) = if is_up_to b x.delivery (length x.contacts) then Some x else None
 
--- what of an answer is up to the bound
-abbrev pub found_up_to : {A : Type 0} → Bound → Sought A → Option RouteRecord
-found_up_to b (Route x) = up_to b (Some x)
-found_up_to b NoRoute = None
-found_up_to b Beyond = None
+-- what a finder is asked up to
+abbrev pub bound_in : Option Bound → Bound
+bound_in None = no_bound
+bound_in (Some b) = b
+
+-- what of an answer is up to the bound, if there is one
+abbrev pub found_by : {A : Type 0} → Sought A → Option Bound → Option RouteRecord
+found_by (Route x) None = Some x
+found_by (Route x) (Some b) = up_to b (Some x)
+found_by NoRoute o = None
+found_by Beyond o = None
 
 -- the record of the least route of a part if it is up to the bound, where there is one
 abbrev pub best_up_to : ContactPlan → RouteRequest → Option Bound → List ℕ → List ℕ → Option RouteRecord

@@ -3,8 +3,9 @@
 ghost use Rattle.std.specs.Prelude.{◌≡◌, ◌+◌, IfOk, IsTrue};
 ghost use Rattle.std.specs.List.Sorted.{IsStrictlyIncreasing};
 ghost use Rattle.sabr_model.specs.routes.Route.{is_prefix};
+ghost use Rattle.sabr_search.specs.questions.Bounded.{IsFloor};
 ghost use Rattle.sabr_frontier.specs.tree.Asking.{asked_of, asked_over, best_for};
-ghost use Rattle.sabr_frontier.specs.tree.Best.{found_up_to};
+ghost use Rattle.sabr_frontier.specs.tree.Best.{bound_in, found_by};
 
 use crate::plan_request::PlanRequest;
 use sabr_index::Index;
@@ -13,14 +14,27 @@ use sabr_search::{BestOf, Bound, BoundedPart, Excluded, Kept, Sought};
 use std::alloc::{Allocator, Global};
 use std::marker::Model;
 
-/// The route that was found, if it is up to the bound.
-fn up_to<A: Allocator + Copy>(sought: Sought<A>, bound: Bound) -> Option<Route<A>>
-    ensures { result ≡ found_up_to bound sought }
+/// What a finder is asked up to.
+fn bound_in(bound: Option<Bound>) -> Bound
+    ensures { result ≡ bound_in bound }
+{
+    match bound {
+        Some(most) => most,
+        None => Bound::none(),
+    }
+}
+
+/// The route that was found, if it is up to the bound, where there is one.
+fn up_to<A: Allocator + Copy>(sought: Sought<A>, bound: Option<Bound>) -> Option<Route<A>>
+    ensures { result ≡ found_by sought bound }
 {
     let Sought::Route(route) = sought else {
         return None;
     };
-    if bound.holds(route.delivery, route.contacts.as_slice().len()) {
+    let Some(most) = bound else {
+        return Some(route);
+    };
+    if most.holds(route.delivery, route.contacts.as_slice().len()) {
         return Some(route);
     }
     None
@@ -133,15 +147,18 @@ impl<'p, B: BestOf<A>, A: Allocator + Copy> Asker<'p, B, A> {
         &self.request
     }
 
-    /// Asks for the least route of a part whose excluded numbers rise. One above the bound is none.
+    /// Asks for the least route of a part whose excluded numbers rise, and none of whose routes delivers before the second
+    /// `floor`. One above the bound is none.
     #[tactic(auto, unfolding(crate::specs::tree::Best::best_of))]
     pub fn ask<'x>(
         &mut self,
         prefix: &'x [u32],
         excluded: &'x [u32],
+        floor: u64,
     ) -> Result<Option<Route<A>>, NoMemory>
         requires fits { IsTrue (is_prefix self.old.asked.plan.plan self.old.asked.request prefix.now) }
         requires rising { IsStrictlyIncreasing excluded.now }
+        requires floor { IsFloor self.old.asked.plan.plan self.old.asked.request prefix.now excluded.now floor }
         ensures best { IfOk result (λ found. found ≡ best_for self.old.asked prefix.now excluded.now) }
         ensures called { self.new.calls ≡ self.old.calls + 1 }
         ensures same { self.new.asked ≡ self.old.asked }
@@ -151,23 +168,15 @@ impl<'p, B: BestOf<A>, A: Allocator + Copy> Asker<'p, B, A> {
             numbers: excluded,
             rising: true,
         };
-        let Some(bound) = self.bound else {
-            return self.finder.best_beside(
-                &mut self.kept,
-                &self.index,
-                &self.request,
-                prefix,
-                excluded,
-            );
-        };
         let part = BoundedPart {
             prefix,
             excluded,
-            bound,
+            bound: bound_in(self.bound),
+            floor,
         };
         let sought = self
             .finder
             .best_up_to(&mut self.kept, &self.index, &self.request, part)?;
-        Ok(up_to(sought, bound))
+        Ok(up_to(sought, self.bound))
     }
 }

@@ -4,6 +4,7 @@ ghost use Rattle.std.specs.Prelude.{◌≡◌, ◌+◌, ◌≤◌, ◌<◌, ◌+
 ghost use Rattle.std.specs.Ordering.{nat_cmp};
 ghost use Rattle.sabr_model.specs.routes.Route.{is_route};
 ghost use Rattle.sabr_frontier.specs.tree.Asking.{best_for};
+ghost use Rattle.sabr_frontier.specs.tree.Floors.{IsFloorAfter, IsFloorOf};
 ghost use Rattle.sabr_frontier.specs.listing.Rising.{Rises};
 ghost use Rattle.sabr_frontier.specs.tree.Undo.{modify};
 ghost use Rattle.sabr_frontier.specs.tree.Taking.{OfNode, fresh_after, fresh_node, fresh_nodes, wide_of};
@@ -38,40 +39,53 @@ pub fn numbers<A: Allocator + Copy>(route: &Route<A>) -> &[u32]
     route.contacts.as_slice()
 }
 
-/// Asks for the least route that begins with the first `count` numbers of a route and takes another number next.
-#[tactic(auto, using(crate::proofs::ListingLemmas::Paths::beginning_fits))]
+/// What is told of a route that is given.
+#[derive(Clone, Copy)]
+pub struct Given {
+    /// The leaf that it is then.
+    pub leaf: usize,
+    /// A second before which no route of the part that carried it delivers.
+    pub floor: u64,
+}
+
+/// Asks for the least route that begins with the first `count` numbers of a route and takes another number next. None that
+/// goes on after these delivers before the second `floor`.
+#[tactic(auto, using(crate::proofs::ListingLemmas::Paths::beginning_fits, crate::proofs::TreeLemmas::Floors::floor_one))]
 pub fn ask_after<B: BestOf<A>, A: Allocator + Copy>(
     asker: &mut Asker<'_, B, A>,
     route: &[u32],
     count: usize,
+    floor: u64,
 ) -> Result<Option<Route<A>>, NoMemory>
+    requires floor { IsFloorAfter asker.old.asked.plan.plan asker.old.asked.request route.now count floor }
     requires route { IsTrue (is_route asker.old.asked.plan.plan asker.old.asked.request route.now) }
     requires longer { count < length route.now }
     ensures best { IfOk result (λ found. found ≡ best_for asker.old.asked (take count route.now) (slice_index route.now count ∷ [])) }
     ensures called { asker.new.calls ≡ asker.old.calls + 1 }
     ensures same { asker.new.asked ≡ asker.old.asked }
 {
-    asker.ask(&route[..count], slice::from_ref(&route[count]))
+    asker.ask(&route[..count], slice::from_ref(&route[count]), floor)
 }
 
 /// Makes the node of a leaf for the first `count` numbers of a route, with its next number excluded.
 fn fresh_node<B: BestOf<A>, A: Allocator + Copy>(
     asker: &mut Asker<'_, B, A>,
-    leaf: usize,
     route: &[u32],
+    given: Given,
     count: usize,
 ) -> Result<Node<A>, NoMemory>
+    requires floor { IsFloorAfter asker.old.asked.plan.plan asker.old.asked.request route.now count given.floor }
     requires route { IsTrue (is_route asker.old.asked.plan.plan asker.old.asked.request route.now) }
     requires longer { count < length route.now }
 
     // It finds the node by one search, which may be refused. The question stays.
-    ensures node { IfOk result (λ n. n ≡ fresh_node (best_for asker.old.asked) leaf route.now count) }
+    ensures node { IfOk result (λ n. n ≡ fresh_node (best_for asker.old.asked) given.leaf route.now count) }
     ensures called { asker.new.calls ≡ asker.old.calls + 1 }
     ensures same { asker.new.asked ≡ asker.old.asked }
 {
-    let found = ask_after(asker, route, count)?;
+    let found = ask_after(asker, route, count, given.floor)?;
     Ok(Node {
-        leaf,
+        leaf: given.leaf,
         length: count,
         excluded: ExcludedNumbers::one(asker.alloc(), route[count]),
         route: found,
@@ -84,16 +98,17 @@ fn fresh_node<B: BestOf<A>, A: Allocator + Copy>(
 fn fresh_nodes<B: BestOf<A>, A: Allocator + Copy>(
     asker: &mut Asker<'_, B, A>,
     nodes: &mut Vec<Node<A>, A>,
-    leaf: usize,
     route: &[u32],
+    given: Given,
     first: usize,
 ) -> Result<(), NoMemory>
     requires route { IsTrue (is_route asker.old.asked.plan.plan asker.old.asked.request route.now) }
+    requires floor { IsFloorAfter asker.old.asked.plan.plan asker.old.asked.request route.now first given.floor }
     requires within { first ≤ length route.now }
     requires room { vec_len nodes.old + length route.now ≤ vec_capacity nodes.old + first }
 
     // It adds a node for each number left, by a search each.
-    ensures nodes { OnOk result (nodes.new.items ≡ nodes.old.items ++ fresh_nodes (best_for asker.old.asked) leaf (take first route.now) (drop first route.now)) }
+    ensures nodes { OnOk result (nodes.new.items ≡ nodes.old.items ++ fresh_nodes (best_for asker.old.asked) given.leaf (take first route.now) (drop first route.now)) }
     ensures called { OnOk result (asker.new.calls + vec_len nodes.old ≡ asker.old.calls + vec_len nodes.new) }
 
     // A refusal comes after some of the searches, and may leave some of the nodes.
@@ -106,31 +121,33 @@ fn fresh_nodes<B: BestOf<A>, A: Allocator + Copy>(
     ensures front { take (length nodes.old.items) nodes.new.items ≡ nodes.old.items }
 {
     for count in first..route.len() {
-        let node = fresh_node(asker, leaf, route, count)?;
+        let node = fresh_node(asker, route, given, count)?;
         nodes.push_reserved(node);
     }
     Ok(())
 }
 
-/// Finds what a node carries next, for the numbers that it excludes, and adds the new nodes of its route, which is then
-/// the leaf `leaf`. It takes one search for the node itself, and one for each new node.
+/// Finds what a node carries next, for the numbers that it excludes, and adds the new nodes of its route, which is then a
+/// leaf. It takes one search for the node itself, and one for each new node.
 #[tactic(auto, using(crate::proofs::ListingLemmas::Paths::beginning_fits, crate::proofs::TreeLemmas::ModifiedPlaces::get_there, crate::proofs::TreeLemmas::TestBoundaries::increasing))]
 fn search<B: BestOf<A>, A: Allocator + Copy>(
     asker: &mut Asker<'_, B, A>,
     nodes: &mut Vec<Node<A>, A>,
     node: NodeId,
     route: &[u32],
-    leaf: usize,
+    given: Given,
 ) -> Result<Option<Route<A>>, NoMemory>
     requires in_range { node.0 < vec_len nodes.old }
     requires route { IsTrue (is_route asker.old.asked.plan.plan asker.old.asked.request route.now) }
     requires longer { OfNode nodes.old.items node (λ n. n.length < length route.now) }
     requires rising { OfNode nodes.old.items node (λ n. Rises nat_cmp n.excluded) }
+    requires floor { OfNode nodes.old.items node (IsFloorOf asker.old.asked.plan.plan asker.old.asked.request route.now given.floor) }
+    requires after { OfNode nodes.old.items node (λ n. IsFloorAfter asker.old.asked.plan.plan asker.old.asked.request route.now (n.length + 1) given.floor) }
     requires room { vec_len nodes.old + length route.now ≤ vec_capacity nodes.old }
 
     // It finds what the node carries, and adds the new nodes, by a search each.
     ensures found { IfOk result (λ found. OfNode nodes.old.items node (λ n. found ≡ best_for asker.old.asked (take n.length route.now) n.excluded)) }
-    ensures nodes { OnOk result (OfNode nodes.old.items node (λ n. nodes.new.items ≡ nodes.old.items ++ fresh_after (best_for asker.old.asked) leaf n route.now)) }
+    ensures nodes { OnOk result (OfNode nodes.old.items node (λ n. nodes.new.items ≡ nodes.old.items ++ fresh_after (best_for asker.old.asked) given.leaf n route.now)) }
     ensures called { OnOk result (asker.new.calls + vec_len nodes.old ≡ asker.old.calls + (vec_len nodes.new + 1)) }
 
     // A refusal comes after some of the searches, and may leave some of the nodes.
@@ -144,8 +161,8 @@ fn search<B: BestOf<A>, A: Allocator + Copy>(
 {
     let part = &nodes[node.0];
     let count = part.length;
-    let found = asker.ask(&route[..count], part.excluded.as_slice())?;
-    fresh_nodes(asker, nodes, leaf, route, count + 1)?;
+    let found = asker.ask(&route[..count], part.excluded.as_slice(), given.floor)?;
+    fresh_nodes(asker, nodes, route, given, count + 1)?;
     Ok(found)
 }
 
@@ -180,7 +197,7 @@ fn include_next<A: Allocator + Copy>(nodes: &mut Vec<Node<A>, A>, node: NodeId, 
     part.excluded.forget(number);
 }
 
-/// Divides the part of a node by a route of it, which is then the leaf `leaf`: the node excludes one number more, and
+/// Divides the part of a node by a route of it, which is then a leaf: the node excludes one number more, and
 /// the new parts come after the others. There is room for them. It returns what the node carries then. After a refusal
 /// the nodes are as they were.
 #[tactic(auto, using(crate::proofs::TreeLemmas::ModifiedPlaces::get_same))]
@@ -189,16 +206,17 @@ pub fn divide<B: BestOf<A>, A: Allocator + Copy>(
     nodes: &mut Vec<Node<A>, A>,
     node: NodeId,
     route: &[u32],
-    leaf: usize,
+    given: Given,
 ) -> Result<Option<Route<A>>, NoMemory>
     requires in_range { node.0 < vec_len nodes.old }
     requires route { IsTrue (is_route asker.old.asked.plan.plan asker.old.asked.request route.now) }
     requires next { OfNode nodes.old.items node (λ n. CanExclude n route.now) }
+    requires floor { OfNode nodes.old.items node (IsFloorOf asker.old.asked.plan.plan asker.old.asked.request route.now given.floor) }
     requires room { vec_len nodes.old + length route.now ≤ vec_capacity nodes.old }
 
     // It finds what the node carries, and changes and adds nodes, by a search each.
     ensures found { IfOk result (λ found. OfNode nodes.old.items node (λ n. found ≡ best_for asker.old.asked (take n.length route.now) (wide_of n route.now))) }
-    ensures ok { OnOk result (OfNode nodes.old.items node (λ n. nodes.new.items ≡ modify (excluding route.now) nodes.old.items node.0 ++ fresh_after (best_for asker.old.asked) leaf n route.now)) }
+    ensures ok { OnOk result (OfNode nodes.old.items node (λ n. nodes.new.items ≡ modify (excluding route.now) nodes.old.items node.0 ++ fresh_after (best_for asker.old.asked) given.leaf n route.now)) }
     ensures called { OnOk result (asker.new.calls + vec_len nodes.old ≡ asker.old.calls + (vec_len nodes.new + 1)) }
 
     // A refusal comes after some of the searches, and leaves the nodes as they were.
@@ -212,7 +230,7 @@ pub fn divide<B: BestOf<A>, A: Allocator + Copy>(
 {
     exclude_next(nodes, node, route)?;
     let count = nodes.len();
-    match search(asker, nodes, node, route, leaf) {
+    match search(asker, nodes, node, route, given) {
         Ok(found) => Ok(found),
         Err(refused) => {
             nodes.truncate(count);

@@ -5,6 +5,7 @@ ghost use Rattle.sabr_model.specs.plan.Plan.{IsPlan};
 ghost use Rattle.sabr_model.specs.routes.Route.{is_route};
 ghost use Rattle.sabr_frontier.specs.listing.Listing.{next_route, searches_in};
 ghost use Rattle.sabr_frontier.specs.tree.Asking.{best_for, records_for, steps_for};
+ghost use Rattle.sabr_frontier.specs.tree.Floors.{CarriesOnlyLeast, IsFloorAfter, IsFloorOf};
 ghost use Rattle.sabr_frontier.specs.tree.Left.{longer_go_on, others_carry, part_goes_on, some_carry};
 ghost use Rattle.sabr_frontier.specs.tree.Shape.{shape_of, shown};
 ghost use Rattle.sabr_frontier.specs.tree.Sound.{CanExclude, IsTree};
@@ -14,6 +15,7 @@ ghost use Rattle.sabr_frontier.specs.tree.Undo.{IsRoomy};
 use crate::giving::asker::Asker;
 use crate::giving::divide::{ask_after, numbers};
 use crate::giving::other_end::other_end;
+use crate::giving::take::floor_of;
 use crate::tree::{Node, NodeId, Tree};
 use sabr_model::{NoMemory, Route};
 use sabr_search::BestOf;
@@ -35,22 +37,25 @@ fn others_carry<A: Allocator + Copy>(nodes: &[Node<A>], node: NodeId) -> bool
 }
 
 /// Returns true if some beginning of a route with at least `first` numbers also begins another route, which takes
-/// another number next. It takes a search for each beginning, up to the first that has one.
+/// another number next. It takes a search for each beginning, up to the first that has one. No route that goes on after
+/// `first` numbers delivers before the second `floor`.
 #[tactic(auto, using(crate::proofs::TreeLemmas::ListFronts::longer_next))]
 fn longer_go_on<B: BestOf<A>, A: Allocator + Copy>(
     asker: &mut Asker<'_, B, A>,
     route: &[u32],
     first: usize,
+    floor: u64,
 ) -> Result<bool, NoMemory>
     requires route { IsTrue (is_route asker.old.asked.plan.plan asker.old.asked.request route.now) }
     requires within { first ≤ length route.now }
+    requires floor { IsFloorAfter asker.old.asked.plan.plan asker.old.asked.request route.now first floor }
     ensures ok { IfOk result (λ yes. yes ≡ longer_go_on (best_for asker.old.asked) (take first route.now) (drop first route.now)) }
     ensures no_fewer { asker.old.calls ≤ asker.new.calls }
     ensures at_most { asker.new.calls + first ≤ asker.old.calls + length route.now }
     ensures same { asker.new.asked ≡ asker.old.asked }
 {
     for count in first..route.len() {
-        let found = ask_after(asker, route, count)?;
+        let found = ask_after(asker, route, count, floor)?;
         if found.is_some() {
             return Ok(true);
         }
@@ -65,9 +70,11 @@ fn part_goes_on<B: BestOf<A>, A: Allocator + Copy>(
     asker: &mut Asker<'_, B, A>,
     part: &Node<A>,
     route: &[u32],
+    floor: u64,
 ) -> Result<bool, NoMemory>
     requires route { IsTrue (is_route asker.old.asked.plan.plan asker.old.asked.request route.now) }
     requires next { CanExclude part.now route.now }
+    requires floor { IsFloorOf asker.old.asked.plan.plan asker.old.asked.request route.now floor part.now }
     requires unbounded { asker.old.asked.bound ≡ None }
     ensures ok { IfOk result (λ yes. yes ≡ part_goes_on (best_for asker.old.asked) part.now route.now) }
     ensures no_fewer { asker.old.calls ≤ asker.new.calls }
@@ -81,11 +88,11 @@ fn part_goes_on<B: BestOf<A>, A: Allocator + Copy>(
     }
     let count = part.length;
     let excluded = part.excluded.with(asker.alloc(), route[count])?;
-    let found = asker.ask(&route[..count], excluded.as_slice())?;
+    let found = asker.ask(&route[..count], excluded.as_slice(), floor)?;
     if found.is_some() {
         return Ok(true);
     }
-    longer_go_on(asker, route, count + 1)
+    longer_go_on(asker, route, count + 1, floor)
 }
 
 impl<A: Allocator + Copy> Tree<A> {
@@ -95,10 +102,12 @@ impl<A: Allocator + Copy> Tree<A> {
         asker: &mut Asker<'_, B, A>,
         node: NodeId,
         route: &[u32],
+        floor: u64,
     ) -> Result<bool, NoMemory>
         requires in_range { node.0 < length self.now.nodes.items }
         requires route { IsTrue (is_route asker.old.asked.plan.plan asker.old.asked.request route.now) }
         requires next { OfNode self.now.nodes.items node (λ n. CanExclude n route.now) }
+        requires floor { OfNode self.now.nodes.items node (IsFloorOf asker.old.asked.plan.plan asker.old.asked.request route.now floor) }
         requires unbounded { asker.old.asked.bound ≡ None }
         ensures ok { IfOk result (λ yes. OfNode self.now.nodes.items node (λ n. yes ≡ (others_carry self.now.nodes.items node || part_goes_on (best_for asker.old.asked) n route.now))) }
         ensures no_fewer { asker.old.calls ≤ asker.new.calls }
@@ -108,7 +117,7 @@ impl<A: Allocator + Copy> Tree<A> {
         if others_carry(self.nodes.as_slice(), node) {
             return Ok(true);
         }
-        part_goes_on(asker, &self.nodes[node.0], route)
+        part_goes_on(asker, &self.nodes[node.0], route, floor)
     }
 
     /// Puts the least route that a node carries after others, and tells whether a route would be left once it is given.
@@ -117,11 +126,13 @@ impl<A: Allocator + Copy> Tree<A> {
         &self,
         asker: &mut Asker<'_, B, A>,
         routes: &mut Vec<Route<A>, A>,
+        sure: bool,
     ) -> Result<bool, NoMemory>
         requires plan { IsPlan asker.old.asked.plan.plan }
         requires unbounded { asker.old.asked.bound ≡ None }
         requires tree { IsTree asker.old.asked.plan.plan asker.old.asked.request (shape_of self.now) }
         requires room { IsRoomy self.now }
+        requires sure { IsTrue sure → CarriesOnlyLeast asker.old.asked.plan.plan asker.old.asked.request (shape_of self.now) }
 
         // The route is the one that a step gives, or none if none is left. It tells whether one is left after the step.
         ensures routes { OnOk result (routes.new.items ≡ routes.old.items ++ records_for asker.old.asked (steps_for asker.old.asked 1 (shown (shape_of self.now))).0) }
@@ -136,7 +147,8 @@ impl<A: Allocator + Copy> Tree<A> {
             return Ok(false);
         };
         let route = self.copy_carried(asker.alloc(), node)?;
-        let more = self.goes_on_after(asker, node, numbers(&route))?;
+        let floor = floor_of(&route, sure);
+        let more = self.goes_on_after(asker, node, numbers(&route), floor)?;
         routes.push(route)?;
         Ok(more)
     }

@@ -1,6 +1,6 @@
 //! The page after which a listing isn't gone on with.
 
-ghost use Rattle.std.specs.Prelude.{◌≡◌, ◌+◌, ◌<◌, ◌≤◌, ◌++◌, None, drop, is_some, length, IfOk, OnOk};
+ghost use Rattle.std.specs.Prelude.{◌≡◌, ◌+◌, ◌<◌, ◌≤◌, ◌++◌, None, drop, is_some, length, IfOk, IsTrue, OnOk};
 ghost use Rattle.sabr_model.specs.plan.Plan.{IsPlan};
 ghost use Rattle.sabr_model.specs.routes.Asking.{IsRequest};
 ghost use Rattle.sabr_frontier.specs.listing.Listing.{most_routes, next_route, searches_in};
@@ -9,6 +9,7 @@ ghost use Rattle.sabr_frontier.specs.session.Session.{IsSound, started};
 ghost use Rattle.sabr_frontier.specs.tree.Asking.{records_for, steps_for};
 ghost use Rattle.sabr_frontier.specs.tree.Shape.{shape_of, shown};
 ghost use Rattle.sabr_frontier.specs.tree.Cut.{ShowsCut};
+ghost use Rattle.sabr_frontier.specs.tree.Floors.{CarriesOnlyLeast};
 ghost use Rattle.sabr_frontier.specs.tree.Taking.{OfNode};
 ghost use Rattle.sabr_frontier.specs.tree.Undo.{IsRoomy};
 ghost use Rattle.sabr_frontier.specs.giving.LeastKeys.{AreNoted, CarryKeys, carried_keys, keys_of};
@@ -60,9 +61,10 @@ impl<'p, B: BestOf<A>, A: Allocator + Copy> Session<'p, B, A> {
             mut tree,
             pages: _,
             searches: _,
+            is_sure,
         } = self;
         let mut routes = Vec::new(asker.alloc());
-        let more = tree.give_last(&mut asker, count, &mut routes)?;
+        let more = tree.give_last(&mut asker, count, &mut routes, is_sure)?;
         Ok(LastPage {
             asker,
             routes,
@@ -73,12 +75,14 @@ impl<'p, B: BestOf<A>, A: Allocator + Copy> Session<'p, B, A> {
 
 impl<A: Allocator + Copy> Tree<A> {
     /// Puts the next `count` routes after others, or all that are left if they are fewer, and tells whether a route is
-    /// left after them. It borrows what [`last_page`](Session::last_page) owns.
+    /// left after them. It borrows what [`last_page`](Session::last_page) owns. It may be sure that each node carries the
+    /// least route of its part.
     fn give_last<B: BestOf<A>>(
         &mut self,
         asker: &mut Asker<'_, B, A>,
         count: u32,
         routes: &mut Vec<Route<A>, A>,
+        sure: bool,
     ) -> Result<bool, NoMemory>
         requires plan { IsPlan asker.old.asked.plan.plan }
         requires unbounded { asker.old.asked.bound ≡ None }
@@ -86,6 +90,7 @@ impl<A: Allocator + Copy> Tree<A> {
         requires count { count ≤ most_routes }
         requires sound { IsSound asker.old.asked.plan.plan asker.old.asked.request (shape_of self.old) }
         requires room { IsRoomy self.old }
+        requires sure { IsTrue sure → CarriesOnlyLeast asker.old.asked.plan.plan asker.old.asked.request (shape_of self.old) }
 
         // The routes are those of the steps, and it tells whether one is left after these.
         ensures routes { OnOk result (routes.new.items ≡ routes.old.items ++ records_for asker.old.asked (steps_for asker.old.asked count (shown (shape_of self.old))).0) }
@@ -99,10 +104,10 @@ impl<A: Allocator + Copy> Tree<A> {
         if count == 0 {
             return Ok(!self.is_empty());
         }
-        let gathered = self.gather_up_to(asker, count - 1, routes);
+        let gathered = self.gather_up_to(asker, count - 1, routes, sure);
         asker.ask_up_to(None);
         gathered?;
-        self.peek(asker, routes)
+        self.peek(asker, routes, sure)
     }
 
     /// Gives the next `count` routes, or all that are left if they are fewer. Of the parts that they make, it looks for no
@@ -112,18 +117,21 @@ impl<A: Allocator + Copy> Tree<A> {
         asker: &mut Asker<'_, B, A>,
         count: u32,
         routes: &mut Vec<Route<A>, A>,
+        sure: bool,
     ) -> Result<(), NoMemory>
         requires plan { IsPlan asker.old.asked.plan.plan }
         requires limits { IsRequest asker.old.asked.request }
         requires count { count ≤ most_routes }
         requires sound { IsSound asker.old.asked.plan.plan asker.old.asked.request (shape_of self.old) }
         requires room { IsRoomy self.old }
+        requires sure { IsTrue sure → CarriesOnlyLeast asker.old.asked.plan.plan asker.old.asked.request (shape_of self.old) }
 
         // The routes are those of the steps. The tree shows the state after them, but for routes that its nodes don't carry,
         // each after two others at the least.
         ensures routes { OnOk result (routes.new.items ≡ routes.old.items ++ records_for asker.old.asked (steps_for asker.old.asked count (shown (shape_of self.old))).0) }
         ensures state { OnOk result (ShowsCut asker.old.asked 2 (steps_for asker.old.asked count (shown (shape_of self.old))).1 (shape_of self.new)) }
         ensures room { OnOk result (IsRoomy self.new) }
+        ensures sure { OnOk result (IsTrue sure → CarriesOnlyLeast asker.old.asked.plan.plan asker.old.asked.request (shape_of self.new)) }
 
         // It takes as many searches as the steps. The question stays, but for its bound.
         ensures called { OnOk result (asker.new.calls ≡ asker.old.calls + searches_in asker.old.asked.plan.plan asker.old.asked.request count (shown (shape_of self.old))) }
@@ -136,7 +144,7 @@ impl<A: Allocator + Copy> Tree<A> {
                 return Ok(());
             }
             asker.ask_up_to(keys.bound());
-            self.take(asker, routes)?;
+            self.take(asker, routes, sure)?;
             let Some(entry) = self.journal.as_slice().last() else {
                 unreachable!()
             };

@@ -1,10 +1,10 @@
 -- What an answer after a prefix comes to: it is the least route, and the looks are within the bounds of a finder.
-use Rattle.std.proofs.Common.{◌≡◌, ◌≢◌, ◌⊎◌, inl, inr, ℕ, ◌+◌, ◌-◌, ◌*◌, ◌^◌, ◌<◌, ◌≤◌, min, true, false, cond, eqb, List, [], ◌∷◌, ◌++◌, length, Option, Some, None, refl, ap, sym, subst, ◌∙◌, arith, length-append}
+use Rattle.std.proofs.Common.{◌≡◌, ◌≢◌, ◌⊎◌, inl, inr, ℕ, zero, suc, ◌+◌, ◌-◌, ◌*◌, ◌^◌, ◌<◌, ◌≤◌, min, true, false, cond, eqb, List, [], ◌∷◌, ◌++◌, length, slice_index_or, Option, Some, None, refl, ap, sym, subst, ◌∙◌, arith, length-append}
 use Rattle.std.specs.Prelude.{IsTrue, IfOk, OnErr}
 use Rattle.std.specs.declared.result.Result.{Result}
 use Rattle.std.specs.declared.result.Result.TheVariants.{Ok, Err}
 use Rattle.std.proofs.Math.Nat.{mul-le-mul, mul-le-mul_right}
-use Rattle.std.proofs.lemmas.Bool.{and_parts, both_ways, eq-eqb, eqb-true}
+use Rattle.std.proofs.lemmas.Bool.{and_parts, and_from, cases_lt, both_ways, eq-eqb, eqb-true}
 use Rattle.sabr_model.specs.routes.Parts.{goes_on}
 use Rattle.sabr_model.specs.routes.Asking.{most_hops}
 use Rattle.sabr_model.specs.routes.Record.{RouteRecord}
@@ -12,9 +12,11 @@ use Rattle.sabr_model.specs.routes.Route.{is_route}
 use Rattle.sabr_search.specs.declared.bound.Bound.{Bound}
 use Rattle.sabr_search.specs.declared.bound.Sought.TheVariants.{None as NoRoute, Beyond}
 use Rattle.sabr_index.specs.declared.looks.Looks.{Looks}
-use Rattle.sabr_search.specs.questions.Bounded.{IsBeyond, IsSought, IsCutUpTo, bound_after, hops_sought, is_none, is_up_to, sought_up_to}
+use Rattle.sabr_search.specs.questions.Bounded.{IsBeyond, IsFloor, IsSought, IsCutUpTo, bound_after, hops_sought, is_none, is_up_to, sought_up_to}
 use Rattle.sabr_search.specs.questions.Part.{IsLeast}
-use Rattle.sabr_search.specs.questions.Task.{SearchTask, IsAsked, left_of}
+use Rattle.sabr_search.specs.questions.Task.{SearchTask, IsAsked, Takes, left_of}
+use Rattle.sabr_search.specs.questions.Ways.{Leads}
+use Rattle.sabr_search.specs.layers.Late.{IsNoneSooner}
 use Rattle.sabr_search.specs.layers.Picks.{IsLeastWay}
 use Rattle.sabr_index.specs.Looks.{looks_taken}
 use Rattle.sabr_search.specs.questions.Told.{hops_told}
@@ -23,7 +25,7 @@ use Rattle.sabr_search.specs.answers.KeptAnswers.{IsFoundWay}
 use Rattle.sabr_search.proofs.WayLemmas.Prefixes.{IsPrefix, prefix_facts}
 use Rattle.sabr_search.proofs.WayLemmas.Bounds.{above_before, still_above}
 use Rattle.sabr_search.proofs.WayLemmas.Least.{delivered}
-use Rattle.sabr_search.proofs.WayLemmas.PartWays.{IsPartWay, part_way}
+use Rattle.sabr_search.proofs.WayLemmas.PartWays.{IsPartWay, part_way, way_is_route}
 use Rattle.sabr_search.proofs.AnswerLemmas.Law.{contacts_few, prefix_few, found_is_least, none_is_least, behind_sizes}
 use Rattle.sabr_search.proofs.AnswerLemmas.BoundedWays.{none_beyond}
 use Rattle.sabr_search.proofs.WayLemmas.Shortness.{way_few}
@@ -66,12 +68,35 @@ module _ (task : SearchTask) (prefix : List ℕ) (asked : IsAsked task prefix) w
       let sizes = behind_sizes task asked.task_is prefix ns route in
       elim (left_cases task prefix) [ inl free ↦ omega (arith, free.1, sizes.1) | inr limited ↦ omega (arith, limited.1, sizes.0, sizes.1) ]
 
-  -- and the least way makes a route
-  left_fits : (ceiling : ℕ) (s : List ℕ) (d : ℕ) → IsLeastWay task (left_of task prefix) ceiling s d → length prefix + length s ≤ task.request.max_hops
-  left_fits ceiling s d least = elim (left_cases task prefix) [
-    | inl free ↦ omega (arith, free.0, contacts_few task.plan asked.task_is.plan, way_few task prefix asked.behind facts s d least.way least.fewest)
-    | inr limited ↦ omega (arith, limited.1, least.within, facts.within)
+  -- and a way of the fewest hops makes a route
+  ways_fit : (s : List ℕ) (d : ℕ) → length s ≤ left_of task prefix → Leads (Takes task) task.start task.at s task.goal d → ((ns : List ℕ) (e : ℕ) → length ns < length s → Leads (Takes task) task.start task.at ns task.goal e → d < e) → length prefix + length s ≤ task.request.max_hops
+  ways_fit s d within way fewest = elim (left_cases task prefix) [
+    | inl free ↦ omega (arith, free.0, contacts_few task.plan asked.task_is.plan, way_few task prefix asked.behind facts s d way fewest)
+    | inr limited ↦ omega (arith, limited.1, within, facts.within)
   ]
+
+  left_fits : (ceiling : ℕ) (s : List ℕ) (d : ℕ) → IsLeastWay task (left_of task prefix) ceiling s d → length prefix + length s ≤ task.request.max_hops
+  left_fits ceiling s d least = ways_fit s d least.within least.way least.fewest
+
+  -- no way within what is left delivers before a second that no route of the part does
+  floor_below : (d : ℕ) → IsFloor task.plan task.request prefix task.excluded d → (many : ℕ) (ns : List ℕ) (e : ℕ) → length ns < many → length ns ≤ left_of task prefix → Leads (Takes task) task.start task.at ns task.goal e → d ≤ e
+  floor_below d floor zero ns e less within way = absurd (omega (arith, less))
+  floor_below d floor (suc many) ns e less within way = elim (cases_lt e d) [
+    | inr by ↦ by
+    | inl sooner ↦
+        let fewest : (ms : List ℕ) (x : ℕ) → length ms < length ns → Leads (Takes task) task.start task.at ms task.goal x → e < x =
+        λ ms x fewer on. omega (arith, sooner, floor_below d floor many ms x (omega (arith, fewer, less)) (omega (arith, fewer, within)) on) in
+        let own = way_is_route task prefix asked.behind facts ns e (some_hop ns e way) way fewest (ways_fit ns e within way fewest) in
+        let by = floor (prefix ++ ns) (and_from (is_route task.plan task.request (prefix ++ ns)) (goes_on prefix task.excluded (prefix ++ ns)) own.0 own.1) in
+        absurd (omega (arith, sooner, by, delivered task.plan task.request (prefix ++ ns) e own.2))
+  ]
+    where
+      some_hop : (ns : List ℕ) (e : ℕ) → Leads (Takes task) task.start task.at ns task.goal e → 0 < length ns
+      some_hop [] e way = absurd (both_ways (slice_index_or task.shut task.start false) (subst (λ k. slice_index_or task.shut k false ≡ false) (sym way.0) asked.task_is.goal_open) asked.task_is.start_shut)
+      some_hop (n ∷ ns) e way = omega arith
+
+  pub floor_told : (d : ℕ) → IsFloor task.plan task.request prefix task.excluded d → IsNoneSooner task (left_of task prefix) d
+  floor_told d floor ns e within way = floor_below d floor (suc (length ns)) ns e (omega arith) within way
 
   pub answered_is_least : (o : Option RouteRecord) → IsAnswered task prefix o → IsLeast task.plan task.request prefix task.excluded o
   answered_is_least None none = none_is_least task asked.task_is prefix asked.behind (λ ns e route way. none ns e (left_all ns route) way)

@@ -1,5 +1,5 @@
 -- The soonest arrivals from the source.
-use Rattle.std.proofs.Common.{◌≡◌, ℕ, false, List, [], ◌∷◌, ◌++◌, not, refl, sym, ap, ◌∙◌, arith, length-append}
+use Rattle.std.proofs.Common.{◌≡◌, ℕ, true, false, List, [], ◌∷◌, ◌++◌, not, refl, sym, ap, ◌∙◌, arith, length-append}
 use Rattle.std.proofs.lemmas.Bool.{or_from, not-true, false_from_ne_true}
 use Rattle.std.specs.Option.{option_and_then}
 use Rattle.sabr_model.specs.plan.Plan.{TabledPlan, has}
@@ -30,6 +30,14 @@ soon_for task behind free since are = λ ns v node t some at chain after open'.
 pub stop_of : (task : SearchTask) (prefix : List ℕ) → IsBehind task prefix → IsStop (tabled_of task) task.request prefix (record { node = task.start; at = task.at; told = told_of task.plan prefix })
 stop_of task prefix behind = record { last_node = behind.last_node; chained = behind.chained; stands = behind.stands; arrives = behind.arrives; tells = refl }
 
+-- the request closes no receiver of a prefix
+pub receivers_open : (task : SearchTask) (prefix : List ℕ) → IsPrefix task.plan task.request prefix → (x : ℕ) → has x (receivers task.plan prefix) ≡ true → is_closed task.plan task.request [] x ≡ false
+receivers_open task prefix facts x one =
+    let r = task.request in
+    or_from (has x (r.source ∷ [])) (has x r.avoided)
+    (false_from_ne_true (has x (r.source ∷ [])) (λ source. different_apart (r.source ∷ []) (receivers task.plan prefix) x facts.different source one))
+    (not-true (has x r.avoided) (all_of (λ n. not (has n r.avoided)) (receivers task.plan prefix) facts.allowed x one))
+
 -- what is known of the ways from the source is so of a question's ways, each of which goes on from its prefix
 pub soon_after : (task : SearchTask) (prefix : List ℕ) → IsOfRequest task → IsPrefix task.plan task.request prefix → IsStop (tabled_of task) task.request prefix (record { node = task.start; at = task.at; told = told_of task.plan prefix })
     → (soon : List ℕ) → AreSoonFor (tabled_of task) task.request soon → AreSince task soon
@@ -42,7 +50,5 @@ soon_after task prefix over facts stop soon are = λ ns v t some way.
     (arrival_after-append p r r.at prefix ns ∙ ap (option_and_then (λ b. arrival_after p r b ns)) stop.arrives ∙ chain.after)
     (λ x h.
     has_either x (receivers p prefix) (receivers p ns) (sym (ap (has x) (receivers-append p prefix ns)) ∙ h) (is_closed p r [] x ≡ false)
-    (λ one. or_from (has x (r.source ∷ [])) (has x r.avoided)
-    (false_from_ne_true (has x (r.source ∷ [])) (λ source. different_apart (r.source ∷ []) (receivers p prefix) x facts.different source one))
-    (not-true (has x r.avoided) (all_of (λ n. not (has n r.avoided)) (receivers p prefix) facts.allowed x one)))
+    (λ one. receivers_open task prefix facts x one)
     (λ other. chain.open_nodes x other))

@@ -5,7 +5,7 @@ use Rattle.sabr_search.specs.declared.backward.deadlines.Deadline.{Deadline}
 use Rattle.sabr_search.specs.questions.Ways.{Leads}
 use Rattle.sabr_search.specs.questions.Task.{SearchTask, Takes, IsTask}
 use Rattle.sabr_search.specs.layers.Deadlines.{HasDeadline}
-use Rattle.sabr_search.specs.layers.Late.{AreArrivals, AreLateLayers}
+use Rattle.sabr_search.specs.layers.Late.{AreArrivals, AreBackLayers}
 use Rattle.sabr_search.specs.questions.FirstSteps.{IsNoneBefore}
 use Rattle.sabr_search.proofs.WayLemmas.Ways.{Leads-append, Leads-later}
 use Rattle.sabr_search.proofs.WayLemmas.RoutesAndWays.{takes_timely}
@@ -13,7 +13,7 @@ use Rattle.sabr_search.proofs.ForwardLemmas.FirstWays.{goal_other}
 use Rattle.sabr_search.proofs.ForwardLemmas.MadeLayers.{index_past}
 
 module _ (task : SearchTask) (is : IsTask task) (since : List ℕ) (d left : ℕ) (ends late place : List ℕ) (entries : List Deadline)
-    (made : AreLateLayers task since d left ends late place entries) (last : slice_index ends left ≡ slice_index ends (left + 1)) where
+    (made : AreBackLayers task since d left ends late place entries) (last : slice_index ends left ≡ slice_index ends (left + 1)) where
   -- no entry is in the last layer or after it
   pub inside : (j v x : ℕ) → HasDeadline ends entries j v x → j < left
   inside j v x e = elim (cases_lt j left) [
@@ -51,14 +51,14 @@ module _ (task : SearchTask) (is : IsTask task) (since : List ℕ) (d left : ℕ
       (on.0 ++ n ∷ [], omega (arith, length-append on.0 (n ∷ [])), Leads-append (Takes task) (takes_timely task is.nodes) on.0 (n ∷ []) task.start task.at v t w b on.2 (w, b, step, (refl, refl)))
 
   -- so none leads from the start to the goal by d
-  pub none_by : AreArrivals task since → IsNoneBefore task (d + 1)
-  none_by arrivals [] e way = absurd (goal_other task is (sym way.0))
-  none_by arrivals (n ∷ ns) e way = elim (cases_lt d e) [
+  pub none_by : ((j w x n b : ℕ) → j < left → HasDeadline ends entries j w x → b < x → Takes task n task.start task.at w b → ⊥) → AreArrivals task since → IsNoneBefore task (d + 1)
+  none_by unmet arrivals [] e way = absurd (goal_other task is (sym way.0))
+  none_by unmet arrivals (n ∷ ns) e way = elim (cases_lt d e) [
     | inl later ↦ omega (arith, later)
     | inr by ↦
         (let w : ℕ = way.0 in
         let b : ℕ = way.1 in
         let step : Takes task n task.start task.at w b = way.2 in
         let r = late_way IsOnWay onward_way (λ v t on. arrivals.least on.0 v t on.1 on.2) ns w b e (n ∷ [], omega arith, (w, b, step, (refl, refl))) step.unshut way.3 by in
-        absurd (made.unmet r.0 w r.1 n b (inside r.0 w r.1 r.3) r.3 r.4 step))
+        absurd (unmet r.0 w r.1 n b (inside r.0 w r.1 r.3) r.3 r.4 step))
   ]

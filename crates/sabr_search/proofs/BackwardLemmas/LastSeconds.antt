@@ -36,19 +36,17 @@ flags_many : (xs : List Bool) (k : ℕ) (b : Bool) → length (slice_set xs k b)
 flags_many xs k b = grind (arith, common_steps)
 
 -- at first the goal alone waits
-pub first_rising : (P : List ℕ → ℕ → Type 0) (task : SearchTask) → IsTask task → (late : List ℕ) (taken : List Bool) (queue : List Visit) → IsBegun task late taken queue → AreRising P task late taken queue (length task.table)
-first_rising P task is late taken queue begun =
+pub first_rising : (P : List ℕ → ℕ → Type 0) (task : SearchTask) → IsTask task → (late : List ℕ) (taken : List Bool) (queue : List Visit) → (until : ℕ) → IsBegun task until late taken queue → AreRising P task late taken queue (length task.table)
+first_rising P task is late taken queue until begun =
     let zeros : List ℕ = replicate (length task.shut) 0 in
     let event : Visit = record { at = 0; node = task.goal } in
-    let within : task.goal < length zeros = omega (arith, replicate_many (length task.shut) 0, is.as_many, is.goal_in) in
     record {
-      many = ap length begun.late_is ∙ set_many zeros task.goal never ∙ replicate_many (length task.shut) 0 ∙ is.as_many;
+      many = ap length begun.late_is ∙ set_many zeros task.goal until ∙ replicate_many (length task.shut) 0 ∙ is.as_many;
       flags = ap length begun.taken_is ∙ length-replicate (length task.shut) false ∙ is.as_many;
-      goal = ap (λ xs. slice_index xs task.goal) begun.late_is ∙ set_here zeros task.goal never within;
       inside = All-permutation (λ (e : Visit). e.node < length task.table) (event ∷ []) queue begun.waits (All-cons (λ (e : Visit). e.node < length task.table) event [] is.goal_in (λ i d lt. absurd (omega (arith, lt))));
       waits = λ w w_in off some. elim (cases_eq w task.goal) [
         | inl same ↦ (event, Contains-permutation (event ∷ []) queue event begun.waits (0, omega arith, refl), sym same)
-        | inr other ↦ absurd (omega (arith, some, ap (λ xs. slice_index xs w) begun.late_is, set_other zeros task.goal never w other, same_everywhere (length task.shut) 0 w))
+        | inr other ↦ absurd (omega (arith, some, ap (λ xs. slice_index xs w) begun.late_is, set_other zeros task.goal until w other, same_everywhere (length task.shut) 0 w))
       ];
       over = λ w other on. absurd (both_ways (slice_index_or taken w false) (ap (λ xs. slice_index_or xs w false) begun.taken_is ∙ all_off (length task.shut) w) on);
     }
@@ -62,7 +60,7 @@ late_rises late u last inside less k = elim (cases_eq k u) [
 
 -- a node may be left later, and waits
 module _ (P : List ℕ → ℕ → Type 0) (task : SearchTask) (late : List ℕ) (taken : List Bool) (queue queue' : List Visit) (now last : ℕ) (event : Visit) (was : AreRising P task late taken queue now)
-    (within : event.node < length task.table) (other : event.node ≢ task.goal) (less : slice_index late event.node < last) (moved : IsPermutation (event ∷ queue) queue') where
+    (within : event.node < length task.table) (less : slice_index late event.node < last) (moved : IsPermutation (event ∷ queue) queue') where
   abbrev u : ℕ
   u = event.node
 
@@ -73,7 +71,6 @@ module _ (P : List ℕ → ℕ → Type 0) (task : SearchTask) (late : List ℕ)
   risen still = record {
     many = set_many late u last ∙ was.many;
     flags = flags_many taken u false ∙ was.flags;
-    goal = set_other late u last task.goal (λ same. other (sym same)) ∙ was.goal;
     inside = All-permutation (λ (e : Visit). e.node < length task.table) (event ∷ queue) queue' moved (All-cons (λ (e : Visit). e.node < length task.table) event queue within was.inside);
     waits = λ w w_in off some. elim (cases_eq w u) [
       | inl same ↦ (event, Contains-permutation (event ∷ queue) queue' event moved (0, omega arith, refl), sym same)
@@ -150,7 +147,6 @@ module _ (P : List ℕ → ℕ → Type 0) (task : SearchTask) (late : List ℕ)
   skipped on = record {
     many = was.many;
     flags = was.flags;
-    goal = was.goal;
     inside = rest_inside;
     waits = λ w w_in off some. rest_waits w (λ same. both_ways (slice_index_or taken w false) off (ap (λ k. slice_index_or taken k false) same ∙ on)) w_in off some;
     over = was.over;
@@ -161,7 +157,6 @@ module _ (P : List ℕ → ℕ → Type 0) (task : SearchTask) (late : List ℕ)
   begun = record {
     many = was.many;
     flags = flags_many taken e.node true ∙ was.flags;
-    goal = was.goal;
     inside = rest_inside;
     waits = λ w w_in off some. elim (cases_eq w e.node) [
       | inl same ↦ absurd (both_ways (slice_index_or (slice_set taken e.node true) w false) off (ap (λ k. slice_index_or (slice_set taken e.node true) k false) same ∙ here))
@@ -181,7 +176,6 @@ pub finished : (P : List ℕ → ℕ → Type 0) (task : SearchTask) (late : Lis
 finished P task late taken queue now was taken_now = record {
   many = was.many;
   flags = was.flags;
-  goal = was.goal;
   inside = was.inside;
   waits = was.waits;
   over = λ w other on. elim (cases_eq w now) [
@@ -194,7 +188,6 @@ finished P task late taken queue now was taken_now = record {
 pub all_taken : (P : List ℕ → ℕ → Type 0) (task : SearchTask) (late : List ℕ) (taken : List Bool) (queue : List Visit) → AreRising P task late taken queue (length task.table) → queue ≡ [] → AreTaken P task late
 all_taken P task late taken queue was empty = record {
   many = was.many;
-  goal = was.goal;
   over = λ w w_in some. was.over w (λ same. absurd (omega (arith, same, w_in))) (on w w_in some);
 }
   where
@@ -223,12 +216,18 @@ whole_step task whole n u t w b g = record {
 other_node : (task : SearchTask) → IsWhole task → (u : ℕ) → IsBetween (tabled_of task) task.request u → u ≢ task.goal
 other_node task whole u between same = between.other (same_some (sym between.stands ∙ ap (slice_get task.table) same ∙ whole.goal_is))
 
--- so these are seconds from which on no way leads to the destination
-pub late_for : (task : SearchTask) → IsWhole task → (late : List ℕ) → AreTaken (IsTakenBy task) task late → AreLateFor (tabled_of task) task.request late
-late_for task whole late are = record {
+-- at first the goal alone is reached in time before this second
+pub goal_begun : (task : SearchTask) → IsTask task → (until : ℕ) (late : List ℕ) (taken : List Bool) (queue : List Visit) → IsBegun task until late taken queue → slice_index late task.goal ≡ until
+goal_begun task is until late taken queue begun =
+    let zeros : List ℕ = replicate (length task.shut) 0 in
+    ap (λ xs. slice_index xs task.goal) begun.late_is ∙ set_here zeros task.goal until (omega (arith, replicate_many (length task.shut) 0, is.as_many, is.goal_in))
+
+-- so these are seconds from which on no way delivers before that one
+pub late_for : (task : SearchTask) → IsWhole task → (until : ℕ) (late : List ℕ) → until ≤ slice_index late task.goal → AreTaken (IsTakenBy task) task late → AreLateFor (tabled_of task) task.request until late
+late_for task whole until late goal are = record {
   goal = λ g at.
       (let same : g ≡ task.goal = whole.is.nodes.apart g task.goal task.request.destination at whole.goal_is in
-      omega (arith, ap (slice_index late) same, are.goal, read_or late g (omega (arith, are.many, slice_get_within task.table g task.request.destination at))));
+      omega (arith, ap (slice_index late) same, goal, read_or late g (omega (arith, are.many, slice_get_within task.table g task.request.destination at))));
   steps = λ n u t w b g between late_there.
       (let w_in : w < length task.table = slice_get_within task.table w g.contact.to g.receiver in
       let u_in : u < length task.table = slice_get_within task.table u g.contact.from g.sender in
@@ -242,11 +241,11 @@ late_for task whole late are = record {
 }
 
 -- so these are the costs: with how near each node is they make `never`
-pub costs_for : (task : SearchTask) → IsWhole task → (near costs : List ℕ) → AreTaken (IsNearBy task) task near → ((k : ℕ) → k < length near → slice_index costs k + slice_index near k ≡ never) → AreCostsFor (tabled_of task) task.request costs
-costs_for task whole near costs are turned = record {
+pub costs_for : (task : SearchTask) → IsWhole task → (near costs : List ℕ) → never ≤ slice_index near task.goal → AreTaken (IsNearBy task) task near → ((k : ℕ) → k < length near → slice_index costs k + slice_index near k ≡ never) → AreCostsFor (tabled_of task) task.request costs
+costs_for task whole near costs goal are turned = record {
   goal = λ g at.
       (let same : g ≡ task.goal = whole.is.nodes.apart g task.goal task.request.destination at whole.goal_is in
-      omega (arith, turned g (omega (arith, are.many, slice_get_within task.table g task.request.destination at)), ap (slice_index near) same, are.goal));
+      omega (arith, turned g (omega (arith, are.many, slice_get_within task.table g task.request.destination at)), ap (slice_index near) same, goal));
   steps = λ n u t w b g between since.
       (let w_in : w < length task.table = slice_get_within task.table w g.contact.to g.receiver in
       let u_in : u < length task.table = slice_get_within task.table u g.contact.from g.sender in
@@ -263,11 +262,15 @@ costs_for task whole near costs are turned = record {
 pub no_costs : (p : TabledPlan) (r : RouteRequest) (costs : List ℕ) → costs ≡ [] → AreCostsFor p r costs
 no_costs p r costs empty = rw empty (record { goal = λ g at. refl; steps = λ n u t w b g between since. omega (arith, arrives_later p.plan r t g.contact b g.arrives) })
 
-pub none_late : (p : TabledPlan) (r : RouteRequest) (late : List ℕ) → late ≡ [] → AreLateFor p r late
-none_late p r late empty = rw empty (record {
-  goal = λ g at. omega arith;
+pub none_late : (p : TabledPlan) (r : RouteRequest) (until : ℕ) (late : List ℕ) → until ≤ never → late ≡ [] → AreLateFor p r until late
+none_late p r until late fits empty = rw empty (record {
+  goal = λ g at. omega (arith, fits);
   steps = λ n u t w b g between late_there. omega (arith, late_there, arrives_later p.plan r t g.contact b g.arrives);
 })
+
+-- what is too late for a second is so for each before it
+pub late_before : (p : TabledPlan) (r : RouteRequest) (until by : ℕ) (late : List ℕ) → by ≤ until → AreLateFor p r until late → AreLateFor p r by late
+late_before p r until by late before are = record { goal = λ g at. omega (arith, before, are.goal g at); steps = are.steps }
 
 -- the whole graph, as the question of the empty prefix
 pub whole_task : (task : SearchTask) → IsTask task → IsBehind task [] → task.excluded ≡ [] → IsWhole task

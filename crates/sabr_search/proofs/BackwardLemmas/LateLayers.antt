@@ -16,18 +16,18 @@ module _ (task : SearchTask) (is : IsTask task) (since : List ℕ) (d left : ℕ
   -- layer 0 is the goal
   pub base : (v x : ℕ) → HasDeadline ends entries 0 v x → (v ≡ task.goal) × (x ≡ d + 1)
   base v x e =
-      let zero_is : e.0 ≡ 0 = omega (arith, e.2, made.second_end) in
-      let same : record { node = v; before = x } ≡ record { node = task.goal; before = d + 1 } = same_some (sym e.3 ∙ ap (slice_get entries) zero_is ∙ made.goal_first) in
+      let zero_is : e.0 ≡ 0 = omega (arith, e.2, made.layers.second_end) in
+      let same : record { node = v; before = x } ≡ record { node = task.goal; before = d + 1 } = same_some (sym e.3 ∙ ap (slice_get entries) zero_is ∙ made.layers.goal_first) in
       (ap (λ (y : Deadline). y.node) same, ap (λ (y : Deadline). y.before) same)
 
   goal_entry : HasDeadline ends entries 0 task.goal (d + 1)
-  goal_entry = (0, omega (arith, made.first_end), omega (arith, made.second_end), made.goal_first)
+  goal_entry = (0, omega (arith, made.layers.first_end), omega (arith, made.layers.second_end), made.layers.goal_first)
 
   -- a way on to the goal by d, of as many hops as the layer
   pub rest : (h v x t : ℕ) → h ≤ left → HasDeadline ends entries h v x → t < x → (ns : List ℕ) × (e : ℕ) × (length ns ≡ h) × (e ≤ d) × Leads (Takes task) v t ns task.goal e
   rest zero v x t le e less = let b = base v x e in ([], t, refl, omega (arith, b.1), (b.0, refl))
   rest (suc h) v x t le e less =
-      let s = made.sound h v x t (omega arith) (rw (add-one h) e) less in
+      let s = made.layers.sound h v x t (omega arith) (rw (add-one h) e) less in
       let on = rest h s.1 s.3 s.2 (omega arith) s.5 s.6 in
       (s.0 ∷ on.0, on.1, omega (arith, on.2), on.3, (s.1, s.2, s.4, on.4))
 
@@ -43,7 +43,7 @@ module _ (task : SearchTask) (is : IsTask task) (since : List ℕ) (d left : ℕ
         elim (cases_eq v task.goal) [
           | inl same ↦ (0, d + 1, omega arith, rw same goal_entry, omega (arith, Leads-later (Takes task) timely (n ∷ ys) v t task.goal e on))
           | inr other ↦
-              (let told = made.taken r.0 on.0 r.1 n v t on.1 (omega (arith, r.2)) r.3 r.4 on.2 (way_open task xs task.start task.at v t there some) other (arrivals.least xs v t some there) in
+              (let told = made.layers.taken r.0 on.0 r.1 n v t on.1 (omega (arith, r.2)) r.3 r.4 on.2 (way_open task xs task.start task.at v t there some) other (arrivals.least xs v t some there) in
               (told.0, told.1, omega (arith, told.2, r.2), told.3, told.4))
         ]
 

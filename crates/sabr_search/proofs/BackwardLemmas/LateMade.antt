@@ -7,7 +7,7 @@ use Rattle.sabr_search.specs.declared.backward.deadlines.Deadline.{Deadline}
 use Rattle.sabr_search.specs.questions.Task.{SearchTask, Takes, IsTask}
 use Rattle.sabr_search.specs.layers.Deadlines.{HasDeadline}
 use Rattle.sabr_search.specs.layers.Seconds.{AreNamed}
-use Rattle.sabr_search.specs.layers.Late.{InTimeFor, AreLate, AreTold, IsToldBy, AreLateLayers, IsMet}
+use Rattle.sabr_search.specs.layers.Late.{InTimeFor, AreLate, AreTold, IsToldBy, AreBackLayers, AreLateLayers, IsMet}
 use Rattle.sabr_search.proofs.ForwardLemmas.LayerEntries.{same_below}
 use Rattle.sabr_search.proofs.ForwardLemmas.Forward.{last_or_before}
 use Rattle.sabr_search.proofs.WayLemmas.RoutesAndWays.{same_some}
@@ -36,12 +36,11 @@ nothing_past task first begin first' begin' late place entries was all = record 
   sound = λ p e t from at less. absurd (omega (arith, slice_get_within entries p e at));
 }
 
-module _ (task : SearchTask) (is : IsTask task) (since : List ℕ) (d left : ℕ) (ends late place : List ℕ) (entries : List Deadline) (made : AreLateLayers task since d left ends late place entries)
+module _ (task : SearchTask) (is : IsTask task) (since : List ℕ) (d left : ℕ) (ends late place : List ℕ) (entries : List Deadline) (made : AreBackLayers task since d left ends late place entries)
     (ends' late' place' : List ℕ) (entries' : List Deadline)
     (after : AreLate task (slice_index ends left) (slice_index ends (left + 1)) late' place' entries')
     (kept_all : take (slice_index ends (left + 1)) entries' ≡ take (slice_index ends (left + 1)) entries)
     (told : AreTold task since entries (slice_index ends left) (slice_index ends (left + 1)) late')
-    (unmet : (w x n b : ℕ) → HasDeadline ends entries left w x → b < x → Takes task n task.start task.at w b → ⊥)
     (ends_is : ends' ≡ ends ++ length entries' ∷ []) where
   end_before : (j : ℕ) → j ≤ left + 1 → slice_index ends' j ≡ slice_index ends j
   end_before j le = ap (λ xs. slice_index xs j) ends_is ∙ index_before ends (length entries') j (omega (arith, made.many))
@@ -144,14 +143,9 @@ module _ (task : SearchTask) (is : IsTask task) (since : List ℕ) (d left : ℕ
         (r.0, r.1, omega (arith, r.2), r.3, r.4))
   ]
 
-  unmet' : (j w x n b : ℕ) → j < left + 1 → HasDeadline ends' entries' j w x → b < x → Takes task n task.start task.at w b → ⊥
-  unmet' j w x n b less e by step = elim (last_or_before j left less) [
-    | inl before ↦ made.unmet j w x n b before (entry_was j w x (omega arith) e) by step
-    | inr same ↦ unmet w x n b (entry_was left w x (omega arith) (rw same at e)) by step
-  ]
-
-  pub late_next : AreLateLayers task since d (left + 1) ends' late' place' entries'
-  late_next = record {
+  -- the layers with the new one
+  pub back_next : AreBackLayers task since d (left + 1) ends' late' place' entries'
+  back_next = record {
     lists = nothing_past task (slice_index ends left) (slice_index ends (left + 1)) _ _ late' place' entries' after last';
     many = many';
     first_end = end_before 0 (omega arith) ∙ made.first_end;
@@ -162,17 +156,28 @@ module _ (task : SearchTask) (is : IsTask task) (since : List ℕ) (d left : ℕ
     apart = apart';
     sound = sound';
     taken = taken';
-    unmet = unmet';
   }
+
+  -- nor is the start in time for an entry of one of them but the new one, if it wasn't for one before
+  module _ (earlier : (j w x n b : ℕ) → j < left → HasDeadline ends entries j w x → b < x → Takes task n task.start task.at w b → ⊥)
+      (unmet : (w x n b : ℕ) → HasDeadline ends entries left w x → b < x → Takes task n task.start task.at w b → ⊥) where
+    unmet' : (j w x n b : ℕ) → j < left + 1 → HasDeadline ends' entries' j w x → b < x → Takes task n task.start task.at w b → ⊥
+    unmet' j w x n b less e by step = elim (last_or_before j left less) [
+      | inl before ↦ earlier j w x n b before (entry_was j w x (omega arith) e) by step
+      | inr same ↦ unmet w x n b (entry_was left w x (omega arith) (rw same at e)) by step
+    ]
+
+    pub late_next : AreLateLayers task since d (left + 1) ends' late' place' entries'
+    late_next = record { layers = back_next; unmet = unmet' }
 
 -- the layers so far, and a step from the start
 module _ (task : SearchTask) (since : List ℕ) (d left : ℕ) (ends late place : List ℕ) (entries : List Deadline) (made : AreLateLayers task since d left ends late place entries) (n w b : ℕ) (step : Takes task n task.start task.at w b) where
   -- if it is in time for its node, the start is in time for an entry of the last layer
   pub met_by : b < slice_index late w → IsMet task left ends entries
   met_by by =
-      let on = made.lists.top w (slice_get_within task.table w step.contact.to step.receiver) (omega arith) in
+      let on = made.layers.lists.top w (slice_get_within task.table w step.contact.to step.receiver) (omega arith) in
       let within : slice_index place w < length entries = slice_get_within entries (slice_index place w) (record { node = w; before = slice_index late w }) on in
-      let layer = layer_of ends (slice_index place w) (left + 1) made.first_end (omega (arith, made.last_end)) in
+      let layer = layer_of ends (slice_index place w) (left + 1) made.layers.first_end (omega (arith, made.layers.last_end)) in
       let entry : HasDeadline ends entries layer.0 w (slice_index late w) = (slice_index place w, layer.2, layer.3, on) in
       elim (last_or_before layer.0 left (omega (arith, layer.1))) [
         | inl before ↦ absurd (made.unmet layer.0 w (slice_index late w) n b before entry by step)
@@ -181,7 +186,7 @@ module _ (task : SearchTask) (since : List ℕ) (d left : ℕ) (ends late place 
 
   -- if it comes too late for its node, it does so for each entry
   pub unmet_by : (j x : ℕ) → HasDeadline ends entries j w x → slice_index late w ≤ b → b < x → ⊥
-  unmet_by j x e late_is by = omega (arith, made.lists.by e.0 (record { node = w; before = x }) e.3)
+  unmet_by j x e late_is by = omega (arith, made.layers.lists.by e.0 (record { node = w; before = x }) e.3)
 
 -- zeros stand in a list of them
 pub all_zero : (n k : ℕ) → slice_index (replicate n 0) k ≡ 0
@@ -204,9 +209,9 @@ named_none seconds none = record {
 }
 
 -- the goal alone
-pub late_first : (task : SearchTask) → IsTask task → (since : List ℕ) (d : ℕ) (ends late place : List ℕ) (entries : List Deadline) → ends ≡ 0 ∷ 1 ∷ [] → entries ≡ record { node = task.goal; before = d + 1 } ∷ [] →
-    length place ≡ length task.shut → slice_index place task.goal ≡ 0 → length late ≡ length task.shut → slice_index late task.goal ≡ d + 1 → ((k : ℕ) → k ≢ task.goal → slice_index late k ≡ 0) → AreLateLayers task since d 0 ends late place entries
-late_first task is since d ends late place entries ends_is entries_is places place_is many late_is none =
+pub back_first : (task : SearchTask) → IsTask task → (since : List ℕ) (d : ℕ) (ends late place : List ℕ) (entries : List Deadline) → ends ≡ 0 ∷ 1 ∷ [] → entries ≡ record { node = task.goal; before = d + 1 } ∷ [] →
+    length place ≡ length task.shut → slice_index place task.goal ≡ 0 → length late ≡ length task.shut → slice_index late task.goal ≡ d + 1 → ((k : ℕ) → k ≢ task.goal → slice_index late k ≡ 0) → AreBackLayers task since d 0 ends late place entries
+back_first task is since d ends late place entries ends_is entries_is places place_is many late_is none =
     rw (ends_is, entries_is) (record {
       lists = record {
         flags = omega (arith, places, is.as_many);
@@ -235,5 +240,4 @@ late_first task is since d ends late place entries ends_is entries_is places pla
       apart = λ h p q e f le above_p above_q below_p below_q at_p at_q same. omega (arith, slice_get_within (record { node = task.goal; before = d + 1 } ∷ []) p e at_p, slice_get_within (record { node = task.goal; before = d + 1 } ∷ []) q f at_q);
       sound = λ h v x t less e by. absurd (omega arith);
       taken = λ j w x n u t b less e by step. absurd (omega arith);
-      unmet = λ j w x n b less e by step. omega arith;
     })

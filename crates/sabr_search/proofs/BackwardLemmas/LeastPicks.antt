@@ -40,12 +40,12 @@ module _ (task : SearchTask) (is : IsTask task) (since : List ℕ) (d left : ℕ
   -- no layer ends after the entries
   pub ends_below : (j : ℕ) → slice_index ends j ≤ length entries
   ends_below j = elim (cases_lt (left + 1) j) [
-    | inl past ↦ omega (arith, index_past ends j (omega (arith, met.made.many)))
-    | inr le ↦ omega (arith, bounds_rise ends left met.made.rising j (left + 1) le (omega arith), met.made.last_end)
+    | inl past ↦ omega (arith, index_past ends j (omega (arith, met.made.layers.many)))
+    | inr le ↦ omega (arith, bounds_rise ends left met.made.layers.rising j (left + 1) le (omega arith), met.made.layers.last_end)
   ]
 
   pub entries_open : AreOpen task entries
-  entries_open p e at = open_entry task is _ _ met.late met.places entries met.made.lists (rw met.made.goal_first refl) p e at
+  entries_open p e at = open_entry task is _ _ met.late met.places entries met.made.layers.lists (rw met.made.layers.goal_first refl) p e at
 
   -- `place` may name other entries
   pub met_place : (place' : List ℕ) → length place' ≡ length place → AreMet task since d left ends place' entries

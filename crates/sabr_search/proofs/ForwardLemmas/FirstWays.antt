@@ -65,22 +65,28 @@ pub sent_grows : (task : SearchTask) (settled : List Bool) (u : ℕ) → u < len
 sent_grows task settled u within unsettled = settled_more settled u (senders task) within unsettled
 
 -- a way on from an open node costs at least what the goal costs less from its end
-pub costs_fall : (task : SearchTask) → IsTask task → (late costs : List ℕ) → IsBound task late costs → (ns : List ℕ) (w b v t : ℕ) → slice_index_or task.shut w false ≡ false → task.request.at ≤ b → Leads (Takes task) w b ns v t → b + slice_index costs w ≤ t + slice_index costs v
-costs_fall task is late costs bound [] w b v t open' since way = omega (arith, way.1, ap (slice_index costs) way.0)
-costs_fall task is late costs bound (n ∷ ns) w b v t open' since way =
+pub costs_fall : (task : SearchTask) → IsTask task → (until : ℕ) (late costs : List ℕ) → IsBound task until late costs → (ns : List ℕ) (w b v t : ℕ) → slice_index_or task.shut w false ≡ false → task.request.at ≤ b → Leads (Takes task) w b ns v t → b + slice_index costs w ≤ t + slice_index costs v
+costs_fall task is until late costs bound [] w b v t open' since way = omega (arith, way.1, ap (slice_index costs) way.0)
+costs_fall task is until late costs bound (n ∷ ns) w b v t open' since way =
     let later = (takes_timely task is.nodes).later n w b way.0 way.1 way.2 in
-    omega (arith, bound.lowers n w b way.0 way.1 way.2 open' since, costs_fall task is late costs bound ns way.0 way.1 v t way.2.unshut (omega (arith, later, since)) way.3)
+    omega (arith, bound.lowers n w b way.0 way.1 way.2 open' since, costs_fall task is until late costs bound ns way.0 way.1 v t way.2.unshut (omega (arith, later, since)) way.3)
 
 -- the search stops when no event comes before the delivery
-module _ (task : SearchTask) (is : IsTask task) (until : ℕ) (bounds costs : List ℕ) (bound : IsBound task bounds costs) (settled : List Bool) (arrival hops : List ℕ) (queue : List Visit) (best : Best) (was : AreSettled task until bounds costs settled arrival hops queue best) where
+module _ (task : SearchTask) (is : IsTask task) (until : ℕ) (bounds costs : List ℕ) (bound : IsBound task until bounds costs) (settled : List Bool) (arrival hops : List ℕ) (queue : List Visit) (best : Best) (was : AreSettled task until bounds costs settled arrival hops queue best) where
   -- a node is settled with that arrival, or it is too late there
   abbrev IsKnownAt : ℕ → ℕ → Type 0
   IsKnownAt v a = ((slice_index_or settled v false ≡ true) × (slice_index arrival v ≡ a)) ⊎ ((slice_index_or task.shut v false ≡ false) × (slice_index_or bounds v never ≤ a))
 
+  by_until : best.delivery ≤ until
+  by_until = elim was.found [
+    | inl none ↦ omega (arith, none.1)
+    | inr found ↦ omega (arith, found.2)
+  ]
+
   goal_known : (a : ℕ) → IsKnownAt task.goal a → best.delivery ≤ a
   goal_known a known = elim known [
     | inl s ↦ absurd (both_ways (slice_index_or settled task.goal false) was.goal_unsettled s.0)
-    | inr late ↦ omega (arith, late.1, bound.goal, was.sooner)
+    | inr late ↦ omega (arith, late.1, bound.goal, by_until)
   ]
 
   steps_taken : (v a n w b : ℕ) → IsKnownAt v a → Takes task n v a w b → (best.delivery ≤ b + slice_index costs w) ⊎ (((c : ℕ) × (c ≤ b) × IsKnownAt w c) ⊎ ((c : ℕ) × (c ≤ b) × IsWaiting queue w (c + slice_index costs w)))
@@ -113,7 +119,7 @@ module _ (task : SearchTask) (is : IsTask task) (until : ℕ) (bounds costs : Li
   reached_by stop (n ∷ ns) u a s v t known by since way =
       let later : task.request.at ≤ way.1 = omega (arith, since, (takes_timely task is.nodes).later n u s way.0 way.1 way.2) in
       let first = (takes_timely task is.nodes).earlier n u s way.0 way.1 a way.2 by in
-      let after : way.1 + slice_index costs way.0 ≤ t + slice_index costs v = costs_fall task is bounds costs bound ns way.0 way.1 v t way.2.unshut later way.3 in
+      let after : way.1 + slice_index costs way.0 ≤ t + slice_index costs v = costs_fall task is until bounds costs bound ns way.0 way.1 v t way.2.unshut later way.3 in
       elim (steps_taken u a n way.0 first.0 known first.2) [
         | inl late ↦ inl (omega (arith, late, first.1, after))
         | inr found ↦ elim found [
@@ -227,7 +233,7 @@ module _ (task : SearchTask) (is : IsTask task) (off settled : List Bool) (u : �
       | inr past ↦ omega (arith, index_past arrival k past)
     ]
 
-    pub start_state : IsBound task late costs → (hops : List ℕ) (queue : List Visit) (best : Best) → length hops ≡ length task.shut → queue ≡ [] → best.hops ≡ 0 → best.delivery ≡ until → until ≤ latest_arrival + 1 → AreSettling task until late costs settled u task.at arrival (slice_set hops u 0) queue best
+    pub start_state : IsBound task until late costs → (hops : List ℕ) (queue : List Visit) (best : Best) → length hops ≡ length task.shut → queue ≡ [] → best.hops ≡ 0 → best.delivery ≡ until → until ≤ latest_arrival + 1 → AreSettling task until late costs settled u task.at arrival (slice_set hops u 0) queue best
     start_state bound hops queue best hops_many empty none delivery early = rw empty (record {
       on = ap (λ k. slice_index_or settled k false) u_is ∙ start_on;
       real = ([], sym no_hops, (sym u_is, refl));
@@ -249,7 +255,7 @@ module _ (task : SearchTask) (is : IsTask task) (off settled : List Bool) (u : �
       hops_are = record { many = set_many hops u 0 ∙ hops_many; ways = λ k within open' less. absurd (omega (arith, opened.unreached k within open', less)) };
       found = inl (none, delivery);
       sooner = omega (arith, delivery, early);
-      goal_late = omega (arith, delivery, early, bound.goal, opened.unreached task.goal (omega (arith, opened.flags, is.as_many, is.goal_in)) is.goal_open);
+      goal_late = omega (arith, delivery, bound.goal, opened.unreached task.goal (omega (arith, opened.flags, is.as_many, is.goal_in)) is.goal_open);
     })
       where
         no_hops : slice_index (slice_set hops u 0) u ≡ 0
@@ -297,7 +303,7 @@ module _ (task : SearchTask) (is : IsTask task) (until : ℕ) (late costs : List
       (was.hops_are.ways e.node (head_inside task late costs settled arrival0 queue0 queue e was.queue_is moved first) (head_open task late costs settled arrival0 queue0 queue e was.queue_is moved first)
       (head_soon task late costs settled arrival0 queue0 queue e was.queue_is moved first)).1
 
-  pub next_state : IsBound task late costs → AreSettling task until late costs (slice_set settled e.node true) e.node (slice_index arrival0 e.node) arrival0 hops0 queue best0
+  pub next_state : IsBound task until late costs → AreSettling task until late costs (slice_set settled e.node true) e.node (slice_index arrival0 e.node) arrival0 hops0 queue best0
   next_state bound =
       let since : task.at ≤ slice_index arrival0 e.node = Leads-later (Takes task) (takes_timely task is.nodes) next_way.0 task.start task.at e.node (slice_index arrival0 e.node) next_way.2 in
       settles task late costs settled arrival0 queue0 queue e was.queue_is moved first next_within unsettled until hops0 best0 bound was.flags was.many was.closed since was.lowered was.sooner was.goal_late was.found was.hops_are

@@ -1,5 +1,5 @@
 -- The entries between two places of a list, their nodes, and how many contacts these send.
-use Rattle.std.proofs.Common.{◌≡◌, ℕ, zero, suc, ◌+◌, ◌-◌, ◌<◌, ◌≤◌, List, [], ◌∷◌, ◌++◌, length, map, take, drop, true, false, cond, ◌||◌, eqb, Some, slice_get, slice_index, slice_index_or, refl, ap, sym, ◌∙◌, ⊎_elim, arith, length-take, length-drop}
+use Rattle.std.proofs.Common.{◌≡◌, ℕ, zero, suc, ◌+◌, ◌-◌, ◌<◌, ◌≤◌, List, [], ◌∷◌, ◌++◌, length, map, take, drop, true, false, cond, ◌||◌, ◌==◌, eqb, Some, slice_get, slice_index, slice_index_or, refl, ap, sym, ◌∙◌, ⊎_elim, arith, length-take, length-drop}
 use Rattle.std.specs.List.{count_by}
 use Rattle.std.proofs.lemmas.Bool.{eq-eqb, ne_eqb, cases_Bool, false_from_ne_true, cases_eq}
 use Rattle.std.proofs.lemmas.List.{take_more, drop-append-le, get_or-drop, get_or-take, length-map, map-append}
@@ -97,6 +97,10 @@ received_next task ends entries left place e apart le less at =
 
 pub received_at_most : (task : SearchTask) (nodes : List ℕ) → received_by_all task nodes ≤ length task.plan.contacts
 received_at_most task nodes = omega (arith, count_by-le-length (λ k. has k nodes) (receivers task), length-map task.plan.contacts (λ (c : Contact). place_in task.table c.to))
+
+-- and so are those to one node
+pub received_all : (task : SearchTask) (w : ℕ) → received task w ≤ length task.plan.contacts
+received_all task w = omega (arith, count_by-le-length (λ k. k == w) (receivers task), length-map task.plan.contacts (λ (c : Contact). place_in task.table c.to))
 
 -- so up to an entry they are no more than those of the plan
 pub received_within : (task : SearchTask) (ends : List ℕ) (entries : List Deadline) (left place : ℕ) (e : Deadline) → IsApart ends entries left → slice_index ends left ≤ place → place < slice_index ends (left + 1) → slice_get entries place ≡ Some e →

@@ -1,5 +1,5 @@
 -- One layer more: what the next layer leaves is again layers.
-use Rattle.std.proofs.Common.{◌≡◌, ◌⊎◌, inl, inr, ℕ, zero, suc, ◌+◌, ◌*◌, ◌<◌, ◌≤◌, List, [], ◌∷◌, ◌++◌, length, false, Some, slice_get, slice_index, slice_index_or, refl, ap, sym, ◌∙◌, arith, length-append, add-one}
+use Rattle.std.proofs.Common.{◌≡◌, ◌≢◌, ◌⊎◌, inl, inr, ℕ, zero, suc, ◌+◌, ◌*◌, ◌<◌, ◌≤◌, List, [], ◌∷◌, ◌++◌, length, false, Some, slice_get, slice_index, slice_index_or, refl, ap, sym, ◌∙◌, arith, length-append, add-one}
 use Rattle.std.proofs.Math.Nat.{mul-le-mul_right}
 use Rattle.std.proofs.lemmas.Bool.{cases_lt, cases_eq}
 use Rattle.std.proofs.lemmas.List.{get_or_append_left, get_or_push}
@@ -7,9 +7,9 @@ use Rattle.std.proofs.lemmas.Option.{slice_get-get_or, slice_get_within, get_or_
 use Rattle.sabr_search.specs.declared.visit.Visit.{Visit}
 use Rattle.sabr_search.specs.declared.forward.layers.Best.{Best}
 use Rattle.sabr_search.specs.questions.Ways.{Leads}
-use Rattle.sabr_search.specs.layers.Layers.{ReachedBy, IsTaken}
+use Rattle.sabr_search.specs.layers.Layers.{Entries, ReachedBy, IsTaken}
 use Rattle.sabr_search.specs.questions.Task.{SearchTask, Takes, IsTask, never}
-use Rattle.sabr_search.specs.layers.Lists.{AreLists, IsLowered, IsKnownFrom, GivenFrom, AreSources}
+use Rattle.sabr_search.specs.layers.Lists.{AreLists, IsLowered, IsKnownFrom, GivenFrom, AreSources, IsBroughtTo}
 use Rattle.sabr_search.specs.layers.Made.{Entry, AreLayers, AreMade, IsBestWithin}
 use Rattle.sabr_search.specs.layers.Late.{IsNoneSooner}
 use Rattle.sabr_search.proofs.WayLemmas.Ways.{Leads-append, Leads-later}
@@ -18,6 +18,13 @@ use Rattle.sabr_search.proofs.ForwardLemmas.LayerEntries.{same_below}
 use Rattle.sabr_search.proofs.ForwardLemmas.Forward.{last_or_before}
 use Rattle.sabr_search.proofs.WayLemmas.RoutesAndWays.{same_some, takes_timely}
 use Rattle.sabr_search.proofs.LinkLemmas.PlanFacts.{takes_early}
+use Rattle.sabr_search.proofs.AnswerLemmas.Law.{way_early}
+
+-- a way of some hops ends at an open node
+way_open : (task : SearchTask) (ns : List ℕ) (u t v e : ℕ) → 0 < length ns → Leads (Takes task) u t ns v e → slice_index_or task.shut v false ≡ false
+way_open task [] u t v e more way = absurd (omega (arith, more))
+way_open task (n ∷ []) u t v e more way = rw way.3.0 at way.2.unshut
+way_open task (n ∷ m ∷ ns) u t v e more way = way_open task (m ∷ ns) way.0 way.1 v e (omega arith) way.3
 
 -- reading a list with one element more
 pub index_before : (xs : List ℕ) (x i : ℕ) → i < length xs → slice_index (xs ++ x ∷ []) i ≡ slice_index xs i
@@ -179,6 +186,7 @@ module _ (task : SearchTask) (is : IsTask task) (until hop : ℕ) (bounds arriva
     layer = record { begins = omega (arith, last'); once = λ p d le less. absurd (omega (arith, last')) };
     inside = lowered.lists.inside;
     other = lowered.lists.other;
+    by = lowered.lists.by;
   }
 
   -- if the delivery falls, the new layer is the first that reaches the goal by then
@@ -265,6 +273,68 @@ module _ (task : SearchTask) (is : IsTask task) (until hop : ℕ) (bounds arriva
         ]
       ]
 
+  -- the same entries, and one layer more in which each node but the goal stands at each second
+  abbrev Beyond : Entries
+  Beyond h v a = Entry bounds reached h v a ⊎ ((h ≡ hop + 1) × (v ≢ task.goal))
+
+  beyond_never : (h a : ℕ) → Beyond h task.goal a → ⊥
+  beyond_never h a (inl e) = goal_never h a e
+  beyond_never h a (inr past) = past.1 refl
+
+  -- what the links to the goal bring it from there is known
+  brought : (delivery : ℕ) → ((n u b : ℕ) → Takes task n u (slice_index arrival u) task.goal b → slice_index_or task.shut u false ≡ false → delivery ≤ b) → 0 < hop →
+      (v a n b : ℕ) → Entry bounds reached hop v a → Takes task n v a task.goal b → delivery ≤ b
+  brought delivery known more v a n b e s =
+      let d : Visit = record { node = v; at = a } in
+      let read : slice_index_or reached e.0 d ≡ d = get_or_from_slice_get reached e.0 d d e.3 in
+      let by : slice_index arrival v ≤ a = rw read at (made.lists.by e.0 d (slice_get_within reached e.0 d e.3)) in
+      let sooner = (takes_timely task is.nodes).earlier n v a task.goal b (slice_index arrival v) s by in
+      let way = made.real hop v a e in
+      let unshut = way_open task way.0 task.start task.at v a (omega (arith, way.1)) way.2 in
+      omega (arith, known n v sooner.0 sooner.2 unshut, sooner.1)
+
+  -- then no way of at most one hop more comes before it
+  pub least_with_last : (delivery : ℕ) → delivery ≤ best.delivery → ((n u b : ℕ) → Takes task n u (slice_index arrival u) task.goal b → slice_index_or task.shut u false ≡ false → delivery ≤ b) → 0 < hop →
+      (ns : List ℕ) (e : ℕ) → length ns ≤ hop + 1 → Leads (Takes task) task.start task.at ns task.goal e → delivery ≤ e
+  least_with_last delivery lower known more =
+      none_sooner (Takes task) (takes_timely task is.nodes) Beyond task.start task.at task.goal (inl start_entry) beyond_never (hop + 1) delivery all
+    where
+      all : IsTaken (Takes task) Beyond (hop + 1) delivery
+      all j v a n w b less (inr past) s = absurd (omega (arith, past.0))
+      all j v a n w b less (inl en) s = elim (last_or_before j hop less) [
+        | inl before ↦ elim (made.taken j v a n w b before en s) [
+          | inl late ↦ inl (omega (arith, late, lower))
+          | inr r ↦ inr (r.0, r.1, r.2, r.3, inl r.4)
+        ]
+        | inr same ↦ elim (cases_eq w task.goal) [
+          | inl goal ↦ inl (brought delivery known more v a n b (rw same at en) (rw goal at s))
+          | inr other ↦ inr (j + 1, b, omega arith, omega arith, inr (omega (arith, same), other))
+        ]
+      ]
+
+  -- and if it is sooner than what was found, a way of one hop more brings it
+  pub way_with_last : (delivery : ℕ) → delivery < best.delivery → IsBroughtTo task arrival delivery → (ns : List ℕ) × (length ns ≡ hop + 1) × Leads (Takes task) task.start task.at ns task.goal delivery
+  way_with_last delivery sooner (u, n, unshut, s) =
+      let timely = takes_timely task is.nodes in
+      let a : ℕ = slice_index arrival u in
+      let d : Visit = record { node = 0; at = 0 } in
+      let within : u < length arrival = omega (arith, made.lists.flags, is.as_many, slice_get_within task.table u s.contact.from s.sender) in
+      let early : a < never = omega (arith, timely.later n u a task.goal delivery s, takes_early task is n u a task.goal delivery s) in
+      let linked = made.lists.linked in
+      let p : ℕ = slice_index place u in
+      let inside : p < length reached = made.lists.placed.within u (omega (arith, linked.as_many)) in
+      let e : Visit = slice_index_or reached p d in
+      let at : slice_get reached p ≡ Some e = slice_get-get_or reached p d inside in
+      let is_there : slice_get reached p ≡ Some (record { node = u; at = a }) = at ∙ ap (λ k. Some (record { node = k; at = e.at })) (linked.node u d within unshut early) ∙ ap (λ k. Some (record { node = u; at = k })) (linked.time u d within unshut early) in
+      let layer = layer_of bounds p (hop + 1) made.first_bound (omega (arith, made.last_bound)) in
+      let en : Entry bounds reached layer.0 u a = (p, layer.2, layer.3, is_there) in
+      elim (last_or_before layer.0 hop (omega (arith, layer.1))) [
+        | inl before ↦ absurd (elim (made.taken layer.0 u a n task.goal delivery before en s) [ inl late ↦ omega (arith, late, sooner) | inr r ↦ goal_never r.0 r.1 r.4 ])
+        | inr same ↦
+            (let front = made.real layer.0 u a en in
+            (front.0 ++ n ∷ [], omega (arith, length-append front.0 (n ∷ []), front.1, same), Leads-append (Takes task) timely front.0 (n ∷ []) task.start task.at u a task.goal delivery front.2 (task.goal, delivery, s, (refl, refl))))
+      ]
+
   -- the entries of the last layer are what the next layer comes from
   pub sources_of : AreSources task reached (slice_index bounds hop) (slice_index bounds (hop + 1))
   sources_of = record {
@@ -274,6 +344,10 @@ module _ (task : SearchTask) (is : IsTask task) (until hop : ℕ) (bounds arriva
         (let layer = layer_of bounds p (hop + 1) made.first_bound (omega (arith, made.last_bound, slice_get_within reached p e at)) in
         let way = made.real layer.0 e.node e.at (p, layer.2, layer.3, at) in
         Leads-later (Takes task) (takes_timely task is.nodes) way.0 task.start task.at e.node e.at way.2);
+    early = λ p e at.
+        (let layer = layer_of bounds p (hop + 1) made.first_bound (omega (arith, made.last_bound, slice_get_within reached p e at)) in
+        let way = made.real layer.0 e.node e.at (p, layer.2, layer.3, at) in
+        way_early task is way.0 task.start task.at e.node e.at is.time way.2);
     apart = λ p q e f above_p above_q below_p below_q at_p at_q same. made.apart hop p q e f (omega arith) above_p above_q below_p below_q at_p at_q same;
   }
 
@@ -370,3 +444,30 @@ pub made_all : (task : SearchTask) → IsTask task → (until hop first : ℕ) (
     (ns : List ℕ) (e : ℕ) → Leads (Takes task) task.start task.at ns task.goal e → best.delivery ≤ e
 made_all task is until hop first arrival place reached best made none ns e way =
     least_of_all task is until hop made.0 arrival place reached best made.2 (made.1 ∙ none ∙ sym made.2.last_bound) ns e way
+
+-- with the links to the goal as one layer more, what is found is the best
+pub made_last : (task : SearchTask) → IsTask task → (until hop first : ℕ) (arrival place : List ℕ) (reached : List Visit) (best : Best) → AreMade task until hop first arrival place reached best → 0 < hop → (hops : ℕ) → hop + 1 ≡ hops → (delivery : ℕ) → delivery ≤ best.delivery →
+    ((n u b : ℕ) → Takes task n u (slice_index arrival u) task.goal b → slice_index_or task.shut u false ≡ false → delivery ≤ b) → (delivery ≡ best.delivery) ⊎ IsBroughtTo task arrival delivery →
+    (best' : Best) → ((delivery < best.delivery) × (best' ≡ record { delivery = delivery; hops = hops })) ⊎ ((best.delivery ≤ delivery) × (best' ≡ best)) → IsBestWithin task until hops best'
+made_last task is until hop first arrival place reached best made more hops next delivery lower known found best' (inl better) = rw better.1 (record {
+  least = λ ns e le way. least_with_last task is until hop made.0 arrival place reached best made.2 delivery lower known more ns e (omega (arith, le, next)) way;
+  found = elim found [
+    | inl same ↦ absurd (omega (arith, same, better.0))
+    | inr brought ↦
+        (let way = way_with_last task is until hop made.0 arrival place reached best made.2 delivery better.0 brought in
+        inr (omega (arith, next), omega arith, omega (arith, better.0, below_until task until hop made.0 arrival place reached best made.2), (way.0, way.1 ∙ next, way.2)))
+  ];
+})
+made_last task is until hop first arrival place reached best made more hops next delivery lower known found best' (inr same) =
+    rw same.1 (best_within task until hop made.0 arrival place reached best made.2 hops (omega (arith, next))
+    (λ ns e le way. omega (arith, same.0, lower, least_with_last task is until hop made.0 arrival place reached best made.2 delivery lower known more ns e (omega (arith, le, next)) way)))
+
+-- no arrival at the goal is noted
+pub goal_unreached : (task : SearchTask) → IsTask task → (begin : ℕ) (arrival place : List ℕ) (reached : List Visit) → AreLists task.shut task.goal task.at begin arrival place reached → never ≤ slice_index arrival task.goal
+goal_unreached task is begin arrival place reached lists = elim (cases_lt (slice_index arrival task.goal) never) [
+  | inr late ↦ late
+  | inl early ↦
+      (let d : Visit = record { node = 0; at = 0 } in
+      let within : task.goal < length arrival = omega (arith, lists.flags, is.as_many, is.goal_in) in
+      absurd (lists.other (slice_index place task.goal) d (lists.placed.within task.goal (omega (arith, lists.linked.as_many))) (lists.linked.node task.goal d within is.goal_open early)))
+]

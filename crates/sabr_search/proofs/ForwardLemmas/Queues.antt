@@ -299,7 +299,7 @@ module _ (task : SearchTask) (bounds costs : List ℕ) (settled : List Bool) (ar
     }
 
     -- so its contacts can be taken
-    pub settles : (until : ℕ) (hops : List ℕ) (best : Best) → IsBound task bounds costs → length arrival ≡ length task.shut → length settled ≡ length task.shut → AreClosed task.shut arrival task.at → task.at ≤ slice_index arrival e.node → AreBy task bounds arrival → best.delivery ≤ latest_arrival + 1 →
+    pub settles : (until : ℕ) (hops : List ℕ) (best : Best) → IsBound task until bounds costs → length arrival ≡ length task.shut → length settled ≡ length task.shut → AreClosed task.shut arrival task.at → task.at ≤ slice_index arrival e.node → AreBy task bounds arrival → best.delivery ≤ latest_arrival + 1 →
         best.delivery ≤ slice_index arrival task.goal → IsFirst task until settled best → AreHops task bounds settled arrival hops → AreSettling task until bounds costs (slice_set settled e.node true) e.node (slice_index arrival e.node) arrival hops queue' best
     settles until hops best bound flags many closed since lowered sooner goal_late found hops_are = record {
       on = flag_here settled e.node within;

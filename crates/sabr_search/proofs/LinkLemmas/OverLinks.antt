@@ -1,5 +1,5 @@
 -- What the bounds beside the passes of a link say of the steps over them.
-use Rattle.std.proofs.Common.{◌≡◌, ℕ, ◌+◌, ◌-◌, ◌<◌, ◌≤◌, max, ◌⊎◌, inl, inr, List, length, drop, true, false, Some, slice_get, slice_index_or, refl, sym, ap, subst, ◌∙◌, arith}
+use Rattle.std.proofs.Common.{◌≡◌, ℕ, ◌+◌, ◌-◌, ◌<◌, ◌≤◌, max, ◌⊎◌, inl, inr, List, length, drop, true, false, Some, slice_get, slice_index, slice_index_or, refl, sym, ap, subst, ◌∙◌, arith}
 use Rattle.std.specs.Prelude.{IfSome}
 use Rattle.std.specs.List.Sorted.{IsNonDecreasingBy}
 use Rattle.std.specs.declared.option.Option.{Option}
@@ -10,7 +10,7 @@ use Rattle.sabr_search.specs.layers.Late.{AreOpen}
 use Rattle.sabr_search.specs.layers.Deadlines.{IsInTime}
 use Rattle.sabr_search.specs.layers.Picks.{IsAtMost}
 use Rattle.std.proofs.lemmas.Option.{slice_get-get_or}
-use Rattle.std.proofs.lemmas.Bool.{both_ways}
+use Rattle.std.proofs.lemmas.Bool.{both_ways, cases_eq}
 use Rattle.sabr_model.specs.declared.contact.Contact.{Contact}
 use Rattle.sabr_model.specs.declared.hop.Hop.{Hop}
 use Rattle.sabr_index.specs.declared.link.Pass.{Pass}
@@ -22,6 +22,7 @@ use Rattle.sabr_model.specs.routes.Arrival.{cost}
 use Rattle.sabr_model.specs.plan.Light.{light_of}
 use Rattle.sabr_model.specs.plan.Plan.{has}
 use Rattle.sabr_search.specs.questions.Task.{SearchTask, IsTask, Takes}
+use Rattle.sabr_search.specs.layers.Lists.{IsKnown}
 use Rattle.sabr_model.specs.routes.Hops.{hop_arrival, IsSmall}
 use Rattle.sabr_search.specs.questions.Steps.{IsHopAt}
 use Rattle.sabr_search.specs.questions.Linked.{IsPassAt, IsLinkAt, IsLinkWithin, AreInOrder, HasNumber, passes_of, AreLinksAt}
@@ -210,3 +211,14 @@ chosen_from task ends entries hops opens u t to before in_time (Some s) h =
     let admits = in_time s.at h.1 in
     let step = h.2 (opens admits.1.0 (record { node = to; before = admits.0 }) admits.1.3).1 in
     rw h.0 (step, admits)
+
+-- what the bounds of a link rule out is known, if the goal's own arrival is no sooner than the best delivery
+pub told_known : (task : SearchTask) → IsTask task → (u t : ℕ) (l : Link) (over : List Pass) → IsLinkWithin task u l.receiver over l.bounds → (arrival : List ℕ) (best : ℕ) → best ≤ slice_index arrival task.goal →
+    (slice_index arrival l.receiver ≤ l.bounds.soonest) ⊎ (slice_index arrival l.receiver ≤ t + l.bounds.least_light) →
+    (n w b : ℕ) → HasNumber over n → Takes task n u t w b → w ≡ l.receiver → IsKnown task.goal arrival best w b
+told_known task is u t l over link arrival best goal_late told n w b has s to =
+    let by : slice_index arrival w ≤ b = rw to (ruled_out task is u l.receiver over link.0 l.bounds link.1 t (slice_index arrival l.receiver) (inr told) n t w b has (omega arith) s) in
+    elim (cases_eq w task.goal) [
+      | inl same ↦ inl (omega (arith, goal_late, by, ap (slice_index arrival) same))
+      | inr other ↦ inr (other, by)
+    ]

@@ -80,8 +80,8 @@ IsLayerTold task since ends left entries late = AreTold task since entries (slic
 abbrev pub IsToldBy : SearchTask → List ℕ → Entries → ℕ → ℕ → ℕ → Type 0
 IsToldBy task since E j u t = slice_index_or task.shut u false ≡ false → u ≢ task.goal → slice_index since u ≤ t → (i : ℕ) × (x : ℕ) × (i ≤ j + 1) × E i u x × (t < x)
 
--- the layers up to `left` hops from the goal; the start is in time for no entry of an earlier one
-pub record AreLateLayers (task : SearchTask) (since : List ℕ) (d left : ℕ) (ends late place : List ℕ) (entries : List Deadline) : Type 0 where
+-- the layers up to `left` hops from the goal
+pub record AreBackLayers (task : SearchTask) (since : List ℕ) (d left : ℕ) (ends late place : List ℕ) (entries : List Deadline) : Type 0 where
   pub lists : AreLate task (slice_index ends left) (slice_index ends (left + 1)) late place entries
   pub many : length ends ≡ left + 2
   pub first_end : slice_index ends 0 ≡ 0
@@ -92,6 +92,10 @@ pub record AreLateLayers (task : SearchTask) (since : List ℕ) (d left : ℕ) (
   pub apart : (h p q : ℕ) (e f : Deadline) → h ≤ left → slice_index ends h ≤ p → slice_index ends h ≤ q → p < slice_index ends (h + 1) → q < slice_index ends (h + 1) → slice_get entries p ≡ Some e → slice_get entries q ≡ Some f → e.node ≡ f.node → p ≡ q
   pub sound : (h v x t : ℕ) → h < left → HasDeadline ends entries (h + 1) v x → t < x → (n : ℕ) × (w : ℕ) × (b : ℕ) × (y : ℕ) × Takes task n v t w b × HasDeadline ends entries h w y × (b < y)
   pub taken : (j w x n u t b : ℕ) → j < left → HasDeadline ends entries j w x → b < x → Takes task n u t w b → IsToldBy task since (HasDeadline ends entries) j u t
+
+-- so they are, and the start is in time for no entry of an earlier one than the last
+pub record AreLateLayers (task : SearchTask) (since : List ℕ) (d left : ℕ) (ends late place : List ℕ) (entries : List Deadline) : Type 0 where
+  pub layers : AreBackLayers task since d left ends late place entries
   pub unmet : (j w x n b : ℕ) → j < left → HasDeadline ends entries j w x → b < x → Takes task n task.start task.at w b → ⊥
 
 -- the start is in time for an entry of the last layer

@@ -5,7 +5,7 @@ use Rattle.std.specs.declared.option.Option.TheVariants.{Some}
 use Rattle.sabr_search.specs.declared.visit.Visit.{Visit}
 use Rattle.sabr_index.specs.declared.link.Pass.{Pass}
 use Rattle.sabr_search.specs.questions.Linked.{HasNumber}
-use Rattle.sabr_search.specs.questions.Task.{SearchTask, IsTask, Takes, is_closed, never}
+use Rattle.sabr_search.specs.questions.Task.{SearchTask, IsTask, Takes, is_closed}
 
 -- the whole graph: no node is shut but the source and those to avoid, and no number is excluded
 pub record IsWhole (task : SearchTask) : Type 0 where
@@ -35,9 +35,9 @@ IsNearOver task near u passes w = (n t b : ℕ) → HasNumber passes n → Takes
 abbrev pub IsNearBy : SearchTask → List ℕ → ℕ → Type 0
 IsNearBy task near w = (n u t b : ℕ) → Takes task n u t w b → IsNear task near u t w b
 
--- at first the goal alone waits, and may be left at any second
-pub record IsBegun (task : SearchTask) (late : List ℕ) (taken : List Bool) (queue : List Visit) : Type 0 where
-  pub late_is : late ≡ slice_set (replicate (length task.shut) 0) task.goal never
+-- at first the goal alone waits, and is reached in time before second `until`
+pub record IsBegun (task : SearchTask) (until : ℕ) (late : List ℕ) (taken : List Bool) (queue : List Visit) : Type 0 where
+  pub late_is : late ≡ slice_set (replicate (length task.shut) 0) task.goal until
   pub taken_is : taken ≡ replicate (length task.shut) false
   pub waits : IsPermutation (record { at = 0; node = task.goal } ∷ []) queue
 
@@ -45,7 +45,6 @@ pub record IsBegun (task : SearchTask) (late : List ℕ) (taken : List Bool) (qu
 pub record AreRising (P : List ℕ → ℕ → Type 0) (task : SearchTask) (late : List ℕ) (taken : List Bool) (queue : List Visit) (now : ℕ) : Type 0 where
   pub many : length late ≡ length task.table
   pub flags : length taken ≡ length task.table
-  pub goal : slice_index late task.goal ≡ never
   pub inside : All (λ (e : Visit). e.node < length task.table) queue
   pub waits : (w : ℕ) → w < length task.table → slice_index_or taken w false ≡ false → 0 < slice_index late w → (e : Visit) × Contains queue e × (e.node ≡ w)
   pub over : (w : ℕ) → w ≢ now → slice_index_or taken w false ≡ true → P late w
@@ -53,5 +52,4 @@ pub record AreRising (P : List ℕ → ℕ → Type 0) (task : SearchTask) (late
 -- in the end P holds for each node that may be left in time
 pub record AreTaken (P : List ℕ → ℕ → Type 0) (task : SearchTask) (late : List ℕ) : Type 0 where
   pub many : length late ≡ length task.table
-  pub goal : slice_index late task.goal ≡ never
   pub over : (w : ℕ) → w < length task.table → 0 < slice_index late w → P late w

@@ -3,7 +3,7 @@ use Rattle.std.specs.Prelude.{◌≡◌, ◌≢◌, ℕ, ◌≤◌, ◌<◌, ◌
 use Rattle.sabr_search.specs.declared.visit.Visit.{Visit}
 use Rattle.sabr_search.specs.declared.forward.layers.Layers.{Layers}
 use Rattle.std.specs.declared.option.Option.TheVariants.{Some}
-use Rattle.sabr_search.specs.questions.Task.{SearchTask, Takes, never}
+use Rattle.sabr_search.specs.questions.Task.{SearchTask, Takes, never, latest_arrival}
 
 -- `place` names an entry of each node, or 0
 pub record IsPlaced (place : List ℕ) (reached : List Visit) : Type 0 where
@@ -52,6 +52,7 @@ pub record AreLists (shut : List Bool) (goal at begin : ℕ) (arrival place : Li
   pub layer : IsLayer begin place reached
   pub inside : (p : ℕ) (d : Visit) → p < length reached → (slice_index_or reached p d).node < length shut
   pub other : (p : ℕ) (d : Visit) → p < length reached → (slice_index_or reached p d).node ≢ goal
+  pub by : (p : ℕ) (d : Visit) → p < length reached → slice_index arrival (slice_index_or reached p d).node ≤ (slice_index_or reached p d).at
 
 -- what holds after more steps were taken: arrivals and the best delivery only fall, by what is given, and what came
 -- before the layer stays
@@ -78,10 +79,12 @@ nodes_from node entries first place = map node (drop first (take place entries))
 abbrev pub nodes_between : List Visit → ℕ → ℕ → List ℕ
 nodes_between reached first place = nodes_from (λ e. e.node) reached first place
 
--- the entries from `first` to before `begin` are of different nodes, and none is reached before the search begins
+-- the entries from `first` to before `begin` are of different nodes, and none is reached before the search begins or after
+-- every arrival
 pub record AreSources (task : SearchTask) (reached : List Visit) (first begin : ℕ) : Type 0 where
   pub inside : (p : ℕ) (e : Visit) → slice_get reached p ≡ Some e → e.node < length task.table
   pub since : (p : ℕ) (e : Visit) → slice_get reached p ≡ Some e → task.at ≤ e.at
+  pub early : (p : ℕ) (e : Visit) → slice_get reached p ≡ Some e → e.at ≤ latest_arrival
   pub apart : (p q : ℕ) (e f : Visit) → first ≤ p → first ≤ q → p < begin → q < begin → slice_get reached p ≡ Some e → slice_get reached q ≡ Some f → e.node ≡ f.node → p ≡ q
 
 -- a contact that is taken at node u at t arrives there then
@@ -95,3 +98,7 @@ GivenFrom task reached first begin w x = (p : ℕ) × (e : Visit) × (n : ℕ) �
 -- what the contacts of these entries bring is known
 abbrev pub IsKnownFrom : SearchTask → List Visit → ℕ → ℕ → List ℕ → ℕ → Type 0
 IsKnownFrom task reached first begin arrival best = (p : ℕ) (e : Visit) (n w x : ℕ) → first ≤ p → p < begin → slice_get reached p ≡ Some e → Takes task n e.node e.at w x → IsKnown task.goal arrival best w x
+
+-- some contact that is taken at an open node at its arrival leads to the goal then
+abbrev pub IsBroughtTo : SearchTask → List ℕ → ℕ → Type 0
+IsBroughtTo task arrival b = (u : ℕ) × (n : ℕ) × (slice_index_or task.shut u false ≡ false) × Takes task n u (slice_index arrival u) task.goal b

@@ -25,10 +25,10 @@ pub record IsBetween (p : TabledPlan) (r : RouteRequest) (v : ℕ) : Type 0 wher
   pub unshut : is_closed p.plan r [] node ≡ false
   pub other : node ≢ r.destination
 
--- by node a second from which on no way over the whole graph leads to the destination, as far as the list goes: no step
--- leads from there to where it isn't too late
-pub record AreLateFor (p : TabledPlan) (r : RouteRequest) (late : List ℕ) : Type 0 where
-  pub goal : (g : ℕ) → slice_get p.table g ≡ Some r.destination → never ≤ slice_index_or late g never
+-- by node a second from which on no way over the whole graph delivers before second `until`, as far as the list goes: no
+-- step leads from there to where it isn't too late
+pub record AreLateFor (p : TabledPlan) (r : RouteRequest) (until : ℕ) (late : List ℕ) : Type 0 where
+  pub goal : (g : ℕ) → slice_get p.table g ≡ Some r.destination → until ≤ slice_index_or late g never
   pub steps : (n u t w b : ℕ) → Goes p r n u t w b → IsBetween p r u → slice_index_or late u never ≤ t → slice_index_or late w never ≤ b
 
 -- by node the seconds that the way to the destination takes at the least over the whole graph; 0 after the list's end: no
@@ -45,6 +45,7 @@ AreSoonFor p r soon =
 
 -- what is known of the ways of every question of the request is true
 pub record IsReach {A : Type 0} (p : TabledPlan) (r : RouteRequest) (reach : Reach A) : Type 0 where
-  pub late : AreLateFor p r reach.late.items
+  pub late : AreLateFor p r never reach.late.items
+  pub sooner : AreLateFor p r reach.until reach.sooner.items
   pub costs : AreCostsFor p r reach.costs.items
   pub soon : AreSoonFor p r reach.soon.items

@@ -17,10 +17,10 @@ use Rattle.sabr_search.specs.layers.Lists.{AreClosed, IsKnown}
 abbrev pub AreArrivalsBy : SearchTask → List ℕ → List ℕ → ℕ → Type 0
 AreArrivalsBy task costs arrival d = (ns : List ℕ) (v t : ℕ) → 0 < length ns → Leads (Takes task) task.start task.at ns v t → min (slice_index arrival v) (d - slice_index costs v) ≤ t
 
--- by node a second from which on no way leads to the goal, as far as the list goes; and what a way from there to the goal
--- costs at the least, which no step lowers by more than its seconds
-pub record IsBound (task : SearchTask) (late costs : List ℕ) : Type 0 where
-  pub goal : never ≤ slice_index_or late task.goal never
+-- by node a second from which on no way is at the goal before second `until`, as far as the list goes; and what a way from
+-- there to the goal costs at the least, which no step lowers by more than its seconds
+pub record IsBound (task : SearchTask) (until : ℕ) (late costs : List ℕ) : Type 0 where
+  pub goal : until ≤ slice_index_or late task.goal never
   pub steps : (n u t w b : ℕ) → Takes task n u t w b → slice_index_or task.shut u false ≡ false → u ≢ task.goal → slice_index_or late u never ≤ t → slice_index_or late w never ≤ b
   pub there : slice_index costs task.goal ≡ 0
   pub since : task.request.at ≤ task.at

@@ -38,6 +38,10 @@ at_any_hops b = if is_none b then no_bound else record { delivery = b.delivery; 
 abbrev pub IsBeyond : ContactPlan → RouteRequest → List ℕ → List ℕ → Bound → Type 0
 IsBeyond p r prefix excluded b = (s : List ℕ) → IsTrue (in_part p r prefix excluded s) → is_up_to b (delivery_of p r s) (length s) ≡ false
 
+-- no route of the part delivers before this second
+abbrev pub IsFloor : ContactPlan → RouteRequest → List ℕ → List ℕ → ℕ → Type 0
+IsFloor p r prefix excluded d = (s : List ℕ) → IsTrue (in_part p r prefix excluded s) → d ≤ delivery_of p r s
+
 -- the answer is the least route of the part, that it has none, or that each is above the bound
 abbrev pub IsSought : {A : Type 0} → ContactPlan → RouteRequest → List ℕ → List ℕ → Bound → Sought A → Type 0
 IsSought p r prefix excluded b (Route route) = IsLeast p r prefix excluded (Some route)

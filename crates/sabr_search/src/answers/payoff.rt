@@ -1,26 +1,26 @@
 //! Whether a try pays.
 
-/// So many tries must have won as often, or `PAUSE` go by. For wide questions: with 16, the grid took 23 percent more, a
-/// satellite plan 7 percent more and another 4 percent fewer, and a small relay 3 percent fewer; with 256, the grid took 8
-/// percent more and the relay 13. To vary this and the next, see `SLOTS`.
-const TRIES: u32 = 64;
-
-/// So many tries go by before one is made again. With 256, the grid took 15 percent more and the relay 4; with 4096 the grid
-/// took 1 percent fewer.
-const PAUSE: u32 = 1024;
-
 /// How many tries were made and won of late, and how many go by before the next one.
 #[derive(Clone, Copy)]
 pub struct Payoff {
+    /// Of so many tries at least `least` must win, or `pause` go by.
+    tries: u32,
+    least: u32,
+    pause: u32,
+    /// The tries since they were last counted, and how many of them won.
     tried: u32,
     won: u32,
+    /// How many go by before the next one.
     rest: u32,
 }
 
 impl Payoff {
-    /// No try was made.
-    pub fn new() -> Payoff {
+    /// No try was made. Of so many tries at least `least` must win, or `pause` go by.
+    pub fn new(tries: u32, least: u32, pause: u32) -> Payoff {
         Payoff {
+            tries,
+            least,
+            pause,
             tried: 0,
             won: 0,
             rest: 0,
@@ -33,8 +33,8 @@ impl Payoff {
             self.rest -= 1;
             return false;
         }
-        if self.tried >= TRIES {
-            self.rest = if self.won < TRIES { PAUSE } else { 0 };
+        if self.tried >= self.tries {
+            self.rest = if self.won < self.least { self.pause } else { 0 };
             self.tried = 0;
             self.won = 0;
         }

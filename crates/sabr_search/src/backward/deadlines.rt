@@ -24,7 +24,7 @@ pub struct Deadlines<A: Allocator + Copy> {
     pub place: Vec<usize, A>,
     /// The entries, layer by layer; the first is the goal's.
     pub entries: Vec<Deadline, A>,
-    /// Where each layer begins.
+    /// Where layers end, after a 0: layer h has the entries from `ends[h]` to before `ends[h + 1]`.
     pub ends: Vec<usize, A>,
 }
 

@@ -9,6 +9,7 @@ ghost use Rattle.sabr_search.specs.layers.Deadlines.{IsApart};
 ghost use Rattle.sabr_search.specs.questions.FirstSteps.{AreFirstSteps};
 ghost use Rattle.sabr_search.specs.layers.Settling.{AreReal};
 ghost use Rattle.sabr_search.specs.layers.Late.{InTimeFor, AreLateAfter, IsNotedLate, IsToldLate, IsToldOver, IsToldByHead, IsLayerTold, AreArrivals, AreMet, IsNoneWithin};
+ghost use Rattle.sabr_search.specs.layers.Level.{AreWhole};
 
 use crate::backward::deadlines::{Deadline, Deadlines};
 use crate::backward::since::Since;
@@ -28,7 +29,7 @@ pub struct Aim<'t, 'a, 's, A: Allocator + Copy> {
     pub since: &'s Since<'s>,
     /// Where the first steps come to, and when.
     pub first: &'s [Visit],
-    /// The second by which the goal is to be reached; within a limit on hops, one before which no way delivers.
+    /// The second that the layers are made for: no way delivers before it. Within a limit on hops it may have to rise.
     pub delivery: u64,
 }
 
@@ -54,29 +55,31 @@ impl<A: Allocator + Copy> Deadlines<A> {
     }
 
     /// Returns true if a link to a node that is left in time before `before` needn't be taken: its sender is in no layer,
-    /// as the start, or what is listed with it shows that its sender is too late then already. What is cheapest is compared
-    /// first.
+    /// as the start, or what is listed with it shows that its sender is too late then already, or that no way comes there
+    /// soon enough. What is cheapest is compared first.
     #[inline(always)]
     fn is_told(&self, aim: &Aim<'_, '_, '_, A>, head: SenderHead, before: u64) -> bool
         requires task { IsTask aim.now.task.now }
         requires many { length self.now.late ≡ length aim.now.task.now.table }
+        requires arrivals { length aim.now.since.now ≡ length aim.now.task.now.table }
         requires node { head.node < length aim.now.task.now.table }
         ensures told { IsTrue result → IsToldByHead aim.now.task.now aim.now.since.now self.now.late head before }
         ensures unshut { result ≡ false → slice_index_or aim.now.task.now.shut head.node false ≡ false }
         ensures other { result ≡ false → head.node ≢ aim.now.task.now.goal }
     {
-        if before <= head.soonest {
-            return true;
-        }
         let node = head.node;
         let late = self.late.at(node);
         if is_soonest(head.soonest, head.least_light, late, before) {
             return true;
         }
+        let since = aim.since.at(node);
+        if is_soonest(head.soonest, head.least_light, since, before) {
+            return true;
+        }
         node == aim.task.goal() || aim.task.shut()[node]
     }
 
-    /// Takes one link to the node of an entry, for the layer before `left`.
+    /// Takes one link to the node of an entry of layer `left`, for layer `left + 1`.
     fn take_sender(
         &mut self,
         aim: &Aim<'_, '_, '_, A>,
@@ -104,7 +107,7 @@ impl<A: Allocator + Copy> Deadlines<A> {
         ensures told { OnOk result (IsToldOver aim.now.task.now aim.now.since.now self.new.late from.entry.node from.entry.passes.now to.before) }
     {
         let since = aim.since.at(from.node);
-        if to.before <= since {
+        if from.bounds.latest_end <= since {
             return Ok(());
         }
         let latest = self.late.at(from.node);
@@ -168,8 +171,8 @@ impl<A: Allocator + Copy> Deadlines<A> {
         Ok(true)
     }
 
-    /// Makes the layer before layer `left`, with at most one look for each contact. Returns false if more looks might be
-    /// needed than are left.
+    /// Makes layer `left + 1` from layer `left`, with at most one look for each contact. Returns false if more looks might
+    /// be needed than are left.
     fn next_back(
         &mut self,
         aim: &Aim<'_, '_, '_, A>,
@@ -241,6 +244,33 @@ impl<A: Allocator + Copy> Deadlines<A> {
             }
         }
         false
+    }
+
+    /// Makes layers backward from the goal until one has no node, each with at most one look for each contact. Returns false
+    /// if more looks might be needed than are left, or more layers than there are nodes.
+    pub fn make_whole(
+        &mut self,
+        aim: &Aim<'_, '_, '_, A>,
+        looks: &mut Looks,
+    ) -> Result<bool, NoMemory>
+        requires task { IsTask aim.now.task.now }
+        requires arrivals { AreArrivals aim.now.task.now aim.now.since.now }
+        requires early { aim.now.delivery < never }
+        ensures whole { IfOk result (λ all. IsTrue all → AreWhole aim.now.task.now aim.now.since.now aim.now.delivery self.new.ends.items self.new.entries.items) }
+    {
+        self.first_back(aim.task, aim.delivery)?;
+        for left in 0..aim.task.shut().len() {
+            if self.ends[left] == self.ends[left + 1] {
+                return Ok(true);
+            }
+            let whole = self.next_back(aim, looks, left)?;
+            if !whole {
+                return Ok(false);
+            }
+            let end = self.entries.len();
+            self.ends.push(end)?;
+        }
+        Ok(false)
     }
 
     /// Makes layers backward from the goal until the start is in time for one, each with at most one look for each

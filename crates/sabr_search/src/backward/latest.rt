@@ -1,4 +1,5 @@
-//! For each node, the second from which on no way leads to the destination: from the goal backward over the whole graph.
+//! For each node, the second from which on no way leads to the destination in time: from the goal backward over the whole
+//! graph.
 
 ghost use Rattle.std.specs.Prelude.{◌≡◌, ◌≢◌, ℕ, ◌+◌, ◌*◌, ◌^◌, ◌≤◌, ◌<◌, [], Some, IfOk, OnOk, IsTrue, false, length, slice_get, slice_index, slice_index_or};
 ghost use Rattle.sabr_search.specs.questions.Task.{IsTask, Takes};
@@ -7,7 +8,6 @@ ghost use Rattle.sabr_search.specs.questions.FirstSteps.{tabled_of};
 ghost use Rattle.sabr_search.specs.layers.Reach.{AreLateFor};
 ghost use Rattle.sabr_search.specs.layers.Latest.{IsWhole, IsBegun, AreRising, AreTaken, IsTakenBy, IsLeftBy};
 
-use crate::forward::layers::NEVER;
 use crate::forward::queue::{LAST_AT, Queue};
 use crate::links::over_link::{WalkedLink, is_soonest};
 use crate::task::Task;
@@ -28,15 +28,15 @@ pub struct Latest<A: Allocator + Copy> {
 }
 
 impl<A: Allocator + Copy> Latest<A> {
-    /// Begins with the goal alone, where it is never too late.
-    pub fn begin(alloc: A, task: &Task<'_, A>) -> Result<Latest<A>, NoMemory>
+    /// Begins with the goal alone, where it is too late from this second on.
+    pub fn begin(alloc: A, task: &Task<'_, A>, until: u64) -> Result<Latest<A>, NoMemory>
         requires task { IsTask task.now }
-        ensures { IfOk result (λ l. IsBegun task.now l.late.items l.taken.items l.queue) }
+        ensures { IfOk result (λ l. IsBegun task.now until l.late.items l.taken.items l.queue) }
     {
         let nodes = task.shut().len();
         let mut late = Vec::new(alloc);
         late.resize(nodes, 0)?;
-        late[task.goal()] = NEVER;
+        late[task.goal()] = until;
         let mut taken = Vec::new(alloc);
         taken.resize(nodes, false)?;
         let mut queue = Queue::new(alloc);
@@ -111,6 +111,7 @@ impl<A: Allocator + Copy> Latest<A> {
         requires node { to < length task.now.table }
         requires rising { AreRising (IsTakenBy task.now) task.now self.old.late.items self.old.taken.items self.old.queue to }
         ensures rising { OnOk result (AreRising (IsTakenBy task.now) task.now self.new.late.items self.new.taken.items self.new.queue to) }
+        ensures rises { OnOk result ((k : ℕ) → slice_index self.old.late.items k ≤ slice_index self.new.late.items k) }
         ensures taken { IfOk result (λ all. IsTrue all → IsTakenBy task.now self.new.late.items to) }
     {
         let before = self.late[to];
@@ -138,6 +139,7 @@ impl<A: Allocator + Copy> Latest<A> {
     fn take_all(&mut self, task: &Task<'_, A>, looks: &mut Looks) -> Result<bool, NoMemory>
         requires task { IsTask task.now }
         requires rising { AreRising (IsTakenBy task.now) task.now self.old.late.items self.old.taken.items self.old.queue (length task.now.table) }
+        ensures rises { OnOk result ((k : ℕ) → slice_index self.old.late.items k ≤ slice_index self.new.late.items k) }
         ensures taken { IfOk result (λ all. IsTrue all → AreTaken (IsTakenBy task.now) task.now self.new.late.items) }
     {
         for _ in 0..task.two_passes() {
@@ -157,17 +159,18 @@ impl<A: Allocator + Copy> Latest<A> {
     }
 }
 
-/// Returns for each node a second from which on no way over the whole graph leads to the destination. Nothing is known of
+/// Returns for each node a second from which on no way over the whole graph delivers before `until`. Nothing is known of
 /// any node if more looks might be needed than are left.
-pub fn latest_of<A: Allocator + Copy>(
+pub fn latest_by<A: Allocator + Copy>(
     alloc: A,
     task: &Task<'_, A>,
     looks: &mut Looks,
+    until: u64,
 ) -> Result<Vec<u64, A>, NoMemory>
     requires whole { IsWhole task.now }
-    ensures late { IfOk result (λ v. AreLateFor (tabled_of task.now) task.now.request v.items) }
+    ensures late { IfOk result (λ v. AreLateFor (tabled_of task.now) task.now.request until v.items) }
 {
-    let mut latest = Latest::begin(alloc, task)?;
+    let mut latest = Latest::begin(alloc, task, until)?;
     let all = latest.take_all(task, looks)?;
     if !all {
         return Ok(Vec::new(alloc));

@@ -36,6 +36,13 @@ impl<A: Allocator + Copy> FoundWay<A> {
             bound,
         }
     }
+
+    /// Returns true if there is a way, or if all that is up to a bound is up to its own.
+    pub fn tells(&self, bound: Bound) -> bool
+        ensures { IsTrue result → self.now.numbers.items ≡ [] → IsTrue (is_up_to self.now.bound bound.delivery bound.hops) }
+    {
+        !self.numbers.is_empty() || bound.is_within(self.bound)
+    }
 }
 
 impl<A: Allocator + Copy> Deadlines<A> {

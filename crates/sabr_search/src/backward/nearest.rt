@@ -91,6 +91,7 @@ impl<A: Allocator + Copy> Latest<A> {
         requires node { to < length task.now.table }
         requires rising { AreRising (IsNearBy task.now) task.now self.old.late.items self.old.taken.items self.old.queue to }
         ensures rising { OnOk result (AreRising (IsNearBy task.now) task.now self.new.late.items self.new.taken.items self.new.queue to) }
+        ensures rises { OnOk result ((k : ℕ) → slice_index self.old.late.items k ≤ slice_index self.new.late.items k) }
         ensures taken { OnOk result (IsNearBy task.now self.new.late.items to) }
     {
         let senders = task.senders(to);
@@ -104,6 +105,7 @@ impl<A: Allocator + Copy> Latest<A> {
     fn near_all(&mut self, task: &Task<'_, A>, hops: &mut Vec<u64, A>) -> Result<bool, NoMemory>
         requires task { IsTask task.now }
         requires rising { AreRising (IsNearBy task.now) task.now self.old.late.items self.old.taken.items self.old.queue (length task.now.table) }
+        ensures rises { OnOk result ((k : ℕ) → slice_index self.old.late.items k ≤ slice_index self.new.late.items k) }
         ensures taken { IfOk result (λ all. IsTrue all → AreTaken (IsNearBy task.now) task.now self.new.late.items) }
     {
         for _ in 0..task.two_passes() {
@@ -148,7 +150,7 @@ pub fn costs_of<A: Allocator + Copy>(
     requires whole { IsWhole task.now }
     ensures costs { IfOk result (λ v. AreCostsFor (tabled_of task.now) task.now.request v.items) }
 {
-    let mut nearest = Latest::begin(alloc, task)?;
+    let mut nearest = Latest::begin(alloc, task, NEVER)?;
     hops.resize(task.shut().len(), 0)?;
     let all = nearest.near_all(task, hops)?;
     if !all {

@@ -55,12 +55,27 @@ impl<'a> Since<'a> {
         }
     }
 
+    /// The seconds of a list, for so many nodes.
+    pub fn soonest(nodes: usize, soon: &'a [u64]) -> Since<'a>
+        ensures many { length result ≡ nodes }
+        ensures each { (k : ℕ) → slice_index result k ≤ slice_index soon.now k }
+    {
+        Since {
+            nodes,
+            arrival: &[],
+            costs: &[],
+            soon,
+            delivery: 0,
+        }
+    }
+
     /// Returns a second before which no way comes to a node.
     #[inline(always)]
     pub fn at(&self, node: usize) -> u64
         requires { node < length self.now }
         ensures { result ≡ slice_index self.now node }
     {
+        // The last second there from which the delivery can be met. Arrivals from then on weren't settled, and aren't known.
         let last = self.delivery.saturating_sub(seconds_of(self.costs, node));
         let arrival = seconds_of(self.arrival, node);
         if arrival < last {

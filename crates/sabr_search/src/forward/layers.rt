@@ -1,17 +1,17 @@
 //! Hop layers, made forward: for each number of hops, the nodes that it reaches earlier than fewer do, and when.
 
-ghost use Rattle.std.specs.Prelude.{◌≡◌, ◌≢◌, min, ℕ, [], ◌∷◌, ◌+◌, ◌*◌, ◌^◌, ◌≤◌, ◌<◌, length, take, slice_set, slice_index, slice_index_or, true, false, OnOk, IfOk, IfSome, IfNone};
-ghost use Rattle.sabr_search.specs.questions.Task.{IsTask, Takes, never};
+ghost use Rattle.std.specs.Prelude.{◌≡◌, ◌≢◌, ◌⊎◌, IsTrue, min, ℕ, [], ◌∷◌, ◌+◌, ◌*◌, ◌^◌, ◌≤◌, ◌<◌, length, take, slice_set, slice_index, slice_index_or, true, false, OnOk, IfOk, IfSome, IfNone};
+ghost use Rattle.sabr_search.specs.questions.Task.{IsTask, Takes, never, latest_arrival};
 ghost use Rattle.sabr_search.specs.questions.Steps.{degree};
 ghost use Rattle.sabr_search.specs.questions.Linked.{IsLinkWithin, HasNumber};
-ghost use Rattle.sabr_search.specs.layers.Lists.{IsPlaced, StayLinked, IsLayer, AddsOnly, AreLists, AreLowered, IsKnown, AreSources, GivenAt, GivenFrom, IsKnownFrom};
+ghost use Rattle.sabr_search.specs.layers.Lists.{IsPlaced, StayLinked, IsLayer, AddsOnly, AreLists, AreLowered, IsKnown, AreSources, GivenAt, GivenFrom, IsKnownFrom, IsBroughtTo};
 ghost use Rattle.sabr_search.specs.questions.FirstSteps.{IsNoneBefore};
 ghost use Rattle.sabr_search.specs.layers.Made.{AreOpened, IsBestWithin};
 
-use crate::links::over_link::{WalkedLink, link_passes};
+use crate::links::over_link::{WalkedLink, is_soonest, link_passes};
 use crate::task::Task;
 use crate::visit::Visit;
-use sabr_index::Looks;
+use sabr_index::{Link, Looks};
 use sabr_model::NoMemory;
 use std::alloc::Allocator;
 
@@ -29,7 +29,7 @@ struct Layer {
     best: u64,
 }
 
-/// Later than every arrival.
+/// No second: what is never reached, or never too late.
 pub const NEVER: u64 = u64::MAX;
 
 /// The first second after every arrival.
@@ -100,6 +100,17 @@ pub fn news_before<A: Allocator + Copy>(
     } else {
         best.min(arrival[to])
     }
+}
+
+/// Returns true if, by the bounds of a link, nothing that is at its sender at `at` comes to its receiver sooner than is known.
+#[inline(always)]
+pub fn is_told(arrival: &[u64], link: &Link, at: u64) -> bool
+    requires receiver { link.now.receiver < length arrival.now }
+    requires early { at ≤ latest_arrival }
+    ensures { IsTrue result → (slice_index arrival.now link.now.receiver ≤ link.now.bounds.soonest) ⊎ (slice_index arrival.now link.now.receiver ≤ at + link.now.bounds.least_light) }
+{
+    let known = arrival[link.receiver as usize];
+    known <= link.bounds.soonest.max(at + link.bounds.least_light as u64)
 }
 
 /// The layers, and what is known of each node.
@@ -194,6 +205,7 @@ impl<A: Allocator + Copy> Layers<A> {
         requires task { IsTask task.now }
         requires node { from.node < length task.now.table }
         requires since { task.now.at ≤ from.at }
+        requires early { from.at ≤ latest_arrival }
         requires few { degree task.now from.node ≤ looks.old.left }
         requires later { 0 < begin }
         requires lists { AreLists task.now.shut task.now.goal task.now.at begin self.old.arrival.items self.old.place.items self.old.reached.items }
@@ -204,6 +216,9 @@ impl<A: Allocator + Copy> Layers<A> {
         let links = task.links(from.node);
         let mut least = best;
         for link in links.links {
+            if is_told(&self.arrival, link, from.at) {
+                continue;
+            }
             let passes = link_passes(links, link);
             let walked = WalkedLink {
                 from: from.node,
@@ -243,6 +258,40 @@ impl<A: Allocator + Copy> Layers<A> {
             least = self.take_all(task, looks, from, begin, least)?;
         }
         Ok(least)
+    }
+
+    /// Takes every link to the goal from an open node that is reached, as the last layer. Returns the least delivery so far.
+    fn last_layer(&self, task: &Task<'_, A>, looks: &mut Looks, best: u64) -> u64
+        requires task { IsTask task.now }
+        requires few { length task.now.plan.contacts ≤ looks.old.left }
+        requires many { length self.now.arrival.items ≡ length task.now.table }
+        ensures looks { looks.old.left ≤ looks.new.left + length task.now.plan.contacts }
+        ensures lower { result ≤ best }
+        ensures known { (n u b : ℕ) → Takes task.now n u (slice_index self.now.arrival.items u) task.now.goal b → slice_index_or task.now.shut u false ≡ false → result ≤ b }
+        ensures found { (result ≡ best) ⊎ IsBroughtTo task.now self.now.arrival.items result }
+    {
+        let goal = task.goal();
+        let senders = task.senders(goal);
+        let mut least = best;
+        for place in 0..senders.len() {
+            let head = senders.head(place);
+            let at = self.arrival[head.node];
+            if is_soonest(head.soonest, head.least_light, at, least) {
+                continue;
+            }
+            if task.shut()[head.node] {
+                continue;
+            }
+            let from = senders.at(place);
+            let link = WalkedLink {
+                from: from.node,
+                to: goal,
+                passes: from.passes,
+                bounds: from.bounds,
+            };
+            least = task.arrive_over(looks, link, at, least);
+        }
+        least
     }
 
     /// Makes layer 0: the start alone.
@@ -288,6 +337,13 @@ impl<A: Allocator + Copy> Layers<A> {
         for hop in 0..hops {
             if task.one_pass() > looks.left() {
                 return Ok(None);
+            }
+            if hop > 0 && hop + 1 == hops {
+                let delivery = self.last_layer(task, looks, best.delivery);
+                if delivery < best.delivery {
+                    return Ok(Some(Best { delivery, hops }));
+                }
+                return Ok(Some(best));
             }
             let begin = self.reached.len();
             let delivery = self.next_layer(task, looks, first, begin, best.delivery)?;

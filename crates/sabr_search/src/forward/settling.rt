@@ -1,6 +1,6 @@
 //! Nodes settled in order of their arrival and of what the goal costs from there, up to the first delivery at the goal.
 
-ghost use Rattle.std.specs.Prelude.{◌≡◌, ◌≢◌, ◌⊎◌, IsTrue, ℕ, min, [], ◌+◌, ◌-◌, ◌^◌, ◌≤◌, ◌<◌, length, slice_get, slice_set, slice_index, slice_index_or, replicate, Some, OnOk, IfOk, IfSome, IfNone, true, false};
+ghost use Rattle.std.specs.Prelude.{◌≡◌, ◌≢◌, ℕ, min, [], ◌+◌, ◌-◌, ◌^◌, ◌≤◌, ◌<◌, length, slice_get, slice_set, slice_index, slice_index_or, replicate, Some, OnOk, IfOk, IfSome, IfNone, true, false};
 ghost use Rattle.sabr_search.specs.questions.Task.{IsTask, Takes, latest_arrival};
 ghost use Rattle.sabr_search.specs.questions.Steps.{degree};
 ghost use Rattle.sabr_search.specs.questions.Linked.{AreLinksAt, IsLinkWithin, HasNumber};
@@ -10,12 +10,12 @@ ghost use Rattle.sabr_search.specs.questions.FirstSteps.{AreFirstSteps};
 ghost use Rattle.sabr_search.specs.layers.Settling.{IsBound, AreReal, AreArrivalsBy, IsFirstWay, StaySettling, StaySettled, IsKnownOver, IsFallen, AreSettledTaken};
 
 use crate::backward::since::seconds_of;
-use crate::forward::layers::{Best, open_nodes};
+use crate::forward::layers::{Best, is_told, open_nodes};
 use crate::forward::queue::Queue;
 use crate::links::over_link::{WalkedLink, link_passes};
 use crate::task::Task;
 use crate::visit::Visit;
-use sabr_index::{Link, Links, Looks};
+use sabr_index::{Links, Looks};
 use sabr_model::NoMemory;
 use std::alloc::Allocator;
 
@@ -24,7 +24,7 @@ use std::alloc::Allocator;
 pub struct Forward<'t, 'a, 'b, A: Allocator + Copy> {
     /// The search.
     pub task: &'t Task<'a, A>,
-    /// For each node, a second from which on no way leads to the goal; none is known after the list's end.
+    /// For each node, a second from which on no way is at the goal before `until`; none is known after the list's end.
     pub late: &'b [u64],
     /// For each node, the least seconds of a way to the goal; 0 after the list's end.
     pub costs: &'b [u64],
@@ -64,17 +64,6 @@ impl<'t, 'a, 'b, A: Allocator + Copy> Forward<'t, 'a, 'b, A> {
     {
         delivery.saturating_sub(self.cost(to)).min(arrival[to])
     }
-}
-
-/// Returns true if, by the bounds of a link, nothing that is at its sender at `at` comes to its receiver sooner than is known.
-#[inline(always)]
-fn is_told(arrival: &[u64], link: &Link, at: u64) -> bool
-    requires receiver { link.now.receiver < length arrival.now }
-    requires early { at ≤ latest_arrival }
-    ensures { IsTrue result → (slice_index arrival.now link.now.receiver ≤ link.now.bounds.soonest) ⊎ (slice_index arrival.now link.now.receiver ≤ at + link.now.bounds.least_light) }
-{
-    let known = arrival[link.receiver as usize];
-    known <= link.bounds.soonest || known <= at + link.bounds.least_light as u64
 }
 
 /// For each node, its least arrival so far, the hops of a way with it, and whether it is settled; and the waiting arrivals.
@@ -240,7 +229,7 @@ impl<A: Allocator + Copy> Settling<A> {
     ) -> Result<Best, NoMemory>
         requires task { IsTask forward.now.task.now }
         requires until { forward.now.until ≤ latest_arrival + 1 }
-        requires bound { IsBound forward.now.task.now forward.now.late.now forward.now.costs.now }
+        requires bound { IsBound forward.now.task.now forward.now.until forward.now.late.now forward.now.costs.now }
         requires inside { (k : ℕ) (s : Visit) → slice_get first.now k ≡ Some s → s.node < length forward.now.task.now.table }
         requires steps { AreFirstSteps forward.now.task.now first.now }
         requires real { AreReal forward.now.task.now first.now }
@@ -281,7 +270,7 @@ impl<A: Allocator + Copy> Settling<A> {
     ) -> Result<Option<Best>, NoMemory>
         requires task { IsTask forward.now.task.now }
         requires until { forward.now.until ≤ latest_arrival + 1 }
-        requires bound { IsBound forward.now.task.now forward.now.late.now forward.now.costs.now }
+        requires bound { IsBound forward.now.task.now forward.now.until forward.now.late.now forward.now.costs.now }
         requires inside { (k : ℕ) (s : Visit) → slice_get first.now k ≡ Some s → s.node < length forward.now.task.now.table }
         requires steps { AreFirstSteps forward.now.task.now first.now }
         requires real { AreReal forward.now.task.now first.now }
@@ -322,7 +311,7 @@ impl<A: Allocator + Copy> Settling<A> {
     ) -> Result<Option<Best>, NoMemory>
         requires task { IsTask forward.now.task.now }
         requires until { forward.now.until ≤ latest_arrival + 1 }
-        requires bound { IsBound forward.now.task.now forward.now.late.now forward.now.costs.now }
+        requires bound { IsBound forward.now.task.now forward.now.until forward.now.late.now forward.now.costs.now }
         ensures counted { looks.old.left ≤ looks.new.left + length forward.now.task.now.plan.contacts }
         ensures none { IfOk result (λ o. IfNone o (looks.old.left < length forward.now.task.now.plan.contacts)) }
         ensures way { IfOk result (λ o. IfSome o (IsFirstWay forward.now.task.now forward.now.until)) }

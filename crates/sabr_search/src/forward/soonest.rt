@@ -1,7 +1,7 @@
 //! For each node, the soonest arrival from the source: from there forward over the whole graph.
 
 ghost use Rattle.std.specs.Prelude.{[], ◌≤◌, ℕ, IfOk, min, slice_index};
-ghost use Rattle.sabr_search.specs.questions.Task.{IsBehind};
+ghost use Rattle.sabr_search.specs.questions.Task.{IsBehind, never};
 ghost use Rattle.sabr_search.specs.questions.FirstSteps.{tabled_of};
 ghost use Rattle.sabr_search.specs.layers.Latest.{IsWhole};
 ghost use Rattle.sabr_search.specs.layers.Reach.{AreLateFor, AreSoonFor};
@@ -32,7 +32,7 @@ pub fn soonest_of<A: Allocator + Copy>(
 ) -> Result<Vec<u64, A>, NoMemory>
     requires whole { IsWhole task.now }
     requires source { IsBehind task.now [] }
-    requires late { AreLateFor (tabled_of task.now) task.now.request late.now }
+    requires late { AreLateFor (tabled_of task.now) task.now.request never late.now }
     ensures soon { IfOk result (λ v. AreSoonFor (tabled_of task.now) task.now.request v.items) }
 {
     let forward = Forward {

@@ -1,4 +1,4 @@
-use Rattle.std.proofs.Common.{◌≡◌, ◌<◌, slice_index, length, take, arith, sym, ap, subst, ◌∙◌, ℕ, List, Some}
+use Rattle.std.proofs.Common.{◌≡◌, ◌+◌, ◌<◌, slice_index, length, take, arith, sym, ap, subst, ◌∙◌, ℕ, List, Some}
 use Rattle.std.specs.Cmp.{nat_cmp_total}
 use Rattle.std.specs.Ordering.{nat_cmp}
 use Rattle.std.specs.Prelude.{slice_get}
@@ -7,6 +7,10 @@ use Rattle.sabr_frontier.specs.declared.tree.Node.{Node}
 use Rattle.sabr_frontier.specs.listing.Rising.{Rises}
 use Rattle.sabr_frontier.specs.tree.Undo.{modify}
 use Rattle.sabr_frontier.specs.tree.Prepared.{excluding}
+use Rattle.sabr_model.specs.plan.Plan.{ContactPlan}
+use Rattle.sabr_model.specs.routes.Arrival.{RouteRequest}
+use Rattle.sabr_frontier.specs.tree.Floors.{IsFloorAfter, IsFloorOf}
+use Rattle.sabr_frontier.proofs.TreeLemmas.Floors.{floor_after, floor_wide}
 use Rattle.sabr_frontier.proofs.TreeLemmas.ModifiedPlaces.{within_get}
 use Rattle.sabr_frontier.proofs.ListingLemmas.Rising.{Rises-put_in}
 use Rattle.sabr_frontier.proofs.TreeLemmas.Excluding.{excluded_there, included}
@@ -20,12 +24,32 @@ node_then {A} nodes then i s l e can k stands =
     let c = can w.0 w.1 in
     subst (λ (k : Node A). (k.length < length s) × Rises nat_cmp k.excluded) (sym (excluded_there nodes then i s w.0 w.1 e k stands)) (c.longer, Rises-put_in nat_cmp_total (slice_index s w.0.length) w.0.excluded c.rises)
 
+-- no route of the parts that it makes delivers before a second that none of its own does
+module _ {A : Type 0} (p : ContactPlan) (r : RouteRequest) (d : ℕ) (nodes then : List (Node A)) (i : ℕ) (s : List ℕ) (l : i < length nodes) (e : then ≡ modify (excluding s) nodes i)
+    (can : (n : Node A) → slice_get nodes i ≡ Some n → CanExclude n s) (floor : (n : Node A) → slice_get nodes i ≡ Some n → IsFloorOf p r s d n) (k : Node A) (stands : slice_get then i ≡ Some k) where
+  wide_then : IsFloorOf p r s d k
+  wide_then =
+      let w = within_get nodes i l in
+      subst (λ (k : Node A). IsFloorOf p r s d k) (sym (excluded_there nodes then i s w.0 w.1 e k stands)) (floor_wide p r d (take w.0.length s) w.0.excluded (slice_index s w.0.length) (floor w.0 w.1))
+
+  after_then : IsFloorAfter p r s (k.length + 1) d
+  after_then =
+      let w = within_get nodes i l in
+      let c = can w.0 w.1 in
+      subst (λ (k : Node A). IsFloorAfter p r s (k.length + 1) d) (sym (excluded_there nodes then i s w.0 w.1 e k stands)) (floor_after p r d s w.0.length w.0.excluded c.longer c.absent (floor w.0 w.1))
+
 -- what is cut off again
 cut_again : {X : Type 0} (then made now xs : List X) (n : ℕ) → now ≡ take n made → n ≡ length then → take (length then) made ≡ then → then ≡ xs → now ≡ xs
 cut_again then made now xs n cut count front ok = cut ∙ ap (λ n. take n made) count ∙ front ∙ ok
 
 pub search-requires-clause-longer : goal.search-requires-clause-longer
 search-requires-clause-longer g c k stands = (node_then _ _ _ _ (omega arith) c.in_ok-exclude_next.ensures.ok c.requires.next k stands).0
+
+pub search-requires-clause-floor : goal.search-requires-clause-floor
+search-requires-clause-floor g c k stands = wide_then _ _ _ _ _ _ _ (omega arith) c.in_ok-exclude_next.ensures.ok c.requires.next c.requires.floor k stands
+
+pub search-requires-clause-after : goal.search-requires-clause-after
+search-requires-clause-after g c k stands = after_then _ _ _ _ _ _ _ (omega arith) c.in_ok-exclude_next.ensures.ok c.requires.next c.requires.floor k stands
 
 pub search-requires-clause-rising : goal.search-requires-clause-rising
 search-requires-clause-rising g c k stands = (node_then _ _ _ _ (omega arith) c.in_ok-exclude_next.ensures.ok c.requires.next k stands).1

@@ -5,7 +5,7 @@ use Rattle.sabr_frontier.proofs.giving.divide.fresh_nodes.Given as goal
 
 abbrev pub invariant-loop-count : goal.invariant-loop-count
 invariant-loop-count g l = record {
-  whole : l.nodes.items ++ fresh_nodes (best_for l.fn.asker.asked) l.leaf (take l.count l.route) (drop l.count l.route) ≡ l.fn.nodes.items ++ fresh_nodes (best_for l.fn.asker.asked) l.leaf (take l.first l.route) (drop l.first l.route);
+  whole : l.nodes.items ++ fresh_nodes (best_for l.fn.asker.asked) l.given.leaf (take l.count l.route) (drop l.count l.route) ≡ l.fn.nodes.items ++ fresh_nodes (best_for l.fn.asker.asked) l.given.leaf (take l.first l.route) (drop l.first l.route);
   called : l.asker.calls + vec_len l.fn.nodes ≡ l.fn.asker.calls + vec_len l.nodes;
   counted : l.asker.calls + l.first ≡ l.fn.asker.calls + l.count;
   room : vec_len l.nodes + length l.route ≤ vec_capacity l.nodes + l.count;

@@ -1,6 +1,6 @@
 use Rattle.std.proofs.Common.{◌≡◌, ◌-◌, ◌<◌, ◌∷◌, length, reverse, arith, ap, sym, subst, ◌∙◌}
 use Rattle.sabr_frontier.specs.tree.Shape.{Shape, shape_of, shown}
-use Rattle.sabr_frontier.specs.session.Session.{AreStarts, IsSound, Seen, former_of}
+use Rattle.sabr_frontier.specs.session.Session.{AreStarts, AreSure, IsSound, Seen, former_of}
 use Rattle.sabr_frontier.proofs.SessionLemmas.Pages.{sound_undos, sound_back, last_first}
 use Rattle.sabr_frontier.specs.tree.Undo.{IsIndexBack, undone_times}
 use Rattle.sabr_frontier.proofs.TreeLemmas.MergedIndex.{index_back}
@@ -21,20 +21,25 @@ undo_to-requires-clause-index g c =
 pub invariant_of-self-2 : goal.invariant_of-self-2
 invariant_of-self-2 g c =
     let s = c.self.inside in
+    let p = s.asker.asked.plan.plan in
+    let r = s.asker.asked.request in
     let t = shape_of s.tree in
     let start = c.in-Some.start in
-    let starts = subst (λ z. AreStarts z (length s.tree.journal.items)) (ap reverse c.in-Some.ensures.items ∙ last_first c.pop.new.self.items start) c.self.invariant.starts in
+    let rest = reverse c.pop.new.self.items in
+    let pages : reverse s.pages.items ≡ start ∷ rest = ap reverse c.in-Some.ensures.items ∙ last_first c.pop.new.self.items start in
+    let starts = subst (λ z. AreStarts z (length s.tree.journal.items)) pages c.self.invariant.starts in
     let less : start < length s.tree.journal.items = starts.0 in
-    let before = sound_back s.asker.asked.plan.plan s.asker.asked.request t start (omega (arith, less)) c.self.invariant.sound in
+    let before = sound_back p r t start (omega (arith, less)) c.self.invariant.sound in
     let same = c.undo_to.ensures.former in
     record {
       rules = c.self.invariant.rules;
       unbounded = c.self.invariant.unbounded;
       limits = c.self.invariant.limits;
-      sound = subst (IsSound s.asker.asked.plan.plan s.asker.asked.request) (sym same) before.0;
-      starts = subst (AreStarts (reverse c.pop.new.self.items)) (sym (ap (λ (z : Shape g.row.A.Denot). length z.journal) same ∙ before.1)) starts.1;
+      sound = subst (IsSound p r) (sym same) before.0;
+      starts = subst (AreStarts rest) (sym (ap (λ (z : Shape g.row.A.Denot). length z.journal) same ∙ before.1)) starts.1;
       index = c.undo_to.ensures.index;
       room = c.undo_to.ensures.room;
+      sure = λ yes. subst (AreSure p r rest) (sym same) (subst (λ z. AreSure p r z t) pages (c.self.invariant.sure yes)).1;
     }
 
 pub returns-clause-yes : goal.returns-clause-yes

@@ -1,11 +1,13 @@
-use Rattle.std.proofs.Common.{◌≡◌, [], length, reverse, ap, sym, subst, ◌∙◌}
+use Rattle.std.proofs.Common.{◌≡◌, true, [], length, reverse, ap, sym, subst, ◌∙◌}
 use Rattle.sabr_model.proofs.RouteLemmas.Prefixes.{empty_is_prefix}
 use Rattle.sabr_frontier.specs.tree.Asking.{Asked}
 use Rattle.sabr_frontier.specs.tree.Shape.{Shape, shape_of, shown}
-use Rattle.sabr_frontier.specs.session.Session.{AreStarts, IsSession, IsSound, former_of}
+use Rattle.sabr_frontier.specs.session.Session.{AreStarts, AreSure, IsSession, IsSound, former_of}
 use Rattle.sabr_frontier.specs.tree.Root.{root}
 use Rattle.sabr_frontier.specs.tree.Best.{best_of, best_up_to}
 use Rattle.sabr_frontier.proofs.TreeLemmas.FirstTrees.{root_is_tree, shown_root}
+use Rattle.sabr_frontier.specs.tree.Floors.{CarriesOnlyLeast}
+use Rattle.sabr_frontier.proofs.TreeLemmas.SureTrees.{root_sure}
 use Rattle.sabr_frontier.proofs.session.Session.begin.Goals as goal
 
 pub ask-requires-clause-fits : goal.ask-requires-clause-fits
@@ -19,7 +21,7 @@ invariant_of-result g c =
     let asked = c.ask.ensures.same in
     let best = c.in_ok-found.ensures.best ∙ ap (λ o. best_up_to p r o [] []) c.requires.unbounded in
     let same : shape_of c.in_ok-tree.tree ≡ root (best_of p r [] []) = c.in_ok-tree.ensures.shape ∙ ap root best in
-    subst (λ (a : Asked). IsSession a c.in_ok-tree.tree c.new.result.items) (sym asked) (record {
+    subst (λ (a : Asked). IsSession a c.in_ok-tree.tree c.new.result.items true) (sym asked) (record {
       rules = c.requires.rules;
       unbounded = c.requires.unbounded;
       limits = c.requires.limits;
@@ -27,6 +29,7 @@ invariant_of-result g c =
       starts = subst (λ z. AreStarts (reverse z) (length c.in_ok-tree.tree.journal.items)) (sym c.new.ensures.items) (ap (λ (z : Shape g.row.A.Denot). length z.journal) same);
       index = c.in_ok-tree.ensures.index;
       room = c.in_ok-tree.ensures.room;
+      sure = λ yes. subst (λ z. AreSure p r (reverse z) (shape_of c.in_ok-tree.tree)) (sym c.new.ensures.items) (subst (CarriesOnlyLeast p r) (sym same) (root_sure g.row.A.Denot p r));
     })
 
 pub returns : goal.returns

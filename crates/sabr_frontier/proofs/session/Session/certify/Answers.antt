@@ -15,7 +15,7 @@ is_placed-requires-clause-tree g c =
     sound_tree s.asker.asked.plan.plan s.asker.asked.request (length t.journal) t c.self.invariant.sound
 
 pub invariant_of-self : goal.invariant_of-self
-invariant_of-self g c = subst (λ (a : Asked). IsSession a c.self.inside.tree c.self.inside.pages.items) (sym c.is_placed.ensures.same) c.self.invariant
+invariant_of-self g c = subst (λ (a : Asked). IsSession a c.self.inside.tree c.self.inside.pages.items c.self.inside.is_sure) (sym c.is_placed.ensures.same) c.self.invariant
 
 pub returns-clause-ok : goal.returns-clause-ok
 returns-clause-ok g c = subst (λ (v : Seen). IfOk c.is_placed.result (λ yes. IsTrue yes ↔ (v.state ≡ state_at v.plan.plan v.request v.state.emitted))) c.self.view_is c.is_placed.ensures.placed

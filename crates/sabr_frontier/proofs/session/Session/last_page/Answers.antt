@@ -1,9 +1,15 @@
-use Rattle.std.proofs.Common.{◌++◌, ap, subst, ◌∙◌}
+use Rattle.std.proofs.Common.{◌++◌, reverse, ap, subst, ◌∙◌}
 use Rattle.sabr_frontier.specs.session.LastPage.{IsLastPage, LastSeen}
 use Rattle.sabr_frontier.specs.session.Session.{Seen}
 use Rattle.sabr_frontier.specs.tree.Asking.{Asked, records_for, steps_for}
 use Rattle.sabr_frontier.specs.tree.Shape.{shape_of, shown}
+use Rattle.sabr_frontier.proofs.SessionLemmas.Pages.{sure_now}
 use Rattle.sabr_frontier.proofs.session.Session.last_page.Goals as goal
+
+pub give_last-requires-clause-sure : goal.give_last-requires-clause-sure
+give_last-requires-clause-sure g c = λ yes.
+    let s = c.self.inside in
+    sure_now s.asker.asked.plan.plan s.asker.asked.request (reverse s.pages.items) (shape_of s.tree) (c.self.invariant.sure yes)
 
 pub returns : goal.returns
 returns g c =

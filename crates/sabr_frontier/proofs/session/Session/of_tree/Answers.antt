@@ -1,4 +1,4 @@
-use Rattle.std.proofs.Common.{◌≡◌, length, reverse, ap, sym, subst}
+use Rattle.std.proofs.Common.{◌≡◌, length, reverse, ap, sym, subst, true≢false}
 use Rattle.sabr_frontier.specs.tree.Shape.{shape_of}
 use Rattle.sabr_frontier.specs.session.Session.{AreStarts, IsSoundFor}
 use Rattle.sabr_frontier.proofs.session.Session.of_tree.Goals as goal
@@ -16,4 +16,5 @@ invariant_of-result g c =
       starts = subst (λ z. AreStarts (reverse z) (length c.args.tree.journal.items)) (sym c.new-pages.ensures.items) none;
       index = c.requires.index;
       room = c.requires.room;
+      sure = λ is. absurd (true≢false (sym is));
     }

@@ -1,12 +1,13 @@
-use Rattle.std.proofs.Common.{◌≡◌, ◌+◌, ◌-◌, ◌<◌, ◌≤◌, ◌⊎◌, inl, inr, ℕ, List, [], ◌∷◌, ◌++◌, map, length, reverse, arith, ap, sym, subst, ◌∙◌, None, refl}
+use Rattle.std.proofs.Common.{◌≡◌, ◌+◌, ◌-◌, ◌<◌, ◌≤◌, ◌⊎◌, inl, inr, ℕ, Bool, List, [], ◌∷◌, ◌++◌, map, length, reverse, arith, ap, sym, subst, ◌∙◌, None, refl}
 use Rattle.sabr_model.specs.routes.Record.{record_of}
 use Rattle.sabr_frontier.specs.declared.tree.Tree.{Tree}
 use Rattle.sabr_frontier.specs.tree.Asking.{Asked, Asking}
 use Rattle.sabr_frontier.specs.listing.State.{State}
 use Rattle.sabr_frontier.specs.listing.Listing.{next_route}
+use Rattle.sabr_frontier.specs.tree.Floors.{CarriesOnlyLeast}
 use Rattle.sabr_frontier.specs.tree.Shape.{Shape, shape_of, shown}
-use Rattle.sabr_frontier.specs.session.Session.{Seen, AreStarts, IsSession, IsSound, former_of, former_then, next_page, page_searches, seen, tree_before}
-use Rattle.sabr_frontier.proofs.SessionLemmas.Pages.{sound_tree, counts_idle, sound_undos, last_first, idle, busy, carried_or_not}
+use Rattle.sabr_frontier.specs.session.Session.{Seen, AreStarts, AreSure, IsSession, IsSound, former_of, former_then, next_page, page_searches, seen, tree_before}
+use Rattle.sabr_frontier.proofs.SessionLemmas.Pages.{sound_tree, sure_now, counts_idle, sound_undos, last_first, idle, busy, carried_or_not}
 use Rattle.sabr_frontier.specs.tree.Undo.{IsIndexBack}
 use Rattle.sabr_frontier.specs.tree.Winners.{CarriesNone, CarriesSome}
 use Rattle.sabr_frontier.proofs.TreeLemmas.MergedIndex.{back_before, part_before}
@@ -16,7 +17,7 @@ use Rattle.sabr_frontier.proofs.session.Session.page.Goals as goal
 use Rattle.sabr_frontier.proofs.session.Session.page.Goals.{then-count-eq0-via-then-count-eq0, then-count-eq0-via-else-count-eq0+then-is_empty}
 
 -- what is shown of a session, and a page of k routes
-module _ {A : Type 0} (asker : Asking) {tree : Tree A} {pages : List ℕ} {searches : ℕ} (h : IsSession asker.asked tree pages) {v : Seen} (is : seen asker tree pages searches ≡ v) (k : ℕ) where
+module _ {A : Type 0} (asker : Asking) {tree : Tree A} {pages : List ℕ} {searches : ℕ} {is_sure : Bool} (h : IsSession asker.asked tree pages is_sure) {v : Seen} (is : seen asker tree pages searches ≡ v) (k : ℕ) where
   -- if none is asked for or left, none is given
   nothing : (k ≡ 0) ⊎ CarriesNone tree.nodes.items → next_page v k ≡ ([], v.state)
   nothing none = subst (λ (w : Seen). next_page w k ≡ ([], w.state)) is (idle asker.asked.plan.plan asker.asked.request h.rules (shape_of tree) h.sound k none)
@@ -64,6 +65,11 @@ returns-then-count-eq0 g c =
 pub returns-in_err-reserve-clause-free : goal.returns-in_err-reserve-clause-free
 returns-in_err-reserve-clause-free g c h = absurd (something c.self.inside.asker c.self.invariant c.self.view_is c.args.count (omega arith) (c.is_empty.ensures.some c.if-is_empty.false) h)
 
+pub gather-requires-clause-sure : goal.gather-requires-clause-sure
+gather-requires-clause-sure g c = λ yes.
+    let s = c.self.inside in
+    sure_now s.asker.asked.plan.plan s.asker.asked.request (reverse s.pages.items) (shape_of s.tree) (c.self.invariant.sure yes)
+
 pub settle-requires : goal.settle-requires
 settle-requires g c =
     let s = c.self.inside in
@@ -77,24 +83,33 @@ settle-requires g c =
       room = c.in-Ok.ensures.room;
     }
 
+-- the tree before the page
+before_page : {A : Type 0} {t u settled : Shape A} {n m : ℕ} → settled ≡ u → n ≡ m → tree_before m u ≡ t → tree_before n settled ≡ t
+before_page {u = u} {n = n} same start back = ap (tree_before n) same ∙ ap (λ n. tree_before n u) start ∙ back
+
 pub invariant_of-self-in-Ok : goal.invariant_of-self-in-Ok
 invariant_of-self-in-Ok g c =
     let s = c.self.inside in
+    let p = s.asker.asked.plan.plan in
+    let r = s.asker.asked.request in
     let t = shape_of s.tree in
     let some = c.is_empty.ensures.some c.if-is_empty.false in
-    let given = busy s.asker.asked.plan.plan s.asker.asked.request c.self.invariant.rules t c.self.invariant.sound c.args.count (omega arith) some in
+    let given = busy p r c.self.invariant.rules t c.self.invariant.sound c.args.count (omega arith) some in
     let start : c.len-start.result ≡ length t.journal = omega (arith, c.len-start.ensures) in
     let more : c.len-start.result < length c.gather.new.self.journal.items = omega (arith, start, c.in-Ok.ensures.entries, ap (length {A = List ℕ}) given.2) in
     let pages : reverse c.push_reserved.new.self.items ≡ c.len-start.result ∷ reverse s.pages.items = ap reverse (c.push_reserved.ensures.items ∙ ap (λ z. z ++ c.len-start.result ∷ []) c.reserve.ensures.items) ∙ last_first s.pages.items c.len-start.result in
     let journal = ap (λ (z : Shape g.row.A.Denot). length z.journal) c.settle.ensures.same in
-    subst (λ (a : Asked). IsSession a c.settle.new.self c.push_reserved.new.self.items) (sym c.gather.ensures.same) (record {
+    let before = before_page c.settle.ensures.same start c.in-Ok.ensures.back in
+    subst (λ (a : Asked). IsSession a c.settle.new.self c.push_reserved.new.self.items s.is_sure) (sym c.gather.ensures.same) (record {
       rules = c.self.invariant.rules;
       unbounded = c.self.invariant.unbounded;
       limits = c.self.invariant.limits;
-      sound = subst (IsSound s.asker.asked.plan.plan s.asker.asked.request) (sym c.settle.ensures.same) c.in-Ok.ensures.sound;
+      sound = subst (IsSound p r) (sym c.settle.ensures.same) c.in-Ok.ensures.sound;
       starts = subst (λ z. AreStarts z (length c.settle.new.self.journal.items)) (sym pages) (omega (arith, more, journal), subst (AreStarts (reverse s.pages.items)) (sym start) c.self.invariant.starts);
       index = c.settle.ensures.index ∙ sym (ap (λ (z : Shape g.row.A.Denot). z.index) c.settle.ensures.same);
       room = c.settle.ensures.room;
+      sure = λ yes. subst (λ z. AreSure p r z (shape_of c.settle.new.self)) (sym pages)
+          (subst (CarriesOnlyLeast p r) (sym c.settle.ensures.same) (c.in-Ok.ensures.sure yes), subst (AreSure p r (reverse s.pages.items)) (sym before) (c.self.invariant.sure yes));
     })
 
 pub undo_to-requires : goal.undo_to-requires
@@ -116,17 +131,20 @@ undo_to-requires g c =
 pub invariant_of-self-in-Err-1 : goal.invariant_of-self-in-Err-1
 invariant_of-self-in-Err-1 g c =
     let s = c.self.inside in
+    let p = s.asker.asked.plan.plan in
+    let r = s.asker.asked.request in
     let t = shape_of s.tree in
     let start : c.len-start.result ≡ length t.journal = omega (arith, c.len-start.ensures) in
     let same : shape_of c.undo_to.new.self ≡ t = c.undo_to.ensures.former ∙ ap (λ n. tree_before n (shape_of c.gather.new.self)) start ∙ c.in-Err.ensures.back in
-    subst (λ (a : Asked). IsSession a c.undo_to.new.self c.reserve.new.self.items) (sym c.gather.ensures.same) (record {
+    subst (λ (a : Asked). IsSession a c.undo_to.new.self c.reserve.new.self.items s.is_sure) (sym c.gather.ensures.same) (record {
       rules = c.self.invariant.rules;
       unbounded = c.self.invariant.unbounded;
       limits = c.self.invariant.limits;
-      sound = subst (IsSound s.asker.asked.plan.plan s.asker.asked.request) (sym same) c.self.invariant.sound;
+      sound = subst (IsSound p r) (sym same) c.self.invariant.sound;
       starts = subst (λ z. AreStarts (reverse z) (length c.undo_to.new.self.journal.items)) (sym c.reserve.ensures.items) (subst (AreStarts (reverse s.pages.items)) (sym (ap (λ (z : Shape g.row.A.Denot). length z.journal) same)) c.self.invariant.starts);
       index = c.undo_to.ensures.index;
       room = c.undo_to.ensures.room;
+      sure = λ yes. subst (λ z. AreSure p r (reverse z) (shape_of c.undo_to.new.self)) (sym c.reserve.ensures.items) (subst (AreSure p r (reverse s.pages.items)) (sym same) (c.self.invariant.sure yes));
     })
 
 pub returns-in-Ok-clause-former : goal.returns-in-Ok-clause-former
@@ -137,7 +155,7 @@ returns-in-Ok-clause-former g c =
     let given = busy s.asker.asked.plan.plan s.asker.asked.request c.self.invariant.rules t c.self.invariant.sound c.args.count (omega arith) some in
     let start : c.len-start.result ≡ length t.journal = omega (arith, c.len-start.ensures) in
     let pages : reverse c.push_reserved.new.self.items ≡ c.len-start.result ∷ reverse s.pages.items = ap reverse (c.push_reserved.ensures.items ∙ ap (λ z. z ++ c.len-start.result ∷ []) c.reserve.ensures.items) ∙ last_first s.pages.items c.len-start.result in
-    let before : tree_before c.len-start.result (shape_of c.settle.new.self) ≡ t = ap (tree_before c.len-start.result) c.settle.ensures.same ∙ ap (λ n. tree_before n (shape_of c.gather.new.self)) start ∙ c.in-Ok.ensures.back in
+    let before = before_page c.settle.ensures.same start c.in-Ok.ensures.back in
     let former = former_of (reverse s.pages.items) t in
     ap (λ z. former_of z (shape_of c.settle.new.self)) pages
     ∙ ap (λ (z : Shape g.row.A.Denot). shown z ∷ former_of (reverse s.pages.items) z) before

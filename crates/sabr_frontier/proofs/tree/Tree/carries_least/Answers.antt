@@ -23,6 +23,7 @@ ask-requires g c =
     record {
       fits = subst (λ (a : Asked). IsTrue (is_prefix a.plan.plan a.request c.prefix-front.result.now)) (sym c.loop-node.invariant.same) (ap (is_prefix p r) (c.prefix-front.ensures ∙ ap (λ l. prefix_of l n) c.as_slice.ensures.value) ∙ front_is p r t c.requires.tree c.loop-node.node-index n here);
       rising = subst IsStrictlyIncreasing (sym c.as_slice-in-loop-node.ensures) (increasing n.excluded (excluded_rise p r t c.requires.tree c.loop-node.node-index n here));
+      floor = λ _ _. omega arith;
     }
 
 pub returns-then-not-is_same-clause-least : goal.returns-then-not-is_same-clause-least

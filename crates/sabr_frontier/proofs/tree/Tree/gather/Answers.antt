@@ -2,6 +2,7 @@ use Rattle.std.proofs.Common.{◌≡◌, refl, ◌-◌, ◌+◌, ◌≤◌, suc,
 use Rattle.sabr_model.specs.plan.Plan.{IsPlan}
 use Rattle.sabr_model.proofs.ListLemmas.Answered.{on_err}
 use Rattle.sabr_frontier.specs.tree.Asking.{Asked}
+use Rattle.sabr_frontier.specs.tree.Floors.{CarriesOnlyLeast}
 use Rattle.sabr_frontier.specs.tree.Shape.{shape_of, shown}
 use Rattle.sabr_frontier.specs.tree.Sound.{IsTree}
 use Rattle.sabr_frontier.proofs.SessionLemmas.Pages.{is_given, IsOnTheWay, at_first, one_on, at_end, sound_tree, counts_on, counts_idle, counts_none, counts_first, taken_whole}
@@ -16,6 +17,7 @@ loop-init g c = record {
   sum = (let e : c.args.count - 0 ≡ c.args.count = omega arith in ap (λ n. 0 + searches_in c.args.asker.now.asked.plan.plan c.args.asker.now.asked.request n (shown (shape_of c.args.self.now))) e ∙ zero-add _);
   called = omega arith;
   few = omega arith;
+  sure = c.requires.sure;
   same = refl;
 }
 
@@ -35,6 +37,9 @@ pub take-requires-clause-tree : goal.take-requires-clause-tree
 take-requires-clause-tree g c =
     subst (λ (a : Asked). IsTree a.plan.plan a.request (shape_of c.loop.self)) (sym c.loop.invariant.same)
     (sound_tree c.args.asker.now.asked.plan.plan c.args.asker.now.asked.request (length c.loop.self.journal.items) (shape_of c.loop.self) c.loop.invariant.way.sound)
+
+pub take-requires-clause-sure : goal.take-requires-clause-sure
+take-requires-clause-sure g c = λ yes. subst (λ (a : Asked). CarriesOnlyLeast a.plan.plan a.request (shape_of c.loop.self)) (sym c.loop.invariant.same) (c.loop.invariant.sure yes)
 
 pub overflow_add-searches : goal.overflow_add-searches
 overflow_add-searches g c =
@@ -65,6 +70,7 @@ loop-preserved g c =
           (subst (λ n. c.loop.searches + searches_in p r n (shown t) ≡ searches_in p r c.args.count (shown first)) left c.loop.invariant.sum);
       called = omega (arith, c.in_ok-searches.ensures.called, c.loop.invariant.called);
       few = omega (arith, step.0.few, step.2, c.loop.invariant.few, c.requires.hops);
+      sure = λ yes. subst (λ (a : Asked). CarriesOnlyLeast a.plan.plan a.request u) c.loop.invariant.same (c.in_ok-searches.ensures.sure yes);
       same = c.take.ensures.same ∙ c.loop.invariant.same;
     }
 

@@ -1,5 +1,7 @@
 use Rattle.std.proofs.Common.{◌≡◌, ◌+◌, ◌-◌, ◌*◌, ◌≤◌}
 use Rattle.sabr_frontier.specs.listing.Listing.{searches_in}
+use Rattle.std.specs.Prelude.{IsTrue}
+use Rattle.sabr_frontier.specs.tree.Floors.{CarriesOnlyLeast}
 use Rattle.sabr_frontier.specs.tree.Shape.{shape_of, shown}
 use Rattle.sabr_frontier.specs.tree.Undo.{IsRoomy}
 use Rattle.sabr_frontier.proofs.SessionLemmas.Pages.{IsOnTheWay}
@@ -13,5 +15,6 @@ invariant-loop g l = record {
   sum : l.searches + searches_in l.fn.asker.asked.plan.plan l.fn.asker.asked.request (l.count - l.counter) (shown (shape_of l.self)) ≡ searches_in l.fn.asker.asked.plan.plan l.fn.asker.asked.request l.count (shown (shape_of l.fn.self));
   called : l.asker.calls ≡ l.fn.asker.calls + l.searches;
   few : l.searches ≤ l.counter * 20000;
+  sure : IsTrue l.sure → CarriesOnlyLeast l.fn.asker.asked.plan.plan l.fn.asker.asked.request (shape_of l.self);
   same : l.asker.asked ≡ l.fn.asker.asked;
 }

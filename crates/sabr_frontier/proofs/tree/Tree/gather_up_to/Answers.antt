@@ -3,6 +3,7 @@ use Rattle.sabr_frontier.specs.giving.LeastKeys.{AreNoted, CarryKeys, carried_ke
 use Rattle.sabr_frontier.specs.tree.Asking.{Asked, best_for}
 use Rattle.sabr_frontier.specs.tree.Shape.{shape_of, shown}
 use Rattle.sabr_frontier.specs.tree.Sound.{IsTree}
+use Rattle.sabr_frontier.specs.tree.Floors.{CarriesOnlyLeast}
 use Rattle.sabr_frontier.specs.tree.Taking.{IsTaken}
 use Rattle.sabr_frontier.specs.tree.Undo.{last_item}
 use Rattle.sabr_frontier.proofs.GivingLemmas.CutWays.{IsCutWay, entry_within, turn_is, way_end, way_first, way_on}
@@ -26,6 +27,7 @@ loop-init g c =
     record {
       way = way_first a c.args.count (c.args.count - 0) t c.args.routes.now.items c.args.asker.now.calls c.new-keys.result c.note_all.new.self (omega arith) tree c.new-keys.ensures noted;
       room = c.requires.room;
+      sure = c.requires.sure;
       same = refl;
     }
 
@@ -54,6 +56,11 @@ take-requires-clause-tree g c =
     let way = c.loop.invariant.way in
     let asked = c.ask_up_to.ensures.bound ∙ ap (λ (z : Asked). record z { bound = c.bound.result }) c.loop.invariant.same in
     subst (λ (z : Asked). IsTree z.plan.plan z.request t) (sym asked) (cut_tree a (suc (suc (c.args.count - c.loop.counter))) way.state t way.shows)
+
+pub take-requires-clause-sure : goal.take-requires-clause-sure
+take-requires-clause-sure g c = λ yes.
+    let asked = c.ask_up_to.ensures.bound ∙ ap (λ (z : Asked). record z { bound = c.bound.result }) c.loop.invariant.same in
+    subst (λ (z : Asked). CarriesOnlyLeast z.plan.plan z.request (shape_of c.loop.self)) (sym asked) (c.loop.invariant.sure yes)
 
 pub take-requires-clause-waiting : goal.take-requires-clause-waiting
 take-requires-clause-waiting g c = c.is_empty.ensures.some c.if-is_empty.false
@@ -108,6 +115,7 @@ loop-preserved g c =
       way = way_on a c.requires.plan (shown (shape_of c.args.self.now)) c.args.count c.args.routes.now.items c.args.asker.now.calls (c.args.count - (c.loop.counter + 1)) t c.loop.routes.items c.loop.asker.calls c.loop.keys way b c.bound.ensures u c.take.new.given.items c.in_ok-take.field-0 c.take.new.asker.calls taken
           (omega (arith, c.in_ok-take.ensures.called, c.ask_up_to.ensures.calls)) c.in-Some.entry.now c.note_new.new.keys last c.in_ok-note_new.ensures;
       room = c.take.ensures.room;
+      sure = λ yes. subst (λ (z : Asked). CarriesOnlyLeast z.plan.plan z.request u) asked (c.in_ok-take.ensures.sure yes);
       same = ap (λ (z : Asked). record z { bound = None }) (c.take.ensures.same ∙ asked);
     }
 

@@ -4,6 +4,7 @@ use Rattle.sabr_model.specs.routes.Record.{record_of, RouteRecord}
 use Rattle.sabr_frontier.specs.listing.Listing.{next_route, given_first, one_step, searches_in, steps}
 use Rattle.sabr_frontier.specs.listing.State.{State}
 use Rattle.sabr_frontier.specs.tree.Asking.{Asked, records_for, steps_for}
+use Rattle.sabr_frontier.specs.tree.Floors.{CarriesOnlyLeast}
 use Rattle.sabr_frontier.specs.tree.Shape.{Shape, shape_of, shown}
 use Rattle.sabr_frontier.specs.tree.Sound.{IsTree}
 use Rattle.sabr_frontier.proofs.SessionLemmas.CutPages.{IsSameStep, cut_peek, cut_tree}
@@ -113,6 +114,11 @@ pub peek-requires-clause-plan : goal.peek-requires-clause-plan
 peek-requires-clause-plan g c =
     let same = unbound c.gather_up_to-gathered.new.asker.asked c.ask_up_to.ensures.bound c.gather_up_to-gathered.ensures.same c.requires.unbounded in
     subst (λ (b : Asked). IsPlan b.plan.plan) (sym same) c.requires.plan
+
+pub peek-requires-clause-sure : goal.peek-requires-clause-sure
+peek-requires-clause-sure g c = λ yes.
+    let same = unbound c.gather_up_to-gathered.new.asker.asked c.ask_up_to.ensures.bound c.gather_up_to-gathered.ensures.same c.requires.unbounded in
+    subst (λ (b : Asked). CarriesOnlyLeast b.plan.plan b.request (shape_of c.gather_up_to-gathered.new.self)) (sym same) ((c.in_ok-gathered.ensures {u = tt}).sure yes)
 
 pub peek-requires-clause-unbounded : goal.peek-requires-clause-unbounded
 peek-requires-clause-unbounded g c = ap (λ (b : Asked). b.bound) c.ask_up_to.ensures.bound

@@ -15,6 +15,11 @@ part_goes_on-requires-clause-next g c =
     let m = c.index.result.now in
     c.requires.next m (get_there c.args.self.now.nodes.items c.args.node.0 m (omega arith) c.index.ensures)
 
+pub part_goes_on-requires-clause-floor : goal.part_goes_on-requires-clause-floor
+part_goes_on-requires-clause-floor g c =
+    let m = c.index.result.now in
+    c.requires.floor m (get_there c.args.self.now.nodes.items c.args.node.0 m (omega arith) c.index.ensures)
+
 pub returns-clause-ok : goal.returns-clause-ok
 returns-clause-ok g c =
     let nodes = c.args.self.now.nodes.items in

@@ -14,6 +14,7 @@ use Rattle.sabr_frontier.specs.tree.Sound.{CanExclude, IsTree}
 use Rattle.sabr_frontier.specs.tree.Winners.{CarriesNone}
 use Rattle.sabr_frontier.proofs.SessionLemmas.Pages.{counts_known, steps_stop, nothing_carried, nothing_given}
 use Rattle.sabr_frontier.proofs.TreeLemmas.CarryingNodes.{known, inside}
+use Rattle.sabr_frontier.proofs.TreeLemmas.SureTrees.{floor_known}
 use Rattle.sabr_frontier.specs.tree.Best.{best_up_to}
 use Rattle.sabr_frontier.proofs.SessionLemmas.LeftSteps.{one_route, left_after}
 use Rattle.sabr_frontier.proofs.tree.Tree.peek.Goals as goal
@@ -31,6 +32,7 @@ goes_on_after-requires g c =
       unbounded = c.requires.unbounded;
       in_range = slice_get_within t.nodes c.in-Some.node.0 k.part k.stands;
       route = ap (is_route a.plan.plan a.request) numbers ∙ (inside a.plan.plan a.request t c.requires.tree c.in-Some.node k.part k.route k.stands k.carries).0;
+      floor = floor_known a t c.in-Some.node _ k c.requires.plan c.requires.tree _ c.numbers.ensures c.args.sure c.floor_of-floor.result c.floor_of-floor.ensures.yes c.floor_of-floor.ensures.no c.requires.sure;
       next = λ n stands. (let same : k.part ≡ n = let there = k.stands in cc in subst (CanExclude n) (sym numbers) (subst (λ (m : Node _). CanExclude m k.route.contacts) same k.can));
     }
 

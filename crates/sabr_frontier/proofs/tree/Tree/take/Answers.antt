@@ -4,6 +4,7 @@ use Rattle.std.specs.Prelude.{IsSome, slice_get}
 use Rattle.std.specs.Option.{option_and_then}
 use Rattle.std.proofs.lemmas.List.{take_at}
 use Rattle.sabr_model.specs.routes.Record.{RouteRecord}
+use Rattle.sabr_frontier.specs.tree.Floors.{CarriesOnlyLeast}
 use Rattle.sabr_model.specs.routes.Route.{is_route}
 use Rattle.sabr_model.proofs.ListLemmas.Answered.{on_err}
 use Rattle.sabr_frontier.specs.declared.tree.Node.{Node}
@@ -22,6 +23,7 @@ use Rattle.sabr_frontier.proofs.TreeLemmas.SlotWinners.{winners_same}
 use Rattle.sabr_frontier.proofs.SessionLemmas.Pages.{new_nodes, counts_known}
 use Rattle.sabr_frontier.proofs.TreeLemmas.IndexedNodes.{tree_indexed}
 use Rattle.sabr_frontier.proofs.TreeLemmas.CutDivided.{tree_divided_up_to}
+use Rattle.sabr_frontier.proofs.TreeLemmas.SureTrees.{floor_known, taken_sure}
 use Rattle.sabr_frontier.proofs.tree.Tree.take.Goals as goal
 
 -- a number more excluded changes no route
@@ -92,6 +94,8 @@ divide-requires g c =
       in_range = (let l = slice_get_within u.nodes c.in-Some.node.0 k.part k.stands in omega (arith, l));
       route = ap (is_route a.plan.plan a.request) numbers ∙ (inside a.plan.plan a.request u tree c.in-Some.node k.part k.route k.stands k.carries).0;
       next = λ n stands. (let same : k.part ≡ n = let there = k.stands in cc in subst (CanExclude n) (sym numbers) (subst (λ (m : Node _). CanExclude m k.route.contacts) same k.can));
+      floor = floor_known a u c.in-Some.node _ k c.requires.plan tree _ c.numbers-2.ensures c.args.sure c.floor_of.result c.floor_of.ensures.yes c.floor_of.ensures.no
+          (λ is. subst (CarriesOnlyLeast a.plan.plan a.request) (sym c.reserve-2.ensures.same) (c.requires.sure is));
       room = omega (arith, c.in_ok-reserve-2.ensures.ok.nodes, ap (length {A = ℕ}) (c.numbers.ensures ∙ sym c.numbers-2.ensures));
     }
 
@@ -150,3 +154,6 @@ returns-in_err-found-clause-at_most g c =
     let k = known c.args.asker.now.asked c.requires.tree c.in-Some.ensures.some c.in_ok-route.ensures in
     let stands = ap (λ (z : Shape _). slice_get z.nodes c.in-Some.node.0) c.reserve-2.ensures.same ∙ k.stands in
     on_err c.from_residual-in_err-found.result (counts_known c.requires.plan c.requires.tree k _ _ c.numbers-2.ensures (c.in_err-found.ensures.at_most k.part stands))
+
+pub returns-clause-sure : goal.returns-clause-sure
+returns-clause-sure g c = λ is. taken_sure c.args.asker.now.asked (shape_of c.args.self.now) _ _ _ _ c.requires.tree (returns-clause-ok g c) (c.requires.sure is)

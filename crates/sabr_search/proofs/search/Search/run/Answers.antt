@@ -4,13 +4,19 @@ use Rattle.std.specs.declared.result.Result.{Result}
 use Rattle.std.specs.declared.result.Result.TheVariants.{Ok, Err}
 use Rattle.sabr_search.specs.questions.FirstSteps.{IsNoneBefore}
 use Rattle.sabr_search.proofs.WayLemmas.EarliestSeconds.{arrivals_lowered}
+use Rattle.sabr_search.proofs.AnswerLemmas.Around.{reach_bounds}
 use Rattle.sabr_search.proofs.AnswerLemmas.UpTo.{any_up_to, none_by}
 use Rattle.sabr_search.proofs.search.Search.run.Goals as goal
+
+pub run-requires-clause-bound : goal.run-requires-clause-bound
+run-requires-clause-bound g c =
+    let late = c.late_for.ensures _ _ c.requires.reach in
+    rw c.deref.ensures.value (reach_bounds c.args.task.now c.requires.task.nodes c.requires.request _ _ _ late c.requires.reach.costs)
 
 pub returns-then-first-eq0-clause-found : goal.returns-then-first-eq0-clause-found
 returns-then-first-eq0-clause-found g c =
     let task = c.args.task.now in
-    let none : IsNoneBefore task _ = rw c.until.ensures at ((rw c.in-Some.is at c.in_ok-reached.ensures.way).none c.if-first-eq0.true) in
+    let none : IsNoneBefore task _ = rw c.until-until.ensures at ((rw c.in-Some.is at c.in_ok-reached.ensures.way).none c.if-first-eq0.true) in
     record {
       none = λ empty. rw (c.beyond.ensures.bound, c.at_any_hops.ensures) (none_by task c.requires.task c.args.hops c.args.bound (λ ns e within way. none ns e way));
       some = λ some. absurd (omega (arith, some, ap length c.beyond.ensures.numbers));
@@ -22,26 +28,26 @@ returns-then-first-eq0-clause-enough g c = λ empty. rw (c.beyond.ensures.bound,
 pub least_within-requires-clause-arrivals : goal.least_within-requires-clause-arrivals
 least_within-requires-clause-arrivals g c =
     let by = rw c.in-Some.is at c.in_ok-reached.ensures.arrivals in
-    arrivals_lowered c.args.task.now (length c.shut.result.now) c.deref-4.result.now c.deref-5.result.now c.deref-6.result.now c.in-Some.first.delivery (omega (arith, ap length c.shut.ensures, c.requires.task.as_many)) (rw c.deref-6.ensures.value c.requires.soon)
-    (rw (c.deref-4.ensures.value, c.deref-5.ensures.value) (rw c.deref-2.ensures.value at by))
+    arrivals_lowered c.args.task.now (length c.shut-2.result.now) c.deref-3.result.now c.deref-4.result.now c.deref-5.result.now c.in-Some.first.delivery (omega (arith, ap length c.shut-2.ensures, c.requires.task.as_many)) (rw c.deref-5.ensures.value c.requires.soon)
+    (rw (c.deref-3.ensures.value, c.deref-4.ensures.value) (rw c.deref.ensures.value at by))
 
 pub least_up_to-requires-clause-arrivals : goal.least_up_to-requires-clause-arrivals
 least_up_to-requires-clause-arrivals g c =
     let by = rw c.in-Some.is at c.in_ok-reached.ensures.arrivals in
-    arrivals_lowered c.args.task.now (length c.shut.result.now) c.deref-4.result.now c.deref-5.result.now c.deref-6.result.now c.in-Some.first.delivery (omega (arith, ap length c.shut.ensures, c.requires.task.as_many)) (rw c.deref-6.ensures.value c.requires.soon)
-    (rw (c.deref-4.ensures.value, c.deref-5.ensures.value) (rw c.deref-2.ensures.value at by))
+    arrivals_lowered c.args.task.now (length c.shut-2.result.now) c.deref-3.result.now c.deref-4.result.now c.deref-5.result.now c.in-Some.first.delivery (omega (arith, ap length c.shut-2.ensures, c.requires.task.as_many)) (rw c.deref-5.ensures.value c.requires.soon)
+    (rw (c.deref-3.ensures.value, c.deref-4.ensures.value) (rw c.deref.ensures.value at by))
 
 pub least_within-requires-clause-steps : goal.least_within-requires-clause-steps
-least_within-requires-clause-steps g c = rw c.deref-7.ensures.value (rw c.in-Some.is at c.in_ok-reached.ensures.steps)
+least_within-requires-clause-steps g c = rw c.deref-6.ensures.value (rw c.in-Some.is at c.in_ok-reached.ensures.steps)
 
 pub least_within-requires-clause-real : goal.least_within-requires-clause-real
-least_within-requires-clause-real g c = rw c.deref-7.ensures.value (rw c.in-Some.is at c.in_ok-reached.ensures.real)
+least_within-requires-clause-real g c = rw c.deref-6.ensures.value (rw c.in-Some.is at c.in_ok-reached.ensures.real)
 
 pub least_up_to-requires-clause-steps : goal.least_up_to-requires-clause-steps
-least_up_to-requires-clause-steps g c = rw c.deref-7.ensures.value (rw c.in-Some.is at c.in_ok-reached.ensures.steps)
+least_up_to-requires-clause-steps g c = rw c.deref-6.ensures.value (rw c.in-Some.is at c.in_ok-reached.ensures.steps)
 
 pub least_up_to-requires-clause-real : goal.least_up_to-requires-clause-real
-least_up_to-requires-clause-real g c = rw c.deref-7.ensures.value (rw c.in-Some.is at c.in_ok-reached.ensures.real)
+least_up_to-requires-clause-real g c = rw c.deref-6.ensures.value (rw c.in-Some.is at c.in_ok-reached.ensures.real)
 
 -- what it gave up for may be more
 gave_up : {T E : Type 0} (result : Result (Option T) E) (old mid more all : ℕ) → IfOk result (λ o. IfNone o (mid < more)) → old + more ≤ mid + all → IfOk result (λ o. IfNone o (old < all))

@@ -7,6 +7,7 @@ use Rattle.sabr_index.specs.Looks.{looks_taken}
 use Rattle.sabr_search.proofs.WayLemmas.Prefixes.{prefix_facts}
 use Rattle.sabr_search.proofs.WayLemmas.Least.{none_is}
 use Rattle.sabr_search.proofs.AnswerLemmas.Law.{contacts_few, prefix_few}
+use Rattle.sabr_search.proofs.AnswerLemmas.Answered.{floor_told}
 use Rattle.sabr_search.proofs.WayLemmas.Shortness.{entered_looks}
 use Rattle.sabr_search.proofs.settled.Settled.find.Goals as goal
 
@@ -58,10 +59,20 @@ least_after-answer-requires-clause-asked g c =
 pub least_after-answer-requires-clause-kept : goal.least_after-answer-requires-clause-kept
 least_after-answer-requires-clause-kept g c = rw c.new-task.ensures c.open.ensures.kept
 
+pub least_after-answer-requires-clause-floor : goal.least_after-answer-requires-clause-floor
+least_after-answer-requires-clause-floor g c =
+    let found = c.in_ok-stop.ensures.entered in
+    let both = found c.args.part.excluded.numbers.now in
+    rw (c.new-task.ensures, c.deref.ensures) (floor_told _ c.args.part.prefix.now (record {
+      task_is = both.0;
+      behind = both.1;
+      fits = c.requires.fits;
+    }) c.args.part.floor c.requires.floor)
+
 pub returns-clause-kept : goal.returns-clause-kept
 returns-clause-kept g c =
     let kept = rw c.new-task.ensures at c.least_after-answer.ensures.kept in
-    (kept.0, kept.1, c.in_ok-stop.ensures.course)
+    (kept.0, kept.1, kept.2, c.in_ok-stop.ensures.course)
 
 pub returns-clause-bound : goal.returns-clause-bound
 returns-clause-bound g c =

@@ -4,9 +4,6 @@ use Rattle.sabr_index.specs.Incoming.{bounds_until}
 use Rattle.sabr_search.proofs.LinkLemmas.OverLinks.{ruled_out}
 use Rattle.sabr_search.proofs.backward.deadlines.Deadlines.is_told.Goals as goal
 
-pub returns-then-before-head-clause-told : goal.returns-then-before-head-clause-told
-returns-then-before-head-clause-told g c = λ told to end passes link n t w b has s less. absurd (omega (arith, less, ruled_out c.args.aim.now.task.now c.requires.task c.args.head.node to passes link.0 (bounds_until end c.args.head) link.1 0 c.args.before (inr (inl c.if-before-head.true)) n t w b has (omega arith) s))
-
 pub returns-then-is_soonest-clause-told : goal.returns-then-is_soonest-clause-told
 returns-then-is_soonest-clause-told g c = λ told to end passes link n t w b has s less unshut other soon.
     elim (cases_lt t (slice_index c.args.self.now.late c.args.head.node)) [
@@ -14,3 +11,7 @@ returns-then-is_soonest-clause-told g c = λ told to end passes link n t w b has
       | inr behind ↦
           absurd (omega (arith, less, ruled_out c.args.aim.now.task.now c.requires.task c.args.head.node to passes link.0 (bounds_until end c.args.head) link.1 c.at-late.result c.args.before (inr (c.is_soonest.ensures.late c.if-is_soonest.true)) n t w b has (omega (arith, behind, c.at-late.ensures)) s))
     ]
+
+pub returns-then-is_soonest-2-clause-told : goal.returns-then-is_soonest-2-clause-told
+returns-then-is_soonest-2-clause-told g c = λ told to end passes link n t w b has s less unshut other soon.
+    absurd (omega (arith, less, ruled_out c.args.aim.now.task.now c.requires.task c.args.head.node to passes link.0 (bounds_until end c.args.head) link.1 c.at-since.result c.args.before (inr (c.is_soonest-2.ensures.late c.if-is_soonest-2.true)) n t w b has (omega (arith, soon, c.at-since.ensures)) s))

@@ -3,7 +3,7 @@ use Rattle.std.proofs.lemmas.Option.{slice_get_within}
 use Rattle.sabr_search.specs.declared.visit.Visit.{Visit}
 use Rattle.sabr_search.proofs.ForwardLemmas.LayerEntries.{read_at}
 use Rattle.sabr_search.proofs.ForwardLemmas.MadeLayers.{spent_more, spent_fewer, none_more}
-use Rattle.sabr_search.proofs.BackwardLemmas.LateMade.{late_first, late_next, met_by, unmet_by}
+use Rattle.sabr_search.proofs.BackwardLemmas.LateMade.{back_first, late_next, met_by, unmet_by}
 use Rattle.sabr_search.proofs.BackwardLemmas.Ended.{none_by}
 use Rattle.sabr_search.proofs.BackwardLemmas.LateLayers.{fewest}
 use Rattle.sabr_search.proofs.backward.deadlines.Deadlines.make_back.Goals as goal
@@ -13,16 +13,19 @@ loop-left-init g c =
     let first = c.in_ok-first_back.ensures in
     record {
       counted = omega arith;
-      made = late_first c.args.aim.now.task.now c.requires.task c.args.aim.now.since.now c.args.aim.now.delivery _ _ _ _ first.ends first.entries first.flags first.place first.many first.late first.none;
+      made = record {
+        layers = back_first c.args.aim.now.task.now c.requires.task c.args.aim.now.since.now c.args.aim.now.delivery _ _ _ _ first.ends first.entries first.flags first.place first.many first.late first.none;
+        unmet = λ j w x n b less e by step. absurd (omega arith);
+      };
     }
 
 pub is_met-requires : goal.is_met-requires
 is_met-requires g c = λ k s at.
     let step = (c.requires.real k s at).1 in
-    omega (arith, slice_get_within c.args.aim.now.task.now.table s.node step.contact.to step.receiver, c.loop-left.invariant.made.lists.many)
+    omega (arith, slice_get_within c.args.aim.now.task.now.table s.node step.contact.to step.receiver, c.loop-left.invariant.made.layers.lists.many)
 
 pub next_back-requires-clause-apart : goal.next_back-requires-clause-apart
-next_back-requires-clause-apart g c = λ p q e f. c.loop-left.invariant.made.apart c.loop-left.left p q e f (omega arith)
+next_back-requires-clause-apart g c = λ p q e f. c.loop-left.invariant.made.layers.apart c.loop-left.left p q e f (omega arith)
 
 pub returns-then-is_met-clause-met : goal.returns-then-is_met-clause-met
 returns-then-is_met-clause-met g c =
@@ -38,7 +41,7 @@ returns-then-is_met-clause-met g c =
       made = made;
       arrivals = c.requires.arrivals;
       met = met_by task _ _ c.loop-left.left own.ends.items own.late own.place.items own.entries.items made step.0 s.node s.at step.1 by.3;
-      flags = made.lists.flags;
+      flags = made.layers.lists.flags;
     }
 
 pub loop-left-preserved : goal.loop-left-preserved
@@ -53,13 +56,14 @@ loop-left-preserved g c =
     let many : c.len-end.result ≡ length next.entries.items = omega (arith, c.len-end.ensures, next.entries.ok.0) in
     record {
       counted = omega (arith, c.next_back.ensures.counted, c.loop-left.invariant.counted);
-      made = late_next task c.requires.task c.args.aim.now.since.now c.args.aim.now.delivery left old.ends.items old.late old.place.items old.entries.items made
+      made = late_next task c.requires.task c.args.aim.now.since.now c.args.aim.now.delivery left old.ends.items old.late old.place.items old.entries.items made.layers
           c.push.new.self.items next.late next.place.items next.entries.items one.lists one.kept (one.told c.if-not-whole.false)
+          (c.in_ok-push.ensures.items ∙ ap (λ xs. xs ++ c.len-end.result ∷ []) same_ends ∙ ap (λ k. old.ends.items ++ k ∷ []) many)
+          made.unmet
           (λ w x n b entry by step.
           let s = c.requires.steps n w b step in
           let node : s.1.node ≡ w = s.3 in
-          unmet_by task _ _ left old.ends.items old.late old.place.items old.entries.items made n w b step left x entry (omega (arith, c.is_met.ensures.unmet c.if-is_met.false s.0 s.1 s.2, s.4, ap (slice_index old.late) node)) by)
-          (c.in_ok-push.ensures.items ∙ ap (λ xs. xs ++ c.len-end.result ∷ []) same_ends ∙ ap (λ k. old.ends.items ++ k ∷ []) many);
+          unmet_by task _ _ left old.ends.items old.late old.place.items old.entries.items made n w b step left x entry (omega (arith, c.is_met.ensures.unmet c.if-is_met.false s.0 s.1 s.2, s.4, ap (slice_index old.late) node)) by);
     }
 
 pub returns-then-index-clause-beyond : goal.returns-then-index-clause-beyond
@@ -68,8 +72,8 @@ returns-then-index-clause-beyond g c =
     let old = c.loop-left.self in
     let made = c.loop-left.invariant.made in
     let empty : slice_index old.ends.items left ≡ slice_index old.ends.items (left + 1) =
-    sym (read_at old.ends.items left c.index.result.now (omega (arith, made.many)) c.index.ensures) ∙ c.if-index.true ∙ read_at old.ends.items (left + 1) c.index-in-loop-left.result.now (omega (arith, made.many)) c.index-in-loop-left.ensures in
-    let none = none_by c.args.aim.now.task.now c.requires.task _ _ left old.ends.items old.late old.place.items old.entries.items made empty c.requires.arrivals in
+    sym (read_at old.ends.items left c.index.result.now (omega (arith, made.layers.many)) c.index.ensures) ∙ c.if-index.true ∙ read_at old.ends.items (left + 1) c.index-in-loop-left.result.now (omega (arith, made.layers.many)) c.index-in-loop-left.ensures in
+    let none = none_by c.args.aim.now.task.now c.requires.task _ _ left old.ends.items old.late old.place.items old.entries.items made.layers empty made.unmet c.requires.arrivals in
     λ same ns e le way. omega (arith, none ns e way)
 
 pub returns-clause-beyond : goal.returns-clause-beyond

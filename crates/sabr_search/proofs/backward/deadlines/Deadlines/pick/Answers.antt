@@ -20,7 +20,7 @@ loop-hop-init g c =
     }
 
 pub point_at-requires-clause-bounded : goal.point_at-requires-clause-bounded
-point_at-requires-clause-bounded g c = omega (arith, c.loop-hop.invariant.met.made.many)
+point_at-requires-clause-bounded g c = omega (arith, c.loop-hop.invariant.met.made.layers.many)
 
 pub point_at-requires-clause-ends : goal.point_at-requires-clause-ends
 point_at-requires-clause-ends g c = ends_below c.args.aim.now.task.now c.requires.task _ _ _ _ _ _ c.loop-hop.invariant.met _
@@ -29,7 +29,7 @@ pub point_at-requires-clause-inside : goal.point_at-requires-clause-inside
 point_at-requires-clause-inside g c = λ p e at. omega (arith, c.loop-hop.invariant.met.flags, (entries_open c.args.aim.now.task.now c.requires.task _ _ _ _ _ _ c.loop-hop.invariant.met p e at).0)
 
 pub point_at-requires-clause-apart : goal.point_at-requires-clause-apart
-point_at-requires-clause-apart g c = λ p q e f. c.loop-hop.invariant.met.made.apart (c.args.left - c.loop-hop.hop) p q e f (omega arith)
+point_at-requires-clause-apart g c = λ p q e f. c.loop-hop.invariant.met.made.layers.apart (c.args.left - c.loop-hop.hop) p q e f (omega arith)
 
 -- the layers are as they were, with the places pointed anew
 met : (g : Over) (c : After-point_at g) → AreMet c.args.aim.now.task.now c.args.aim.now.since.now c.args.aim.now.delivery c.args.left c.point_at.new.self.ends.items c.point_at.new.self.place.items c.point_at.new.self.entries.items

@@ -2,14 +2,14 @@ use Rattle.std.proofs.Common.{◌≡◌, ◌<◌, ◌+◌, slice_index, arith}
 use Rattle.std.proofs.lemmas.Option.{slice_get_within}
 use Rattle.sabr_search.proofs.ForwardLemmas.LayerEntries.{read_at}
 use Rattle.sabr_search.proofs.BackwardLemmas.LateLists.{late_noted, sound_back}
-use Rattle.sabr_search.proofs.WayLemmas.RoutesAndWays.{takes_timely}
+use Rattle.sabr_search.proofs.BackwardLemmas.LastSeconds.{left_before}
 use Rattle.sabr_search.proofs.backward.deadlines.Deadlines.take_sender.Goals as goal
 use Rattle.sabr_search.proofs.backward.deadlines.Deadlines.take_sender.Goals.{then-last-latest-via-then-last-latest, then-last-latest-via-else-last-latest+then-last-since}
 use Rattle.sabr_search.proofs.ForwardLemmas.Queues.{set_here}
 
-pub returns-then-to-since-clause-told : goal.returns-then-to-since-clause-told
-returns-then-to-since-clause-told g c = λ n t w b has s less unshut other soon.
-    absurd (omega (arith, less, (takes_timely c.args.aim.now.task.now c.requires.task.nodes).later n c.args.from.node t w b s, soon, c.if-to-since.true))
+pub returns-then-from-since-clause-told : goal.returns-then-from-since-clause-told
+returns-then-from-since-clause-told g c = λ n t w b has s less unshut other soon.
+    absurd (omega (arith, soon, left_before c.args.aim.now.task.now c.requires.task c.args.from.node c.args.to.node c.args.from.passes.now c.args.from.bounds c.requires.link c.at-since.result c.if-from-since.true n t w b has s, c.at-since.ensures))
 
 pub returns-then-last-latest-clause-told : goal.returns-then-last-latest-clause-told
 returns-then-last-latest-clause-told g c = λ n t w b has s less unshut other soon.

@@ -69,7 +69,7 @@ returns-clause-rising g c =
     let last = c.saturating_sub-last.result in
     let inside = c.requires.senders.senders c.args.place _ c.head-head.ensures.1 in
     let latest = read_at late node c.index-latest.result.now (omega (arith, inside, c.requires.rising.many)) c.index-latest.ensures in
-    risen _ task late c.args.self.now.taken.items c.args.self.now.queue _ c.args.to last _ c.requires.rising inside (λ same. c.if-node-goal.false (same ∙ sym c.goal.ensures)) (omega (arith, latest, c.if-last-latest.false)) c.in_ok-push.ensures.ok
+    risen _ task late c.args.self.now.taken.items c.args.self.now.queue _ c.args.to last _ c.requires.rising inside (omega (arith, latest, c.if-last-latest.false)) c.in_ok-push.ensures.ok
     (still_near task late node last (late_rises late node last (omega (arith, inside, c.requires.rising.many)) (omega (arith, latest, c.if-last-latest.false))))
 
 pub returns-clause-same : goal.returns-clause-same

@@ -7,6 +7,7 @@ use Rattle.sabr_search.proofs.backward.latest.Latest.near_senders.Goals as goal
 pub loop-place-init : goal.loop-place-init
 loop-place-init g c = record {
   rising = c.requires.rising;
+  rises = λ k. omega arith;
   told = λ j s less. absurd (omega (arith, less));
 }
 
@@ -15,6 +16,7 @@ loop-place-preserved g c =
     let one = c.in_ok-near_sender.ensures in
     record {
       rising = one.rising;
+      rises = λ k. omega (arith, c.loop-place.invariant.rises k, one.rises k);
       told = λ j s less at n t b has step. elim (last_or_before j c.loop-place.place less) [
         | inl before ↦ near_later c.args.task.now _ _ one.rises s.sender t c.args.to b one.same (c.loop-place.invariant.told j s before at n t b has step)
         | inr same ↦ one.told s (rw same at at) n t b has step

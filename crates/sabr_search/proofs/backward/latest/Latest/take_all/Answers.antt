@@ -3,30 +3,33 @@ use Rattle.sabr_search.proofs.ForwardLemmas.FirstWays.{read_flag}
 use Rattle.sabr_search.proofs.BackwardLemmas.LastSeconds.{next_inside, skipped, begun, finished, all_taken}
 use Rattle.sabr_search.proofs.backward.latest.Latest.take_all.Goals as goal
 
+pub loop-init : goal.loop-init
+loop-init g c = record { rising = c.requires.rising; rises = λ k. omega arith }
+
 pub index-requires : goal.index-requires
 index-requires g c =
-    let was = c.loop.invariant in
+    let was = c.loop.invariant.rising in
     omega (arith, was.flags, next_inside _ c.args.task.now _ _ _ _ c.in-Some.event was c.in-Some.ensures.moved)
 
 pub index_mut-requires : goal.index_mut-requires
 index_mut-requires g c =
-    let was = c.loop.invariant in
+    let was = c.loop.invariant.rising in
     omega (arith, was.flags, next_inside _ c.args.task.now _ _ _ _ c.in-Some.event was c.in-Some.ensures.moved)
 
 pub take_senders-requires-clause-node : goal.take_senders-requires-clause-node
-take_senders-requires-clause-node g c = next_inside _ c.args.task.now _ _ _ _ c.in-Some.event c.loop.invariant c.in-Some.ensures.moved
+take_senders-requires-clause-node g c = next_inside _ c.args.task.now _ _ _ _ c.in-Some.event c.loop.invariant.rising c.in-Some.ensures.moved
 
 pub take_senders-requires-clause-rising : goal.take_senders-requires-clause-rising
-take_senders-requires-clause-rising g c = begun _ c.args.task.now _ _ _ _ c.in-Some.event c.loop.invariant c.in-Some.ensures.moved
+take_senders-requires-clause-rising g c = begun _ c.args.task.now _ _ _ _ c.in-Some.event c.loop.invariant.rising c.in-Some.ensures.moved
 
-pub returns-in_default : goal.returns-in_default
-returns-in_default g c = record { taken = λ yes'. all_taken _ c.args.task.now _ _ _ c.loop.invariant c.in_default.ensures.none }
+pub returns-in_default-clause-taken : goal.returns-in_default-clause-taken
+returns-in_default-clause-taken g c = λ yes'. all_taken _ c.args.task.now _ _ _ c.loop.invariant.rising c.in_default.ensures.none
 
 pub loop-preserved-then-index : goal.loop-preserved-then-index
 loop-preserved-then-index g c =
-    let was = c.loop.invariant in
+    let was = c.loop.invariant.rising in
     let within : c.in-Some.event.node < length c.loop.self.taken.items = omega (arith, was.flags, next_inside _ c.args.task.now _ _ _ _ c.in-Some.event was c.in-Some.ensures.moved) in
-    skipped _ c.args.task.now _ _ _ _ c.in-Some.event was c.in-Some.ensures.moved (sym (read_flag c.loop.self.taken.items c.in-Some.event.node c.index.result.now within c.index.ensures) ∙ c.if-index.true)
+    record { rises = c.loop.invariant.rises; rising = skipped _ c.args.task.now _ _ _ _ c.in-Some.event was c.in-Some.ensures.moved (sym (read_flag c.loop.self.taken.items c.in-Some.event.node c.index.result.now within c.index.ensures) ∙ c.if-index.true) }
 
 pub loop-preserved : goal.loop-preserved
-loop-preserved g c = finished _ c.args.task.now _ _ _ c.in-Some.event.node c.in_ok-all.ensures.rising (c.in_ok-all.ensures.taken c.if-not-all.false)
+loop-preserved g c = record { rises = λ k. omega (arith, c.loop.invariant.rises k, c.in_ok-all.ensures.rises k); rising = finished _ c.args.task.now _ _ _ c.in-Some.event.node c.in_ok-all.ensures.rising (c.in_ok-all.ensures.taken c.if-not-all.false) }

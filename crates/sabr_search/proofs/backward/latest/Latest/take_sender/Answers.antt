@@ -33,7 +33,7 @@ returns-clause-rising g c =
     let node = c.args.from.node in
     let last = c.leave_over-last.result in
     let latest = read_at late node c.index-latest.result.now (omega (arith, c.requires.node, c.requires.rising.many)) c.index-latest.ensures in
-    risen _ task late c.args.self.now.taken.items c.args.self.now.queue _ c.args.to last _ c.requires.rising c.requires.node (λ same. c.if-node-goal.false (same ∙ sym c.goal.ensures)) (omega (arith, latest, c.if-last-latest.false)) c.in_ok-push.ensures.ok
+    risen _ task late c.args.self.now.taken.items c.args.self.now.queue _ c.args.to last _ c.requires.rising c.requires.node (omega (arith, latest, c.if-last-latest.false)) c.in_ok-push.ensures.ok
     (still_taken task late node last (late_rises late node last (omega (arith, c.requires.node, c.requires.rising.many)) (omega (arith, latest, c.if-last-latest.false))))
 
 pub returns-clause-same : goal.returns-clause-same

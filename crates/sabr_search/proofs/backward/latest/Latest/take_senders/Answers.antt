@@ -19,6 +19,7 @@ IsTold task late to before s = (n t b : ℕ) → HasNumber s.passes n → Takes 
 pub loop-place-init : goal.loop-place-init
 loop-place-init g c = record {
   rising = c.requires.rising;
+  rises = λ k. omega arith;
   same = sym (read_at c.args.self.now.late.items c.args.to c.index-before.result.now (omega (arith, c.requires.node, c.requires.rising.many)) c.index-before.ensures);
   told = λ j s less. absurd (omega (arith, less));
 }
@@ -36,6 +37,7 @@ loop-place-preserved-then-is_soonest g c =
     let late = read_at c.loop-place.self.late.items u c.index-latest.result.now (omega (arith, c.senders-senders.ensures.senders c.loop-place.place _ here.1, so_far.rising.many)) c.index-latest.ensures in
     record {
       rising = so_far.rising;
+      rises = so_far.rises;
       same = so_far.same;
       told = each_until (IsTold task c.loop-place.self.late.items c.args.to c.index-before.result.now) c.senders-senders.result c.loop-place.place _ here.1 so_far.told
           (λ n t b has s by open' other. elim (cases_lt t (slice_index c.loop-place.self.late.items u)) [
@@ -56,6 +58,7 @@ loop-place-preserved-then-from-latest g c =
     let late = read_at c.loop-place.self.late.items from.node c.index-latest.result.now (omega (arith, c.senders-senders.ensures.senders c.loop-place.place _ here.link, so_far.rising.many)) (rw node c.index-latest.ensures) in
     record {
       rising = so_far.rising;
+      rises = so_far.rises;
       same = so_far.same;
       told = each_until (IsTold task c.loop-place.self.late.items c.args.to c.index-before.result.now) c.senders-senders.result c.loop-place.place _ here.link so_far.told
           (λ n t b has s by open' other. omega (arith, late, left_before task c.requires.task from.node c.args.to from.passes.now from.bounds (link, here.bounds) c.index-latest.result.now c.if-from-latest.true n t c.args.to b has s));
@@ -74,6 +77,7 @@ loop-place-preserved g c =
     let one = c.in_ok-take_sender.ensures in
     record {
       rising = one.rising;
+      rises = λ k. omega (arith, so_far.rises k, one.rises k);
       same = one.same;
       told = each_until (IsTold task c.take_sender.new.self.late.items c.args.to c.index-before.result.now) c.senders-senders.result c.loop-place.place _ c.at-from.ensures.link
           (λ j s less at n t b has step by. left_later task _ _ one.rises s.sender t (so_far.told j s less at n t b has step by))

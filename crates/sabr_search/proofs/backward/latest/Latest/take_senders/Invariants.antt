@@ -1,4 +1,4 @@
-use Rattle.std.proofs.Common.{◌≡◌, ℕ, ◌<◌, Some, slice_get, slice_index}
+use Rattle.std.proofs.Common.{◌≡◌, ℕ, ◌≤◌, ◌<◌, Some, slice_get, slice_index}
 use Rattle.sabr_index.specs.Links.{SentLink}
 use Rattle.sabr_search.specs.questions.Task.{Takes}
 use Rattle.sabr_search.specs.questions.Linked.{HasNumber}
@@ -8,6 +8,7 @@ use Rattle.sabr_search.proofs.backward.latest.Latest.take_senders.Given as goal
 abbrev pub invariant-loop-place : goal.invariant-loop-place
 invariant-loop-place g l = record {
   rising : AreRising (IsTakenBy l.task) l.task l.self.late.items l.self.taken.items l.self.queue l.to;
+  rises : (k : ℕ) → slice_index l.fn.self.late.items k ≤ slice_index l.self.late.items k;
   same : slice_index l.self.late.items l.to ≡ l.before;
   told : (j : ℕ) (s : SentLink) → j < l.place → slice_get l.senders j ≡ Some s → (n t b : ℕ) → HasNumber s.passes n → Takes l.task n s.sender t l.to b → b < l.before → IsLeftBy l.task l.self.late.items s.sender t;
 }

@@ -1,8 +1,8 @@
 use Rattle.std.proofs.Common.{◌+◌, [], ◌∷◌, inl, inr, refl, arith}
 use Rattle.sabr_search.specs.layers.Made.{AreMade}
-use Rattle.sabr_search.proofs.ForwardLemmas.MadeLayers.{layers_first, best_within, least_within, made_lists, made_sources, made_next, made_all, spent_more, spent_fewer, none_more}
+use Rattle.sabr_search.proofs.ForwardLemmas.MadeLayers.{layers_first, best_within, least_within, made_lists, made_sources, made_next, made_last, made_all, spent_more, spent_fewer, none_more}
 use Rattle.sabr_search.proofs.forward.layers.Layers.make.Given.{Over}
-use Rattle.sabr_search.proofs.forward.layers.Layers.make.Goals.{After-len-end, then-delivery-best, else-delivery-best}
+use Rattle.sabr_search.proofs.forward.layers.Layers.make.Goals.{After-len-end, then-delivery-best-2, else-delivery-best-2}
 use Rattle.sabr_search.proofs.forward.layers.Layers.make.Goals as goal
 
 pub loop-hop-init : goal.loop-hop-init
@@ -20,10 +20,10 @@ pub next_layer-requires-clause-lists : goal.next_layer-requires-clause-lists
 next_layer-requires-clause-lists g c = made_lists c.args.task.now c.requires.task c.args.until c.loop-hop.hop c.loop-hop.first _ _ _ _ c.loop-hop.best c.loop-hop.invariant.layers (omega (arith, c.len-begin.ensures, c.loop-hop.self.reached.ok.0))
 
 -- one layer more
-made : (g : Over) (c : After-len-end g) → AreMade c.args.task.now c.args.until (c.loop-hop.hop + 1) c.len-begin.result c.next_layer.new.self.arrival.items c.next_layer.new.self.place.items c.next_layer.new.self.reached.items c.if-delivery-best.best
+made : (g : Over) (c : After-len-end g) → AreMade c.args.task.now c.args.until (c.loop-hop.hop + 1) c.len-begin.result c.next_layer.new.self.arrival.items c.next_layer.new.self.place.items c.next_layer.new.self.reached.items c.if-delivery-best-2.best
 made g c =
-    made_next c.args.task.now c.requires.task c.args.until c.loop-hop.hop c.loop-hop.first c.len-begin.result _ _ _ c.loop-hop.best c.loop-hop.invariant.layers (omega (arith, c.len-begin.ensures, c.loop-hop.self.reached.ok.0)) _ _ _ c.in_ok-delivery.delivery c.in_ok-delivery.ensures.lowered c.in_ok-delivery.ensures.known c.if-delivery-best.best
-    (elim c.if-delivery-best.branch [ then-delivery-best w ↦ inl (w.if-delivery-best.true, w.best-is) | else-delivery-best w ↦ inr (w.if-delivery-best.false, w.best-is) ])
+    made_next c.args.task.now c.requires.task c.args.until c.loop-hop.hop c.loop-hop.first c.len-begin.result _ _ _ c.loop-hop.best c.loop-hop.invariant.layers (omega (arith, c.len-begin.ensures, c.loop-hop.self.reached.ok.0)) _ _ _ c.in_ok-delivery.delivery c.in_ok-delivery.ensures.lowered c.in_ok-delivery.ensures.known c.if-delivery-best-2.best
+    (elim c.if-delivery-best-2.branch [ then-delivery-best-2 w ↦ inl (w.if-delivery-best-2.true, w.best-is) | else-delivery-best-2 w ↦ inr (w.if-delivery-best-2.false, w.best-is) ])
 
 pub returns-then-best-lower-clause-best : goal.returns-then-best-lower-clause-best
 returns-then-best-lower-clause-best g c =
@@ -33,7 +33,17 @@ pub returns-then-end-begin-clause-best : goal.returns-then-end-begin-clause-best
 returns-then-end-begin-clause-best g c =
     let made = made g (goal.at.returns-then-end-begin-clause-best g c).After-len-end in
     best_within c.args.task.now c.args.until (c.loop-hop.hop + 1) _ _ _ _ _ made.2 c.args.hops (omega arith)
-    (λ ns e le way. made_all c.args.task.now c.requires.task c.args.until (c.loop-hop.hop + 1) c.len-begin.result _ _ _ c.if-delivery-best.best made (omega (arith, c.len-end.ensures, c.next_layer.new.self.reached.ok.0, c.if-end-begin.true)) ns e way)
+    (λ ns e le way. made_all c.args.task.now c.requires.task c.args.until (c.loop-hop.hop + 1) c.len-begin.result _ _ _ c.if-delivery-best-2.best made (omega (arith, c.len-end.ensures, c.next_layer.new.self.reached.ok.0, c.if-end-begin.true)) ns e way)
+
+pub returns-then-delivery-best-clause-best : goal.returns-then-delivery-best-clause-best
+returns-then-delivery-best-clause-best g c =
+    let last = c.last_layer-delivery.ensures in
+    made_last c.args.task.now c.requires.task c.args.until c.loop-hop.hop c.loop-hop.first _ _ _ c.loop-hop.best c.loop-hop.invariant.layers c.if-hop-gt0.true c.args.hops c.if-hop-hops.true c.last_layer-delivery.result last.lower last.known last.found _ (inl (c.if-delivery-best.true, refl))
+
+pub returns-then-hop-hops-clause-best : goal.returns-then-hop-hops-clause-best
+returns-then-hop-hops-clause-best g c =
+    let last = c.last_layer-delivery.ensures in
+    made_last c.args.task.now c.requires.task c.args.until c.loop-hop.hop c.loop-hop.first _ _ _ c.loop-hop.best c.loop-hop.invariant.layers c.if-hop-gt0.true c.args.hops c.if-hop-hops.true c.last_layer-delivery.result last.lower last.known last.found _ (inr (c.if-delivery-best.false, refl))
 
 pub loop-hop-preserved : goal.loop-hop-preserved
 loop-hop-preserved g c = record {

@@ -62,6 +62,10 @@ returns-clause-lowered g c =
           | inl old ↦ rw old.1 (was.other p d old.0)
           | inr here ↦ rw here.0 other
         ];
+        by = λ p d inside. elim (noted.entries p d inside) [
+          | inl old ↦ rw (noted.arrivals, old.1) (omega (arith, set_falls own.arrival.items w b within less (slice_index_or own.reached.items p d).node, was.by p d old.0))
+          | inr here ↦ rw (noted.arrivals, here.0, here.1) (omega (arith, set_here own.arrival.items w b within))
+        ];
       };
       lower = omega arith;
       lowered = λ k. rw noted.arrivals (set_falls own.arrival.items w b within less k);

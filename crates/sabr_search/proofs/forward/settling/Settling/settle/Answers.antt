@@ -1,27 +1,11 @@
-use Rattle.std.proofs.Common.{slice_index_or, inl, inr, ap, ◌∙◌, arith, ◌≡◌, ◌⊎◌, ℕ, ◌+◌, ◌-◌, ◌≤◌, List, slice_index}
+use Rattle.std.proofs.Common.{slice_index_or, inl, inr, ap, ◌∙◌, arith, ◌-◌, slice_index}
 use Rattle.std.proofs.lemmas.Option.{slice_get_within}
-use Rattle.sabr_search.specs.questions.Linked.{passes_of, IsLinkWithin, HasNumber}
+use Rattle.sabr_search.specs.questions.Linked.{passes_of}
 use Rattle.sabr_search.proofs.ForwardLemmas.Forward.{known_lower, last_or_before}
 use Rattle.sabr_search.proofs.AnswerLemmas.Law.{way_early}
-use Rattle.sabr_search.proofs.LinkLemmas.OverLinks.{ruled_out, no_link, link_here, link_by_place}
+use Rattle.sabr_search.proofs.LinkLemmas.OverLinks.{told_known, no_link, link_here, link_by_place}
 use Rattle.sabr_search.proofs.ForwardLemmas.Queues.{fallen_more, taken_settled}
 use Rattle.sabr_search.proofs.forward.settling.Settling.settle.Goals as goal
-use Rattle.std.proofs.lemmas.Bool.{cases_eq}
-use Rattle.sabr_index.specs.declared.link.Link.{Link}
-use Rattle.sabr_index.specs.declared.link.Pass.{Pass}
-use Rattle.sabr_search.specs.questions.Task.{SearchTask, IsTask, Takes}
-use Rattle.sabr_search.specs.layers.Lists.{IsKnown}
-
--- what the bounds of a link rule out is known
-told_known : (task : SearchTask) → IsTask task → (u t : ℕ) (l : Link) (over : List Pass) → IsLinkWithin task u l.receiver over l.bounds → (costs arrival : List ℕ) (best : ℕ) → best ≤ slice_index arrival task.goal →
-    (slice_index arrival l.receiver ≤ l.bounds.soonest) ⊎ (slice_index arrival l.receiver ≤ t + l.bounds.least_light) →
-    (n w b : ℕ) → HasNumber over n → Takes task n u t w b → w ≡ l.receiver → IsKnown task.goal arrival (best - slice_index costs w) w b
-told_known task is u t l over link costs arrival best goal_late told n w b has s to =
-    let by : slice_index arrival w ≤ b = rw to (ruled_out task is u l.receiver over link.0 l.bounds link.1 t (slice_index arrival l.receiver) (inr told) n t w b has (omega arith) s) in
-    elim (cases_eq w task.goal) [
-      | inl same ↦ inl (omega (arith, goal_late, by, ap (slice_index arrival) same))
-      | inr other ↦ inr (other, by)
-    ]
 
 pub link_passes-passes-requires-clause-ordered : goal.link_passes-passes-requires-clause-ordered
 link_passes-passes-requires-clause-ordered g c = (link_by_place _ _ _ _ c.loop-link.invariant.links _ c.loop-link-test.true).ordered
@@ -98,8 +82,8 @@ loop-link-preserved-then-is_told g c =
         | inl before ↦ so_far.known j x n w b before at has s
         | inr same ↦
             (let own = link.own j x n at same has in
-            told_known task c.requires.task c.args.event.node c.args.event.at l over link.link c.args.forward.now.costs.now c.loop-link.self.arrival.items c.loop-link.least.delivery
-            so_far.state.goal_late (rw c.deref.ensures.value at (c.is_told.ensures c.if-is_told.true))
+            told_known task c.requires.task c.args.event.node c.args.event.at l over link.link c.loop-link.self.arrival.items (c.loop-link.least.delivery - slice_index c.args.forward.now.costs.now w)
+            (omega (arith, so_far.state.goal_late)) (rw c.deref.ensures.value at (c.is_told.ensures c.if-is_told.true))
             n w b own s (link.to c.requires.task n c.args.event.at w b own s))
       ];
       pushes = so_far.pushes;

@@ -1,0 +1,127 @@
+-- Layers made for the whole graph leave out no way of a part's question.
+use Rattle.std.proofs.Common.{◌≡◌, inl, inr, ℕ, ◌+◌, ◌<◌, ◌≤◌, Bool, true, false, List, [], ◌∷◌, ◌++◌, length, slice_get, slice_index, slice_index_or, Some, refl, ap, sym, subst, ◌∙◌, arith, length-append}
+use Rattle.std.proofs.lemmas.Bool.{cases_eq, cases_lt, both_ways}
+use Rattle.std.proofs.lemmas.Bool.Decides.{nat_tests}
+use Rattle.std.proofs.lemmas.Option.{slice_get-get_or}
+use Rattle.std.proofs.lemmas.Grind.{common_steps}
+use Rattle.sabr_model.specs.plan.Plan.{TabledPlan, contact_named, has}
+use Rattle.sabr_model.specs.routes.Arrival.{RouteRequest, arrival}
+use Rattle.sabr_search.specs.declared.level.Level.{Level}
+use Rattle.sabr_search.specs.declared.backward.deadlines.Deadline.{Deadline}
+use Rattle.sabr_search.specs.questions.Ways.{Leads}
+use Rattle.sabr_search.specs.questions.Task.{SearchTask, IsTask, IsAsked, Takes, is_closed}
+use Rattle.sabr_search.specs.questions.FirstSteps.{tabled_of}
+use Rattle.sabr_search.specs.layers.Deadlines.{HasDeadline}
+use Rattle.sabr_search.specs.layers.Reach.{AreSoonFor}
+use Rattle.sabr_search.specs.layers.Level.{IsMadeFor, IsLevel, IsLevelOf}
+use Rattle.sabr_search.proofs.WayLemmas.Ways.{Leads-append, Leads-later}
+use Rattle.sabr_search.proofs.WayLemmas.RoutesAndWays.{takes_timely}
+use Rattle.sabr_search.proofs.WayLemmas.Prefixes.{prefix_facts}
+use Rattle.sabr_search.proofs.BackwardLemmas.Backward.{way_open}
+use Rattle.sabr_search.proofs.AnswerLemmas.Around.{of_request}
+use Rattle.sabr_search.proofs.AnswerLemmas.Soonest.{stop_of, soon_after, receivers_open}
+
+-- whoever is at node u at second t is in time for its entry in a layer of at most so many hops
+abbrev pub IsInTimeWithin : List ℕ → List Deadline → ℕ → ℕ → ℕ → Type 0
+IsInTimeWithin ends entries hops u t = (i : ℕ) × (x : ℕ) × (i ≤ hops) × HasDeadline ends entries i u x × (t < x)
+
+-- a flag past the end is off
+past_end : (flags : List Bool) (k : ℕ) → length flags ≤ k → slice_index_or flags k false ≡ false
+past_end flags k le = grind (arith, common_steps)
+
+-- no way over the whole graph comes to where a question starts any sooner, unless it starts at the source
+start_soon : (task : SearchTask) (prefix : List ℕ) → IsAsked task prefix → (soon : List ℕ) → AreSoonFor (tabled_of task) task.request soon → is_closed task.plan task.request [] task.request.source ≡ true →
+    ((x : ℕ) → slice_get task.table task.start ≡ Some x → is_closed task.plan task.request [] x ≡ false) → slice_index soon task.start ≤ task.at
+start_soon task [] asked soon are source open' = absurd (both_ways (is_closed task.plan task.request [] task.request.source) (open' task.request.source (asked.behind.stands ∙ sym asked.behind.chained)) source)
+start_soon task (n ∷ prefix) asked soon are source open' =
+    let behind = asked.behind in
+    are (n ∷ prefix) task.start behind.last_node task.at (omega arith) behind.stands behind.chained behind.arrives (receivers_open task (n ∷ prefix) (prefix_facts task.plan task.request (n ∷ prefix) asked.fits))
+
+-- the source is closed
+source_closed : (task : SearchTask) → is_closed task.plan task.request [] task.request.source ≡ true
+source_closed task = grind (arith, nat_tests)
+
+-- a question after no contact that excludes nothing, and one after a prefix, of the same plan and request
+module _ (whole task : SearchTask) (prefix : List ℕ) (first : IsAsked whole []) (asked : IsAsked task prefix) (plan : tabled_of whole ≡ tabled_of task) (request : whole.request ≡ task.request) where
+  table_is : whole.table ≡ task.table
+  table_is = ap (λ (p : TabledPlan). p.table) plan
+
+  -- where the whole graph is shut
+  shut_there : (k x : ℕ) → slice_get task.table k ≡ Some x → slice_index_or whole.shut k false ≡ is_closed task.plan task.request [] x
+  shut_there k x at = first.behind.shuts k x (ap (λ t. slice_get t k) table_is ∙ at) ∙ ap (λ (p : TabledPlan). is_closed p.plan whole.request [] x) plan ∙ ap (λ r. is_closed task.plan r [] x) request
+
+  opens_there : (k : ℕ) → slice_index_or task.shut k false ≡ false → slice_index_or whole.shut k false ≡ false
+  opens_there k open' = elim (cases_lt k (length task.table)) [
+    | inl within ↦
+        (let at = slice_get-get_or task.table k 0 within in
+        shut_there k _ at ∙ (of_request task prefix asked.behind).closes k _ at open')
+    | inr past ↦ past_end whole.shut k (omega (arith, past, first.task_is.as_many, ap length table_is))
+  ]
+
+  goal_there : whole.goal ≡ task.goal
+  goal_there = asked.task_is.nodes.apart whole.goal task.goal task.request.destination (sym (ap (λ t. slice_get t whole.goal) table_is) ∙ first.behind.goal_is ∙ ap (λ (r : RouteRequest). Some r.destination) request) asked.behind.goal_is
+
+  soon_there : (since : List ℕ) → AreSoonFor (tabled_of whole) whole.request since → AreSoonFor (tabled_of task) task.request since
+  soon_there since are = subst (λ r. AreSoonFor (tabled_of task) r since) request (subst (λ p. AreSoonFor p whole.request since) plan are)
+
+-- layers made for the question after no contact are a level of each question after a prefix
+pub level_of : {A : Type 0} (whole : SearchTask) (level : Level A) → IsAsked whole [] → IsMadeFor whole level → (task : SearchTask) (prefix : List ℕ) → IsAsked task prefix → tabled_of whole ≡ tabled_of task → whole.request ≡ task.request → IsLevelOf task level
+level_of whole level first made task prefix asked same requests =
+    let are = soon_there whole task prefix first asked same requests made.since made.soon in
+    record {
+      whole = whole;
+      made = made;
+      plan = same;
+      request = requests;
+      goal = goal_there whole task prefix first asked same requests;
+      opens = opens_there whole task prefix first asked same requests;
+      soonest = soon_after task prefix (of_request task prefix asked.behind) (prefix_facts task.plan task.request prefix asked.fits) (stop_of task prefix asked.behind) made.since are;
+      begins = λ open'. start_soon task prefix asked made.since are (source_closed task) (λ x at. sym (shut_there whole task prefix first asked same requests task.start x at) ∙ open');
+    }
+
+-- so they are a level of each that is asked of the plan and the request
+pub is_level : {A : Type 0} (p : TabledPlan) (r : RouteRequest) (whole : SearchTask) (level : Level A) → IsAsked whole [] → tabled_of whole ≡ p → whole.request ≡ r → (0 < level.delivery → IsMadeFor whole level) → IsLevel p r level
+is_level p r whole level first plan request made = λ some task prefix asked same requests. level_of whole level first (made some) task prefix asked (plan ∙ sym same) (request ∙ sym requests)
+
+module _ {A : Type 0} (task : SearchTask) (is : IsTask task) (level : Level A) (over : IsLevelOf task level) where
+  -- each step of the question is one of the whole graph
+  pub whole_step : (n u t w b : ℕ) → Takes task n u t w b → Takes over.whole n u t w b
+  whole_step n u t w b s = record {
+    contact = s.contact;
+    named = ap (λ (p : TabledPlan). contact_named p.plan n) over.plan ∙ s.named;
+    sender = ap (λ (p : TabledPlan). slice_get p.table u) over.plan ∙ s.sender;
+    receiver = ap (λ (p : TabledPlan). slice_get p.table w) over.plan ∙ s.receiver;
+    unshut = over.opens w s.unshut;
+    allowed = λ same. ap (has n) over.made.none;
+    arrives = ap (λ (p : TabledPlan). arrival p.plan over.whole.request t s.contact) over.plan ∙ ap (λ r. arrival task.plan r t s.contact) over.request ∙ s.arrives;
+  }
+
+  -- the goal's entry
+  pub goal_entry : HasDeadline level.layers.ends.items level.layers.entries.items 0 task.goal (level.delivery + 1)
+  goal_entry = (0, omega (arith, over.made.layers.first_end), omega (arith, over.made.layers.second_end), over.made.layers.goal_first ∙ ap (λ g. Some (record { node = g; before = level.delivery + 1 })) over.goal)
+
+  -- whoever a way leads on to the goal in time is in time for an entry, at the start if the whole graph leaves it open
+  pub in_time : (ns ms : List ℕ) (u t e : ℕ) → slice_index_or over.whole.shut u false ≡ false → slice_index over.made.since u ≤ t → Leads (Takes task) task.start task.at ms u t → Leads (Takes task) u t ns task.goal e → e ≤ level.delivery →
+      IsInTimeWithin level.layers.ends.items level.layers.entries.items (length ns) u t
+  in_time [] ms u t e unshut since there on by = (0, level.delivery + 1, omega arith, rw (on.0) goal_entry, omega (arith, on.1))
+  in_time (n ∷ ns) ms u t e unshut since there on by =
+      let timely = takes_timely task is.nodes in
+      let next : Leads (Takes task) task.start task.at (ms ++ n ∷ []) on.0 on.1 = Leads-append (Takes task) timely ms (n ∷ []) task.start task.at u t on.0 on.1 there (on.0, on.1, on.2, (refl, refl)) in
+      let some : 0 < length (ms ++ n ∷ []) = omega (arith, length-append ms (n ∷ [])) in
+      let open' = over.opens on.0 (way_open task (ms ++ n ∷ []) task.start task.at on.0 on.1 next some) in
+      let r = in_time ns (ms ++ n ∷ []) on.0 on.1 e open' (over.soonest (ms ++ n ∷ []) on.0 on.1 some next) next on.3 by in
+      elim (cases_eq u task.goal) [
+        | inl same ↦ (0, level.delivery + 1, omega arith, rw same goal_entry, omega (arith, Leads-later (Takes task) timely (n ∷ ns) u t task.goal e on))
+        | inr other ↦
+            (let told = over.made.layers.taken r.0 on.0 r.1 n u t on.1 r.3 r.4 (whole_step n u t on.0 on.1 on.2) unshut (λ same. other (same ∙ over.goal)) since in
+            (told.0, told.1, omega (arith, told.2, r.2), told.3, told.4))
+      ]
+
+  -- after the start it is open
+  pub leaves_out_none : (ms ns : List ℕ) (u t e : ℕ) → 0 < length ms → Leads (Takes task) task.start task.at ms u t → Leads (Takes task) u t ns task.goal e → e ≤ level.delivery →
+      IsInTimeWithin level.layers.ends.items level.layers.entries.items (length ns) u t
+  leaves_out_none ms ns u t e some there on by = in_time ns ms u t e (over.opens u (way_open task ms task.start task.at u t there some)) (over.soonest ms u t some there) there on by
+
+  pub in_time_at_start : slice_index_or over.whole.shut task.start false ≡ false → (ns : List ℕ) (e : ℕ) → Leads (Takes task) task.start task.at ns task.goal e → e ≤ level.delivery →
+      IsInTimeWithin level.layers.ends.items level.layers.entries.items (length ns) task.start task.at
+  in_time_at_start unshut ns e on by = in_time ns [] task.start task.at e unshut (over.begins unshut) (refl, refl) on by

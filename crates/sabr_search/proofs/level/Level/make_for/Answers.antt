@@ -1,0 +1,29 @@
+use Rattle.std.proofs.Common.{[], length, ap, arith}
+use Rattle.sabr_search.proofs.WayLemmas.Prefixes.{prefix_facts}
+use Rattle.sabr_search.proofs.AnswerLemmas.Around.{of_request}
+use Rattle.sabr_search.proofs.AnswerLemmas.Soonest.{stop_of, soon_after}
+use Rattle.sabr_search.proofs.level.Level.make_for.Goals as goal
+
+pub make_whole-requires-clause-arrivals : goal.make_whole-requires-clause-arrivals
+make_whole-requires-clause-arrivals g c =
+    let task = c.args.task.now in
+    let asked = c.requires.asked in
+    record {
+      flags = omega (arith, c.soonest-since.ensures.many, ap length c.shut.ensures, asked.task_is.as_many);
+      least = λ ns v t some way.
+          omega (arith, c.soonest-since.ensures.each v, soon_after task [] (of_request task [] asked.behind) (prefix_facts task.plan task.request [] asked.fits) (stop_of task [] asked.behind) c.args.soon.now c.requires.soon ns v t some way);
+    }
+
+pub returns : goal.returns
+returns g c = λ some.
+    let task = c.args.task.now in
+    let asked = c.requires.asked in
+    let chain = c.in_ok-chain.ensures in
+    record {
+      none = c.requires.none;
+      since = c.soonest-since.result;
+      soon = λ ns v node t some at chained after open'. omega (arith, c.soonest-since.ensures.each v, c.requires.soon ns v node t some at chained after open');
+      layers = rw chain.layers (c.in_ok-whole.ensures.whole c.if-not-whole.false);
+      chained = chain.chained;
+      nodes = omega (arith, chain.nodes, ap length c.shut-2.ensures, asked.task_is.as_many);
+    }

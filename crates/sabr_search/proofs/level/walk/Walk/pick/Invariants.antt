@@ -1,0 +1,15 @@
+use Rattle.std.proofs.Common.{◌+◌, ◌*◌, ◌-◌, ◌<◌, ◌≤◌, length}
+use Rattle.sabr_search.specs.layers.Level.{AreDeadEnds}
+use Rattle.sabr_search.proofs.LevelLemmas.Walks.{AreStepsOn, start_of}
+use Rattle.sabr_search.proofs.level.walk.Walk.pick.Given as goal
+
+abbrev pub invariant-loop-self : goal.invariant-loop-self
+invariant-loop-self g l = record {
+  looked : l.looks.left ≤ l.fn.looks.left;
+  ends : AreDeadEnds l.task l.level.delivery l.self.ends.items;
+  less : length l.self.steps.items < l.hops;
+  steps : AreStepsOn l.task l.level.delivery l.hops (start_of l.task) l.self.steps.items;
+}
+
+abbrev pub decreases-loop-self : goal.decreases-loop-self
+decreases-loop-self g l = (8 - length l.self.ends.items) * (l.hops + 1) + (l.hops - length l.self.steps.items)

@@ -1,0 +1,18 @@
+use Rattle.std.proofs.Common.{refl, arith}
+use Rattle.sabr_search.proofs.AnswerLemmas.Answered.{left_less}
+use Rattle.sabr_search.proofs.search.Search.find_level.Goals as goal
+
+pub run_level-requires-clause-level : goal.run_level-requires-clause-level
+run_level-requires-clause-level g c = c.requires.level (c.is_for.ensures c.if-not-is_for.false).0 c.args.asked.now.task.now c.args.asked.now.prefix.now c.requires.asked refl refl
+
+pub run_level-requires-clause-nodes : goal.run_level-requires-clause-nodes
+run_level-requires-clause-nodes g c = omega (arith, c.left.ensures, left_less c.args.asked.now.task.now c.args.asked.now.prefix.now c.requires.asked, c.requires.asked.task_is.few)
+
+pub run_level-requires-clause-floor : goal.run_level-requires-clause-floor
+run_level-requires-clause-floor g c = rw (c.left.ensures, (c.is_for.ensures c.if-not-is_for.false).1) c.requires.floor
+
+pub returns-clause-found : goal.returns-clause-found
+returns-clause-found g c = rw (c.in-Some.is, c.left.ensures) at c.in_ok-found.ensures.found
+
+pub returns-clause-enough : goal.returns-clause-enough
+returns-clause-enough g c = rw c.bound_left-bound.ensures at (c.tells.ensures c.if-not-tells.false)

@@ -1,0 +1,179 @@
+//! Layers backward over the whole graph for one delivery: what they tell of every question about it.
+//!
+//! Parts come in order of delivery, so that many questions in a row have the same floor. The layers shut only what every
+//! question of the request shuts. So they leave out no way of a part; and where they have none in time, there is none.
+
+pub mod spending;
+pub mod walk;
+
+ghost use Rattle.std.specs.Prelude.{◌≡◌, ℕ, ◌+◌, ◌-◌, ◌≤◌, ◌<◌, [], Some, min, IsTrue, OnOk, length, slice_get, slice_index};
+ghost use Rattle.sabr_model.specs.plan.Plan.{TabledPlan};
+ghost use Rattle.sabr_model.specs.routes.Arrival.{RouteRequest};
+ghost use Rattle.sabr_search.specs.layers.Level.{AreChained, HasLayers, IsDeadEnd, IsLatestWithin, IsLevel, IsLevelOf, IsMadeFor};
+ghost use Rattle.sabr_search.specs.questions.FirstSteps.{tabled_of};
+ghost use Rattle.sabr_search.specs.questions.Task.{IsAsked, IsTask};
+ghost use Rattle.sabr_search.specs.layers.Reach.{AreSoonFor};
+
+use crate::backward::deadlines::{Deadline, Deadlines};
+use crate::backward::from_goal::Aim;
+use crate::backward::since::Since;
+use crate::course::Course;
+use crate::links::finger::Excluded;
+use crate::task::Task;
+use sabr_index::{CountedPlan, Looks};
+use sabr_model::{NoMemory, Request};
+use std::alloc::Allocator;
+
+/// Layers for one delivery, and by node where its entries stand.
+#[derive(Drop)]
+pub struct Level<A: Allocator + Copy> {
+    /// The delivery that they are made for; 0 if there are none.
+    pub delivery: u64,
+    /// The layers.
+    layers: Deadlines<A>,
+    /// By node the place after its entry of most hops; 0 if it has none.
+    latest: Vec<usize, A>,
+    /// By entry the place after the one of the same node with the next fewer hops; 0 if there is none.
+    fewer: Vec<usize, A>,
+}
+
+impl<A: Allocator + Copy> Level<A> {
+    /// Has no layers. It takes no memory.
+    pub fn new(alloc: A) -> Level<A>
+        ensures { (p : TabledPlan) (r : RouteRequest) → IsLevel p r result }
+    {
+        Level {
+            delivery: 0,
+            layers: Deadlines::new(alloc),
+            latest: Vec::new(alloc),
+            fewer: Vec::new(alloc),
+        }
+    }
+
+    /// Returns true if there are layers for this delivery.
+    pub fn is_for(&self, delivery: u64) -> bool
+        ensures { IsTrue result → (0 < self.now.delivery) × (self.now.delivery ≡ delivery) }
+    {
+        self.delivery > 0 && self.delivery == delivery
+    }
+
+    /// Makes layers for a delivery. There are none if they might need more looks than are left, or if a growth is refused.
+    pub fn make(
+        &mut self,
+        looks: &mut Looks,
+        plan: &CountedPlan<'_, A>,
+        request: &Request,
+        soon: &[u64],
+        delivery: u64,
+    ) -> Result<(), NoMemory>
+        requires soon { AreSoonFor plan.now request.now soon.now }
+        ensures { IsLevel plan.now request.now self.new }
+    {
+        self.delivery = 0;
+        let Some(mut course) = Course::open(self.layers.alloc, plan, request)? else {
+            return Ok(());
+        };
+        let source = course.go(looks, plan, request, &[])?;
+        let excluded = Excluded {
+            numbers: &[],
+            rising: false,
+        };
+        let whole = Task::new(plan, request, &course, excluded, source);
+        self.make_for(&whole, looks, soon, delivery)
+    }
+
+    /// Makes them for a question that shuts no more than each of the request, and excludes nothing.
+    fn make_for(
+        &mut self,
+        task: &Task<'_, A>,
+        looks: &mut Looks,
+        soon: &[u64],
+        delivery: u64,
+    ) -> Result<(), NoMemory>
+        requires asked { IsAsked task.now [] }
+        requires none { task.now.excluded ≡ [] }
+        requires soon { AreSoonFor (tabled_of task.now) task.now.request soon.now }
+        requires unmade { self.old.delivery ≡ 0 }
+        ensures { 0 < self.new.delivery → IsMadeFor task.now self.new }
+    {
+        if delivery == u64::MAX {
+            return Ok(());
+        }
+        let since = Since::soonest(task.shut().len(), soon);
+        let aim = Aim {
+            task,
+            since: &since,
+            first: &[],
+            delivery,
+        };
+        let whole = self.layers.make_whole(&aim, looks)?;
+        if !whole {
+            return Ok(());
+        }
+        self.chain(task.shut().len())?;
+        self.delivery = delivery;
+        Ok(())
+    }
+
+    /// Finds by node and by entry where the entries of a node stand.
+    fn chain(&mut self, nodes: usize) -> Result<(), NoMemory>
+        requires { (p : ℕ) (e : Deadline) → slice_get self.old.layers.entries.items p ≡ Some e → e.node < nodes }
+        ensures layers { self.new.layers ≡ self.old.layers }
+        ensures delivery { self.new.delivery ≡ self.old.delivery }
+        ensures nodes { OnOk result (length self.new.latest.items ≡ nodes) }
+        ensures chained { OnOk result (AreChained self.new.layers.entries.items self.new.latest.items self.new.fewer.items) }
+    {
+        self.latest.clear();
+        self.latest.resize(nodes, 0)?;
+        self.fewer.clear();
+        for place in 0..self.layers.entries.len() {
+            let node = self.layers.entries[place].node;
+            self.fewer.push(self.latest[node])?;
+            self.latest[node] = place + 1;
+        }
+        Ok(())
+    }
+
+    /// Returns the place after the entries of at most so many hops.
+    #[inline(always)]
+    pub fn end_of(&self, hops: usize) -> usize
+        requires { HasLayers self.now }
+        ensures { result ≡ slice_index self.now.layers.ends.items (min (length self.now.layers.ends.items - 1) (hops + 1)) }
+    {
+        let last = self.layers.ends.len() - 1;
+        self.layers.ends[hops.saturating_add(1).min(last)]
+    }
+
+    /// Returns the first second that is too late at a node by its entries before this place; 0 if it has none there.
+    #[inline(always)]
+    pub fn before(&self, node: usize, end: usize) -> u64
+        requires layers { HasLayers self.now }
+        requires node { node < length self.now.latest.items }
+        ensures latest { IsLatestWithin self.now.layers.entries.items node end result }
+        ensures met { 0 < result → (p : ℕ) × (p < end) × (slice_get self.now.layers.entries.items p ≡ Some (record { node = node; before = result })) }
+    {
+        let mut place = self.latest[node];
+        while place > end {
+            place = self.fewer[place - 1];
+        }
+        if place == 0 {
+            return 0;
+        }
+        self.layers.entries[place - 1].before
+    }
+
+    /// Returns true if the layers tell that the start of a question is too late for so many hops. They tell nothing of the
+    /// source, which is shut in them.
+    pub fn is_late(&self, task: &Task<'_, A>, hops: usize) -> bool
+        requires task { IsTask task.now }
+        requires level { IsLevelOf task.now self.now }
+        ensures { IsTrue result → IsDeadEnd task.now self.now.delivery task.now.start task.now.at hops }
+    {
+        let start = task.start();
+        if self.latest[start] == 0 {
+            return false;
+        }
+        let end = self.end_of(hops);
+        self.before(start, end) <= task.at()
+    }
+}

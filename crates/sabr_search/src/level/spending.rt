@@ -1,0 +1,116 @@
+//! Whether layers for one delivery pay.
+
+use crate::answers::payoff::Payoff;
+
+/// Layers are made once the searches with a floor have taken so many times the looks that the last layers took. With 8,
+/// 1000 routes over a relay took 6 percent more instructions, and a grid of 64 nodes 5 percent more; 60 nodes that all see
+/// each other as many. It was varied in a copy of this design in plain Rust.
+const TIMES: u64 = 32;
+
+/// The looks that the first layers are taken to need. With 1, 1000 routes over `walker-24-5000` took 19 percent more
+/// instructions, and over `grid-8` 5 percent more; with 1024, over `dense-60` 33 percent more, and over `iridium-6-10` 4
+/// percent more. This and the next were varied as `TIMES` was, over seven plans of `bench/figures.py`.
+const FIRST_PRICE: u64 = 64;
+
+/// After layers that didn't pay, the next ones are made after twice as many times, but at most so many. With 32,
+/// `relay-moon-2000` took 3 percent more.
+const MOST_TIMES: u64 = 2048;
+
+/// So many questions are asked of layers before it is counted how many they answered.
+const TRIES: u32 = 32;
+
+/// If they answered fewer, `PAUSE` questions aren't asked of them. With 0, `relay-moon-2000` took 7 percent more; with 20,
+/// `iridium-6-10` took 20 percent more, and `grid-8` 9 percent fewer.
+const LEAST: u32 = 10;
+
+/// With 1024, `walker-24-5000` took 5 percent more, and `relay-moon-2000` 1 percent fewer.
+const PAUSE: u32 = 128;
+
+/// The looks that questions with one floor took, and those that layers take.
+#[derive(Clone, Copy)]
+pub struct Spending {
+    /// The floor.
+    floor: u64,
+    /// How many questions with it were searched, and their looks.
+    searched: u64,
+    spent: u64,
+    /// Whether layers were made for it.
+    paid: bool,
+    /// How many questions these answered.
+    won: u64,
+    /// The looks that the last layers took.
+    price: u64,
+    /// How many times that is to be spent: more after layers that didn't pay.
+    times: u64,
+    /// Whether questions are answered.
+    tries: Payoff,
+}
+
+impl Spending {
+    /// Nothing was spent.
+    pub fn new() -> Spending {
+        Spending {
+            floor: 0,
+            searched: 0,
+            spent: 0,
+            paid: false,
+            won: 0,
+            price: FIRST_PRICE,
+            times: TIMES,
+            tries: Payoff::new(TRIES, LEAST, PAUSE),
+        }
+    }
+
+    /// Begins a question with a floor.
+    pub fn begin(&mut self, floor: u64) {
+        if floor == self.floor {
+            return;
+        }
+        if self.paid {
+            self.judge();
+        }
+        self.floor = floor;
+        self.searched = 0;
+        self.spent = 0;
+        self.paid = false;
+        self.won = 0;
+    }
+
+    /// Compares what layers took with what the questions that they answered would have taken.
+    fn judge(&mut self) {
+        let saved = self.won.saturating_mul(self.spent);
+        if saved < self.price.saturating_mul(self.searched) {
+            self.times = self.times.saturating_mul(2).min(MOST_TIMES);
+        } else {
+            self.times = (self.times / 2).max(TIMES);
+        }
+    }
+
+    /// Counts a question that was searched with so many looks.
+    pub fn search(&mut self, looks: u64) {
+        self.searched = self.searched.saturating_add(1);
+        self.spent = self.spent.saturating_add(looks);
+    }
+
+    /// Returns true if there are no layers yet, and as much was spent as is to be before they are made.
+    pub fn is_due(&self) -> bool {
+        !self.paid && self.spent >= self.price.saturating_mul(self.times)
+    }
+
+    /// Counts the looks that layers took.
+    pub fn pay(&mut self, looks: u64) {
+        self.paid = true;
+        self.price = looks.max(1);
+    }
+
+    /// Returns true if a question is to be asked of the layers.
+    pub fn takes(&mut self) -> bool {
+        self.tries.takes()
+    }
+
+    /// Counts a question that they answered.
+    pub fn win(&mut self) {
+        self.won = self.won.saturating_add(1);
+        self.tries.win();
+    }
+}

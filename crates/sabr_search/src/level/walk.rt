@@ -1,0 +1,199 @@
+//! A pick of the least numbers, by layers that know no shut node and no excluded number, which goes back from dead ends.
+
+ghost use Rattle.std.specs.Prelude.{◌≡◌, ◌⊎◌, ℕ, ◌+◌, ◌≤◌, ◌<◌, Some, [], map, IfOk, IfSome, IfNone, OnOk, List, ◌-◌, length, slice_get};
+ghost use Rattle.sabr_search.specs.questions.Task.{IsTask, Takes};
+ghost use Rattle.sabr_search.specs.layers.Late.{IsNoneSooner};
+ghost use Rattle.sabr_search.specs.questions.Linked.{AreLinksAt};
+ghost use Rattle.sabr_search.specs.layers.Level.{AreDeadEnds, IsDeadEnd, IsLevelOf, IsStepOn, IsWalked, last_visit};
+ghost use Rattle.sabr_search.specs.questions.Ways.{Leads};
+
+use crate::backward::pick::Step;
+use crate::level::Level;
+use crate::links::over_link::{WalkedLink, link_passes};
+use crate::task::Task;
+use crate::visit::Visit;
+use sabr_index::{Links, Looks};
+use sabr_model::NoMemory;
+use std::alloc::Allocator;
+
+/// A question gives up after so many dead ends. With 3, 1000 routes over a grid of 1600 nodes took 73 percent more
+/// instructions, and over one of 64 nodes 17 percent; with 32, the smaller grid took 4 percent more. It was varied in a copy
+/// of this design in plain Rust.
+const MOST_ENDS: usize = 8;
+
+/// Where nothing leads on: from this node, at this second or later, no way of so many hops or fewer delivers in time.
+#[derive(Clone, Copy)]
+pub struct DeadEnd {
+    node: usize,
+    at: u64,
+    hops: usize,
+}
+
+/// How a pick ended.
+pub enum Walked {
+    /// With the least way of so many hops.
+    Picked,
+    /// There is no way of so many hops.
+    None,
+    /// It came to too many dead ends, or would have taken too many looks.
+    GaveUp,
+}
+
+/// The steps of a pick, and the dead ends that it came to.
+#[derive(Drop)]
+pub struct Walk<A: Allocator + Copy> {
+    steps: Vec<Step, A>,
+    ends: Vec<DeadEnd, A>,
+}
+
+impl<A: Allocator + Copy> Walk<A> {
+    /// Has no step. It takes no memory.
+    pub fn new(alloc: A) -> Walk<A> {
+        Walk {
+            steps: Vec::new(alloc),
+            ends: Vec::new(alloc),
+        }
+    }
+
+    /// Begins a question: no dead end is known.
+    pub fn begin(&mut self)
+        ensures { self.new.ends.items ≡ [] }
+    {
+        self.ends.clear();
+    }
+
+    /// The numbers of the steps.
+    pub fn numbers(&self, alloc: A) -> Result<Vec<u32, A>, NoMemory>
+        ensures { IfOk result (λ v. v.items ≡ map (λ s. s.number) self.now.steps.items) }
+    {
+        let mut numbers = Vec::with_capacity(alloc, self.steps.len())?;
+        for place in 0..self.steps.len() {
+            numbers.push(self.steps[place].number)?;
+        }
+        Ok(numbers)
+    }
+
+    /// Where the steps lead, and when.
+    fn here(&self, task: &Task<'_, A>) -> Visit
+        ensures { result ≡ last_visit (record { node = task.now.start; at = task.now.at }) self.now.steps.items }
+    {
+        match self.steps.as_slice().last() {
+            Some(step) => Visit {
+                node: step.node,
+                at: step.at,
+            },
+            None => Visit {
+                node: task.start(),
+                at: task.at(),
+            },
+        }
+    }
+
+    /// Returns this second, or an earlier one from which on a dead end at the node with so many hops left is known.
+    #[inline(always)]
+    fn before_end(&self, node: usize, hops: usize, before: u64) -> u64
+        ensures upper { result ≤ before }
+        ensures end { (result ≡ before) ⊎ ((k : ℕ) × (x : DeadEnd) × (slice_get self.now.ends.items k ≡ Some x) × (x.node ≡ node) × (hops ≤ x.hops) × (x.at ≡ result)) }
+    {
+        let mut least = before;
+        for place in 0..self.ends.len() {
+            let end = self.ends[place];
+            if end.node == node && hops <= end.hops && end.at < least {
+                least = end.at;
+            }
+        }
+        least
+    }
+
+    /// Returns the step of least number from a visit after which so many hops may still lead to the goal in time, as far as
+    /// the layers and the dead ends tell.
+    fn next(
+        &self,
+        level: &Level<A>,
+        task: &Task<'_, A>,
+        looks: &mut Looks,
+        hops: usize,
+        from: Visit,
+        links: Links<'_>,
+    ) -> Option<Step>
+        requires task { IsTask task.now }
+        requires level { IsLevelOf task.now level.now }
+        requires ends { AreDeadEnds task.now level.now.delivery self.now.ends.items }
+        requires here { (ns : List ℕ) × Leads (Takes task.now) task.now.start task.now.at ns from.node from.at }
+        requires links { AreLinksAt task.now from.node links.links.now links.passes.now }
+        requires goal { IsDeadEnd task.now level.now.delivery from.node from.at 0 }
+        requires few { length links.passes.now ≤ looks.old.left }
+        ensures looks { looks.old.left ≤ looks.new.left + length links.entry.passes.now }
+        ensures looked { looks.new.left ≤ looks.old.left }
+        ensures some { IfSome result (IsStepOn task.now level.now.delivery hops from) }
+        ensures none { IfNone result (IsDeadEnd task.now level.now.delivery from.node from.at (hops + 1)) }
+    {
+        let end = level.end_of(hops);
+        let mut least: Option<Step> = None;
+        for link in links.links {
+            let to = link.receiver as usize;
+            if task.shut()[to] {
+                continue;
+            }
+            let deadline = level.before(to, end);
+            if deadline <= from.at {
+                continue;
+            }
+            let before = self.before_end(to, hops, deadline);
+            let passes = link_passes(links, link);
+            let walked = WalkedLink {
+                from: from.node,
+                to,
+                passes,
+                bounds: link.bounds,
+            };
+            least = task.least_over(looks, walked, from.at, before, least);
+        }
+        least
+    }
+
+    /// Picks the least numbers of so many hops from the start to the goal by the layers' delivery, and goes back from dead
+    /// ends. No way of fewer hops delivers by then.
+    pub fn pick(
+        &mut self,
+        level: &Level<A>,
+        task: &Task<'_, A>,
+        looks: &mut Looks,
+        hops: usize,
+    ) -> Result<Walked, NoMemory>
+        requires task { IsTask task.now }
+        requires some { 0 < hops }
+        requires level { IsLevelOf task.now level.now }
+        requires floor { IsNoneSooner task.now hops level.now.delivery }
+        requires ends { AreDeadEnds task.now level.now.delivery self.old.ends.items }
+        requires fewer { IsDeadEnd task.now level.now.delivery task.now.start task.now.at (hops - 1) }
+        ensures ends { OnOk result (AreDeadEnds task.now level.now.delivery self.new.ends.items) }
+        ensures walked { IfOk result (IsWalked task.now level.now.delivery hops self.new) }
+    {
+        self.steps.clear();
+        while self.ends.len() < MOST_ENDS {
+            let from = self.here(task);
+            let left = hops - 1 - self.steps.len();
+            let links = task.links(from.node);
+            if links.passes.len() as u64 > looks.left() {
+                return Ok(Walked::GaveUp);
+            }
+            if let Some(step) = self.next(level, task, looks, left, from, links) {
+                self.steps.push(step)?;
+                if left == 0 {
+                    return Ok(Walked::Picked);
+                }
+                continue;
+            }
+            self.ends.push(DeadEnd {
+                node: from.node,
+                at: from.at,
+                hops: left + 1,
+            })?;
+            let Some(_) = self.steps.pop() else {
+                return Ok(Walked::None);
+            };
+        }
+        Ok(Walked::GaveUp)
+    }
+}
