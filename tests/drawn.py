@@ -1,12 +1,15 @@
 """Compares what the libraries answer over small plans with the listing of all routes of tests/oracle.py.
 
 There are 500 plans drawn from seeds, of 3 to 6 nodes and some 12 contacts, each with a request. There are five plans
-worked out by hand, each with five requests, four times. Each plan is made by calls for one of the finders, and read from
-its text for the other. From the listing alone follows what must be answered:
+worked out by hand, each with five requests, four times. And there are 30 drawn crowded plans, with many routes in each of
+a few seconds, whose parts have dead ends. Each plan is made by calls for one of the finders, and read from its text for
+the other. From the listing alone follows what must be answered:
 
     finders         the least route of drawn parts; which drawn chains routes may begin with; bounds on looks
     sessions        pages and pages taken back: the routes, the place, the parts and the text. A place has one text,
                     whatever the way that led there; on some ways the session passes through its text
+    last pages      of sessions that begin, that gave pages, and that passed through their texts: the routes, and whether
+                    one is left; of each number from 0 to 8, and of what is drawn, also up to the listing's end and beyond
     verifying       yes to the text of each place, in both versions; to a text with another digit, or with the line of
                     another request, yes only if it is the text of a place
     a long listing  pages of 200 and 1000 over a chain of eleven double hops, and a passage through the text between
@@ -14,7 +17,8 @@ its text for the other. From the listing alone follows what must be answered:
 Both finders live on from plan to plan: one run of the program `steps` answers all. `cgrlist` is asked for
 
     many            what it prints for six requests over the text of a drawn plan, between drawn nodes and with drawn
-                    limits; over every tenth plan, the same of a run of `first` for each of them
+                    limits, and over a crowded one for its request, others and it again; over every tenth plan, the same
+                    of a run of `first` for each of them
 
 There is a check for each answer that is compared, and for each count of what was drawn.
 """
@@ -35,6 +39,7 @@ from steps import answers_of as answers_to
 SECONDS = 600
 DRAWN = 500  # plans that are drawn
 WORKED_OUT = 100  # cases of the plans worked out by hand
+CROWDED = 30  # crowded plans that are drawn
 
 FINDERS = ("settled", "layered")
 BEGIN = 1893456000  # 2030/01/01-00:00:00
@@ -207,6 +212,53 @@ def with_another_digit(draws, text):
     return f"{text[:place]}{digit}{text[place + 1 :]}"
 
 
+# ---- Crowded plans ----------------------------------------------------------------------------------------------
+
+
+def draw_mesh(draws):
+    """Draws the links of nodes that all see each other: how many nodes there are, and pairs of them."""
+    nodes = draws.below(3) + 8
+    return nodes, list(itertools.permutations(range(1, nodes + 1), 2))
+
+
+def draw_rows(draws):
+    """Draws the links of nodes in rows, from each row mostly to the next one, less often back, and within it. So ways
+    lead back to nodes where they were, and end there."""
+    sizes = draws.one_of(((1, 3, 3, 3, 1), (1, 3, 3, 3, 1), (1, 2, 3, 3, 1), (1, 4, 4, 1)))
+    ends = list(itertools.accumulate(sizes))
+    rows = [range(end - size + 1, end + 1) for size, end in zip(sizes, ends)]
+    pairs = []
+    for here, after in zip(rows, rows[1:]):
+        pairs += [pair for pair in itertools.product(here, after) if not draws.once_in(10)]
+        pairs += [pair for pair in itertools.product(after, here) if draws.once_in(2)]
+        pairs += [pair for pair in itertools.permutations(here, 2) if draws.once_in(2)]
+    return ends[-1], pairs
+
+
+def draw_crowded(draws, nodes, pairs):
+    """Draws a plan over links: no light time, or seldom some, and contacts that begin at once, but for those to the last
+    node. Some links have none, and some two."""
+    drawing = Drawing()
+    lights, starts = draws.one_of((((0,), (0,)), ((0,), (0, 10, 10, 20)), ((0, 0, 0, 1), (0, 10, 10, 20))))
+    for one, other in sorted({(min(pair), max(pair)) for pair in pairs}):
+        drawing.add_light(one, other, 0, 1000, draws.one_of(lights))
+    draws.random.shuffle(pairs)
+    for sender, receiver in pairs:
+        start = draws.one_of(starts) if receiver == nodes else 0
+        if not draws.once_in(12):
+            drawing.add_contact(sender, receiver, start, 100)
+        if draws.once_in(12):
+            drawing.add_contact(sender, receiver, start + 1, 50)
+    return drawing
+
+
+def draw_crowded_request(draws, nodes, most_hops):
+    """Draws a request from the first node to the last, within one of these limits on hops."""
+    avoided = tuple(node for node in range(2, nodes) if draws.once_in(20))
+    margin, hops = draws.one_of((0, 0, 250000, 1000000)), draws.one_of(most_hops)
+    return Request(1, nodes, BEGIN + draws.below(3), margin, hops, avoided)
+
+
 # ---- Plans worked out by hand -----------------------------------------------------------------------------------
 
 LIGHTS_OF_A = ((1, 2, 10), (2, 3, 5), (1, 3, 40))
@@ -253,6 +305,7 @@ class Case:
     drawing: Drawing
     listing: Listing
     said: list = field(default_factory=list)
+    counts: Counter = field(default_factory=Counter)  # how many of its last pages are of each kind
 
     def say(self, step, wanted="ok"):
         self.said.append((step, wanted))
@@ -272,6 +325,14 @@ def drawn_case(seed):
     nodes = min(draws.below(4), draws.below(4)) + 3
     drawing = draw_plan(draws, nodes)
     return case_of(f"seed {seed}", draws, drawing, draw_request(draws, nodes))
+
+
+def crowded_case(number):
+    draws = Draws(f"crowded {number}")
+    nodes, pairs = (draw_mesh if number % 3 == 0 else draw_rows)(draws)
+    drawing = draw_crowded(draws, nodes, pairs)
+    request = draw_crowded_request(draws, nodes, (4, 4, 5) if number % 3 == 0 else (NO_LIMIT, NO_LIMIT, 7, 8))
+    return case_of(f"crowded {number}", draws, drawing, request)
 
 
 def worked_case(number):
@@ -435,6 +496,39 @@ def walk_through_texts(case):
     walk.page(10000)
 
 
+def say_last(case, place, count):
+    """Says the last page of a session at a place, and counts of which kinds it is."""
+    routes = case.listing.routes[place:]
+    case.say(f"last {count}", f"{routes_told(routes[:count])} {'more' if len(routes) > count else 'end'}")
+    case.counts["last pages"] += 1
+    case.counts["last pages with fewer routes than asked for"] += len(routes) < count
+    if 0 < count < len(routes):
+        last, left = (route.key() for route in routes[count - 1 : count + 1])
+        case.counts["last pages cut between routes of one second"] += last[0] == left[0]
+        case.counts["last pages cut between routes of one second and as many hops"] += last[:2] == left[:2]
+
+
+def start_and_page(case, size):
+    """Starts a session, and says a page of it; returns its place."""
+    case.say("start")
+    if size:
+        case.say(f"page {size}", routes_told(case.listing.routes[:size]))
+    return min(size, len(case.listing.routes))
+
+
+def say_last_pages(case, counts, places):
+    """Says last pages of sessions that begin, and such after a page, half of them through the text."""
+    for count in counts:
+        say_last(case, start_and_page(case, 0), count)
+    for size in places:
+        place = start_and_page(case, size)
+        if case.draws.once_in(2):
+            case.say("keep")
+            case.say(f"session-given {draw_piece(case.draws)} {ALL} ends")
+            case.say("read")
+        say_last(case, place, case.draws.below(9))
+
+
 def judge(case, texts, text):
     """Says what verifying must answer for a text: yes if it is one of these."""
     case.say(f"session-text {text.encode().hex()}")
@@ -471,8 +565,22 @@ def say_all(case):
         ask_parts(case, finder, parts)
         walk_about(case)
         walk_through_texts(case)
+        say_last_pages(case, [*range(9), 10000], [case.draws.below(5) for _ in range(4)])
         judge_texts(case)
         judge_under_another(case)
+        case.say("done")
+
+
+def say_crowded(case):
+    """Says last pages of few routes over a crowded plan, and of many for the finder that keeps layers."""
+    routes = min(len(case.listing.routes), 450)
+    many, few = case.draws.below(routes + 1), case.draws.below(min(routes, 60) + 1)
+    places = [case.draws.below(few + 1) for _ in range(3)]
+    for finder, counts in zip(FINDERS, ([*range(9), many, routes, routes + 1], [*range(9), few])):
+        case.make_plan(from_text=finder == "settled")
+        case.say(finder)
+        case.say(case.listing.request.step())
+        say_last_pages(case, counts, places)
         case.say("done")
 
 
@@ -490,6 +598,9 @@ def say_long(case):
         walk.page(1000)
         case.say("done")
 
+
+# By the first word of a title what is said, other than all.
+SAYING = {"the": say_long, "crowded": say_crowded}
 
 # ---- Many requests over a plan's text ---------------------------------------------------------------------------
 
@@ -511,10 +622,13 @@ class Asked:
 
 
 def draw_asked(case):
-    """Draws six requests over a drawn plan."""
-    draws, plan = Draws(f"many, {case.title}"), case.drawing.plan
-    listings = [Listing(plan, draw_pair(draws, case.listing.request.target)) for _ in range(6)]
-    return Asked(case, draws.one_of((1, 2, 10000)), listings)
+    """Draws six requests over a drawn plan. Over a crowded one they are its own, two others, and its own again."""
+    draws, plan, target = Draws(f"many, {case.title}"), case.drawing.plan, case.listing.request.target
+    if case.title.startswith("crowded"):
+        others = [Listing(plan, draw_crowded_request(draws, target, (3, 4, 5))) for _ in range(2)]
+        return Asked(case, draws.one_of((1, 2, 3, 7, 40, 150, 10000)), [case.listing, *others, case.listing])
+    listings = [Listing(plan, draw_pair(draws, target)) for _ in range(6)]
+    return Asked(case, draws.one_of((1, 1, 1, 2, 2, 2, 3, 4, 5, 6, 7, 10000)), listings)
 
 
 def answer_of(program, folder, command, words, asked):
@@ -561,6 +675,10 @@ LEAST = {
     "parts without a route": 2500,
     "texts that are those of a place": 6000,
     "texts that are none": 4000,
+    "last pages": 17000,
+    "last pages with fewer routes than asked for": 10000,
+    "last pages cut between routes of one second": 1500,
+    "last pages cut between routes of one second and as many hops": 1200,
 }
 LEAST_ASKED = {
     "requests with a route": 1200,
@@ -574,6 +692,7 @@ def counted(cases):
     """How many were drawn of each kind that the comparing needs."""
     counts = Counter()
     for case in cases:
+        counts += case.counts
         counts["listings with several routes"] += len(case.listing.routes) > 1
         counts["listings with six routes or more"] += len(case.listing.routes) > 5
         for step, wanted in case.said:
@@ -640,13 +759,18 @@ def failures_of_counts(counts, leasts):
         yield "" if counts[what] >= least else f"FAILED: {counts[what]} {what}, and not {least}"
 
 
+def other_cases():
+    """The cases that no seed draws by itself."""
+    return [*map(worked_case, range(WORKED_OUT)), *map(crowded_case, range(CROWDED)), long_case()]
+
+
 def cases_of(asked):
     """The cases that are asked for, with what is said over them."""
     drawn = [*map(drawn_case, range(DRAWN) if asked.seed is None else [asked.seed])]
-    others = [*map(worked_case, range(WORKED_OUT)), long_case()] if asked.seed is None else []
+    others = other_cases() if asked.seed is None else []
     cases = [case for case in drawn + others if asked.text in case.title]
     for case in cases:
-        (say_long if case.title == "the long chain" else say_all)(case)
+        SAYING.get(case.title.partition(" ")[0], say_all)(case)
     return cases
 
 
@@ -663,9 +787,9 @@ def checks(asked):
     for case in cases:
         own = list(itertools.islice(answers, len(case.said)))
         yield Check(words_of(case), partial(failures_of, case, own), case.title)
-        if case.title.startswith("seed"):
+        if case.title.startswith(("seed", "crowded")):
             all_asked.append(draw_asked(case))
-            with_first = case.draws.seed % 10 == 0
+            with_first = case.title.endswith("0")
             yield Check(words_of(case), partial(compare_many, cgrlist, all_asked[-1], with_first), case.title)
     if asked.seed is None and not asked.text:
         yield Check("drawn", partial(failures_of_counts, counted(cases), LEAST))

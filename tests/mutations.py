@@ -7,7 +7,8 @@ import shutil
 from checking import TOP, Room, checks_of
 
 # A function is proved unless its body has `wrong`, or it is the first one and the law before it is wrong. The crate doesn't
-# compile if it has `unknown`, or both `one` and `other`. Each run is noted with the number of functions that are changed.
+# compile if it has `unknown`, or both `one` and `other`. Each run is noted with the functions that it is asked for, and the
+# number of those that are changed in all.
 PROVER = """\
 #!/usr/bin/env python3
 import os, re, sys
@@ -17,29 +18,30 @@ if "law wrong" in text:
     text = text.replace("right 1 }", "wrong }")
 functions = re.findall(r"fn (\\w+)\\(\\) { (.*) }", text)
 words = " ".join(body for _, body in functions).split()
-only = sys.argv[sys.argv.index("--only") + 1] if "--only" in sys.argv else None
+only = [name for word, name in zip(sys.argv, sys.argv[1:]) if word == "--only"]
 with open("NOTES", "a") as notes:
-    kind = {None: "checks", "": "compiles"}.get(only, f"checks {only}")
-    notes.write(f"{kind} {len(functions) - words.count('right')}\\n")
+    notes.write(f"{' '.join(only) or 'compiles'} {len(functions) - words.count('right')}\\n")
 os.makedirs(sys.argv[sys.argv.index("--incremental") + 1], exist_ok=True)
 if "unknown" in words or {"one", "other"} <= {*words}:
     sys.exit("src/lib.rt:1:1: error[unknown-name]: cannot find value `unknown` in this scope")
-for name, body in functions if only is None else [it for it in functions if it[0] == only]:
-    print(f"fn low::{name}: {'not proved' if 'wrong' in body else 'proved'}")
-print("only=" if only is not None else f"logic={'not-proved' if 'wrong' in words else 'proved'}")
+told = {name: "not proved" if "wrong" in body else "proved" for name, body in functions if name in only}
+for name, it in told.items():
+    print(f"fn low::{name}: {it}")
+print(f"only={len(told)} proved={[*told.values()].count('proved')}")
 """
+LIBRARY = "clone/crates/base/out/rlib/base.rlib"
 UNKNOWN = "src/lib.rt:1:1: error[unknown-name]: cannot find value `unknown` in this scope"
 
 
 class Tried(Room):
-    """A clone with one crate, and the prover."""
+    """A clone with a crate over a library, and the prover."""
 
     def __init__(self):
         super().__init__()
-        for folder in ("bin", "clone/tools", "clone/crates/low/src", "clone/crates/low/mutations"):
+        for folder in ("bin", "clone/tools", "clone/crates/low/src", "clone/crates/low/mutations", "clone/docs", LIBRARY):
             os.makedirs(f"{self.path}/{folder}")
         shutil.copy(f"{TOP}/tools/mutations", f"{self.path}/clone/tools")
-        self.file("clone/crates.txt", "low:\n")
+        self.file("clone/crates.txt", "low: base\nbase:\n")
         self.stub("bin/rt", "#!/bin/sh\n")
         self.stub("bin/rattle", PROVER.replace("NOTES", f"{self.path}/notes"))
 
@@ -53,11 +55,17 @@ class Tried(Room):
         self.file("clone/crates/low/src/lib.rt", "law right\n" + "".join(f"fn f{it}() {{ right {it} }}\n" for it in places))
         shutil.rmtree(f"{self.path}/{folder}")
         os.mkdir(f"{self.path}/{folder}")
+        shutil.rmtree(f"{self.path}/cache", ignore_errors=True)
         for it, text in zip(places, texts):
             self.file(f"{folder}/m{it}.edit", f"file: src/lib.rt\n{text}")
+        return self.tried()
+
+    def tried(self, *words):
+        """What is said of the mutations, and what the prover ran."""
         self.file("notes")
-        ran = self.run(f"{self.path}/clone/tools/mutations --jobs 1 low", PATH=f"{self.path}/bin:{os.environ['PATH']}")
-        told = re.sub("^mutations: |low/", "", "\n".join(sorted(ran.all().splitlines())), flags=re.M)
+        places = {"PATH": f"{self.path}/bin:{os.environ['PATH']}", "XDG_CACHE_HOME": f"{self.path}/cache"}
+        ran = self.run(f"{self.path}/clone/tools/mutations --jobs 1 low", [*words], **places)
+        told = re.sub("^mutations: |low/|^low: ", "", "\n".join(sorted(ran.all().splitlines())), flags=re.M)
         return told, ", ".join(self.read("notes").splitlines())
 
 
@@ -65,36 +73,76 @@ def refused(*places):
     return [f"m{it}: refused; low::f{it}: not proved" for it in places]
 
 
+def asked(changed, *places):
+    """How a check is noted."""
+    return " ".join([*(f"f{it}" for it in places), str(changed)])
+
+
 def trials(room):
     """Of each: what is told, what the prover ran, and the bodies."""
     wrong, unknown, alone = ["wrong"], ["unknown"], f"FAILED: m1: DOESN'T COMPILE; {UNKNOWN}"
+    two = "f1 f2 0, f1 f2 2"
     for title, told, ran, bodies in (
-        ("those of different functions share a check", [*refused(1, 2), "2 passed, 0 failed"], "checks 0, checks 2", wrong * 2),
+        ("those of different functions share a check", [*refused(1, 2), "2 passed, 0 failed"], two, wrong * 2),
         ("those that a check doesn't refuse are tried again",
-         ["FAILED: m2: NOT REFUSED", *refused(1, 3), "2 passed, 1 failed", "status 1"], "checks 0, checks 3, checks 1",
+         ["FAILED: m2: NOT REFUSED", *refused(1, 3), "2 passed, 1 failed", "status 1"], "f1 f2 f3 0, f1 f2 f3 3, f2 1",
          ["wrong", "fine", "wrong"]),
         ("one that doesn't compile is found by halves, and the others share a check",
          [alone.replace("m1", "m6"), *refused(1, 2, 3, 4, 5, 7, 8), "7 passed, 1 failed", "status 1"],
-         "checks 0, checks 8, compiles 4, compiles 4, compiles 2, compiles 1, compiles 1, compiles 2, checks 7",
-         [*wrong * 5, *unknown, *wrong * 2]),
+         f"{asked(0, *range(1, 9))}, {asked(8, *range(1, 9))}, compiles 4, compiles 4, compiles 2, compiles 1, compiles 1, \
+compiles 2, {asked(7, 1, 2, 3, 4, 5, 7, 8)}", [*wrong * 5, *unknown, *wrong * 2]),
         ("none compiles", [alone, alone.replace("m1", "m2"), "0 passed, 2 failed", "status 1"],
-         "checks 0, checks 2, compiles 1, compiles 1", unknown * 2),
-        ("one alone that doesn't compile", [alone, "0 passed, 1 failed", "status 1"], "checks 0, checks 1", unknown),
+         f"{two}, compiles 1, compiles 1", unknown * 2),
+        ("one alone that doesn't compile", [alone, "0 passed, 1 failed", "status 1"], "f1 0, f1 1", unknown),
         ("those that compile only apart are tried apart", [*refused(1, 2), "2 passed, 0 failed"],
-         "checks 0, checks 2, compiles 1, compiles 1, checks 1, checks 1", ["one wrong", "other wrong"]),
+         f"{two}, compiles 1, compiles 1, f1 1, f2 1", ["one wrong", "other wrong"]),
     ):
         yield title, ("\n".join(told), ran), room.try_them, *bodies
     law = "old: law right\nnew: law wrong\n"
     one = "\n".join([*refused(1), "1 passed, 0 failed"])
-    yield "one outside of functions", (one, "checks 0, checks 1"), room.try_edits, law
-    yield "one that says what fails is checked for that", (one, "checks 0, checks f1 1"), room.try_edits, f"{law}fails: f1\n"
+    yield "one outside of functions says what fails", (one, "f1 0, f1 1"), room.try_edits, f"{law}fails: f1\n"
+    yield ("or counts by the functions that it changes, too", (one, "f1 0, f1 1"),
+           room.try_edits, f"{law}old: {{ right 1 }}\nnew: {{ wrong }}\n")
     yield ("and isn't refused if something else fails",
-           ("FAILED: m1: NOT REFUSED\nm2: refused; low::f2: not proved\n1 passed, 1 failed\nstatus 1",
-            "checks 0, checks f2 1, checks 1"),
+           ("FAILED: m1: NOT REFUSED\nm2: refused; low::f2: not proved\n1 passed, 1 failed\nstatus 1", "f2 0, f2 1, f2 1"),
            room.try_edits, f"{law}fails: f2\n", "old: { right 2 }\nnew: { wrong }\n")
-    yield ("one whose text isn't there", "FAILED: m1.edit: its text stands 0 times in src/lib.rt: law left",
-           lambda: room.try_edits("old: law left\nnew: law wrong\n")[0].splitlines()[0])
+    for title, told, text in (
+        ("one that says nothing of functions", "it changes no function, and has no line 'fails: FUNCTION'", law),
+        ("one whose text isn't there", "its text stands 0 times in src/lib.rt: law left", "old: law left\nnew: law wrong\n"),
+    ):
+        yield title, f"FAILED: m1.edit: {told}", lambda: room.try_edits(text)[0].splitlines()[0]
+
+
+def what_was_refused_before(room):
+    """Two of three mutations are refused; what changes then, and what is tried again."""
+    room.try_them("wrong", "fine", "wrong")
+    source, counts = room.read("clone/crates/low/src/lib.rt"), "2 passed, 1 failed\nstatus 1"
+    whole = "f1 f2 f3 0, f1 f2 f3 3, f2 1"
+    for title, ran, name, text in (
+        ("only the others are tried again", "f2 0, f2 1", "notes", ""),
+        ("all over another source", whole, "clone/crates/low/src/lib.rt", f"// a comment\n{source}"),
+        ("all over another library", whole, f"{LIBRARY}/format", "sum 2\n"),
+        ("one that is another", "f1 f2 0, f1 f2 2, f2 1", "clone/crates/low/mutations/m1.edit",
+         "file: src/lib.rt\nold: right 1 }\nnew: wrong }\n"),
+    ):
+        room.file(name, text)
+        told, found = room.tried()
+        yield title, (ran, counts), lambda: (found, told[-len(counts) :])
+    yield "that is told", 1, lambda: room.tried()[0].count("2 were refused before over the same files")
+    yield "all if it is asked", whole, lambda: room.tried("--anew")[1]
+
+
+def what_is_listed(room):
+    """Which of four mutations are tried."""
+    room.try_them(*["wrong"] * 4)
+    room.file("clone/docs/proofs.md", "`crates/low/mutations/{m1,m3}.edit`, `crates/low/mutations/m4.edit`\n")
+    for title, ran, *words in (
+        ("those that the document names", "f1 f3 f4 0, f1 f3 f4 3", "--listed"),
+        ("and have a word in their names", "f3 0, f3 1", "--listed", "--only", "3"),
+        ("one that isn't named, if it isn't asked for the named ones", "f2 0, f2 1", "--only", "2"),
+    ):
+        yield title, ran, lambda: room.tried("--anew", *words)[1]
 
 
 def checks(_):
-    return checks_of("mutations", Tried(), [trials])
+    return checks_of("mutations", Tried(), [trials, what_was_refused_before, what_is_listed])

@@ -12,7 +12,8 @@ In docs/architecture.md the table of crates must name for each crate the kit's l
 have an empty first cell must name each file of `src/` or `specs/` that has such a word in its code or its definitions, and
 not only in comments, imports and contracts.
 
-docs/definitions.md must name each spec file.
+docs/definitions.md must name each spec file. What the third cell of its tables has in backquotes must be a word of the
+sources, or a crate.
 """
 
 import glob
@@ -145,6 +146,13 @@ def missing_places(text, top):
                 yield number, f"leaves out {', '.join(missing)}, which has {word}" if missing else ""
 
 
+def defined_words(text):
+    """Each word of the third cells of tables that stands in backquotes, and its line."""
+    for number, line in enumerate(text.split("\n"), 1):
+        for name in QUOTED.findall(" ".join(cells_of(line)[2:3])):
+            yield from ((number, word) for word in re.findall(r"\w+", name) if "/" not in name)
+
+
 def spec_files(top):
     """The name of each spec file, without those that only list the files beside them."""
     for place in sorted(places_like(SOURCES[1], top)):
@@ -174,6 +182,10 @@ def looked_at(top):
             yield ARCHITECTURE, number, wrong
     for number, wrong in missing_places(texts[ARCHITECTURE], top):
         yield ARCHITECTURE, number, wrong
+    words = {word for pattern in SOURCES for it in places_like(pattern, top) for word in re.findall(r"\w+", read(f"{top}/{it}"))}
+    for number, word in defined_words(texts[DEFINITIONS]):
+        there = word in words or word in crates
+        yield DEFINITIONS, number, "" if there else f"names {word}, which no source has"
     named = set(re.findall(r"\w+", " ".join(QUOTED.findall(texts[DEFINITIONS]))))
     for name in spec_files(top):
         yield DEFINITIONS, 1, "" if name in named else f"doesn't name the spec file {name}"
