@@ -3,4 +3,6 @@ pub mod AnswerLists
 pub mod KeptAnswers
 pub mod Kept
 pub mod Answers
+pub mod Cut
+pub mod Found
 pub mod Early

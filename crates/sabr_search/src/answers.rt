@@ -8,22 +8,22 @@ mod lists;
 pub mod payoff;
 pub mod widening;
 
-ghost use Rattle.std.specs.Prelude.{◌≡◌, ◌^◌, ◌≤◌, ◌<◌, [], Some, All, IfOk, IfSome, IsTrue, length, slice_get, slice_set, false};
+ghost use Rattle.std.specs.Prelude.{◌≡◌, ◌^◌, ◌≤◌, ◌<◌, [], Some, All, IfSome, IsTrue, length, slice_get, slice_set, false};
 ghost use Rattle.sabr_search.specs.questions.Ways.{Leads};
 ghost use Rattle.sabr_search.specs.questions.Task.{IsTask, IsAsked, Takes, left_of};
 ghost use Rattle.sabr_search.specs.questions.Bounded.{bound_after};
 ghost use Rattle.sabr_search.specs.questions.FirstSteps.{tabled_of};
-ghost use Rattle.sabr_search.specs.answers.KeptAnswers.{AllShut, Covers, IsAnswerTo, AnswersAt, IsFoundWay, IsAnswer, IsPut, AreAnswers, is_kept_after, most_answers};
+ghost use Rattle.sabr_search.specs.answers.Found.{IsFound};
+ghost use Rattle.sabr_search.specs.answers.KeptAnswers.{AllShut, Covers, IsAnswerTo, AnswersAt, IsAnswer, IsPut, AreAnswers, is_kept_after, most_answers};
 
 use crate::answers::lists::Lists;
 use crate::answers::widening::Breadth;
-use crate::backward::least_way::FoundWay;
 use crate::bound::Bound;
+use crate::found::Found;
 use crate::question::Question;
 use crate::task::Task;
 use crate::visit::Visit;
 use sabr_index::Looks;
-use sabr_model::NoMemory;
 use std::alloc::{Allocator, Global};
 use std::mem::replace;
 
@@ -356,55 +356,62 @@ impl<A: Allocator + Copy> Answers<A> {
         }
     }
 
-    /// Makes the answer to a question from its least way.
+    /// Makes the answer to a question from what was found; or none, where nothing was or a growth is refused.
     fn made(
         &mut self,
         task: &Task<'_, A>,
         left: usize,
-        found: &FoundWay<A>,
+        found: &Found<A>,
         breadth: Breadth,
         bucket: usize,
-    ) -> Result<Answer<A>, NoMemory>
+    ) -> Option<Answer<A>>
         requires goal { slice_get task.now.table task.now.goal ≡ Some task.now.request.destination }
-        requires found { IsFoundWay task.now left found.now.numbers.items found.now.delivery found.now.bound }
+        requires found { IsFound task.now left found.now }
         ensures slots { self.new.slots ≡ self.old.slots }
-        ensures answer { IfOk result (IsAnswer (tabled_of task.now) task.now.request) }
+        ensures answer { IfSome result (IsAnswer (tabled_of task.now) task.now.request) }
     {
+        let (way, delivery, bound): (&[u32], u64, Bound) = match found {
+            Found::Way(way) => (&way.numbers, way.delivery, Bound::none()),
+            Found::Beyond(bound) => (&[], 0, *bound),
+            Found::GaveUp => return None,
+        };
         let mut lists = replace(&mut self.spare, Lists::new(self.alloc));
-        lists.set(task.excluded(), task.shut_nodes(), &found.numbers)?;
+        let Ok(()) = lists.set(task.excluded(), task.shut_nodes(), way) else {
+            return None;
+        };
         let from = Visit {
             node: task.start(),
             at: task.at(),
         };
-        Ok(Answer {
+        Some(Answer {
             from,
             left,
             lists,
-            delivery: found.delivery,
-            bound: found.bound,
+            delivery,
+            bound,
             breadth,
             next: self.head(bucket),
         })
     }
 
-    /// Keeps the answer to a question, and returns its place; or leaves it out, where a growth is refused.
+    /// Keeps the answer to a question, and returns its place; or leaves it out, where nothing was found or a growth is refused.
     pub fn keep(
         &mut self,
         task: &Task<'_, A>,
         left: usize,
-        found: &FoundWay<A>,
+        found: &Found<A>,
         breadth: Breadth,
     ) -> Option<usize>
         requires goal { slice_get task.now.table task.now.goal ≡ Some task.now.request.destination }
         requires kept { AreAnswers (tabled_of task.now) task.now.request self.old.slots.items }
-        requires found { IsFoundWay task.now left found.now.numbers.items found.now.delivery found.now.bound }
+        requires found { IsFound task.now left found.now }
         ensures { AreAnswers (tabled_of task.now) task.now.request self.new.slots.items }
     {
         if !self.open() {
             return None;
         }
         let bucket = bucket_of(task.start(), task.excluded());
-        let Ok(answer) = self.made(task, left, found, breadth, bucket) else {
+        let Some(answer) = self.made(task, left, found, breadth, bucket) else {
             return None;
         };
         let Some(place) = self.put(answer) else {
@@ -415,10 +422,10 @@ impl<A: Allocator + Copy> Answers<A> {
     }
 
     /// Keeps the answer to a question after a prefix, if it is one that is kept and no growth is refused.
-    pub fn keep_after(&mut self, asked: &Question<'_, '_, '_, A>, found: &FoundWay<A>)
+    pub fn keep_after(&mut self, asked: &Question<'_, '_, '_, A>, found: &Found<A>)
         requires asked { IsAsked asked.now.task.now asked.now.prefix.now }
         requires kept { AreAnswers (tabled_of asked.now.task.now) asked.now.task.now.request self.old.slots.items }
-        requires found { IsFoundWay asked.now.task.now (left_of asked.now.task.now asked.now.prefix.now) found.now.numbers.items found.now.delivery found.now.bound }
+        requires found { IsFound asked.now.task.now (left_of asked.now.task.now asked.now.prefix.now) found.now }
         ensures kept { AreAnswers (tabled_of asked.now.task.now) asked.now.task.now.request self.new.slots.items }
         ensures others { is_kept_after asked.now.prefix.now asked.now.task.now.excluded ≡ false → self.new.slots ≡ self.old.slots }
     {

@@ -10,7 +10,7 @@ ghost use Rattle.sabr_search.specs.questions.Told.{hops_told};
 
 use crate::bound::{BoundedPart, Sought};
 use crate::kept::Kept;
-use crate::links::finger::Excluded;
+use crate::part::Excluded;
 use crate::part::Part;
 use sabr_index::Index;
 use sabr_model::{NoMemory, Plan, Request, Route};

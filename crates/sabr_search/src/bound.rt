@@ -1,11 +1,11 @@
 //! What a question asks up to, and its answer.
 
 ghost use Rattle.std.specs.Prelude.{◌≡◌, ◌≢◌, ◌-◌, ◌+◌, ◌≤◌, min};
-ghost use Rattle.sabr_search.specs.questions.Bounded.{at_any_hops, is_none, is_up_to, no_bound, sought_of, sought_up_to};
+ghost use Rattle.sabr_search.specs.questions.Bounded.{at_any_hops, is_none, is_up_to, no_bound, sought_of};
 ghost use Rattle.sabr_search.specs.questions.Task.{latest_arrival};
 
-use crate::forward::layers::{NEVER, UNDELIVERED};
-use crate::links::finger::Excluded;
+use crate::part::Excluded;
+use crate::visit::{NEVER, UNDELIVERED};
 use sabr_model::Route;
 use std::alloc::{Allocator, Global};
 
@@ -124,15 +124,5 @@ impl<A: Allocator + Copy> Sought<A> {
             Some(route) => Sought::Route(route),
             None => Sought::None,
         }
-    }
-
-    /// The answer where each route is above the bound unless one was found.
-    pub fn up_to(found: Option<Route<A>>, bound: Bound) -> Sought<A>
-        ensures { result ≡ sought_up_to bound found }
-    {
-        if found.is_none() && !bound.is_none() {
-            return Sought::Beyond;
-        }
-        Sought::of(found)
     }
 }

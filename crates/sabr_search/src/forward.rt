@@ -1,5 +1,6 @@
 //! From the start forward: arrivals in order, and layers by hops.
 
+pub mod arrivals;
 mod first_steps;
 pub mod layers;
 pub mod queue;

@@ -18,8 +18,7 @@ use crate::bound::{Bound, BoundedPart, Sought};
 use crate::course::Course;
 use crate::forward::layers::Layers;
 use crate::kept::Kept;
-use crate::links::finger::Excluded;
-use crate::part::Part;
+use crate::part::{Excluded, Part};
 use crate::question::Question;
 use crate::task::Task;
 use sabr_index::{CountedPlan, Index, Looks};
@@ -112,12 +111,14 @@ impl<A: Allocator + Copy> Layered<A> {
             &aim,
             &mut self.looks,
             left,
-            Bound::none(),
+            asked.bound_left(),
         )?;
-        let Some(way) = found else {
-            unreachable!();
-        };
-        asked.route(self.alloc, &mut self.looks, &way.numbers, way.delivery)
+        let answer = asked.answer(self.alloc, &mut self.looks, &found)?;
+        match answer {
+            Sought::Route(route) => Ok(Some(route)),
+            Sought::None => Ok(None),
+            Sought::Beyond => unreachable!(),
+        }
     }
 
     /// Finds the least route of a part.

@@ -18,7 +18,7 @@ use crate::backward::deadlines::{Deadline, Deadlines};
 use crate::backward::from_goal::Aim;
 use crate::backward::since::Since;
 use crate::course::Course;
-use crate::links::finger::Excluded;
+use crate::part::Excluded;
 use crate::task::Task;
 use sabr_index::{CountedPlan, Looks};
 use sabr_model::{NoMemory, Request};

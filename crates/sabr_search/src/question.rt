@@ -1,17 +1,20 @@
 //! A question after a prefix.
 
-ghost use Rattle.std.specs.Prelude.{◌≡◌, ◌++◌, ◌+◌, ◌-◌, ◌^◌, ◌≤◌, ◌<◌, [], None, IfOk, OnErr, length, take};
+ghost use Rattle.std.specs.Prelude.{◌≡◌, ℕ, ◌++◌, ◌+◌, ◌-◌, ◌*◌, ◌^◌, ◌≤◌, IfOk, IsTrue, length, take};
 ghost use Rattle.sabr_model.specs.routes.Telling.{told_of};
 ghost use Rattle.sabr_search.specs.questions.Task.{IsAsked, left_of};
 ghost use Rattle.sabr_search.specs.layers.Picks.{IsLeastWay};
-ghost use Rattle.sabr_search.specs.answers.Answers.{IsAnswered};
+ghost use Rattle.sabr_search.specs.answers.Answers.{IsWayBeyond};
+ghost use Rattle.sabr_search.specs.answers.Cut.{IsCutBefore, IsCutAfter};
+ghost use Rattle.sabr_search.specs.answers.Found.{IsEnough, IsFound, found_hops, hops_above};
+ghost use Rattle.sabr_search.specs.questions.Bounded.{IsSought, IsWhole, bound_after, hops_sought, is_up_to};
 ghost use Rattle.sabr_index.specs.Looks.{looks_taken};
-ghost use Rattle.sabr_search.specs.questions.Told.{hops_told};
 
-use crate::bound::Bound;
+use crate::bound::{Bound, Sought};
+use crate::found::Found;
 use crate::task::Task;
 use sabr_index::{CountedPlan, Looks};
-use sabr_model::{MOST_HOPS, NoMemory, Route, Told};
+use sabr_model::{MOST_HOPS, NoMemory, Told};
 use std::alloc::Allocator;
 
 /// What is asked for a part: the least route after its prefix, up to a bound. The task is the search for its way.
@@ -88,7 +91,7 @@ impl<'t, 'a, 'p, A: Allocator + Copy> Question<'t, 'a, 'p, A> {
         self.bound.after(self.prefix.len())
     }
 
-    /// Returns the route that goes on by a way. None if there is no way.
+    /// The answer with the route that goes on by the least way.
     ///
     /// It takes one look for each contact of the route: those of the prefix count, too, though what they tell is known.
     pub fn route(
@@ -97,22 +100,62 @@ impl<'t, 'a, 'p, A: Allocator + Copy> Question<'t, 'a, 'p, A> {
         looks: &mut Looks,
         way: &[u32],
         delivery: u64,
-    ) -> Result<Option<Route<A>>, NoMemory>
-        requires few { length self.now.prefix.now + length way.now ≤ looks.old.left }
+    ) -> Result<Sought<A>, NoMemory>
+        requires asked { IsAsked self.now.task.now self.now.prefix.now }
         requires told { self.now.told ≡ told_of self.now.task.now.plan self.now.prefix.now }
-        requires found { 0 < length way.now → IsLeastWay self.now.task.now (left_of self.now.task.now self.now.prefix.now) (delivery + 1) way.now delivery }
-        ensures refused { OnErr result (looks_taken looks.new ≡ looks_taken looks.old) }
-        ensures looks { IfOk result (λ o. looks_taken looks.new ≡ looks_taken looks.old + hops_told o) }
-        ensures hops { IfOk result (λ o. hops_told o - length self.now.prefix.now ≡ length way.now) }
-        ensures none { way.now ≡ [] → IfOk result (λ o. o ≡ None) }
-        ensures answered { 0 < length way.now → IfOk result (IsAnswered self.now.task.now self.now.prefix.now) }
+        requires few { looks_taken looks.old ≤ 3 * length self.now.task.now.table * length self.now.task.now.plan.contacts }
+        requires least { IsLeastWay self.now.task.now (left_of self.now.task.now self.now.prefix.now) (delivery + 1) way.now delivery }
+        ensures sought { IfOk result (IsSought self.now.task.now.plan self.now.task.now.request self.now.prefix.now self.now.task.now.excluded self.now.bound) }
+        ensures whole { IfOk result (IsWhole self.now.bound) }
+        ensures bound { looks_taken looks.new ≤ (3 * length self.now.task.now.table + 1) * length self.now.task.now.plan.contacts }
+        ensures counted { IfOk result (λ answer. hops_sought answer ≤ looks_taken looks.new) }
+        ensures cut { IsCutBefore self.now (length way.now) (looks_taken looks.old) → IfOk result (IsCutAfter self.now (looks_taken looks.new)) }
     {
-        if way.is_empty() {
-            return Ok(None);
-        }
         let contacts = joined(alloc, self.prefix, way)?;
         let first = self.prefix.len();
         let told = told_from(self.task.plan(), looks, self.told, first, &contacts);
-        Ok(Some(told.route(contacts, delivery)))
+        Ok(Sought::Route(told.route(contacts, delivery)))
+    }
+
+    /// The answer where each way is above a bound: each route is above the one asked for, or there is none.
+    pub fn above(&self, bound: Bound) -> Sought<A>
+        requires asked { IsAsked self.now.task.now self.now.prefix.now }
+        requires beyond { IsWayBeyond self.now.task.now (left_of self.now.task.now self.now.prefix.now) bound }
+        requires enough { IsTrue (is_up_to bound self.now.bound.delivery (self.now.bound.hops - length self.now.prefix.now)) }
+        ensures sought { IsSought self.now.task.now.plan self.now.task.now.request self.now.prefix.now self.now.task.now.excluded self.now.bound result }
+        ensures whole { IsWhole self.now.bound result }
+        ensures none { hops_sought result ≡ 0 }
+        ensures cut { (looks : ℕ) → IsCutBefore self.now (hops_above (bound_after self.now.bound (length self.now.prefix.now)) bound) looks → IsCutAfter self.now looks result }
+    {
+        if bound.is_none() {
+            Sought::None
+        } else {
+            Sought::Beyond
+        }
+    }
+
+    /// The answer by what a search for the way found.
+    pub fn answer(
+        &self,
+        alloc: A,
+        looks: &mut Looks,
+        found: &Found<A>,
+    ) -> Result<Sought<A>, NoMemory>
+        requires asked { IsAsked self.now.task.now self.now.prefix.now }
+        requires told { self.now.told ≡ told_of self.now.task.now.plan self.now.prefix.now }
+        requires few { looks_taken looks.old ≤ 3 * length self.now.task.now.table * length self.now.task.now.plan.contacts }
+        requires found { IsFound self.now.task.now (left_of self.now.task.now self.now.prefix.now) found.now }
+        requires enough { IsEnough (bound_after self.now.bound (length self.now.prefix.now)) found.now }
+        ensures sought { IfOk result (IsSought self.now.task.now.plan self.now.task.now.request self.now.prefix.now self.now.task.now.excluded self.now.bound) }
+        ensures whole { IfOk result (IsWhole self.now.bound) }
+        ensures bound { looks_taken looks.new ≤ (3 * length self.now.task.now.table + 1) * length self.now.task.now.plan.contacts }
+        ensures counted { IfOk result (λ answer. hops_sought answer ≤ looks_taken looks.new) }
+        ensures cut { IsCutBefore self.now (found_hops (bound_after self.now.bound (length self.now.prefix.now)) found.now) (looks_taken looks.old) → IfOk result (IsCutAfter self.now (looks_taken looks.new)) }
+    {
+        match found {
+            Found::Way(way) => self.route(alloc, looks, &way.numbers, way.delivery),
+            Found::Beyond(bound) => Ok(self.above(*bound)),
+            Found::GaveUp => unreachable!(),
+        }
     }
 }

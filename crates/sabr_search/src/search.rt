@@ -1,10 +1,9 @@
 //! One search for the least way of a question.
 
-ghost use Rattle.std.specs.Prelude.{◌≡◌, ◌+◌, ◌*◌, ◌^◌, ◌≤◌, ◌<◌, [], IfOk, IfSome, IfNone, IsTrue, length};
-ghost use Rattle.sabr_search.specs.questions.Bounded.{is_up_to};
+ghost use Rattle.std.specs.Prelude.{◌+◌, ◌*◌, ◌^◌, ◌≤◌, ◌<◌, IfOk, length};
 ghost use Rattle.sabr_search.specs.questions.FirstSteps.{tabled_of};
 ghost use Rattle.sabr_search.specs.questions.Task.{IsOfRequest, IsTask, most_nodes};
-ghost use Rattle.sabr_search.specs.answers.KeptAnswers.{IsFoundWay, way_hops};
+ghost use Rattle.sabr_search.specs.answers.Found.{IsEnough, IsEnoughUnless, IsFound, found_hops};
 ghost use Rattle.sabr_search.specs.layers.Late.{AreSince, IsNoneSooner};
 ghost use Rattle.sabr_search.specs.layers.Level.{IsLevelOf};
 ghost use Rattle.sabr_search.specs.layers.Reach.{IsReach};
@@ -12,11 +11,11 @@ ghost use Rattle.sabr_search.specs.layers.Reach.{IsReach};
 use crate::answers::payoff::Payoff;
 use crate::backward::deadlines::Deadlines;
 use crate::backward::from_goal::Aim;
-use crate::backward::least_way::FoundWay;
 use crate::backward::since::Since;
 use crate::bound::Bound;
 use crate::forward::layers::Layers;
 use crate::forward::settling::{Forward, Settling};
+use crate::found::{Found, FoundWay};
 use crate::level::Level;
 use crate::level::walk::{Walk, Walked};
 use crate::reach::Reach;
@@ -72,7 +71,7 @@ impl<A: Allocator + Copy> Search<A> {
     }
 
     /// Returns the least way of at most so many hops up to a bound by layers for a delivery, before which none delivers; or
-    /// what each way is above. None if that would take too many looks, or came to too many dead ends.
+    /// what each way is above. It gives up if that would take too many looks, or came to too many dead ends.
     pub fn run_level(
         &mut self,
         task: &Task<'_, A>,
@@ -80,12 +79,12 @@ impl<A: Allocator + Copy> Search<A> {
         looks: &mut Looks,
         hops: usize,
         bound: Bound,
-    ) -> Result<Option<FoundWay<A>>, NoMemory>
+    ) -> Result<Found<A>, NoMemory>
         requires task { IsTask task.now }
         requires level { IsLevelOf task.now level.now }
         requires nodes { hops ≤ most_nodes }
         requires floor { IsNoneSooner task.now hops level.now.delivery }
-        ensures found { IfOk result (λ o. IfSome o (λ way. IsFoundWay task.now hops way.numbers.items way.delivery way.bound)) }
+        ensures found { IfOk result (IsFound task.now hops) }
     {
         let delivery = level.delivery;
         let most = bound.hops_at(delivery, hops);
@@ -98,21 +97,16 @@ impl<A: Allocator + Copy> Search<A> {
             match walked {
                 Walked::Picked => {
                     let numbers = self.walk.numbers(self.alloc)?;
-                    return Ok(Some(FoundWay {
-                        numbers,
-                        delivery,
-                        bound: Bound::none(),
-                    }));
+                    return Ok(Found::Way(FoundWay { numbers, delivery }));
                 }
                 Walked::None => {}
-                Walked::GaveUp => return Ok(None),
+                Walked::GaveUp => return Ok(Found::GaveUp),
             }
         }
-        let bound = Bound {
+        Ok(Found::Beyond(Bound {
             delivery,
             hops: if most == hops { usize::MAX } else { most },
-        };
-        Ok(Some(FoundWay::beyond(self.alloc, bound)))
+        }))
     }
 
     /// Returns what [`run`](Search::run) does, by layers forward for the least delivery and layers backward for its way.
@@ -123,18 +117,17 @@ impl<A: Allocator + Copy> Search<A> {
         looks: &mut Looks,
         hops: usize,
         bound: Bound,
-    ) -> Result<Option<FoundWay<A>>, NoMemory>
+    ) -> Result<Found<A>, NoMemory>
         requires task { IsTask task.now }
         requires soon { AreSince task.now reach.now.soon.items }
         requires nodes { hops ≤ most_nodes }
         ensures counted { looks.old.left ≤ looks.new.left + (3 * hops + 1) * length task.now.plan.contacts }
-        ensures none { IfOk result (λ o. IfNone o (looks.old.left < (3 * hops + 1) * length task.now.plan.contacts)) }
-        ensures found { IfOk result (λ o. IfSome o (λ way. IsFoundWay task.now hops way.numbers.items way.delivery way.bound)) }
-        ensures enough { IfOk result (λ o. IfSome o (λ way. way.numbers.items ≡ [] → IsTrue (is_up_to way.bound bound.delivery bound.hops))) }
+        ensures found { IfOk result (IsFound task.now hops) }
+        ensures enough { IfOk result (IsEnoughUnless (looks.old.left < (3 * hops + 1) * length task.now.plan.contacts) bound) }
     {
         let whole = task.first_steps(looks, &mut self.first)?;
         if !whole {
-            return Ok(None);
+            return Ok(Found::GaveUp);
         }
         let since = Since::soonest(task.shut().len(), &reach.soon);
         let aim = Aim {
@@ -149,8 +142,8 @@ impl<A: Allocator + Copy> Search<A> {
 
     /// Returns the least way of at most so many hops up to a bound, or what each way is above. If the first way that settling
     /// finds has no more hops, its delivery is the least, and layers backward find the least way. Otherwise layers forward
-    /// find the least delivery before; where that was so mostly of late, they come first. None if more looks might be needed
-    /// than are left.
+    /// find the least delivery before; where that was so mostly of late, they come first. It gives up if more looks might be
+    /// needed than are left.
     pub fn run(
         &mut self,
         task: &Task<'_, A>,
@@ -158,17 +151,16 @@ impl<A: Allocator + Copy> Search<A> {
         looks: &mut Looks,
         hops: usize,
         bound: Bound,
-    ) -> Result<Option<FoundWay<A>>, NoMemory>
+    ) -> Result<Found<A>, NoMemory>
         requires task { IsTask task.now }
         requires request { IsOfRequest task.now }
         requires reach { IsReach (tabled_of task.now) task.now.request reach.now }
         requires soon { AreSince task.now reach.now.soon.items }
         requires nodes { hops ≤ most_nodes }
         ensures counted { looks.old.left ≤ looks.new.left + (3 * hops + 1) * length task.now.plan.contacts }
-        ensures none { IfOk result (λ o. IfNone o (looks.old.left < (3 * hops + 1) * length task.now.plan.contacts)) }
-        ensures cut { IfOk result (λ o. IfSome o (λ way. length task.now.table ≤ hops + 1 → looks.old.left ≤ looks.new.left + (2 * way_hops bound way + 1) * length task.now.plan.contacts)) }
-        ensures found { IfOk result (λ o. IfSome o (λ way. IsFoundWay task.now hops way.numbers.items way.delivery way.bound)) }
-        ensures enough { IfOk result (λ o. IfSome o (λ way. way.numbers.items ≡ [] → IsTrue (is_up_to way.bound bound.delivery bound.hops))) }
+        ensures cut { IfOk result (λ f. IsEnough bound f → length task.now.table ≤ hops + 1 → looks.old.left ≤ looks.new.left + (2 * found_hops bound f + 1) * length task.now.plan.contacts) }
+        ensures found { IfOk result (IsFound task.now hops) }
+        ensures enough { IfOk result (IsEnoughUnless (looks.old.left < (3 * hops + 1) * length task.now.plan.contacts) bound) }
     {
         let is_limited = hops + 1 < task.shut().len();
         if is_limited && !self.settles.takes() {
@@ -184,11 +176,11 @@ impl<A: Allocator + Copy> Search<A> {
         };
         let reached = self.settling.run(&forward, looks, &mut self.first)?;
         let Some(first) = reached else {
-            return Ok(None);
+            return Ok(Found::GaveUp);
         };
         if first.hops == 0 {
             self.settles.win();
-            return Ok(Some(FoundWay::beyond(self.alloc, bound.at_any_hops())));
+            return Ok(Found::Beyond(bound.at_any_hops()));
         }
         let since = Since {
             nodes: task.shut().len(),

@@ -1,12 +1,11 @@
 //! The finder that settles nodes first, and then makes only the layers that the least route needs.
 
-ghost use Rattle.std.specs.Prelude.{◌≡◌, false, ◌≤◌, ◌+◌, ◌-◌, ◌*◌, [], IfOk, IfSome, IsTrue, length};
-ghost use Rattle.sabr_model.specs.routes.Asking.{most_hops};
+ghost use Rattle.std.specs.Prelude.{◌≡◌, false, ◌≤◌, ◌+◌, ◌*◌, List, IfOk, IfSome, IsTrue, length};
 ghost use Rattle.sabr_model.specs.routes.Route.{is_prefix};
 ghost use Rattle.sabr_model.specs.routes.Telling.{told_of};
 ghost use Rattle.sabr_model.specs.plan.Table.{node_count};
 ghost use Rattle.sabr_search.specs.questions.Part.{IsLeast};
-ghost use Rattle.sabr_search.specs.questions.Bounded.{IsSought, IsCutUpTo, IsFloor, IsWhole, bound_after, hops_sought, is_up_to};
+ghost use Rattle.sabr_search.specs.questions.Bounded.{IsSought, IsCutUpTo, IsFloor, IsWhole, bound_after, hops_sought};
 ghost use Rattle.sabr_search.specs.questions.Task.{IsAsked, IsOfRequest, left_of};
 ghost use Rattle.sabr_index.specs.Looks.{looks_taken};
 ghost use Rattle.sabr_search.specs.questions.Told.{hops_told, IsCut};
@@ -14,21 +13,23 @@ ghost use Rattle.sabr_search.specs.questions.WideTasks.{ShutsFewer};
 ghost use Rattle.sabr_search.specs.answers.Answers.{narrowed};
 ghost use Rattle.sabr_search.specs.answers.Early.{IsEarly};
 ghost use Rattle.sabr_search.specs.answers.Kept.{IsKept};
-ghost use Rattle.sabr_search.specs.answers.KeptAnswers.{IsFoundWay, AnswersAt, is_kept_after, way_hops};
+ghost use Rattle.sabr_search.specs.answers.KeptAnswers.{AnswersAt, is_kept_after};
+ghost use Rattle.sabr_search.specs.answers.Cut.{IsCutBefore};
+ghost use Rattle.sabr_search.specs.answers.Found.{IsEnough, IsFound, found_hops};
+ghost use Rattle.sabr_search.specs.declared.answers.Answer.{Answer};
 ghost use Rattle.sabr_search.specs.questions.FirstSteps.{tabled_of};
 ghost use Rattle.sabr_search.specs.layers.Late.{IsNoneSooner};
 ghost use Rattle.sabr_search.specs.layers.Level.{IsLevel};
 ghost use Rattle.sabr_search.specs.layers.Reach.{IsReach};
 
 use crate::answers::widening::Breadth;
-use crate::backward::least_way::FoundWay;
 use crate::best::BestOf;
 use crate::bound::{Bound, BoundedPart, Sought};
+use crate::found::Found;
 use crate::kept::Kept;
 use crate::level::Level;
 use crate::level::spending::Spending;
-use crate::links::finger::Excluded;
-use crate::part::Part;
+use crate::part::{Excluded, Part};
 use crate::question::Question;
 use crate::reach::Reach;
 use crate::search::Search;
@@ -42,41 +43,37 @@ use std::alloc::{Allocator, Global};
 enum Early<A: Allocator + Copy> {
     /// The one that is kept at this place.
     Kept(usize),
-    /// A way, or what each way is above.
-    Way(FoundWay<A>),
+    /// What a search found.
+    Found(Found<A>),
     /// None was found.
     None,
 }
 
 impl<A: Allocator + Copy> Search<A> {
-    /// The least way of the question by the layers for its floor, or what each way is above. None if there are no such
-    /// layers, if they don't pay just now, or if they don't tell enough for the bound.
+    /// What the layers for the question's floor tell. None if there are no such layers, if they don't pay just now, or if they
+    /// don't tell enough for the bound.
     fn find_level(
         &mut self,
         level: &Level<A>,
         spending: &mut Spending,
         asked: &Question<'_, '_, '_, A>,
         looks: &mut Looks,
-    ) -> Result<Option<FoundWay<A>>, NoMemory>
+    ) -> Result<Early<A>, NoMemory>
         requires asked { IsAsked asked.now.task.now asked.now.prefix.now }
         requires floor { IsNoneSooner asked.now.task.now (left_of asked.now.task.now asked.now.prefix.now) asked.now.floor }
         requires level { IsLevel (tabled_of asked.now.task.now) asked.now.task.now.request level.now }
-        ensures found { IfOk result (λ o. IfSome o (λ way. IsFoundWay asked.now.task.now (left_of asked.now.task.now asked.now.prefix.now) way.numbers.items way.delivery way.bound)) }
-        ensures enough { IfOk result (λ o. IfSome o (λ way. way.numbers.items ≡ [] → IsTrue (is_up_to way.bound asked.now.bound.delivery (asked.now.bound.hops - length asked.now.prefix.now)))) }
+        ensures { (answers : List (Answer A)) → IfOk result (IsEarly asked.now.task.now asked.now.prefix.now asked.now.bound answers) }
     {
         if !level.is_for(asked.floor) || !spending.takes() {
-            return Ok(None);
+            return Ok(Early::None);
         }
         let bound = asked.bound_left();
         let found = self.run_level(asked.task, level, looks, asked.left(), bound)?;
-        let Some(way) = found else {
-            return Ok(None);
-        };
-        if !way.tells(bound) {
-            return Ok(None);
+        if !found.tells(bound) {
+            return Ok(Early::None);
         }
         spending.win();
-        Ok(Some(way))
+        Ok(Early::Found(found))
     }
 
     /// The place of an answer to a wide question that is the answer to the question, too, if there is one; the answer is kept.
@@ -99,10 +96,7 @@ impl<A: Allocator + Copy> Search<A> {
         let before = looks.left();
         let found = self.run(&wide, &kept.reach, looks, left, asked.bound_left())?;
         kept.spending.search(before.saturating_sub(looks.left()));
-        let Some(way) = found else {
-            return Ok(None);
-        };
-        let Some(place) = kept.answers.keep(&wide, left, &way, breadth) else {
+        let Some(place) = kept.answers.keep(&wide, left, &found, breadth) else {
             return Ok(None);
         };
         Ok(kept.answers.recall_at(place, asked, looks))
@@ -124,18 +118,15 @@ impl<A: Allocator + Copy> Search<A> {
         ensures early { IfOk result (IsEarly asked.now.task.now asked.now.prefix.now asked.now.bound kept.new.answers.slots.items) }
     {
         if !kept.answers.serves(asked) {
-            return match self.find_level(&kept.level, &mut kept.spending, asked, looks)? {
-                Some(way) => Ok(Early::Way(way)),
-                None => Ok(Early::None),
-            };
+            return self.find_level(&kept.level, &mut kept.spending, asked, looks);
         }
         let recalled = kept.answers.recall(asked, looks);
         if let Some(place) = recalled.place {
             return Ok(Early::Kept(place));
         }
-        let found = self.find_level(&kept.level, &mut kept.spending, asked, looks)?;
-        if let Some(way) = found {
-            return Ok(Early::Way(way));
+        match self.find_level(&kept.level, &mut kept.spending, asked, looks)? {
+            Early::None => {}
+            early => return Ok(early),
         }
         let Some(breadth) = kept.widening.next(recalled.near, asked)? else {
             return Ok(Early::None);
@@ -146,26 +137,22 @@ impl<A: Allocator + Copy> Search<A> {
         }
     }
 
-    /// The least way of the question up to its bound, by a search that never gives up.
+    /// What a search of its own finds for the question, which never gives up.
     fn find_own(
         &mut self,
         asked: &Question<'_, '_, '_, A>,
         reach: &Reach<A>,
         looks: &mut Looks,
-    ) -> Result<FoundWay<A>, NoMemory>
+    ) -> Result<Found<A>, NoMemory>
         requires asked { IsAsked asked.now.task.now asked.now.prefix.now }
         requires reach { IsReach (tabled_of asked.now.task.now) asked.now.task.now.request reach.now }
         requires few { looks_taken looks.old ≤ 2 * length asked.now.task.now.plan.contacts }
         ensures bound { looks_taken looks.new ≤ 3 * length asked.now.task.now.table * length asked.now.task.now.plan.contacts }
-        ensures cut { IfOk result (λ way. asked.now.task.now.request.max_hops ≡ most_hops → looks_taken looks.new ≤ (2 * way_hops (bound_after asked.now.bound (length asked.now.prefix.now)) way + 3) * length asked.now.task.now.plan.contacts) }
-        ensures found { IfOk result (λ way. IsFoundWay asked.now.task.now (left_of asked.now.task.now asked.now.prefix.now) way.numbers.items way.delivery way.bound) }
-        ensures enough { IfOk result (λ way. way.numbers.items ≡ [] → IsTrue (is_up_to way.bound asked.now.bound.delivery (asked.now.bound.hops - length asked.now.prefix.now))) }
+        ensures cut { IfOk result (λ f. IsEnough (bound_after asked.now.bound (length asked.now.prefix.now)) f → IsCutBefore asked.now (found_hops (bound_after asked.now.bound (length asked.now.prefix.now)) f) (looks_taken looks.new)) }
+        ensures found { IfOk result (IsFound asked.now.task.now (left_of asked.now.task.now asked.now.prefix.now)) }
+        ensures enough { IfOk result (IsEnough (bound_after asked.now.bound (length asked.now.prefix.now))) }
     {
-        let found = self.run(asked.task, reach, looks, asked.left(), asked.bound_left())?;
-        let Some(way) = found else {
-            unreachable!();
-        };
-        Ok(way)
+        self.run(asked.task, reach, looks, asked.left(), asked.bound_left())
     }
 
     /// The least route after the prefix up to the bound: by an early answer, or else by the question's own search, whose
@@ -197,21 +184,20 @@ impl<A: Allocator + Copy> Search<A> {
                 let answer = &kept.answers.slots[place];
                 kept.widening.count_win(answer.breadth);
                 let way = answer.lists.way();
-                let route = asked.route(self.alloc, looks, way, answer.delivery)?;
-                return Ok(Sought::up_to(route, answer.bound));
+                if way.is_empty() {
+                    return Ok(asked.above(answer.bound));
+                }
+                return asked.route(self.alloc, looks, way, answer.delivery);
             }
-            Early::Way(way) => {
-                let route = asked.route(self.alloc, looks, &way.numbers, way.delivery)?;
-                return Ok(Sought::up_to(route, way.bound));
-            }
+            Early::Found(found) => return asked.answer(self.alloc, looks, &found),
             Early::None => {}
         }
         let before = looks.left();
-        let way = self.find_own(asked, &kept.reach, looks)?;
+        let found = self.find_own(asked, &kept.reach, looks)?;
         kept.spending.search(before.saturating_sub(looks.left()));
-        let route = asked.route(self.alloc, looks, &way.numbers, way.delivery)?;
-        kept.answers.keep_after(asked, &way);
-        Ok(Sought::up_to(route, way.bound))
+        let answer = asked.answer(self.alloc, looks, &found)?;
+        kept.answers.keep_after(asked, &found);
+        Ok(answer)
     }
 
     /// The same for a part, after whose prefix the search starts.

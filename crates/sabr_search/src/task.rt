@@ -12,7 +12,8 @@ ghost use Rattle.sabr_search.specs.questions.Linked.{AreLinksAt, AreSendersAt};
 
 use crate::course::shut::Shut;
 use crate::course::{Course, Stop};
-use crate::links::finger::{Excluded, Finger};
+use crate::links::finger::Finger;
+use crate::part::Excluded;
 use crate::visit::Visit;
 use sabr_index::{CountedPlan, Links, Looked, Looks, Senders};
 use sabr_model::{Hop, Request};

@@ -170,6 +170,19 @@ kept_is task a goal_is found node at same listed = record {
   found = subst (λ t. IsFoundWay t a.left a.lists.way a.delivery a.bound) (sym (asked_is task a node same at)) found;
 }
 
+-- a way that is found, and a bound that each is above, as they are kept
+pub way_flat : (task : SearchTask) (left : ℕ) (numbers : List ℕ) (d : ℕ) (b : Bound) → IsLeastWay task left (d + 1) numbers d → IsFoundWay task left numbers d b
+way_flat task left numbers d b least = record {
+  none = λ empty. absurd (omega (arith, least.some, ap length empty));
+  some = λ some. least;
+}
+
+pub beyond_flat : (task : SearchTask) (left d : ℕ) (b : Bound) → IsWayBeyond task left b → IsFoundWay task left [] d b
+beyond_flat task left d b beyond = record {
+  none = λ empty. beyond;
+  some = λ some. absurd (omega (arith, some));
+}
+
 -- what holds for those before and for the one that was put holds for all
 pub put_all : {A : Type 0} (P : Answer A → Type 0) (old new : List (Answer A)) (a : Answer A) → All P old → P a → IsPut old new a → All P new
 put_all P old new a all one put = λ k d within. elim (put k (slice_index_or new k d) (slice_get-get_or new k d within)) [

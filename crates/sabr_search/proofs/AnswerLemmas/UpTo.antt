@@ -1,12 +1,17 @@
 -- What a search up to a bound tells: each way is above the bound, and how many looks it took.
-use Rattle.std.proofs.Common.{◌≡◌, ◌≢◌, inl, inr, ℕ, ◌+◌, ◌*◌, ◌≤◌, ◌<◌, min, List, [], ◌∷◌, length, false, cond, refl, ap, sym, arith}
-use Rattle.std.specs.Prelude.{IsTrue}
+use Rattle.std.proofs.Common.{◌≡◌, ◌≢◌, inl, inr, ℕ, ◌+◌, ◌≤◌, ◌<◌, min, length, false, refl, arith}
+use Rattle.std.specs.Prelude.{IfOk, IsTrue}
+use Rattle.std.specs.declared.result.Result.{Result}
+use Rattle.std.specs.declared.result.Result.TheVariants.{Ok, Err}
 use Rattle.std.proofs.lemmas.Bool.{cases_lt, cases_eq, cases_Bool}
 use Rattle.std.proofs.lemmas.Bool.Decides.{nat_tests}
 use Rattle.sabr_search.specs.declared.bound.Bound.{Bound}
 use Rattle.sabr_search.specs.questions.Bounded.{no_bound, is_none, is_up_to, at_any_hops}
 use Rattle.sabr_search.specs.questions.Task.{SearchTask, IsTask, never, latest_arrival}
-use Rattle.sabr_search.specs.layers.Late.{HasWayAt, IsNoneSooner}
+use Rattle.sabr_search.specs.layers.Late.{HasWayAt, IsNoneSooner, IsNoneWithin}
+use Rattle.sabr_search.specs.answers.Found.{IsEnoughUnless}
+use Rattle.sabr_search.specs.declared.found.Found.{Found}
+use Rattle.sabr_search.specs.declared.found.Found.TheVariants.{Way, Beyond, GaveUp}
 use Rattle.sabr_search.specs.answers.Answers.{IsWayBeyond}
 use Rattle.sabr_search.proofs.AnswerLemmas.Law.{way_early}
 use Rattle.sabr_search.proofs.AnswerLemmas.BoundedWays.{above_later}
@@ -39,23 +44,25 @@ pub early_bound : (d h : ℕ) → d ≤ latest_arrival → is_none (record { del
 early_bound d h early = grind (arith, nat_tests, early)
 
 -- a search of at most `most` hops that finds no way, where some way delivers then, stops at the bound's hops
-pub least_stopped : (task : SearchTask) (b : Bound) (hops most d : ℕ) (numbers : List ℕ) → HasWayAt task hops d → (d ≡ b.delivery → most ≡ min hops b.hops) → (d ≢ b.delivery → most ≡ hops) → (HasWayAt task most d → 0 < length numbers) → numbers ≡ [] →
-    (d ≡ b.delivery) × (most ≡ b.hops)
-least_stopped task b hops most d numbers way same other some empty =
+pub least_stopped : (task : SearchTask) (b : Bound) (hops most d : ℕ) → HasWayAt task hops d → (d ≡ b.delivery → most ≡ min hops b.hops) → (d ≢ b.delivery → most ≡ hops) → IsNoneWithin task most d → (d ≡ b.delivery) × (most ≡ b.hops)
+least_stopped task b hops most d way same other none =
     let less : most < hops = elim (cases_lt most (length way.0)) [
       | inl less ↦ omega (arith, less, way.1)
-      | inr within ↦ absurd (omega (arith, ap length empty, some (way.0, within, way.2)))
+      | inr within ↦ absurd (omega (arith, none way.0 d within way.2))
     ] in
     elim (cases_eq d b.delivery) [
       | inl here ↦ (here, omega (arith, same here, less))
       | inr apart ↦ absurd (omega (arith, other apart, less))
     ]
 
--- the looks of a search by the hops of its way, or by those of the bound
-pub cut_found : (b own : Bound) (numbers xs : List ℕ) → xs ≡ numbers → (old new c most : ℕ) → (numbers ≡ [] → (is_none own ≡ false) × (most ≡ b.hops)) → (0 < length numbers → old ≤ new + 2 * (length numbers * c)) → old ≤ new + 2 * (most * c) →
-    old ≤ new + 2 * (elim xs [ [] ↦ cond (is_none own) 0 b.hops | n ∷ ns ↦ length numbers ] * c)
-cut_found b own numbers [] same old new c most empty found counted =
-    let stopped = empty (sym same) in
-    let by : old ≤ new + 2 * (b.hops * c) = rw stopped.1 at counted in
-    rw stopped.0 by
-cut_found b own numbers (n ∷ ns) same old new c most empty found counted = found (omega (arith, ap length same))
+-- what a search gives up for may be something else, and what it finds is enough still
+pub enough_unless : {A E : Type 0} (R S : Type 0) (b : Bound) → (R → S) → (result : Result (Found A) E) → IfOk result (IsEnoughUnless R b) → IfOk result (IsEnoughUnless S b)
+enough_unless R S b follows (Ok (Way way)) enough = tt
+enough_unless R S b follows (Ok (Beyond own)) enough = enough
+enough_unless R S b follows (Ok GaveUp) enough = follows enough
+enough_unless R S b follows (Err e) enough = tt
+
+-- what follows of a result
+pub if_ok : {T E : Type 0} (result : Result T E) (P Q : T → Type 0) → ((x : T) → P x → Q x) → IfOk result P → IfOk result Q
+if_ok (Ok x) P Q follows is = follows x is
+if_ok (Err e) P Q follows is = tt

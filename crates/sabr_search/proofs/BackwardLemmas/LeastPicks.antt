@@ -4,7 +4,7 @@ use Rattle.std.specs.Prelude.{IfSome, IfNone, eqb}
 use Rattle.std.proofs.lemmas.Bool.{cases_lt}
 use Rattle.std.proofs.lemmas.List.Sums.{count_by-le-length}
 use Rattle.sabr_search.specs.declared.backward.deadlines.Deadline.{Deadline}
-use Rattle.sabr_search.specs.declared.backward.pick.Step.{Step}
+use Rattle.sabr_search.specs.declared.visit.Step.{Step}
 use Rattle.sabr_search.specs.questions.Ways.{Leads}
 use Rattle.sabr_search.specs.layers.NumberOrder.{IsNotAfter}
 use Rattle.sabr_search.specs.questions.Task.{SearchTask, Takes, IsTask}

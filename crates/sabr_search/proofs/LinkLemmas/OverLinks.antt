@@ -5,7 +5,7 @@ use Rattle.std.specs.List.Sorted.{IsNonDecreasingBy}
 use Rattle.std.specs.declared.option.Option.{Option}
 use Rattle.std.specs.declared.option.Option.TheVariants.{None}
 use Rattle.sabr_search.specs.declared.backward.deadlines.Deadline.{Deadline}
-use Rattle.sabr_search.specs.declared.backward.pick.Step.{Step}
+use Rattle.sabr_search.specs.declared.visit.Step.{Step}
 use Rattle.sabr_search.specs.layers.Late.{AreOpen}
 use Rattle.sabr_search.specs.layers.Deadlines.{IsInTime}
 use Rattle.sabr_search.specs.layers.Picks.{IsAtMost}

@@ -1,5 +1,5 @@
 -- Answers that are kept: of which question each is the answer, and which questions it answers by the law of answers.
-use Rattle.std.specs.Prelude.{◌≡◌, ◌⊎◌, ℕ, ◌+◌, ◌≤◌, ◌<◌, Bool, true, false, IsTrue, nat_lt, nat_le, ◌&&◌, All, List, [], ◌∷◌, length, slice_get, slice_index_or, if◌then◌else◌}
+use Rattle.std.specs.Prelude.{◌≡◌, ◌⊎◌, ℕ, ◌+◌, ◌≤◌, ◌<◌, Bool, true, false, IsTrue, nat_lt, nat_le, ◌&&◌, All, List, [], length, slice_get, slice_index_or}
 use Rattle.std.specs.declared.option.Option.TheVariants.{Some}
 use Rattle.sabr_model.specs.declared.contact.Contact.{Contact}
 use Rattle.sabr_model.specs.plan.Plan.{TabledPlan, contact_named}
@@ -9,9 +9,8 @@ use Rattle.sabr_search.specs.declared.visit.Visit.{Visit}
 use Rattle.sabr_search.specs.questions.Ways.{Leads}
 use Rattle.sabr_search.specs.questions.Task.{SearchTask, Takes}
 use Rattle.sabr_search.specs.layers.Picks.{IsLeastWay}
-use Rattle.sabr_search.specs.declared.backward.least_way.FoundWay.{FoundWay}
 use Rattle.sabr_search.specs.declared.bound.Bound.{Bound}
-use Rattle.sabr_search.specs.questions.Bounded.{is_none, is_up_to}
+use Rattle.sabr_search.specs.questions.Bounded.{is_up_to}
 use Rattle.sabr_search.specs.answers.Answers.{IsWayBeyond}
 
 -- what was asked, with these nodes shut and this goal
@@ -36,10 +35,6 @@ pub record IsListing (shut : List Bool) (nodes : List ℕ) : Type 0 where
 pub record IsFoundWay (task : SearchTask) (left : ℕ) (numbers : List ℕ) (delivery : ℕ) (b : Bound) : Type 0 where
   pub none : numbers ≡ [] → IsWayBeyond task left b
   pub some : 0 < length numbers → IsLeastWay task left (delivery + 1) numbers delivery
-
--- the hops of the way, 0 if there is none, or as many as the bound asked for has, where each way is above it
-abbrev pub way_hops : {A : Type 0} → Bound → FoundWay A → ℕ
-way_hops b way = elim way.numbers.items [ [] ↦ (if is_none way.bound then 0 else b.hops) | n ∷ ns ↦ length way.numbers.items ]
 
 -- the answer to a question to the destination: the least way, or no numbers where each is above its bound
 pub record IsAnswer {A : Type 0} (p : TabledPlan) (r : RouteRequest) (a : Answer A) : Type 0 where

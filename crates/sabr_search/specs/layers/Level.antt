@@ -4,7 +4,7 @@ use Rattle.std.specs.declared.option.Option.TheVariants.{Some}
 use Rattle.sabr_model.specs.plan.Plan.{TabledPlan}
 use Rattle.sabr_model.specs.routes.Arrival.{RouteRequest}
 use Rattle.sabr_search.specs.declared.backward.deadlines.Deadline.{Deadline}
-use Rattle.sabr_search.specs.declared.backward.pick.Step.{Step}
+use Rattle.sabr_search.specs.declared.visit.Step.{Step}
 use Rattle.sabr_search.specs.declared.level.Level.{Level}
 use Rattle.sabr_search.specs.declared.level.walk.DeadEnd.{DeadEnd}
 use Rattle.sabr_search.specs.declared.level.walk.Walk.{Walk}

@@ -59,11 +59,6 @@ abbrev pub sought_of : {A : Type 0} → Option RouteRecord → Sought A
 sought_of None = NoRoute
 sought_of (Some route) = Route route
 
--- the answer where each route is above the bound unless one was found
-abbrev pub sought_up_to : {A : Type 0} → Bound → Option RouteRecord → Sought A
-sought_up_to b None = if is_none b then NoRoute else Beyond
-sought_up_to b (Some route) = Route route
-
 -- the number of hops of an answer, 0 if it has no route
 abbrev pub hops_sought : {A : Type 0} → Sought A → ℕ
 hops_sought (Route route) = length route.contacts

@@ -9,10 +9,9 @@ ghost use Rattle.sabr_search.specs.layers.Reach.{AreCostsFor};
 ghost use Rattle.sabr_search.specs.layers.Latest.{IsWhole, AreRising, AreTaken, IsNearBy, IsNearOver};
 
 use crate::backward::latest::Latest;
-use crate::forward::layers::NEVER;
 use crate::forward::queue::LAST_AT;
 use crate::task::Task;
-use crate::visit::Visit;
+use crate::visit::{NEVER, Visit};
 use sabr_index::Senders;
 use sabr_model::{MOST_LIGHT, NoMemory};
 use std::alloc::Allocator;

@@ -5,35 +5,16 @@ ghost use Rattle.sabr_search.specs.questions.Task.{IsTask, Takes, most_nodes};
 ghost use Rattle.sabr_search.specs.questions.Linked.{AreLinksAt};
 ghost use Rattle.sabr_search.specs.layers.Late.{AreMet, AreOpen, IsNoneSooner};
 ghost use Rattle.sabr_search.specs.layers.Deadlines.{IsInTime, ArePointed};
-ghost use Rattle.sabr_search.specs.layers.Picks.{IsAtMost, IsLeastStep, IsPicked};
+ghost use Rattle.sabr_search.specs.layers.Picks.{IsLeastStep, IsPicked};
 
 use crate::backward::deadlines::Deadlines;
 use crate::backward::from_goal::Aim;
 use crate::links::over_link::{WalkedLink, link_passes};
 use crate::task::Task;
-use crate::visit::Visit;
+use crate::visit::{Step, Visit};
 use sabr_index::{Links, Looks};
 use sabr_model::NoMemory;
 use std::alloc::Allocator;
-
-/// A contact that is taken, by number, and where and when it arrives.
-#[derive(Clone, Copy)]
-pub struct Step {
-    pub number: u32,
-    pub node: usize,
-    pub at: u64,
-}
-
-/// Returns true if there is a step and its number is at most this.
-pub fn is_at_most(least: Option<Step>, number: u32) -> bool
-    ensures at_most { IsTrue result → IsAtMost least number }
-    ensures above { result ≡ false → (n : ℕ) → IsAtMost least n → number ≤ n }
-{
-    match least {
-        Some(step) => step.number <= number,
-        None => false,
-    }
-}
 
 impl<A: Allocator + Copy> Deadlines<A> {
     /// Returns the step of least number from a node after which the goal is still reached in time, with so many hops

@@ -6,10 +6,9 @@ ghost use Rattle.sabr_search.specs.questions.Steps.{degree};
 ghost use Rattle.sabr_search.specs.questions.FirstSteps.{ComesTo, AreFirstSteps};
 ghost use Rattle.sabr_search.specs.layers.Settling.{AreReal};
 
-use crate::forward::layers::NEVER;
 use crate::links::over_link::{WalkedLink, link_passes};
 use crate::task::Task;
-use crate::visit::Visit;
+use crate::visit::{NEVER, Visit};
 use sabr_index::Looks;
 use sabr_model::NoMemory;
 use std::alloc::Allocator;

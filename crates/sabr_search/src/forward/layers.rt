@@ -8,9 +8,10 @@ ghost use Rattle.sabr_search.specs.layers.Lists.{IsPlaced, StayLinked, IsLayer, 
 ghost use Rattle.sabr_search.specs.questions.FirstSteps.{IsNoneBefore};
 ghost use Rattle.sabr_search.specs.layers.Made.{AreOpened, IsBestWithin};
 
+use crate::forward::arrivals::open_nodes;
 use crate::links::over_link::{WalkedLink, is_soonest, link_passes};
 use crate::task::Task;
-use crate::visit::Visit;
+use crate::visit::{NEVER, Visit};
 use sabr_index::{Link, Looks};
 use sabr_model::NoMemory;
 use std::alloc::Allocator;
@@ -27,59 +28,6 @@ pub struct Best {
 struct Layer {
     begin: usize,
     best: u64,
-}
-
-/// No second: what is never reached, or never too late.
-pub const NEVER: u64 = u64::MAX;
-
-/// The first second after every arrival.
-pub const UNDELIVERED: u64 = 253372764800;
-
-/// Makes a list with the first second that is too late at each node, as far as the list `late` goes.
-fn too_late<A: Allocator + Copy>(
-    arrival: &mut Vec<u64, A>,
-    count: usize,
-    late: &[u64],
-) -> Result<(), NoMemory>
-    ensures many { OnOk result (length arrival.new.items ≡ count) }
-    ensures filled { OnOk result ((k : ℕ) → k < count → slice_index arrival.new.items k ≡ slice_index_or late.now k never) }
-{
-    arrival.clear();
-    arrival.extend_from_slice(late)?;
-    arrival.resize(count, NEVER)?;
-    Ok(())
-}
-
-/// Lets nothing improve a node that is shut.
-fn shut_out<A: Allocator + Copy>(arrival: &mut Vec<u64, A>, shut: &[bool], node: usize)
-    requires { length arrival.old.items ≡ length shut.now }
-    ensures many { length arrival.new.items ≡ length arrival.old.items }
-    ensures kept { (k : ℕ) → slice_index_or shut.now k false ≡ false → slice_index arrival.new.items k ≡ slice_index arrival.old.items k }
-    ensures falls { (k : ℕ) → slice_index arrival.new.items k ≤ slice_index arrival.old.items k }
-    ensures zero { slice_index_or shut.now node false ≡ true → slice_index arrival.new.items node ≡ 0 }
-{
-    if node < shut.len() && shut[node] {
-        arrival[node] = 0;
-    }
-}
-
-/// Marks every open node as reached when it is too late there, and lets nothing improve a shut one.
-pub fn open_nodes<A: Allocator + Copy>(
-    arrival: &mut Vec<u64, A>,
-    task: &Task<'_, A>,
-    late: &[u64],
-) -> Result<(), NoMemory>
-    requires { IsTask task.now }
-    ensures { OnOk result (AreOpened task.now late.now arrival.new.items) }
-{
-    let shut = task.shut();
-    too_late(arrival, shut.len(), late)?;
-    let nodes = task.shut_nodes();
-    for place in 0..nodes.len() {
-        shut_out(arrival, shut, nodes[place] as usize);
-    }
-    arrival[task.start()] = task.at();
-    Ok(())
 }
 
 /// Returns the second before which an arrival at a node is news.

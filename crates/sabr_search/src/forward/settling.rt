@@ -10,7 +10,8 @@ ghost use Rattle.sabr_search.specs.questions.FirstSteps.{AreFirstSteps};
 ghost use Rattle.sabr_search.specs.layers.Settling.{IsBound, AreReal, AreArrivalsBy, IsFirstWay, StaySettling, StaySettled, IsKnownOver, IsFallen, AreSettledTaken};
 
 use crate::backward::since::seconds_of;
-use crate::forward::layers::{Best, is_told, open_nodes};
+use crate::forward::arrivals::open_nodes;
+use crate::forward::layers::{Best, is_told};
 use crate::forward::queue::Queue;
 use crate::links::over_link::{WalkedLink, link_passes};
 use crate::task::Task;

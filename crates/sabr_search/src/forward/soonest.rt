@@ -6,9 +6,9 @@ ghost use Rattle.sabr_search.specs.questions.FirstSteps.{tabled_of};
 ghost use Rattle.sabr_search.specs.layers.Latest.{IsWhole};
 ghost use Rattle.sabr_search.specs.layers.Reach.{AreLateFor, AreSoonFor};
 
-use crate::forward::layers::UNDELIVERED;
 use crate::forward::settling::{Forward, Settling};
 use crate::task::Task;
+use crate::visit::UNDELIVERED;
 use sabr_index::Looks;
 use sabr_model::NoMemory;
 use std::alloc::Allocator;

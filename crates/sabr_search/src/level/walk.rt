@@ -7,11 +7,10 @@ ghost use Rattle.sabr_search.specs.questions.Linked.{AreLinksAt};
 ghost use Rattle.sabr_search.specs.layers.Level.{AreDeadEnds, IsDeadEnd, IsLevelOf, IsStepOn, IsWalked, last_visit};
 ghost use Rattle.sabr_search.specs.questions.Ways.{Leads};
 
-use crate::backward::pick::Step;
 use crate::level::Level;
 use crate::links::over_link::{WalkedLink, link_passes};
 use crate::task::Task;
-use crate::visit::Visit;
+use crate::visit::{Step, Visit};
 use sabr_index::{Links, Looks};
 use sabr_model::NoMemory;
 use std::alloc::Allocator;

@@ -4,26 +4,7 @@ ghost use Rattle.std.specs.Prelude.{◌≡◌, ◌↔◌, ℕ, ◌+◌, ◌<◌,
 ghost use Rattle.std.specs.List.Sorted.{IsNonDecreasing, IsStrictlyIncreasing};
 ghost use Rattle.sabr_model.specs.plan.Plan.{has};
 
-/// Numbers that no route takes next after a prefix, or no way takes first.
-#[derive(Clone, Copy)]
-pub struct Excluded<'a> {
-    pub numbers: &'a [u32],
-    /// Whether these are known to rise, as a session's do: then nobody has to go over them to find one.
-    pub rising: bool,
-    ghost known: { rising ≡ true → IsStrictlyIncreasing numbers.now },
-}
-
-impl<'a> Excluded<'a> {
-    /// These numbers, in any order. It goes over all of them to know whether they rise.
-    pub fn of(numbers: &'a [u32]) -> Excluded<'a>
-        ensures { result.numbers.now ≡ numbers.now }
-    {
-        Excluded {
-            numbers,
-            rising: rises(numbers),
-        }
-    }
-}
+use crate::part::Excluded;
 
 /// Where the next number is looked for first. It may be anywhere: the answer rests on what is compared.
 #[derive(Clone, Copy)]

@@ -1,16 +1,27 @@
 //! The least number of a link that arrives in time.
 
-ghost use Rattle.std.specs.Prelude.{◌≡◌, ◌⊎◌, ℕ, ◌+◌, ◌^◌, ◌≤◌, ◌<◌, IfSome, length};
+ghost use Rattle.std.specs.Prelude.{◌≡◌, ◌⊎◌, ℕ, ◌+◌, ◌^◌, ◌≤◌, ◌<◌, IfSome, IsTrue, false, length};
 ghost use Rattle.sabr_search.specs.questions.Task.{IsTask, Takes};
 ghost use Rattle.sabr_search.specs.layers.Picks.{IsAtMost, IsStepOver};
 ghost use Rattle.sabr_search.specs.questions.Linked.{IsLinkWithin, HasNumber};
 
-use crate::backward::pick::{Step, is_at_most};
 use crate::links::finger::Finger;
 use crate::links::over_link::{WalkedLink, comes_late, first_open, rules_out};
 use crate::task::Task;
+use crate::visit::Step;
 use sabr_index::Looks;
 use std::alloc::Allocator;
+
+/// Returns true if there is a step and its number is at most this.
+fn is_at_most(least: Option<Step>, number: u32) -> bool
+    ensures at_most { IsTrue result → IsAtMost least number }
+    ensures above { result ≡ false → (n : ℕ) → IsAtMost least n → number ≤ n }
+{
+    match least {
+        Some(step) => step.number <= number,
+        None => false,
+    }
+}
 
 impl<'a, A: Allocator + Copy> Task<'a, A> {
     /// Returns the step of least number over a link, for what is at its sender at `at`. It arrives before `before`, and

@@ -11,8 +11,5 @@ run_level-requires-clause-nodes g c = omega (arith, c.left.ensures, left_less c.
 pub run_level-requires-clause-floor : goal.run_level-requires-clause-floor
 run_level-requires-clause-floor g c = rw (c.left.ensures, (c.is_for.ensures c.if-not-is_for.false).1) c.requires.floor
 
-pub returns-clause-found : goal.returns-clause-found
-returns-clause-found g c = rw (c.in-Some.is, c.left.ensures) at c.in_ok-found.ensures.found
-
-pub returns-clause-enough : goal.returns-clause-enough
-returns-clause-enough g c = rw c.bound_left-bound.ensures at (c.tells.ensures c.if-not-tells.false)
+pub returns : goal.returns
+returns g c = λ answers. (rw c.left.ensures at c.in_ok-found.ensures.found, rw c.bound_left-bound.ensures at (c.tells.ensures c.if-not-tells.false))

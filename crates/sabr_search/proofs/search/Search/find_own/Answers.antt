@@ -1,7 +1,9 @@
-use Rattle.std.proofs.Common.{arith}
+use Rattle.std.proofs.Common.{length, arith}
+use Rattle.sabr_search.specs.questions.Bounded.{bound_after}
 use Rattle.sabr_search.proofs.WayLemmas.Prefixes.{prefix_facts}
 use Rattle.sabr_search.proofs.AnswerLemmas.Around.{of_request}
 use Rattle.sabr_search.proofs.AnswerLemmas.Soonest.{stop_of, soon_after}
+use Rattle.sabr_search.proofs.AnswerLemmas.UpTo.{enough_unless, if_ok}
 use Rattle.sabr_search.proofs.AnswerLemmas.Answered.{left_less, left_free, layers_within, search_fits}
 use Rattle.sabr_search.proofs.search.Search.find_own.Goals as goal
 
@@ -18,24 +20,17 @@ run-requires-clause-soon g c =
 pub run-requires-clause-nodes : goal.run-requires-clause-nodes
 run-requires-clause-nodes g c = omega (arith, c.left.ensures, left_less c.args.asked.now.task.now c.args.asked.now.prefix.now c.requires.asked, c.requires.asked.task_is.few)
 
-pub unreachable-requires : goal.unreachable-requires
-unreachable-requires g c =
-    omega (arith, rw (c.in_default.is, c.left.ensures) at c.in_ok-found.ensures.none, c.requires.few, search_fits c.args.asked.now.task.now c.args.asked.now.prefix.now c.requires.asked)
-
-pub returns-in_err-found-clause-bound : goal.returns-in_err-found-clause-bound
-returns-in_err-found-clause-bound g c =
-    omega (arith, rw c.left.ensures at c.run.ensures.counted, c.requires.few, layers_within c.args.asked.now.task.now c.args.asked.now.prefix.now c.requires.asked)
+-- it would give up only for want of looks
+pub returns-clause-enough : goal.returns-clause-enough
+returns-clause-enough g c =
+    enough_unless _ _ (bound_after c.args.asked.now.bound (length c.args.asked.now.prefix.now)) (λ less. omega (arith, less, c.requires.few, search_fits c.args.asked.now.task.now c.args.asked.now.prefix.now c.requires.asked)) c.run.result (rw (c.left.ensures, c.bound_left.ensures) at c.run.ensures.enough)
 
 pub returns-clause-bound : goal.returns-clause-bound
 returns-clause-bound g c =
     omega (arith, rw c.left.ensures at c.run.ensures.counted, c.requires.few, layers_within c.args.asked.now.task.now c.args.asked.now.prefix.now c.requires.asked)
 
 pub returns-clause-cut : goal.returns-clause-cut
-returns-clause-cut g c = λ most.
+returns-clause-cut g c =
     let task = c.args.asked.now.task.now in
     let prefix = c.args.asked.now.prefix.now in
-    let few = (rw (c.in-Some.is, c.left.ensures, c.bound_left.ensures) at c.in_ok-found.ensures.cut) (left_free task prefix c.requires.asked most) in
-    omega (arith, few, c.requires.few)
-
-pub returns-clause-enough : goal.returns-clause-enough
-returns-clause-enough g c = rw (c.in-Some.is, c.bound_left.ensures) at c.in_ok-found.ensures.enough
+    if_ok c.run.result _ _ (λ found cut enough most. omega (arith, cut enough (left_free task prefix c.requires.asked most), c.requires.few)) (rw (c.left.ensures, c.bound_left.ensures) at c.run.ensures.cut)

@@ -1,5 +1,6 @@
 use Rattle.std.proofs.Common.{arith}
-use Rattle.sabr_search.proofs.AnswerLemmas.Levels.{dead_beyond, dead_within, dead_fewer, none_found, picked_is}
+use Rattle.sabr_search.proofs.AnswerLemmas.BoundedWays.{beyond_within}
+use Rattle.sabr_search.proofs.AnswerLemmas.Levels.{dead_beyond, dead_fewer, picked_is}
 use Rattle.sabr_search.proofs.LevelLemmas.DeadEnds.{dead_none}
 use Rattle.sabr_search.proofs.search.Search.run_level.Goals as goal
 use Rattle.sabr_search.proofs.search.Search.run_level.Goals.{then-most-hops, else-most-hops}
@@ -23,8 +24,8 @@ pick-requires-clause-floor g c = λ ns e few way. c.requires.floor ns e (omega (
 
 pub returns-in-Picked : goal.returns-in-Picked
 returns-in-Picked g c = record {
-  found = picked_is c.args.task.now c.args.level.now.delivery c.args.hops c.loop-count.count _ _ _ c.requires.floor c.loop-count.invariant.some (omega (arith, c.loop-count-test.true, c.hops_at-most.ensures.most)) c.loop-count.invariant.dead c.in_ok-numbers-in-Picked.ensures
-      (rw c.in-Picked.is at c.in_ok-walked.ensures.walked);
+  found = rw c.in_ok-numbers-in-Picked.ensures
+      (picked_is c.args.task.now c.args.level.now.delivery c.args.hops c.loop-count.count _ c.requires.floor c.loop-count.invariant.some (omega (arith, c.loop-count-test.true, c.hops_at-most.ensures.most)) c.loop-count.invariant.dead (rw c.in-Picked.is at c.in_ok-walked.ensures.walked));
 }
 
 pub loop-count-preserved : goal.loop-count-preserved
@@ -41,8 +42,8 @@ returns g c =
     let most = c.hops_at-most.result in
     let dead = dead_fewer task d _ _ _ most (omega (arith, c.loop-count-test.false)) c.loop-count.invariant.dead in
     record {
-      found = none_found task c.args.hops _ _ _ _ c.beyond.ensures.numbers c.beyond.ensures.bound (elim c.if-most-hops.branch [
+      found = elim c.if-most-hops.branch [
         | then-most-hops w ↦ dead_beyond task d c.args.hops _ (dead_fewer task d _ _ _ c.args.hops (omega (arith, w.if-most-hops.true)) dead)
-        | else-most-hops w ↦ rw w.bound-is (dead_within task d c.args.hops most c.requires.floor dead)
-      ]);
+        | else-most-hops w ↦ rw w.result-is (beyond_within task c.args.hops d most c.requires.floor (λ ns e few way. dead ns task.at e (omega arith) few way))
+      ];
     }

@@ -1,5 +1,6 @@
 use Rattle.std.proofs.Common.{length, ap, arith}
 use Rattle.sabr_search.specs.layers.Late.{AreSince}
+use Rattle.sabr_search.proofs.AnswerLemmas.UpTo.{enough_unless}
 use Rattle.sabr_search.proofs.BackwardLemmas.LeastPicks.{degree_at_most}
 use Rattle.sabr_search.proofs.search.Search.run_within.Goals as goal
 
@@ -15,8 +16,12 @@ least_within-requires-clause-arrivals g c = record {
 pub least_within-requires-clause-steps : goal.least_within-requires-clause-steps
 least_within-requires-clause-steps g c = rw c.deref-2.ensures.value (c.in_ok-whole.ensures.whole c.if-not-whole.false)
 
-pub returns-then-not-whole-clause-none : goal.returns-then-not-whole-clause-none
-returns-then-not-whole-clause-none g c = omega (arith, c.in_ok-whole.ensures.all c.if-not-whole.true, degree_at_most c.args.task.now c.args.task.now.start)
+pub returns-then-not-whole-clause-enough : goal.returns-then-not-whole-clause-enough
+returns-then-not-whole-clause-enough g c = omega (arith, c.in_ok-whole.ensures.all c.if-not-whole.true, degree_at_most c.args.task.now c.args.task.now.start)
 
 pub returns-clause-counted : goal.returns-clause-counted
 returns-clause-counted g c = omega (arith, c.least_within.ensures.counted, c.first_steps.ensures.counted, degree_at_most c.args.task.now c.args.task.now.start)
+
+pub returns-clause-enough : goal.returns-clause-enough
+returns-clause-enough g c =
+    enough_unless _ _ c.args.bound (λ less. omega (arith, less, c.first_steps.ensures.counted, degree_at_most c.args.task.now c.args.task.now.start)) c.least_within.result c.least_within.ensures.enough

@@ -1,6 +1,6 @@
 use Rattle.std.proofs.Common.{◌≡◌, ℕ, ◌<◌, Some, length, slice_get, slice_index, slice_index_or, true, false}
 use Rattle.sabr_search.specs.questions.Task.{never}
-use Rattle.sabr_search.proofs.forward.layers.open_nodes.Given as goal
+use Rattle.sabr_search.proofs.forward.arrivals.open_nodes.Given as goal
 
 abbrev pub invariant-loop-place : goal.invariant-loop-place
 invariant-loop-place g l = record {

@@ -7,7 +7,7 @@ use Rattle.sabr_search.specs.layers.Made.{AreOpened}
 use Rattle.sabr_search.specs.answers.KeptAnswers.{AreListed}
 use Rattle.sabr_search.proofs.WayLemmas.RoutesAndWays.{same_some}
 use Rattle.sabr_search.proofs.ForwardLemmas.Forward.{last_or_before}
-use Rattle.sabr_search.proofs.forward.layers.open_nodes.Goals as goal
+use Rattle.sabr_search.proofs.forward.arrivals.open_nodes.Goals as goal
 
 -- what the list of the late seconds is once nothing improves a shut node and the start is reached
 opened_but_shut : (task : SearchTask) → IsTask task → (late xs nodes : List ℕ) → length xs ≡ length task.shut →
