@@ -2,7 +2,7 @@
 pub mod ModifiedPlaces
 pub mod TestBoundaries
 pub mod ListFronts
-pub mod OtherEnds
+pub mod OtherWays
 pub mod IndexOrder
 pub mod SlotWinners
 pub mod Excluding

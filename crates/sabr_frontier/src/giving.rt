@@ -4,6 +4,6 @@ pub mod asker;
 mod divide;
 mod gather;
 pub mod least_keys;
-mod other_end;
+mod other_way;
 mod peek;
 mod take;

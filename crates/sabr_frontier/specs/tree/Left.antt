@@ -26,15 +26,17 @@ longer_go_on best q (y ∷ ys) = is_some (best q (y ∷ [])) || longer_go_on bes
 abbrev pub part_goes_on : {A : Type 0} → (List ℕ → List ℕ → Option RouteRecord) → Node A → List ℕ → Bool
 part_goes_on best n s = is_some (best (take n.length s) (wide_of n s)) || longer_go_on best (take (n.length + 1) s) (drop (n.length + 1) s)
 
--- the numbers of front and then n are a route, and n is neither the number that ended it nor an excluded one
-pub record IsOtherEnd (p : ContactPlan) (r : RouteRequest) (front : List ℕ) (last : ℕ) (excluded : List ℕ) (n : ℕ) : Type 0 where
-  pub route : IsTrue (is_route p r (front ++ n ∷ []))
+-- after front other numbers make a route, the first neither the one that ended it nor an excluded one
+pub record IsOtherWay (p : ContactPlan) (r : RouteRequest) (front : List ℕ) (last : ℕ) (excluded : List ℕ) : Type 0 where
+  pub n : ℕ
+  pub rest : List ℕ
+  pub route : IsTrue (is_route p r (front ++ n ∷ rest))
   pub other : n ≡ last → ⊥
   pub free : has n excluded ≡ false
 
--- a list of numbers may end on n in place of its last one
-pub record EndsOtherwise (p : ContactPlan) (r : RouteRequest) (numbers excluded : List ℕ) (n : ℕ) : Type 0 where
+-- a list of numbers may go on otherwise than by its last one
+pub record GoesOtherwise (p : ContactPlan) (r : RouteRequest) (numbers excluded : List ℕ) : Type 0 where
   pub front : List ℕ
   pub last : ℕ
   pub numbers_are : numbers ≡ front ++ last ∷ []
-  pub is_end : IsOtherEnd p r front last excluded n
+  pub way : IsOtherWay p r front last excluded

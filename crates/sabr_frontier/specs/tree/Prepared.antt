@@ -5,7 +5,7 @@ use Rattle.sabr_frontier.specs.declared.tree.NodeId.{NodeId}
 use Rattle.sabr_frontier.specs.declared.tree.Node.{Node}
 use Rattle.sabr_frontier.specs.tree.Shape.{Shape, order_of}
 use Rattle.sabr_frontier.specs.tree.Undo.{modify, without}
-use Rattle.sabr_frontier.specs.tree.Taking.{wide_of}
+use Rattle.sabr_frontier.specs.tree.Taking.{fresh_after, wide_of}
 
 -- the node with the number after its prefix in s among those that it excludes, and without it
 abbrev pub excluding : {A : Type 0} → List ℕ → Node A → Node A
@@ -13,6 +13,10 @@ excluding s n = record n { excluded = wide_of n s }
 
 abbrev pub including : {A : Type 0} → List ℕ → Node A → Node A
 including s n = record n { excluded = without (slice_index s n.length) n.excluded }
+
+-- the nodes once the part n of one is divided by s: it excludes one number more, and those of a leaf for s come after all
+abbrev pub parted : {A : Type 0} → (List ℕ → List ℕ → Option RouteRecord) → ℕ → List (Node A) → NodeId → List ℕ → Node A → List (Node A)
+parted best leaf nodes node s n = modify (excluding s) nodes node.0 ++ fresh_after best leaf n s
 
 -- the node with what it carries then
 abbrev pub carrying : {A : Type 0} → Option RouteRecord → Node A → Node A

@@ -9,7 +9,7 @@ ghost use Rattle.sabr_frontier.specs.listing.Rising.{Rises};
 ghost use Rattle.sabr_frontier.specs.tree.Undo.{modify};
 ghost use Rattle.sabr_frontier.specs.tree.Taking.{OfNode, fresh_after, fresh_node, fresh_nodes, wide_of};
 ghost use Rattle.sabr_frontier.specs.tree.Sound.{CanExclude};
-ghost use Rattle.sabr_frontier.specs.tree.Prepared.{excluding, including};
+ghost use Rattle.sabr_frontier.specs.tree.Prepared.{excluding, including, parted};
 
 use crate::giving::asker::Asker;
 use crate::tree::excluded_numbers::ExcludedNumbers;
@@ -216,7 +216,7 @@ pub fn divide<B: BestOf<A>, A: Allocator + Copy>(
 
     // It finds what the node carries, and changes and adds nodes, by a search each.
     ensures found { IfOk result (λ found. OfNode nodes.old.items node (λ n. found ≡ best_for asker.old.asked (take n.length route.now) (wide_of n route.now))) }
-    ensures ok { OnOk result (OfNode nodes.old.items node (λ n. nodes.new.items ≡ modify (excluding route.now) nodes.old.items node.0 ++ fresh_after (best_for asker.old.asked) given.leaf n route.now)) }
+    ensures ok { OnOk result (OfNode nodes.old.items node (λ n. nodes.new.items ≡ parted (best_for asker.old.asked) given.leaf nodes.old.items node route.now n)) }
     ensures called { OnOk result (asker.new.calls + vec_len nodes.old ≡ asker.old.calls + (vec_len nodes.new + 1)) }
 
     // A refusal comes after some of the searches, and leaves the nodes as they were.

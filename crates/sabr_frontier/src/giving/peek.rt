@@ -14,7 +14,7 @@ ghost use Rattle.sabr_frontier.specs.tree.Undo.{IsRoomy};
 
 use crate::giving::asker::Asker;
 use crate::giving::divide::{ask_after, numbers};
-use crate::giving::other_end::other_end;
+use crate::giving::other_way::goes_otherwise;
 use crate::giving::take::floor_of;
 use crate::tree::{Node, NodeId, Tree};
 use sabr_model::{NoMemory, Route};
@@ -63,8 +63,8 @@ fn longer_go_on<B: BestOf<A>, A: Allocator + Copy>(
     Ok(false)
 }
 
-/// Returns true if a node's part has a route besides the one that it carries. It takes no search if that one may end on
-/// another contact of the same link, and else at most the searches that dividing the part would.
+/// Returns true if a node's part has a route besides the one that it carries. It takes no search if that one is
+/// seen to go on otherwise than by its last number, and else at most the searches that dividing the part would.
 #[tactic(auto, using(crate::proofs::ListingLemmas::Paths::beginning_fits))]
 fn part_goes_on<B: BestOf<A>, A: Allocator + Copy>(
     asker: &mut Asker<'_, B, A>,
@@ -83,7 +83,13 @@ fn part_goes_on<B: BestOf<A>, A: Allocator + Copy>(
 {
     asker.plan().tell_rules();
     let excluded = part.excluded.as_slice();
-    if let Some(_other) = other_end(asker.index(), asker.request(), route, excluded) {
+    if goes_otherwise(
+        asker.alloc(),
+        asker.index(),
+        asker.request(),
+        route,
+        excluded,
+    )? {
         return Ok(true);
     }
     let count = part.length;

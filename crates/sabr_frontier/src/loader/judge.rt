@@ -6,6 +6,7 @@ ghost use Rattle.sabr_frontier.specs.tree.Asking.{asked_of};
 ghost use Rattle.sabr_frontier.specs.loading.Leading.{IsLead, step_of};
 ghost use Rattle.sabr_frontier.specs.loading.Holding.{AllGoOn, AreStepsStill, GoesOnTo, leaves_with, onward_with};
 
+use crate::lists::longer;
 use crate::loader::leading::{Lead, Owed};
 use crate::plan_request::PlanRequest;
 use sabr_model::{NoMemory, Route};
@@ -16,21 +17,6 @@ use std::alloc::{Allocator, Global};
 pub struct Judged<A: Allocator + Copy = Global> {
     pub leaves: Vec<Route<A>, A>,
     pub onward: Vec<Owed, A>,
-}
-
-/// Returns a prefix with one more number.
-fn longer<A: Allocator + Copy>(
-    alloc: A,
-    prefix: &[u32],
-    number: u32,
-) -> Result<Vec<u32, A>, NoMemory>
-    ensures { IfOk result (λ v. v.items ≡ prefix.now ++ number ∷ []) }
-{
-    let mut numbers = Vec::with_capacity(alloc, prefix.len() + 1)?;
-    let extended = numbers.extend_from_slice(prefix);
-    let Ok(()) = extended else { unreachable!() };
-    numbers.push_reserved(number);
-    Ok(numbers)
 }
 
 impl<A: Allocator + Copy> Judged<A> {

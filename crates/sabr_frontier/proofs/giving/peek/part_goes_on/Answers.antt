@@ -1,29 +1,30 @@
-use Rattle.std.proofs.Common.{◌+◌, arith, slice_index, take, subst, sym, ap, ◌∙◌}
+use Rattle.std.proofs.Common.{◌≡◌, ◌+◌, ◌||◌, false, arith, slice_index, take, drop, subst, sym, ap, ◌∙◌}
+use Rattle.std.specs.Prelude.{IfOk, is_some}
 use Rattle.std.specs.Cmp.{nat_cmp_total}
 use Rattle.std.specs.List.Sorted.{IsStrictlyIncreasing}
 use Rattle.sabr_model.specs.plan.Plan.{IsPlan, TabledPlan}
 use Rattle.sabr_search.specs.questions.Bounded.{IsFloor}
+use Rattle.sabr_frontier.specs.tree.Asking.{best_for}
 use Rattle.sabr_frontier.specs.tree.Best.{best_up_to}
-use Rattle.sabr_frontier.specs.tree.Left.{EndsOtherwise, part_goes_on}
+use Rattle.sabr_frontier.specs.tree.Left.{GoesOtherwise, longer_go_on, part_goes_on}
 use Rattle.sabr_frontier.specs.tree.Taking.{wide_of}
 use Rattle.sabr_frontier.proofs.ListingLemmas.Rising.{Rises-put_in}
 use Rattle.sabr_frontier.proofs.TreeLemmas.Floors.{floor_after, floor_on, floor_wide}
 use Rattle.sabr_frontier.proofs.TreeLemmas.TestBoundaries.{increasing}
-use Rattle.sabr_frontier.proofs.TreeLemmas.OtherEnds.{goes_on_otherwise}
+use Rattle.sabr_frontier.proofs.TreeLemmas.OtherWays.{goes_on_otherwise}
 use Rattle.sabr_frontier.proofs.giving.peek.part_goes_on.Goals as goal
 
-pub returns-in-Some-clause-ok : goal.returns-in-Some-clause-ok
-returns-in-Some-clause-ok g c =
+pub returns-then-branch-clause-ok : goal.returns-then-branch-clause-ok
+returns-then-branch-clause-ok g c =
     let p = c.args.asker.now.asked.plan in
     let r = c.args.asker.now.asked.request in
     let s = c.args.route.now in
-    let n = c.in-Some._other in
     let good : IsPlan p.plan = subst (λ (t : TabledPlan). IsPlan t.plan) c.plan.ensures c.tell_rules.ensures in
-    let over : EndsOtherwise p.plan c.request.result.now s c.as_slice-excluded.result.now n =
-    subst (λ (t : TabledPlan). EndsOtherwise t.plan c.request.result.now s c.as_slice-excluded.result.now n) c.index.ensures c.in-Some.ensures in
-    let of : EndsOtherwise p.plan r s c.as_slice-excluded.result.now n = subst (λ q. EndsOtherwise p.plan q s c.as_slice-excluded.result.now n) c.request.ensures over in
-    let ends : EndsOtherwise p.plan r s c.args.part.now.excluded n = subst (λ xs. EndsOtherwise p.plan r s xs n) c.as_slice-excluded.ensures of in
-    sym (ap (λ o. part_goes_on (best_up_to p.plan r o) c.args.part.now s) c.requires.unbounded ∙ goes_on_otherwise p.plan r good c.args.part.now s n c.requires.next ends)
+    let over : GoesOtherwise p.plan c.request.result.now s c.as_slice-excluded.result.now =
+    subst (λ (t : TabledPlan). GoesOtherwise t.plan c.request.result.now s c.as_slice-excluded.result.now) c.index.ensures (c.in_ok-goes_otherwise.ensures c.if-branch.true) in
+    let of : GoesOtherwise p.plan r s c.as_slice-excluded.result.now = subst (λ q. GoesOtherwise p.plan q s c.as_slice-excluded.result.now) c.request.ensures over in
+    let otherwise : GoesOtherwise p.plan r s c.args.part.now.excluded = subst (GoesOtherwise p.plan r s) c.as_slice-excluded.ensures of in
+    sym (ap (λ o. part_goes_on (best_up_to p.plan r o) c.args.part.now s) c.requires.unbounded ∙ goes_on_otherwise p.plan r good c.args.part.now s c.requires.next otherwise)
 
 pub ask-requires-clause-floor : goal.ask-requires-clause-floor
 ask-requires-clause-floor g c =
@@ -45,3 +46,15 @@ ask-requires-clause-rising g c =
     let n = c.args.part.now in
     let s = c.args.route.now in
     subst IsStrictlyIncreasing (sym (c.as_slice.ensures ∙ c.in_ok-excluded.ensures)) (increasing (wide_of n s) (Rises-put_in nat_cmp_total (slice_index s n.length) n.excluded c.requires.next.rises))
+
+pub returns-clause-ok : goal.returns-clause-ok
+returns-clause-ok g c =
+    let a = c.args.asker.now.asked in
+    let n = c.args.part.now in
+    let s = c.args.route.now in
+    let none : is_some (best_for a (take n.length s) (wide_of n s)) ≡ false =
+    ap (λ X. is_some (best_for a (take n.length s) X)) (sym (c.as_slice.ensures ∙ c.in_ok-excluded.ensures)) ∙ ap is_some (sym c.in_ok-found.ensures.best) ∙ sym c.is_some.ensures ∙ c.if-is_some.false in
+    let rest : longer_go_on (best_for c.ask.new.self.asked) (take (n.length + 1) s) (drop (n.length + 1) s) ≡ part_goes_on (best_for a) n s =
+    ap (λ b. longer_go_on (best_for b) (take (n.length + 1) s) (drop (n.length + 1) s)) c.ask.ensures.same
+    ∙ ap (λ b. b || longer_go_on (best_for a) (take (n.length + 1) s) (drop (n.length + 1) s)) (sym none) in
+    subst (λ b. IfOk c.longer_go_on.result (λ more. more ≡ b)) rest c.longer_go_on.ensures.ok

@@ -4,7 +4,7 @@ use Rattle.std.proofs.lemmas.List.{take_all, take_more}
 use Rattle.sabr_model.specs.routes.Following.{IsReachedBy}
 use Rattle.sabr_model.specs.routes.Route.{is_path}
 use Rattle.sabr_model.proofs.RouteLemmas.Prefixes.{empty_is_path}
-use Rattle.sabr_frontier.proofs.giving.other_end.follow_path.Goals as goal
+use Rattle.sabr_frontier.proofs.giving.other_way.follow_path.Goals as goal
 
 pub loop-place-init : goal.loop-place-init
 loop-place-init g c = record {

@@ -1,4 +1,4 @@
--- A route that may end on another number isn't the only one that is left.
+-- A route that may go on otherwise than by its last number isn't the only one that is left.
 use Rattle.std.proofs.Common.{◌≡◌, ℕ, ◌+◌, ◌<◌, ◌≤◌, true, false, ◌||◌, List, [], ◌∷◌, ◌++◌, length, take, drop, Option, Some, None, refl, sym, ap, subst, ◌∙◌, true≢false, inl, inr, ltb, length-append, append_assoc, append-nil, arith}
 use Rattle.std.proofs.lemmas.Bool.{or_left, or_right, false_from_ne_true, ltb-true, ltb-false}
 use Rattle.std.proofs.lemmas.List.{drop-append-le, take-append-le, take-append-drop}
@@ -17,7 +17,7 @@ use Rattle.sabr_frontier.specs.declared.tree.Node.{Node}
 use Rattle.sabr_frontier.specs.listing.Formed.{Within}
 use Rattle.sabr_frontier.specs.listing.Rising.{has}
 use Rattle.sabr_frontier.specs.tree.Best.{best_of}
-use Rattle.sabr_frontier.specs.tree.Left.{EndsOtherwise, IsOtherEnd, longer_go_on, part_goes_on}
+use Rattle.sabr_frontier.specs.tree.Left.{GoesOtherwise, IsOtherWay, longer_go_on, part_goes_on}
 use Rattle.sabr_frontier.specs.tree.Sound.{CanExclude}
 use Rattle.sabr_frontier.specs.tree.Taking.{wide_of}
 use Rattle.sabr_frontier.proofs.ListingLemmas.AllRoutes.{has_number, least_none}
@@ -45,18 +45,18 @@ module _ (p : ContactPlan) (r : RouteRequest) (good : IsPlan p) where
     | Some s ↦ λ e. refl
   ] refl
 
-  module _ {A : Type 0} (n : Node A) (front : List ℕ) (last m : ℕ) (is_end : IsOtherEnd p r front last n.excluded m) where
-    free : has nat_cmp m n.excluded ≡ false
-    free = sym (has_number m n.excluded) ∙ is_end.free
+  module _ {A : Type 0} (n : Node A) (front : List ℕ) (last : ℕ) (way : IsOtherWay p r front last n.excluded) where
+    free : has nat_cmp way.n n.excluded ≡ false
+    free = sym (has_number way.n n.excluded) ∙ way.free
 
-    -- the part itself has a route that ends otherwise
+    -- the part itself has a route that goes on otherwise
     here : n.length ≡ length front → is_some (best_of p r (take n.length (front ++ last ∷ [])) (wide_of n (front ++ last ∷ []))) ≡ true
     here e =
         let prefix : take n.length (front ++ last ∷ []) ≡ front = ap (λ k. take k (front ++ last ∷ [])) e ∙ take-append_seam front (last ∷ []) in
         let next : slice_index (front ++ last ∷ []) n.length ≡ last = ap (slice_index (front ++ last ∷ [])) e ∙ get_or-append_seam front last [] 0 in
-        let absent : has nat_cmp m (wide_of n (front ++ last ∷ [])) ≡ false = ap (λ x. has nat_cmp m (put_in nat_cmp x n.excluded)) next ∙ absent_with m last n.excluded is_end.other free in
-        some_best (take n.length (front ++ last ∷ [])) (wide_of n (front ++ last ∷ [])) (front ++ m ∷ []) is_end.route
-        (m, subst (λ q. number_after q (front ++ m ∷ []) ≡ Some m) (sym prefix) (number_after-snoc front [] m), absent)
+        let absent : has nat_cmp way.n (wide_of n (front ++ last ∷ [])) ≡ false = ap (λ x. has nat_cmp way.n (put_in nat_cmp x n.excluded)) next ∙ absent_with way.n last n.excluded way.other free in
+        some_best (take n.length (front ++ last ∷ [])) (wide_of n (front ++ last ∷ [])) (front ++ way.n ∷ way.rest) way.route
+        (way.n, subst (λ q. number_after q (front ++ way.n ∷ way.rest) ≡ Some way.n) (sym prefix) (number_after-snoc front way.rest way.n), absent)
 
     -- the numbers before the last one have such a route
     further : n.length < length front → longer_go_on (best_of p r) (take (n.length + 1) (front ++ last ∷ [])) (drop (n.length + 1) (front ++ last ∷ [])) ≡ true
@@ -65,7 +65,7 @@ module _ (p : ContactPlan) (r : RouteRequest) (good : IsPlan p) where
         let within : k ≤ length front = omega (arith, less) in
         let ends : is_some (best_of p r (take k front ++ drop k front) (last ∷ [])) ≡ true =
         subst (λ q. is_some (best_of p r q (last ∷ [])) ≡ true) (sym (take-append-drop k front))
-        (some_best front (last ∷ []) (front ++ m ∷ []) is_end.route (m, number_after-snoc front [] m, absent_with m last [] is_end.other refl)) in
+        (some_best front (last ∷ []) (front ++ way.n ∷ way.rest) way.route (way.n, number_after-snoc front way.rest way.n, absent_with way.n last [] way.other refl)) in
         rw (take-append-le k front (last ∷ []) within, drop-append-le k front (last ∷ []) within) (longer_at_end (best_of p r) (take k front) (drop k front) last ends)
 
     ended : n.length < length (front ++ last ∷ []) → part_goes_on (best_of p r) n (front ++ last ∷ []) ≡ true
@@ -78,7 +78,7 @@ module _ (p : ContactPlan) (r : RouteRequest) (good : IsPlan p) where
           | false ↦ λ e. let most = ltb-false n.length (length front) e in or_left a b (here (omega (arith, many, most, less)))
         ] refl
 
-  pub goes_on_otherwise : {A : Type 0} (n : Node A) (s : List ℕ) (m : ℕ) → CanExclude n s → EndsOtherwise p r s n.excluded m → part_goes_on (best_of p r) n s ≡ true
-  goes_on_otherwise n s m next e =
+  pub goes_on_otherwise : {A : Type 0} (n : Node A) (s : List ℕ) → CanExclude n s → GoesOtherwise p r s n.excluded → part_goes_on (best_of p r) n s ≡ true
+  goes_on_otherwise n s next e =
       subst (λ z. part_goes_on (best_of p r) n z ≡ true) (sym e.numbers_are)
-      (ended n e.front e.last m e.is_end (subst (λ z. n.length < length z) e.numbers_are next.longer))
+      (ended n e.front e.last e.way (subst (λ z. n.length < length z) e.numbers_are next.longer))

@@ -2,7 +2,7 @@ use Rattle.std.proofs.Common.{take}
 use Rattle.std.specs.Prelude.{IsTrue}
 use Rattle.sabr_model.specs.routes.Following.{IsReachedBy}
 use Rattle.sabr_model.specs.routes.Route.{is_path}
-use Rattle.sabr_frontier.proofs.giving.other_end.follow_path.Given as goal
+use Rattle.sabr_frontier.proofs.giving.other_way.follow_path.Given as goal
 
 abbrev pub invariant-loop-place : goal.invariant-loop-place
 invariant-loop-place g l = record {
