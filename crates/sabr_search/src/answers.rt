@@ -10,11 +10,11 @@ pub mod widening;
 
 ghost use Rattle.std.specs.Prelude.{◌≡◌, ◌^◌, ◌≤◌, ◌<◌, [], Some, All, IfSome, IsTrue, length, slice_get, slice_set, false};
 ghost use Rattle.sabr_search.specs.questions.Ways.{Leads};
-ghost use Rattle.sabr_search.specs.questions.Task.{IsTask, IsAsked, Takes, left_of};
-ghost use Rattle.sabr_search.specs.questions.Bounded.{bound_after};
+ghost use Rattle.sabr_search.specs.questions.Task.{IsTask, IsAsked, Takes};
 ghost use Rattle.sabr_search.specs.questions.FirstSteps.{tabled_of};
+ghost use Rattle.sabr_search.specs.answers.Asked.{AnswersAt, hops_left};
 ghost use Rattle.sabr_search.specs.answers.Found.{IsFound};
-ghost use Rattle.sabr_search.specs.answers.KeptAnswers.{AllShut, Covers, IsAnswerTo, AnswersAt, IsAnswer, IsPut, AreAnswers, is_kept_after, most_answers};
+ghost use Rattle.sabr_search.specs.answers.KeptAnswers.{AllShut, Covers, IsAnswerTo, IsAnswer, IsPut, AreAnswers, is_kept_after, most_answers};
 
 use crate::answers::lists::Lists;
 use crate::answers::widening::Breadth;
@@ -74,8 +74,8 @@ pub struct Recalled<'a> {
 pub struct Answer<A: Allocator + Copy = Global> {
     /// Where the search started, and when.
     pub from: Visit,
-    /// How many hops were left.
-    pub left: usize,
+    /// The most hops that its way might have.
+    pub hops: usize,
     /// The numbers that no way takes first, the nodes that were shut, and the least way.
     pub lists: Lists<A>,
     /// When the way delivers.
@@ -133,10 +133,10 @@ fn are_shut(flags: &[bool], nodes: &[u32]) -> bool
 impl<A: Allocator + Copy> Answer<A> {
     /// Returns whether a question starts at the same node and no earlier, excludes the same numbers, shuts these nodes,
     /// too, and leaves no more hops.
-    fn covers(&self, task: &Task<'_, A>, left: usize) -> bool
-        ensures { IsTrue result → Covers self.now task.now left }
+    fn covers(&self, task: &Task<'_, A>, hops: usize) -> bool
+        ensures { IsTrue result → Covers self.now task.now hops }
     {
-        if self.from.node != task.start() || self.from.at > task.at() || left > self.left {
+        if self.from.node != task.start() || self.from.at > task.at() || hops > self.hops {
             return false;
         }
         if !are_shut(task.shut(), self.lists.shut()) {
@@ -182,23 +182,23 @@ impl<A: Allocator + Copy> Answer<A> {
         &self,
         task: &Task<'_, A>,
         looks: &mut Looks,
-        left: usize,
+        hops: usize,
         bound: Bound,
         passed: &mut usize,
     ) -> bool
         requires task { IsTask task.now }
         requires goal { slice_get task.now.table task.now.goal ≡ Some task.now.request.destination }
         requires answer { IsAnswer (tabled_of task.now) task.now.request self.now }
-        ensures { IsTrue result → IsAnswerTo self.now task.now left bound }
+        ensures { IsTrue result → IsAnswerTo self.now task.now hops bound }
     {
-        if !self.covers(task, left) {
+        if !self.covers(task, hops) {
             return false;
         }
-        let hops = self.lists.way().len();
-        if hops == 0 {
+        let own = self.lists.way().len();
+        if own == 0 {
             return bound.is_within(self.bound);
         }
-        if hops > left {
+        if own > hops {
             return false;
         }
         self.leads(task, looks, passed)
@@ -270,10 +270,10 @@ impl<A: Allocator + Copy> Answers<A> {
     pub fn recall(&self, asked: &Question<'_, '_, '_, A>, looks: &mut Looks) -> Recalled<'_>
         requires asked { IsAsked asked.now.task.now asked.now.prefix.now }
         requires kept { All (IsAnswer (tabled_of asked.now.task.now) asked.now.task.now.request) self.now.slots.items }
-        ensures { IfSome result.place (λ place. AnswersAt self.now.slots.items place asked.now.task.now (left_of asked.now.task.now asked.now.prefix.now) (bound_after asked.now.bound (length asked.now.prefix.now))) }
+        ensures { IfSome result.place (AnswersAt self.now.slots.items asked.now) }
     {
         let task = asked.task;
-        let (left, bound) = (asked.left(), asked.bound_left());
+        let (hops, bound) = (asked.hops_left(), asked.bound_left());
         let mut near: Option<Near<'_>> = None;
         let mut place = self.head(bucket_of(task.start(), task.excluded()));
         for _ in 0..COMPARED {
@@ -281,7 +281,7 @@ impl<A: Allocator + Copy> Answers<A> {
                 return Recalled { place: None, near };
             };
             let mut passed = NONE;
-            if answer.answers(task, looks, left, bound, &mut passed) {
+            if answer.answers(task, looks, hops, bound, &mut passed) {
                 return Recalled {
                     place: Some(place),
                     near: None,
@@ -305,21 +305,21 @@ impl<A: Allocator + Copy> Answers<A> {
     ) -> Option<usize>
         requires asked { IsAsked asked.now.task.now asked.now.prefix.now }
         requires kept { All (IsAnswer (tabled_of asked.now.task.now) asked.now.task.now.request) self.now.slots.items }
-        ensures { IfSome result (λ place. AnswersAt self.now.slots.items place asked.now.task.now (left_of asked.now.task.now asked.now.prefix.now) (bound_after asked.now.bound (length asked.now.prefix.now))) }
+        ensures { IfSome result (AnswersAt self.now.slots.items asked.now) }
     {
         let mut passed = NONE;
         let Some(answer) = self.slots.get(place) else {
             return None;
         };
-        let (left, bound) = (asked.left(), asked.bound_left());
-        if answer.answers(asked.task, looks, left, bound, &mut passed) {
+        let (hops, bound) = (asked.hops_left(), asked.bound_left());
+        if answer.answers(asked.task, looks, hops, bound, &mut passed) {
             return Some(place);
         }
         None
     }
 
     /// Makes the buckets, if there are none; returns whether there are some.
-    fn open(&mut self) -> bool
+    fn make_heads(&mut self) -> bool
         ensures { self.new.slots ≡ self.old.slots }
     {
         if self.heads.is_empty() {
@@ -360,13 +360,13 @@ impl<A: Allocator + Copy> Answers<A> {
     fn made(
         &mut self,
         task: &Task<'_, A>,
-        left: usize,
+        hops: usize,
         found: &Found<A>,
         breadth: Breadth,
         bucket: usize,
     ) -> Option<Answer<A>>
         requires goal { slice_get task.now.table task.now.goal ≡ Some task.now.request.destination }
-        requires found { IsFound task.now left found.now }
+        requires found { IsFound task.now hops found.now }
         ensures slots { self.new.slots ≡ self.old.slots }
         ensures answer { IfSome result (IsAnswer (tabled_of task.now) task.now.request) }
     {
@@ -385,7 +385,7 @@ impl<A: Allocator + Copy> Answers<A> {
         };
         Some(Answer {
             from,
-            left,
+            hops,
             lists,
             delivery,
             bound,
@@ -398,20 +398,20 @@ impl<A: Allocator + Copy> Answers<A> {
     pub fn keep(
         &mut self,
         task: &Task<'_, A>,
-        left: usize,
+        hops: usize,
         found: &Found<A>,
         breadth: Breadth,
     ) -> Option<usize>
         requires goal { slice_get task.now.table task.now.goal ≡ Some task.now.request.destination }
         requires kept { AreAnswers (tabled_of task.now) task.now.request self.old.slots.items }
-        requires found { IsFound task.now left found.now }
+        requires found { IsFound task.now hops found.now }
         ensures { AreAnswers (tabled_of task.now) task.now.request self.new.slots.items }
     {
-        if !self.open() {
+        if !self.make_heads() {
             return None;
         }
         let bucket = bucket_of(task.start(), task.excluded());
-        let Some(answer) = self.made(task, left, found, breadth, bucket) else {
+        let Some(answer) = self.made(task, hops, found, breadth, bucket) else {
             return None;
         };
         let Some(place) = self.put(answer) else {
@@ -425,12 +425,12 @@ impl<A: Allocator + Copy> Answers<A> {
     pub fn keep_after(&mut self, asked: &Question<'_, '_, '_, A>, found: &Found<A>)
         requires asked { IsAsked asked.now.task.now asked.now.prefix.now }
         requires kept { AreAnswers (tabled_of asked.now.task.now) asked.now.task.now.request self.old.slots.items }
-        requires found { IsFound asked.now.task.now (left_of asked.now.task.now asked.now.prefix.now) found.now }
+        requires found { IsFound asked.now.task.now (hops_left asked.now) found.now }
         ensures kept { AreAnswers (tabled_of asked.now.task.now) asked.now.task.now.request self.new.slots.items }
         ensures others { is_kept_after asked.now.prefix.now asked.now.task.now.excluded ≡ false → self.new.slots ≡ self.old.slots }
     {
         if is_kept(asked) {
-            self.keep(asked.task, asked.left(), found, Breadth::Own);
+            self.keep(asked.task, asked.hops_left(), found, Breadth::Own);
         }
     }
 }

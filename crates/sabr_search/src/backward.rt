@@ -3,7 +3,6 @@
 pub mod deadlines;
 pub mod from_goal;
 pub mod latest;
-pub mod least_way;
 pub mod nearest;
 pub mod pick;
 pub mod seconds;

@@ -10,8 +10,7 @@ ghost use Rattle.sabr_search.specs.questions.Told.{hops_told};
 
 use crate::bound::{BoundedPart, Sought};
 use crate::kept::Kept;
-use crate::part::Excluded;
-use crate::part::Part;
+use crate::part::{Excluded, Part};
 use sabr_index::Index;
 use sabr_model::{NoMemory, Plan, Request, Route};
 use std::alloc::Allocator;

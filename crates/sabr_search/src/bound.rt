@@ -1,7 +1,7 @@
 //! What a question asks up to, and its answer.
 
-ghost use Rattle.std.specs.Prelude.{◌≡◌, ◌≢◌, ◌-◌, ◌+◌, ◌≤◌, min};
-ghost use Rattle.sabr_search.specs.questions.Bounded.{at_any_hops, is_none, is_up_to, no_bound, sought_of};
+ghost use Rattle.std.specs.Prelude.{◌≡◌, ◌≢◌, ◌+◌, ◌≤◌, min};
+ghost use Rattle.sabr_search.specs.questions.Bounded.{at_any_hops, bound_after, is_none, is_up_to, no_bound, sought_of};
 ghost use Rattle.sabr_search.specs.questions.Task.{latest_arrival};
 
 use crate::part::Excluded;
@@ -50,7 +50,7 @@ impl Bound {
 
     /// What it leaves after so many hops.
     pub fn after(&self, hops: usize) -> Bound
-        ensures { result ≡ record { delivery = self.now.delivery; hops = self.now.hops - hops } }
+        ensures { result ≡ bound_after self.now hops }
     {
         Bound {
             delivery: self.delivery,

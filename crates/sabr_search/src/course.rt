@@ -113,26 +113,26 @@ impl<A: Allocator + Copy> Course<A> {
             };
             self.shut.open(stop.node);
         }
-        let mut last = self.stops[front];
+        let mut here = self.stops[front];
         for place in front..prefix.len() {
             let number = prefix[place];
-            let followed = plan.follow(looks, last.told, &prefix[..place], number);
+            let followed = plan.follow(looks, here.told, &prefix[..place], number);
             let Some(hop) = followed.hop else {
                 unreachable!();
             };
-            let Some(at) = hop.arrive(request, last.at) else {
+            let Some(at) = hop.arrive(request, here.at) else {
                 unreachable!();
             };
-            last = Stop {
+            here = Stop {
                 node: hop.receiver,
                 at,
                 told: followed.told,
             };
-            self.shut.put(last.node)?;
-            self.stops.push(last)?;
+            self.shut.put(here.node)?;
+            self.stops.push(here)?;
         }
         self.numbers.clear();
         self.numbers.extend_from_slice(prefix)?;
-        Ok(last)
+        Ok(here)
     }
 }

@@ -25,8 +25,9 @@ pub enum Found<A: Allocator + Copy = Global> {
 }
 
 impl<A: Allocator + Copy> Found<A> {
-    /// Returns true if it didn't give up, and there is a way or all that is up to a bound is up to what each way is above.
-    pub fn tells(&self, bound: Bound) -> bool
+    /// Returns true if it is enough for a question up to this bound: if it is a way, or if all that is up to the bound is up to
+    /// what each way is above.
+    pub fn is_enough(&self, bound: Bound) -> bool
         ensures { IsTrue result → IsEnough bound self.now }
     {
         match self {

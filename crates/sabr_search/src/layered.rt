@@ -10,14 +10,13 @@ ghost use Rattle.sabr_search.specs.layers.Late.{AreArrivals};
 ghost use Rattle.sabr_index.specs.Looks.{looks_taken};
 ghost use Rattle.sabr_search.specs.questions.Told.{hops_told};
 
-use crate::backward::deadlines::Deadlines;
 use crate::backward::from_goal::Aim;
 use crate::backward::since::Since;
 use crate::best::BestOf;
 use crate::bound::{Bound, BoundedPart, Sought};
 use crate::course::Course;
-use crate::forward::layers::Layers;
 use crate::kept::Kept;
+use crate::layer_search::LayerSearch;
 use crate::part::{Excluded, Part};
 use crate::question::Question;
 use crate::task::Task;
@@ -33,10 +32,8 @@ use std::alloc::{Allocator, Global};
 pub struct Layered<A: Allocator + Copy = Global> {
     /// The allocator of the buffers.
     alloc: A,
-    /// Layers forward.
-    layers: Layers<A>,
-    /// Layers backward.
-    deadlines: Deadlines<A>,
+    /// Layers by hops, forward and backward.
+    layers: LayerSearch<A>,
     /// For each node, when the search starts.
     since: Vec<u64, A>,
     /// The looks that the last call left.
@@ -53,8 +50,7 @@ impl<A: Allocator + Copy> Layered<A> {
     {
         Layered {
             alloc,
-            layers: Layers::new(alloc),
-            deadlines: Deadlines::new(alloc),
+            layers: LayerSearch::new(alloc),
             since: Vec::new(alloc),
             looks: Looks::many(),
             calls: GhostCount::new(),
@@ -105,14 +101,10 @@ impl<A: Allocator + Copy> Layered<A> {
             first: &first,
             delivery: 0,
         };
-        let left = asked.left();
-        let found = self.deadlines.least_within(
-            &mut self.layers,
-            &aim,
-            &mut self.looks,
-            left,
-            asked.bound_left(),
-        )?;
+        let (hops, bound) = (asked.hops_left(), asked.bound_left());
+        let found = self
+            .layers
+            .least_within(&aim, &mut self.looks, hops, bound)?;
         let answer = asked.answer(self.alloc, &mut self.looks, &found)?;
         match answer {
             Sought::Route(route) => Ok(Some(route)),

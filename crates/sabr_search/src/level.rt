@@ -31,8 +31,8 @@ pub struct Level<A: Allocator + Copy> {
     pub delivery: u64,
     /// The layers.
     layers: Deadlines<A>,
-    /// By node the place after its entry of most hops; 0 if it has none.
-    latest: Vec<usize, A>,
+    /// By node where its chain begins: the place after its entry of most hops; 0 if it has none.
+    heads: Vec<usize, A>,
     /// By entry the place after the one of the same node with the next fewer hops; 0 if there is none.
     fewer: Vec<usize, A>,
 }
@@ -45,7 +45,7 @@ impl<A: Allocator + Copy> Level<A> {
         Level {
             delivery: 0,
             layers: Deadlines::new(alloc),
-            latest: Vec::new(alloc),
+            heads: Vec::new(alloc),
             fewer: Vec::new(alloc),
         }
     }
@@ -120,16 +120,16 @@ impl<A: Allocator + Copy> Level<A> {
         requires { (p : ℕ) (e : Deadline) → slice_get self.old.layers.entries.items p ≡ Some e → e.node < nodes }
         ensures layers { self.new.layers ≡ self.old.layers }
         ensures delivery { self.new.delivery ≡ self.old.delivery }
-        ensures nodes { OnOk result (length self.new.latest.items ≡ nodes) }
-        ensures chained { OnOk result (AreChained self.new.layers.entries.items self.new.latest.items self.new.fewer.items) }
+        ensures nodes { OnOk result (length self.new.heads.items ≡ nodes) }
+        ensures chained { OnOk result (AreChained self.new.layers.entries.items self.new.heads.items self.new.fewer.items) }
     {
-        self.latest.clear();
-        self.latest.resize(nodes, 0)?;
+        self.heads.clear();
+        self.heads.resize(nodes, 0)?;
         self.fewer.clear();
         for place in 0..self.layers.entries.len() {
             let node = self.layers.entries[place].node;
-            self.fewer.push(self.latest[node])?;
-            self.latest[node] = place + 1;
+            self.fewer.push(self.heads[node])?;
+            self.heads[node] = place + 1;
         }
         Ok(())
     }
@@ -148,11 +148,11 @@ impl<A: Allocator + Copy> Level<A> {
     #[inline(always)]
     pub fn before(&self, node: usize, end: usize) -> u64
         requires layers { HasLayers self.now }
-        requires node { node < length self.now.latest.items }
+        requires node { node < length self.now.heads.items }
         ensures latest { IsLatestWithin self.now.layers.entries.items node end result }
         ensures met { 0 < result → (p : ℕ) × (p < end) × (slice_get self.now.layers.entries.items p ≡ Some (record { node = node; before = result })) }
     {
-        let mut place = self.latest[node];
+        let mut place = self.heads[node];
         while place > end {
             place = self.fewer[place - 1];
         }
@@ -170,7 +170,7 @@ impl<A: Allocator + Copy> Level<A> {
         ensures { IsTrue result → IsDeadEnd task.now self.now.delivery task.now.start task.now.at hops }
     {
         let start = task.start();
-        if self.latest[start] == 0 {
+        if self.heads[start] == 0 {
             return false;
         }
         let end = self.end_of(hops);

@@ -11,6 +11,7 @@ mod forward;
 mod found;
 mod kept;
 mod laws;
+mod layer_search;
 mod layered;
 mod level;
 mod links;

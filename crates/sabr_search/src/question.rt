@@ -2,12 +2,13 @@
 
 ghost use Rattle.std.specs.Prelude.{◌≡◌, ℕ, ◌++◌, ◌+◌, ◌-◌, ◌*◌, ◌^◌, ◌≤◌, IfOk, IsTrue, length, take};
 ghost use Rattle.sabr_model.specs.routes.Telling.{told_of};
-ghost use Rattle.sabr_search.specs.questions.Task.{IsAsked, left_of};
+ghost use Rattle.sabr_search.specs.questions.Task.{IsAsked};
 ghost use Rattle.sabr_search.specs.layers.Picks.{IsLeastWay};
 ghost use Rattle.sabr_search.specs.answers.Answers.{IsWayBeyond};
+ghost use Rattle.sabr_search.specs.answers.Asked.{bound_left, hops_left};
 ghost use Rattle.sabr_search.specs.answers.Cut.{IsCutBefore, IsCutAfter};
 ghost use Rattle.sabr_search.specs.answers.Found.{IsEnough, IsFound, found_hops, hops_above};
-ghost use Rattle.sabr_search.specs.questions.Bounded.{IsSought, IsWhole, bound_after, hops_sought, is_up_to};
+ghost use Rattle.sabr_search.specs.questions.Bounded.{IsSought, IsWhole, hops_sought, is_up_to};
 ghost use Rattle.sabr_index.specs.Looks.{looks_taken};
 
 use crate::bound::{Bound, Sought};
@@ -71,9 +72,9 @@ fn told_from<A: Allocator + Copy>(
 
 impl<'t, 'a, 'p, A: Allocator + Copy> Question<'t, 'a, 'p, A> {
     /// The most hops that a way after the prefix may have: those that the limit leaves, and fewer than there are nodes.
-    pub fn left(&self) -> usize
+    pub fn hops_left(&self) -> usize
         requires { IsAsked self.now.task.now self.now.prefix.now }
-        ensures { result ≡ left_of self.now.task.now self.now.prefix.now }
+        ensures { result ≡ hops_left self.now }
     {
         let others = self.task.shut().len() - 1;
         let max_hops = self.task.request().max_hops();
@@ -86,7 +87,7 @@ impl<'t, 'a, 'p, A: Allocator + Copy> Question<'t, 'a, 'p, A> {
 
     /// What the bound leaves after the prefix.
     pub fn bound_left(&self) -> Bound
-        ensures { result ≡ record { delivery = self.now.bound.delivery; hops = self.now.bound.hops - length self.now.prefix.now } }
+        ensures { result ≡ bound_left self.now }
     {
         self.bound.after(self.prefix.len())
     }
@@ -104,7 +105,7 @@ impl<'t, 'a, 'p, A: Allocator + Copy> Question<'t, 'a, 'p, A> {
         requires asked { IsAsked self.now.task.now self.now.prefix.now }
         requires told { self.now.told ≡ told_of self.now.task.now.plan self.now.prefix.now }
         requires few { looks_taken looks.old ≤ 3 * length self.now.task.now.table * length self.now.task.now.plan.contacts }
-        requires least { IsLeastWay self.now.task.now (left_of self.now.task.now self.now.prefix.now) (delivery + 1) way.now delivery }
+        requires least { IsLeastWay self.now.task.now (hops_left self.now) (delivery + 1) way.now delivery }
         ensures sought { IfOk result (IsSought self.now.task.now.plan self.now.task.now.request self.now.prefix.now self.now.task.now.excluded self.now.bound) }
         ensures whole { IfOk result (IsWhole self.now.bound) }
         ensures bound { looks_taken looks.new ≤ (3 * length self.now.task.now.table + 1) * length self.now.task.now.plan.contacts }
@@ -120,12 +121,12 @@ impl<'t, 'a, 'p, A: Allocator + Copy> Question<'t, 'a, 'p, A> {
     /// The answer where each way is above a bound: each route is above the one asked for, or there is none.
     pub fn above(&self, bound: Bound) -> Sought<A>
         requires asked { IsAsked self.now.task.now self.now.prefix.now }
-        requires beyond { IsWayBeyond self.now.task.now (left_of self.now.task.now self.now.prefix.now) bound }
+        requires beyond { IsWayBeyond self.now.task.now (hops_left self.now) bound }
         requires enough { IsTrue (is_up_to bound self.now.bound.delivery (self.now.bound.hops - length self.now.prefix.now)) }
         ensures sought { IsSought self.now.task.now.plan self.now.task.now.request self.now.prefix.now self.now.task.now.excluded self.now.bound result }
         ensures whole { IsWhole self.now.bound result }
         ensures none { hops_sought result ≡ 0 }
-        ensures cut { (looks : ℕ) → IsCutBefore self.now (hops_above (bound_after self.now.bound (length self.now.prefix.now)) bound) looks → IsCutAfter self.now looks result }
+        ensures cut { (looks : ℕ) → IsCutBefore self.now (hops_above (bound_left self.now) bound) looks → IsCutAfter self.now looks result }
     {
         if bound.is_none() {
             Sought::None
@@ -144,13 +145,13 @@ impl<'t, 'a, 'p, A: Allocator + Copy> Question<'t, 'a, 'p, A> {
         requires asked { IsAsked self.now.task.now self.now.prefix.now }
         requires told { self.now.told ≡ told_of self.now.task.now.plan self.now.prefix.now }
         requires few { looks_taken looks.old ≤ 3 * length self.now.task.now.table * length self.now.task.now.plan.contacts }
-        requires found { IsFound self.now.task.now (left_of self.now.task.now self.now.prefix.now) found.now }
-        requires enough { IsEnough (bound_after self.now.bound (length self.now.prefix.now)) found.now }
+        requires found { IsFound self.now.task.now (hops_left self.now) found.now }
+        requires enough { IsEnough (bound_left self.now) found.now }
         ensures sought { IfOk result (IsSought self.now.task.now.plan self.now.task.now.request self.now.prefix.now self.now.task.now.excluded self.now.bound) }
         ensures whole { IfOk result (IsWhole self.now.bound) }
         ensures bound { looks_taken looks.new ≤ (3 * length self.now.task.now.table + 1) * length self.now.task.now.plan.contacts }
         ensures counted { IfOk result (λ answer. hops_sought answer ≤ looks_taken looks.new) }
-        ensures cut { IsCutBefore self.now (found_hops (bound_after self.now.bound (length self.now.prefix.now)) found.now) (looks_taken looks.old) → IfOk result (IsCutAfter self.now (looks_taken looks.new)) }
+        ensures cut { IsCutBefore self.now (found_hops (bound_left self.now) found.now) (looks_taken looks.old) → IfOk result (IsCutAfter self.now (looks_taken looks.new)) }
     {
         match found {
             Found::Way(way) => self.route(alloc, looks, &way.numbers, way.delivery),

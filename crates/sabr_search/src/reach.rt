@@ -34,7 +34,7 @@ pub struct Reach<A: Allocator + Copy> {
     /// For each node, a second from which on no way leads to the destination; none is known after the list's end.
     late: Vec<u64, A>,
     /// For each node, one from which on no way delivers before `until`; none is known after the list's end.
-    sooner: Vec<u64, A>,
+    late_until: Vec<u64, A>,
     /// The second after the least bound for which that was looked for; `NEVER` before any of this was.
     until: u64,
     /// For each node, the least seconds of a way to the destination; 0 after the list's end.
@@ -56,7 +56,7 @@ impl<A: Allocator + Copy> Reach<A> {
     {
         Reach {
             late: Vec::new(alloc),
-            sooner: Vec::new(alloc),
+            late_until: Vec::new(alloc),
             until: NEVER,
             costs: Vec::new(alloc),
             hops: Vec::new(alloc),
@@ -70,8 +70,8 @@ impl<A: Allocator + Copy> Reach<A> {
     pub fn late_for(&self, until: u64) -> &[u64]
         ensures { (p : TabledPlan) (r : RouteRequest) → IsReach p r self.now → AreLateFor p r until result.now }
     {
-        if until <= self.until && !self.sooner.is_empty() {
-            return &self.sooner;
+        if until <= self.until && !self.late_until.is_empty() {
+            return &self.late_until;
         }
         &self.late
     }
@@ -127,7 +127,7 @@ impl<A: Allocator + Copy> Reach<A> {
         };
         let task = Task::new(plan, request, &course, excluded, source);
         if !is_first {
-            self.sooner = latest_by(alloc, &task, looks, self.until)?;
+            self.late_until = latest_by(alloc, &task, looks, self.until)?;
             return Ok(());
         }
         let late = latest_by(alloc, &task, looks, NEVER)?;

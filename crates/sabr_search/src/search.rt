@@ -9,13 +9,12 @@ ghost use Rattle.sabr_search.specs.layers.Level.{IsLevelOf};
 ghost use Rattle.sabr_search.specs.layers.Reach.{IsReach};
 
 use crate::answers::payoff::Payoff;
-use crate::backward::deadlines::Deadlines;
 use crate::backward::from_goal::Aim;
 use crate::backward::since::Since;
 use crate::bound::Bound;
-use crate::forward::layers::Layers;
 use crate::forward::settling::{Forward, Settling};
 use crate::found::{Found, FoundWay};
+use crate::layer_search::LayerSearch;
 use crate::level::Level;
 use crate::level::walk::{Walk, Walked};
 use crate::reach::Reach;
@@ -48,10 +47,8 @@ pub struct Search<A: Allocator + Copy> {
     settling: Settling<A>,
     /// Whether that answers where a limit on hops may bind.
     settles: Payoff,
-    /// Layers forward, within a limit on hops.
-    layers: Layers<A>,
-    /// Layers backward.
-    deadlines: Deadlines<A>,
+    /// Layers by hops, forward within a limit and backward.
+    layers: LayerSearch<A>,
     /// A pick by layers for one delivery.
     walk: Walk<A>,
 }
@@ -64,8 +61,7 @@ impl<A: Allocator + Copy> Search<A> {
             first: Vec::new(alloc),
             settling: Settling::new(alloc),
             settles: Payoff::new(TRIES, LEAST, PAUSE),
-            layers: Layers::new(alloc),
-            deadlines: Deadlines::new(alloc),
+            layers: LayerSearch::new(alloc),
             walk: Walk::new(alloc),
         }
     }
@@ -136,8 +132,7 @@ impl<A: Allocator + Copy> Search<A> {
             first: &self.first,
             delivery: 0,
         };
-        self.deadlines
-            .least_within(&mut self.layers, &aim, looks, hops, bound)
+        self.layers.least_within(&aim, looks, hops, bound)
     }
 
     /// Returns the least way of at most so many hops up to a bound, or what each way is above. If the first way that settling
@@ -175,10 +170,10 @@ impl<A: Allocator + Copy> Search<A> {
             until,
         };
         let reached = self.settling.run(&forward, looks, &mut self.first)?;
-        let Some(first) = reached else {
+        let Some(best) = reached else {
             return Ok(Found::GaveUp);
         };
-        if first.hops == 0 {
+        if best.hops == 0 {
             self.settles.win();
             return Ok(Found::Beyond(bound.at_any_hops()));
         }
@@ -187,20 +182,18 @@ impl<A: Allocator + Copy> Search<A> {
             arrival: &self.settling.arrival,
             costs: &reach.costs,
             soon: &reach.soon,
-            delivery: first.delivery,
+            delivery: best.delivery,
         };
         let aim = Aim {
             task,
             since: &since,
             first: &self.first,
-            delivery: first.delivery,
+            delivery: best.delivery,
         };
-        if first.hops > hops {
-            return self
-                .deadlines
-                .least_within(&mut self.layers, &aim, looks, hops, bound);
+        if best.hops > hops {
+            return self.layers.least_within(&aim, looks, hops, bound);
         }
         self.settles.win();
-        self.deadlines.least_up_to(&aim, looks, hops, bound)
+        self.layers.least_up_to(&aim, looks, hops, bound)
     }
 }

@@ -5,15 +5,16 @@ ghost use Rattle.sabr_model.specs.routes.Route.{is_prefix};
 ghost use Rattle.sabr_model.specs.routes.Telling.{told_of};
 ghost use Rattle.sabr_model.specs.plan.Table.{node_count};
 ghost use Rattle.sabr_search.specs.questions.Part.{IsLeast};
-ghost use Rattle.sabr_search.specs.questions.Bounded.{IsSought, IsCutUpTo, IsFloor, IsWhole, bound_after, hops_sought};
+ghost use Rattle.sabr_search.specs.questions.Bounded.{IsSought, IsCutUpTo, IsFloor, IsWhole, hops_sought};
 ghost use Rattle.sabr_search.specs.questions.Task.{IsAsked, IsOfRequest, left_of};
 ghost use Rattle.sabr_index.specs.Looks.{looks_taken};
 ghost use Rattle.sabr_search.specs.questions.Told.{hops_told, IsCut};
 ghost use Rattle.sabr_search.specs.questions.WideTasks.{ShutsFewer};
 ghost use Rattle.sabr_search.specs.answers.Answers.{narrowed};
+ghost use Rattle.sabr_search.specs.answers.Asked.{AnswersAt, bound_left, hops_left};
 ghost use Rattle.sabr_search.specs.answers.Early.{IsEarly};
 ghost use Rattle.sabr_search.specs.answers.Kept.{IsKept};
-ghost use Rattle.sabr_search.specs.answers.KeptAnswers.{AnswersAt, is_kept_after};
+ghost use Rattle.sabr_search.specs.answers.KeptAnswers.{is_kept_after};
 ghost use Rattle.sabr_search.specs.answers.Cut.{IsCutBefore};
 ghost use Rattle.sabr_search.specs.answers.Found.{IsEnough, IsFound, found_hops};
 ghost use Rattle.sabr_search.specs.declared.answers.Answer.{Answer};
@@ -60,16 +61,16 @@ impl<A: Allocator + Copy> Search<A> {
         looks: &mut Looks,
     ) -> Result<Early<A>, NoMemory>
         requires asked { IsAsked asked.now.task.now asked.now.prefix.now }
-        requires floor { IsNoneSooner asked.now.task.now (left_of asked.now.task.now asked.now.prefix.now) asked.now.floor }
+        requires floor { IsNoneSooner asked.now.task.now (hops_left asked.now) asked.now.floor }
         requires level { IsLevel (tabled_of asked.now.task.now) asked.now.task.now.request level.now }
-        ensures { (answers : List (Answer A)) → IfOk result (IsEarly asked.now.task.now asked.now.prefix.now asked.now.bound answers) }
+        ensures { (answers : List (Answer A)) → IfOk result (IsEarly asked.now answers) }
     {
         if !level.is_for(asked.floor) || !spending.takes() {
             return Ok(Early::None);
         }
         let bound = asked.bound_left();
-        let found = self.run_level(asked.task, level, looks, asked.left(), bound)?;
-        if !found.tells(bound) {
+        let found = self.run_level(asked.task, level, looks, asked.hops_left(), bound)?;
+        if !found.is_enough(bound) {
             return Ok(Early::None);
         }
         spending.win();
@@ -89,14 +90,14 @@ impl<A: Allocator + Copy> Search<A> {
         requires request { IsOfRequest (narrowed asked.now.task.now kept.old.widening.shut asked.now.task.now.at) }
         requires kept { IsKept (tabled_of asked.now.task.now) asked.now.task.now.request kept.old }
         ensures kept { IsKept (tabled_of asked.now.task.now) asked.now.task.now.request kept.new }
-        ensures some { IfOk result (λ o. IfSome o (λ place. AnswersAt kept.new.answers.slots.items place asked.now.task.now (left_of asked.now.task.now asked.now.prefix.now) (bound_after asked.now.bound (length asked.now.prefix.now)))) }
+        ensures some { IfOk result (λ o. IfSome o (AnswersAt kept.new.answers.slots.items asked.now)) }
     {
         let wide = asked.task.with_shut(&kept.widening.shut);
-        let left = asked.left();
+        let hops = asked.hops_left();
         let before = looks.left();
-        let found = self.run(&wide, &kept.reach, looks, left, asked.bound_left())?;
+        let found = self.run(&wide, &kept.reach, looks, hops, asked.bound_left())?;
         kept.spending.search(before.saturating_sub(looks.left()));
-        let Some(place) = kept.answers.keep(&wide, left, &found, breadth) else {
+        let Some(place) = kept.answers.keep(&wide, hops, &found, breadth) else {
             return Ok(None);
         };
         Ok(kept.answers.recall_at(place, asked, looks))
@@ -111,11 +112,11 @@ impl<A: Allocator + Copy> Search<A> {
         looks: &mut Looks,
     ) -> Result<Early<A>, NoMemory>
         requires asked { IsAsked asked.now.task.now asked.now.prefix.now }
-        requires floor { IsNoneSooner asked.now.task.now (left_of asked.now.task.now asked.now.prefix.now) asked.now.floor }
+        requires floor { IsNoneSooner asked.now.task.now (hops_left asked.now) asked.now.floor }
         requires kept { IsKept (tabled_of asked.now.task.now) asked.now.task.now.request kept.old }
         ensures kept { IsKept (tabled_of asked.now.task.now) asked.now.task.now.request kept.new }
         ensures others { is_kept_after asked.now.prefix.now asked.now.task.now.excluded ≡ false → kept.new.answers.slots ≡ kept.old.answers.slots }
-        ensures early { IfOk result (IsEarly asked.now.task.now asked.now.prefix.now asked.now.bound kept.new.answers.slots.items) }
+        ensures early { IfOk result (IsEarly asked.now kept.new.answers.slots.items) }
     {
         if !kept.answers.serves(asked) {
             return self.find_level(&kept.level, &mut kept.spending, asked, looks);
@@ -148,11 +149,17 @@ impl<A: Allocator + Copy> Search<A> {
         requires reach { IsReach (tabled_of asked.now.task.now) asked.now.task.now.request reach.now }
         requires few { looks_taken looks.old ≤ 2 * length asked.now.task.now.plan.contacts }
         ensures bound { looks_taken looks.new ≤ 3 * length asked.now.task.now.table * length asked.now.task.now.plan.contacts }
-        ensures cut { IfOk result (λ f. IsEnough (bound_after asked.now.bound (length asked.now.prefix.now)) f → IsCutBefore asked.now (found_hops (bound_after asked.now.bound (length asked.now.prefix.now)) f) (looks_taken looks.new)) }
-        ensures found { IfOk result (IsFound asked.now.task.now (left_of asked.now.task.now asked.now.prefix.now)) }
-        ensures enough { IfOk result (IsEnough (bound_after asked.now.bound (length asked.now.prefix.now))) }
+        ensures cut { IfOk result (λ f. IsEnough (bound_left asked.now) f → IsCutBefore asked.now (found_hops (bound_left asked.now) f) (looks_taken looks.new)) }
+        ensures found { IfOk result (IsFound asked.now.task.now (hops_left asked.now)) }
+        ensures enough { IfOk result (IsEnough (bound_left asked.now)) }
     {
-        self.run(asked.task, reach, looks, asked.left(), asked.bound_left())
+        self.run(
+            asked.task,
+            reach,
+            looks,
+            asked.hops_left(),
+            asked.bound_left(),
+        )
     }
 
     /// The least route after the prefix up to the bound: by an early answer, or else by the question's own search, whose
@@ -165,7 +172,7 @@ impl<A: Allocator + Copy> Search<A> {
     ) -> Result<Sought<A>, NoMemory>
         requires asked { IsAsked asked.now.task.now asked.now.prefix.now }
         requires told { asked.now.told ≡ told_of asked.now.task.now.plan asked.now.prefix.now }
-        requires floor { IsNoneSooner asked.now.task.now (left_of asked.now.task.now asked.now.prefix.now) asked.now.floor }
+        requires floor { IsNoneSooner asked.now.task.now (hops_left asked.now) asked.now.floor }
         requires few { looks_taken looks.old ≤ 2 * length asked.now.task.now.plan.contacts }
         requires kept { IsKept (tabled_of asked.now.task.now) asked.now.task.now.request kept.old }
         ensures kept { IsKept (tabled_of asked.now.task.now) asked.now.task.now.request kept.new }

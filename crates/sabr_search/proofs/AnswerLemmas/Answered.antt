@@ -79,8 +79,8 @@ module _ (task : SearchTask) (prefix : List ℕ) (asked : IsAsked task prefix) w
       some_hop [] e way = absurd (both_ways (slice_index_or task.shut task.start false) (subst (λ k. slice_index_or task.shut k false ≡ false) (sym way.0) asked.task_is.goal_open) asked.task_is.start_shut)
       some_hop (n ∷ ns) e way = omega arith
 
-  pub floor_told : (d : ℕ) → IsFloor task.plan task.request prefix task.excluded d → IsNoneSooner task (left_of task prefix) d
-  floor_told d floor ns e within way = floor_below d floor (suc (length ns)) ns e (omega arith) within way
+  pub floor_of_ways : (d : ℕ) → IsFloor task.plan task.request prefix task.excluded d → IsNoneSooner task (left_of task prefix) d
+  floor_of_ways d floor ns e within way = floor_below d floor (suc (length ns)) ns e (omega arith) within way
 
   pub answered_is_least : (o : Option RouteRecord) → IsAnswered task prefix o → IsLeast task.plan task.request prefix task.excluded o
   answered_is_least None none = none_is_least task asked.task_is prefix asked.behind (λ ns e route way. none ns e (left_all ns route) way)

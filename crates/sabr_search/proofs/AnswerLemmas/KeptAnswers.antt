@@ -10,14 +10,16 @@ use Rattle.sabr_model.specs.declared.contact.Contact.{Contact}
 use Rattle.sabr_model.specs.plan.Plan.{contact_named, has}
 use Rattle.sabr_search.specs.declared.answers.Answer.{Answer}
 use Rattle.sabr_search.specs.declared.bound.Bound.{Bound}
+use Rattle.sabr_search.specs.declared.question.Question.{Question}
 use Rattle.sabr_search.specs.declared.visit.Visit.{Visit}
 use Rattle.sabr_search.specs.questions.Bounded.{is_up_to}
 use Rattle.sabr_search.specs.questions.Ways.{Leads}
-use Rattle.sabr_search.specs.questions.Task.{SearchTask, Takes, IsTask}
+use Rattle.sabr_search.specs.questions.Task.{SearchTask, Takes, IsTask, IsAsked}
 use Rattle.sabr_search.specs.layers.Picks.{IsLeastWay}
 use Rattle.sabr_search.specs.questions.FirstSteps.{tabled_of}
 use Rattle.sabr_search.specs.answers.Answers.{narrowed, Narrows, IsWayBeyond}
-use Rattle.sabr_search.specs.answers.KeptAnswers.{asked, AreListed, IsFoundWay, IsAnswer, Covers, IsAnswerTo, AnswersAt, IsPut, Arrives}
+use Rattle.sabr_search.specs.answers.KeptAnswers.{asked, AreListed, IsFoundWay, IsAnswer, Covers, IsAnswerTo, IsPut, Arrives}
+use Rattle.sabr_search.specs.answers.Asked.{AnswersAt, bound_left, hops_left}
 use Rattle.sabr_search.proofs.WayLemmas.Bounds.{up_to_itself}
 use Rattle.sabr_search.proofs.WayLemmas.Staying.{answers_stay}
 use Rattle.sabr_search.proofs.WayLemmas.Ways.{Leads-append}
@@ -101,8 +103,8 @@ module _ {A : Type 0} (task : SearchTask) (is : IsTask task) (goal_is : slice_ge
   goals : answer.goal ≡ task.goal
   goals = is.nodes.apart answer.goal task.goal task.request.destination answer.goal_is goal_is
 
-  narrows : (left : ℕ) → Covers a task left → Narrows (asked (tabled_of task) task.request a answer.flags answer.goal) task.shut task.at
-  narrows left covers = record {
+  narrows : (hops : ℕ) → Covers a task hops → Narrows (asked (tabled_of task) task.request a answer.flags answer.goal) task.shut task.at
+  narrows hops covers = record {
     later = covers.later;
     shuts = λ k off. by k off (slice_index_or answer.flags k false) refl;
   }
@@ -111,20 +113,20 @@ module _ {A : Type 0} (task : SearchTask) (is : IsTask task) (goal_is : slice_ge
       by k off false at = at
       by k off true at = let listed = answer.listed k at in absurd (both_ways (slice_index_or task.shut k false) off (covers.shuts listed.0 k listed.1))
 
-  pub beyond_kept : (left : ℕ) → Covers a task left → a.lists.way ≡ [] → IsWayBeyond task left a.bound
-  beyond_kept left covers none =
-      subst (λ t. IsWayBeyond t left a.bound) (narrowed_is task a covers.node covers.same answer.flags answer.goal goals)
-      (answers_stay.beyond (asked (tabled_of task) task.request a answer.flags answer.goal) task.shut task.at a.left left a.bound a.bound is.nodes (narrows left covers) covers.fewer (up_to_itself a.bound) (answer.found.none none))
+  pub beyond_kept : (hops : ℕ) → Covers a task hops → a.lists.way ≡ [] → IsWayBeyond task hops a.bound
+  beyond_kept hops covers none =
+      subst (λ t. IsWayBeyond t hops a.bound) (narrowed_is task a covers.node covers.same answer.flags answer.goal goals)
+      (answers_stay.beyond (asked (tabled_of task) task.request a answer.flags answer.goal) task.shut task.at a.hops hops a.bound a.bound is.nodes (narrows hops covers) covers.fewer (up_to_itself a.bound) (answer.found.none none))
 
-  pub way_kept : (left : ℕ) (b : Bound) → IsAnswerTo a task left b → 0 < length a.lists.way → IsLeastWay task left (a.delivery + 1) a.lists.way a.delivery
-  way_kept left b to some =
+  pub way_kept : (hops : ℕ) (b : Bound) → IsAnswerTo a task hops b → 0 < length a.lists.way → IsLeastWay task hops (a.delivery + 1) a.lists.way a.delivery
+  way_kept hops b to some =
       let was = asked (tabled_of task) task.request a answer.flags answer.goal in
       let same = narrowed_is task a to.covers.node to.covers.same answer.flags answer.goal goals in
       let way = to.way some in
       let taken : Leads (Takes (narrowed was task.shut task.at)) a.from.node task.at a.lists.way answer.goal a.delivery =
       subst (λ (t : SearchTask). Leads (Takes t) t.start t.at a.lists.way t.goal a.delivery) (sym same) way.1 in
-      subst (λ t. IsLeastWay t left (a.delivery + 1) a.lists.way a.delivery) same
-      (answers_stay.least was task.shut task.at a.left left (a.delivery + 1) a.lists.way a.delivery is.nodes (narrows left to.covers) to.covers.fewer (answer.found.some some) way.0 taken)
+      subst (λ t. IsLeastWay t hops (a.delivery + 1) a.lists.way a.delivery) same
+      (answers_stay.least was task.shut task.at a.hops hops (a.delivery + 1) a.lists.way a.delivery is.nodes (narrows hops to.covers) to.covers.fewer (answer.found.some some) way.0 taken)
 
   -- the way stands at the start
   pub on_way_first : a.from.node ≡ task.start → a.lists.excluded ≡ task.excluded → 0 < length a.lists.way → IsOnWay task a.lists.way 0 task.start task.at
@@ -137,48 +139,48 @@ module _ {A : Type 0} (task : SearchTask) (is : IsTask task) (goal_is : slice_ge
         (joins task a node same answer.flags answer.goal a.lists.way a.from.node a.from.at answer.goal a.delivery (answer.found.some some).way);
   }
 
--- what is told by the answer at a place
-module _ {A : Type 0} (task : SearchTask) (is : IsTask task) (goal_is : slice_get task.table task.goal ≡ Some task.request.destination) (answers : List (Answer A)) (all : All (IsAnswer (tabled_of task) task.request) answers)
-    (place left : ℕ) (b : Bound) (at : AnswersAt answers place task left b) (a : Answer A) (read : a ≡ slice_index_or answers place a) where
+-- the answer at a place is the answer to a question, too
+module _ {A : Type 0} (question : Question A) (asked_is : IsAsked question.task.now question.prefix.now) (answers : List (Answer A)) (all : All (IsAnswer (tabled_of question.task.now) question.task.now.request) answers)
+    (place : ℕ) (at : AnswersAt answers question place) (a : Answer A) (read : a ≡ slice_index_or answers place a) where
   there : slice_get answers place ≡ Some a
   there = slice_get-get_or answers place a (slice_get_within answers place at.0 at.1) ∙ ap Some (sym read)
 
-  one : IsAnswer (tabled_of task) task.request a
-  one = subst (IsAnswer (tabled_of task) task.request) (get_or_from_slice_get answers place a a there) (all place a (slice_get_within answers place a there))
+  one : IsAnswer (tabled_of question.task.now) question.task.now.request a
+  one = subst (IsAnswer (tabled_of question.task.now) question.task.now.request) (get_or_from_slice_get answers place a a there) (all place a (slice_get_within answers place a there))
 
-  to : IsAnswerTo a task left b
-  to = subst (λ x. IsAnswerTo x task left b) (let q : Some at.0 ≡ Some a = sym at.1 ∙ there in cc (q)) at.2
+  to : IsAnswerTo a question.task.now (hops_left question) (bound_left question)
+  to = subst (λ x. IsAnswerTo x question.task.now (hops_left question) (bound_left question)) (let q : Some at.0 ≡ Some a = sym at.1 ∙ there in cc (q)) at.2
 
-  pub found_told : IsFoundWay task left a.lists.way a.delivery a.bound
-  found_told = record {
-    none = λ empty. beyond_kept task is goal_is a one left to.covers empty;
-    some = λ some. way_kept task is goal_is a one left b to some;
+  pub found_at : IsFoundWay question.task.now (hops_left question) a.lists.way a.delivery a.bound
+  found_at = record {
+    none = λ empty. beyond_kept question.task.now asked_is.task_is asked_is.behind.goal_is a one (hops_left question) to.covers empty;
+    some = λ some. way_kept question.task.now asked_is.task_is asked_is.behind.goal_is a one (hops_left question) (bound_left question) to some;
   }
 
   -- all that is up to the bound is up to its own
-  pub enough_told : a.lists.way ≡ [] → IsTrue (is_up_to a.bound b.delivery b.hops)
-  enough_told = to.none
+  pub enough_at : a.lists.way ≡ [] → IsTrue (is_up_to a.bound (bound_left question).delivery (bound_left question).hops)
+  enough_at = to.none
 
 -- the answer to a question, kept
-pub kept_is : {A : Type 0} (task : SearchTask) (a : Answer A) → slice_get task.table task.goal ≡ Some task.request.destination → IsFoundWay task a.left a.lists.way a.delivery a.bound →
+pub kept_is : {A : Type 0} (task : SearchTask) (a : Answer A) → slice_get task.table task.goal ≡ Some task.request.destination → IsFoundWay task a.hops a.lists.way a.delivery a.bound →
     a.from.node ≡ task.start → a.from.at ≡ task.at → a.lists.excluded ≡ task.excluded → AreListed task.shut a.lists.shut → IsAnswer (tabled_of task) task.request a
 kept_is task a goal_is found node at same listed = record {
   flags = task.shut;
   goal = task.goal;
   goal_is = goal_is;
   listed = listed;
-  found = subst (λ t. IsFoundWay t a.left a.lists.way a.delivery a.bound) (sym (asked_is task a node same at)) found;
+  found = subst (λ t. IsFoundWay t a.hops a.lists.way a.delivery a.bound) (sym (asked_is task a node same at)) found;
 }
 
 -- a way that is found, and a bound that each is above, as they are kept
-pub way_flat : (task : SearchTask) (left : ℕ) (numbers : List ℕ) (d : ℕ) (b : Bound) → IsLeastWay task left (d + 1) numbers d → IsFoundWay task left numbers d b
-way_flat task left numbers d b least = record {
+pub way_flat : (task : SearchTask) (hops : ℕ) (numbers : List ℕ) (d : ℕ) (b : Bound) → IsLeastWay task hops (d + 1) numbers d → IsFoundWay task hops numbers d b
+way_flat task hops numbers d b least = record {
   none = λ empty. absurd (omega (arith, least.some, ap length empty));
   some = λ some. least;
 }
 
-pub beyond_flat : (task : SearchTask) (left d : ℕ) (b : Bound) → IsWayBeyond task left b → IsFoundWay task left [] d b
-beyond_flat task left d b beyond = record {
+pub beyond_flat : (task : SearchTask) (hops d : ℕ) (b : Bound) → IsWayBeyond task hops b → IsFoundWay task hops [] d b
+beyond_flat task hops d b beyond = record {
   none = λ empty. beyond;
   some = λ some. absurd (omega (arith, some));
 }

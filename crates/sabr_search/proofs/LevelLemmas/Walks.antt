@@ -167,7 +167,7 @@ step_over task d hops from to before (Some s) unshut last found =
 
 module _ {A : Type 0} (task : SearchTask) (is : IsTask task) (level : Level A) (over : IsLevelOf task level) where
   -- by node the level has a place for each of the question's
-  pub level_nodes : length level.latest.items ≡ length task.table
+  pub level_nodes : length level.heads.items ≡ length task.table
   level_nodes = over.made.nodes ∙ ap (λ (p : TabledPlan). length p.table) over.plan
 
   -- with no hop left only the goal's entry counts

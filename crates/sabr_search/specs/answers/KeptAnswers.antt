@@ -32,9 +32,9 @@ pub record IsListing (shut : List Bool) (nodes : List ℕ) : Type 0 where
   pub once : (i j k : ℕ) → slice_get nodes i ≡ Some k → slice_get nodes j ≡ Some k → i ≡ j
 
 -- the numbers of the least way and when it delivers, or no numbers where each way is above the bound
-pub record IsFoundWay (task : SearchTask) (left : ℕ) (numbers : List ℕ) (delivery : ℕ) (b : Bound) : Type 0 where
-  pub none : numbers ≡ [] → IsWayBeyond task left b
-  pub some : 0 < length numbers → IsLeastWay task left (delivery + 1) numbers delivery
+pub record IsFoundWay (task : SearchTask) (hops : ℕ) (numbers : List ℕ) (delivery : ℕ) (b : Bound) : Type 0 where
+  pub none : numbers ≡ [] → IsWayBeyond task hops b
+  pub some : 0 < length numbers → IsLeastWay task hops (delivery + 1) numbers delivery
 
 -- the answer to a question to the destination: the least way, or no numbers where each is above its bound
 pub record IsAnswer {A : Type 0} (p : TabledPlan) (r : RouteRequest) (a : Answer A) : Type 0 where
@@ -42,7 +42,7 @@ pub record IsAnswer {A : Type 0} (p : TabledPlan) (r : RouteRequest) (a : Answer
   pub goal : ℕ
   pub goal_is : slice_get p.table goal ≡ Some r.destination
   pub listed : AreListed flags a.lists.shut
-  pub found : IsFoundWay (asked p r a flags goal) a.left a.lists.way a.delivery a.bound
+  pub found : IsFoundWay (asked p r a flags goal) a.hops a.lists.way a.delivery a.bound
 
 -- so many answers are kept
 abbrev pub most_answers : ℕ
@@ -58,23 +58,19 @@ abbrev pub is_kept_after : List ℕ → List ℕ → Bool
 is_kept_after prefix excluded = nat_lt 0 (length prefix) && (nat_le (length prefix) 128 && nat_le (length excluded) 64)
 
 -- the search starts at the same node and no earlier, excludes the same numbers, shuts these nodes, too, and leaves no more hops
-pub record Covers {A : Type 0} (a : Answer A) (task : SearchTask) (left : ℕ) : Type 0 where
+pub record Covers {A : Type 0} (a : Answer A) (task : SearchTask) (hops : ℕ) : Type 0 where
   pub node : a.from.node ≡ task.start
   pub later : a.from.at ≤ task.at
-  pub fewer : left ≤ a.left
+  pub fewer : hops ≤ a.hops
   pub same : a.lists.excluded ≡ task.excluded
   pub shuts : AllShut task.shut a.lists.shut
 
 -- and its way, if it has one, may be taken still, and delivers at the same second; else all that is up to the bound is up to
 -- its own
-pub record IsAnswerTo {A : Type 0} (a : Answer A) (task : SearchTask) (left : ℕ) (b : Bound) : Type 0 where
-  pub covers : Covers a task left
+pub record IsAnswerTo {A : Type 0} (a : Answer A) (task : SearchTask) (hops : ℕ) (b : Bound) : Type 0 where
+  pub covers : Covers a task hops
   pub none : a.lists.way ≡ [] → IsTrue (is_up_to a.bound b.delivery b.hops)
-  pub way : 0 < length a.lists.way → (length a.lists.way ≤ left) × Leads (Takes task) task.start task.at a.lists.way task.goal a.delivery
-
--- so the answer at this place
-abbrev pub AnswersAt : {A : Type 0} → List (Answer A) → ℕ → SearchTask → ℕ → Bound → Type 0
-AnswersAt {A} answers place task left b = (a : Answer A) × (slice_get answers place ≡ Some a) × IsAnswerTo a task left b
+  pub way : 0 < length a.lists.way → (length a.lists.way ≤ hops) × Leads (Takes task) task.start task.at a.lists.way task.goal a.delivery
 
 -- each of these is the one that was put there, or was among them before
 abbrev pub IsPut : {A : Type 0} → List (Answer A) → List (Answer A) → Answer A → Type 0

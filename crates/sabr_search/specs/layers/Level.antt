@@ -38,9 +38,9 @@ pub record IsLastBelow (entries : List Deadline) (v end place : ℕ) : Type 0 wh
   pub none : (p : ℕ) (e : Deadline) → place ≤ p → p < end → slice_get entries p ≡ Some e → e.node ≡ v → ⊥
 
 -- by node the last of its entries, and by entry the one before it of the same node
-pub record AreChained (entries : List Deadline) (latest fewer : List ℕ) : Type 0 where
+pub record AreChained (entries : List Deadline) (heads fewer : List ℕ) : Type 0 where
   pub many : length fewer ≡ length entries
-  pub last : (v : ℕ) → v < length latest → IsLastBelow entries v (length entries) (slice_index latest v)
+  pub last : (v : ℕ) → v < length heads → IsLastBelow entries v (length entries) (slice_index heads v)
   pub each : (p : ℕ) (e : Deadline) → slice_get entries p ≡ Some e → IsLastBelow entries e.node p (slice_index fewer p)
 
 -- no entry of node v before `end` may be left at this second or later
@@ -53,8 +53,8 @@ pub record IsMadeFor {A : Type 0} (whole : SearchTask) (level : Level A) : Type 
   pub since : List ℕ
   pub soon : AreSoonFor (tabled_of whole) whole.request since
   pub layers : AreWhole whole since level.delivery level.layers.ends.items level.layers.entries.items
-  pub chained : AreChained level.layers.entries.items level.latest.items level.fewer.items
-  pub nodes : length level.latest.items ≡ length whole.table
+  pub chained : AreChained level.layers.entries.items level.heads.items level.fewer.items
+  pub nodes : length level.heads.items ≡ length whole.table
 
 -- a level has the layers of some question
 abbrev pub HasLayers : {A : Type 0} → Level A → Type 0

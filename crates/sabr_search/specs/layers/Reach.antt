@@ -46,6 +46,6 @@ AreSoonFor p r soon =
 -- what is known of the ways of every question of the request is true
 pub record IsReach {A : Type 0} (p : TabledPlan) (r : RouteRequest) (reach : Reach A) : Type 0 where
   pub late : AreLateFor p r never reach.late.items
-  pub sooner : AreLateFor p r reach.until reach.sooner.items
+  pub late_until : AreLateFor p r reach.until reach.late_until.items
   pub costs : AreCostsFor p r reach.costs.items
   pub soon : AreSoonFor p r reach.soon.items

@@ -62,12 +62,12 @@ loop-place-init g c =
     let many : length stops ≡ front + 1 = omega (arith, c.loop-self-test.false, c.len.ensures, so_far.front) in
     let all : AreStops p r prefix stops = same_stops p r numbers prefix front stops same many so_far.stops in
     let last : length stops - 1 ≡ front = omega (arith, many) in
-    let at : slice_get stops front ≡ Some c.index-last.result.now = slice_get-get_or stops front c.index-last.result.now (omega (arith, many)) ∙ ap Some (sym c.index-last.ensures) in
+    let at : slice_get stops front ≡ Some c.index-here.result.now = slice_get-get_or stops front c.index-here.result.now (omega (arith, many)) ∙ ap Some (sym c.index-here.ensures) in
     record {
       counted = refl;
       many = many;
       stops = all;
-      here = all front c.index-last.result.now at;
+      here = all front c.index-here.result.now at;
       shuts = subst (λ q. AreShut p.table c.loop-self.self.shut (is_closed p.plan r q)) (ap (λ k. take k numbers) last ∙ same) so_far.shuts;
       goal_is = so_far.goal_is;
     }
@@ -85,7 +85,7 @@ unreachable-requires-in_default-arrive g c =
     let i = c.loop-place.place in
     let n = slice_index prefix i in
     let step = hop_at c.args.plan.now.plan c.args.request.now prefix c.requires.fits i n (slice_get-get_or prefix i 0 c.loop-place-test.true) in
-    let a = arrival_at c.args.plan.now c.args.request.now (take i prefix) n step c.loop-place.last c.loop-place.invariant.here c.in-Some-hop.hop (rw c.in-Some-hop.is at c.follow-followed.ensures.hop) in
+    let a = arrival_at c.args.plan.now c.args.request.now (take i prefix) n step c.loop-place.here c.loop-place.invariant.here c.in-Some-hop.hop (rw c.in-Some-hop.is at c.follow-followed.ensures.hop) in
     let e : None ≡ Some step.arrived = sym c.in_default-arrive.is ∙ c.arrive.ensures ∙ a.2 in cc
 
 pub arrive-requires : goal.arrive-requires
@@ -107,11 +107,11 @@ loop-place-preserved g c =
     let at : slice_get prefix i ≡ Some n = slice_get-get_or prefix i 0 c.loop-place-test.true in
     let step : IsHop p.plan r (take i prefix) n = hop_at p.plan r prefix c.requires.fits i n at in
     let hop = rw c.in-Some-hop.is at c.follow-followed.ensures.hop in
-    let a = arrival_at p r (take i prefix) n step c.loop-place.last so_far.here c.in-Some-hop.hop hop in
+    let a = arrival_at p r (take i prefix) n step c.loop-place.here so_far.here c.in-Some-hop.hop hop in
     let there : c.in-Some-arrive.at ≡ step.arrived = (let q : Some c.in-Some-arrive.at ≡ Some step.arrived = sym c.in-Some-arrive.is ∙ c.arrive.ensures ∙ a.2 in cc (q)) in
     let to : slice_get p.table c.in-Some-hop.hop.receiver ≡ Some step.contact.to = hop.is.receiver ∙ ap (λ (d : Contact). Some d.to) a.0 in
     let next : Stop = record { node = c.in-Some-hop.hop.receiver; at = c.in-Some-arrive.at; told = c.follow-followed.result.told } in
-    let here : IsStop p r (take (i + 1) prefix) next = stop_after p r prefix i n at step c.loop-place.last next so_far.here to (a.1 ∙ ap Some (sym there)) c.follow-followed.ensures.told in
+    let here : IsStop p r (take (i + 1) prefix) next = stop_after p r prefix i n at step c.loop-place.here next so_far.here to (a.1 ∙ ap Some (sym there)) c.follow-followed.ensures.told in
     record {
       counted = omega (arith, so_far.counted, c.follow-followed.ensures.counted);
       many = ap length c.in_ok-push.ensures.items ∙ (stops_more p r prefix i c.loop-place.self.stops.items next so_far.many so_far.stops here).0;
@@ -152,9 +152,9 @@ returns-clause-entered g c = λ excluded.
     let course = c.requires.course in
     let nodes = has_nodes p course.tabled in
     let whole : take c.loop-place.place prefix ≡ prefix = take_all c.loop-place.place prefix (omega (arith, c.loop-place-test.false)) in
-    let here : IsStop p r prefix c.loop-place.last = rw whole at so_far.here in
+    let here : IsStop p r prefix c.loop-place.here = rw whole at so_far.here in
     let shuts : AreShut p.table c.loop-place.self.shut (is_closed p.plan r prefix) = rw whole at so_far.shuts in
     let goal_is = ap (slice_get p.table) so_far.goal_is ∙ course.goal_is in (
-      task_passed p r prefix c.loop-place.self.shut c.loop-place.last here shuts nodes c.loop-place.self.goal goal_is excluded course.plan (nodes_few p course.plan course.tabled) course.asked (prefix_facts p.plan r prefix c.requires.fits),
-      behind_passed p r prefix c.loop-place.self.shut c.loop-place.last here shuts nodes c.loop-place.self.goal goal_is excluded,
+      task_passed p r prefix c.loop-place.self.shut c.loop-place.here here shuts nodes c.loop-place.self.goal goal_is excluded course.plan (nodes_few p course.plan course.tabled) course.asked (prefix_facts p.plan r prefix c.requires.fits),
+      behind_passed p r prefix c.loop-place.self.shut c.loop-place.here here shuts nodes c.loop-place.self.goal goal_is excluded,
     )

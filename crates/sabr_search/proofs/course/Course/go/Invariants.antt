@@ -21,7 +21,7 @@ invariant-loop-place g l = record {
   counted : l.looks.left + l.place ≡ l.fn.looks.left + l.front;
   many : length l.self.stops.items ≡ l.place + 1;
   stops : AreStops l.plan l.request l.prefix l.self.stops.items;
-  here : IsStop l.plan l.request (take l.place l.prefix) l.last;
+  here : IsStop l.plan l.request (take l.place l.prefix) l.here;
   shuts : AreShut l.plan.table l.self.shut (is_closed l.plan.plan l.request (take l.place l.prefix));
   goal_is : l.self.goal ≡ l.fn.self.goal;
 }

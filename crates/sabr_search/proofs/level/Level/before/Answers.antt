@@ -10,8 +10,8 @@ pub loop-place-init : goal.loop-place-init
 loop-place-init g c =
     let own = c.args.self.now in
     let made = c.requires.layers.1 in
-    rw (read_at own.latest.items c.args.node c.index-place.result.now c.requires.node c.index-place.ensures)
-    (last_begins own.layers.entries.items c.args.node c.args.end (slice_index own.latest.items c.args.node) (made.chained.last c.args.node c.requires.node))
+    rw (read_at own.heads.items c.args.node c.index-place.result.now c.requires.node c.index-place.ensures)
+    (last_begins own.layers.entries.items c.args.node c.args.end (slice_index own.heads.items c.args.node) (made.chained.last c.args.node c.requires.node))
 
 pub index-place-requires-in-loop-place : goal.index-place-requires-in-loop-place
 index-place-requires-in-loop-place g c =
@@ -27,7 +27,7 @@ loop-place-smaller g c =
     let some : 0 < place = omega (arith, c.loop-place-test.true) in
     let there = c.loop-place.invariant.entry some in
     let within : place - 1 < length own.fewer.items = omega (arith, slice_get_within own.layers.entries.items (place - 1) _ there.1, c.requires.layers.1.chained.many) in
-    omega (arith, some, next_below own.layers.entries.items own.latest.items own.fewer.items c.args.node there.0 place c.requires.layers.1.chained there.1, read_at own.fewer.items (place - 1) c.index-place-in-loop-place.result.now within c.index-place-in-loop-place.ensures)
+    omega (arith, some, next_below own.layers.entries.items own.heads.items own.fewer.items c.args.node there.0 place c.requires.layers.1.chained there.1, read_at own.fewer.items (place - 1) c.index-place-in-loop-place.result.now within c.index-place-in-loop-place.ensures)
 
 pub loop-place-preserved : goal.loop-place-preserved
 loop-place-preserved g c =
@@ -36,7 +36,7 @@ loop-place-preserved g c =
     let there = c.loop-place.invariant.entry (omega (arith, c.loop-place-test.true)) in
     let within : place - 1 < length own.fewer.items = omega (arith, slice_get_within own.layers.entries.items (place - 1) _ there.1, c.requires.layers.1.chained.many) in
     rw (read_at own.fewer.items (place - 1) c.index-place-in-loop-place.result.now within c.index-place-in-loop-place.ensures)
-    (last_goes own.layers.entries.items own.latest.items own.fewer.items c.args.node c.args.end place c.requires.layers.1.chained c.loop-place-test.true c.loop-place.invariant)
+    (last_goes own.layers.entries.items own.heads.items own.fewer.items c.args.node c.args.end place c.requires.layers.1.chained c.loop-place-test.true c.loop-place.invariant)
 
 pub index-requires : goal.index-requires
 index-requires g c =

@@ -8,7 +8,7 @@ pub loop-place-preserved : goal.loop-place-preserved
 loop-place-preserved g c =
     let so_far = c.loop-place.invariant in
     let entries = c.loop-place.self.layers.entries in
-    let latest = c.loop-place.self.latest.items in
+    let latest = c.loop-place.self.heads.items in
     let fewer = c.loop-place.self.fewer.items in
     let i = c.loop-place.place in
     let e = c.index.result.now in
@@ -27,4 +27,4 @@ pub returns-clause-chained : goal.returns-clause-chained
 returns-clause-chained g c =
     let so_far = c.loop-place.invariant in
     let all : c.loop-place.place ≡ length c.loop-place.self.layers.entries.items = omega (arith, c.loop-place-test.false, c.loop-place.auto.place-end, c.len-place-end.ensures, ap (λ l. length l.entries.items) so_far.layers, c.loop-place.self.layers.entries.ok.0) in
-    chained_all c.loop-place.self.layers.entries.items c.args.nodes c.loop-place.place c.loop-place.self.latest.items c.loop-place.self.fewer.items all so_far.chained
+    chained_all c.loop-place.self.layers.entries.items c.args.nodes c.loop-place.place c.loop-place.self.heads.items c.loop-place.self.fewer.items all so_far.chained

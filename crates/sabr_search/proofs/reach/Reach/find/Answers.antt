@@ -40,14 +40,14 @@ soonest_of-requires g c =
 pub returns-then-not-is_first : goal.returns-then-not-is_first
 returns-then-not-is_first g c =
     let was = c.requires.reach in
-    record { reach = record { late = was.late; sooner = rw c.new-task.ensures at c.in_ok-self.ensures.late; costs = was.costs; soon = was.soon } }
+    record { reach = record { late = was.late; late_until = rw c.new-task.ensures at c.in_ok-self.ensures.late; costs = was.costs; soon = was.soon } }
 
 pub returns : goal.returns
 returns g c =
     record {
       reach = record {
         late = rw c.new-task.ensures at c.in_ok-late.ensures.late;
-        sooner = c.requires.reach.sooner;
+        late_until = c.requires.reach.late_until;
         costs = rw c.new-task.ensures at c.in_ok-costs.ensures.costs;
         soon = rw c.new-task.ensures at c.in_ok-soon.ensures.soon;
       };

@@ -6,10 +6,10 @@ pub run_level-requires-clause-level : goal.run_level-requires-clause-level
 run_level-requires-clause-level g c = c.requires.level (c.is_for.ensures c.if-not-is_for.false).0 c.args.asked.now.task.now c.args.asked.now.prefix.now c.requires.asked refl refl
 
 pub run_level-requires-clause-nodes : goal.run_level-requires-clause-nodes
-run_level-requires-clause-nodes g c = omega (arith, c.left.ensures, left_less c.args.asked.now.task.now c.args.asked.now.prefix.now c.requires.asked, c.requires.asked.task_is.few)
+run_level-requires-clause-nodes g c = omega (arith, c.hops_left.ensures, left_less c.args.asked.now.task.now c.args.asked.now.prefix.now c.requires.asked, c.requires.asked.task_is.few)
 
 pub run_level-requires-clause-floor : goal.run_level-requires-clause-floor
-run_level-requires-clause-floor g c = rw (c.left.ensures, (c.is_for.ensures c.if-not-is_for.false).1) c.requires.floor
+run_level-requires-clause-floor g c = rw (c.hops_left.ensures, (c.is_for.ensures c.if-not-is_for.false).1) c.requires.floor
 
 pub returns : goal.returns
-returns g c = λ answers. (rw c.left.ensures at c.in_ok-found.ensures.found, rw c.bound_left-bound.ensures at (c.tells.ensures c.if-not-tells.false))
+returns g c = λ answers. (rw c.hops_left.ensures at c.in_ok-found.ensures.found, rw c.bound_left-bound.ensures at (c.is_enough.ensures c.if-not-is_enough.false))

@@ -1,5 +1,5 @@
-use Rattle.std.proofs.Common.{length, arith}
-use Rattle.sabr_search.specs.questions.Bounded.{bound_after}
+use Rattle.std.proofs.Common.{arith}
+use Rattle.sabr_search.specs.answers.Asked.{bound_left}
 use Rattle.sabr_search.proofs.WayLemmas.Prefixes.{prefix_facts}
 use Rattle.sabr_search.proofs.AnswerLemmas.Around.{of_request}
 use Rattle.sabr_search.proofs.AnswerLemmas.Soonest.{stop_of, soon_after}
@@ -18,19 +18,19 @@ run-requires-clause-soon g c =
     soon_after task prefix (of_request task prefix behind) (prefix_facts task.plan task.request prefix c.requires.asked.fits) (stop_of task prefix behind) _ c.requires.reach.soon
 
 pub run-requires-clause-nodes : goal.run-requires-clause-nodes
-run-requires-clause-nodes g c = omega (arith, c.left.ensures, left_less c.args.asked.now.task.now c.args.asked.now.prefix.now c.requires.asked, c.requires.asked.task_is.few)
+run-requires-clause-nodes g c = omega (arith, c.hops_left.ensures, left_less c.args.asked.now.task.now c.args.asked.now.prefix.now c.requires.asked, c.requires.asked.task_is.few)
 
 -- it would give up only for want of looks
 pub returns-clause-enough : goal.returns-clause-enough
 returns-clause-enough g c =
-    enough_unless _ _ (bound_after c.args.asked.now.bound (length c.args.asked.now.prefix.now)) (λ less. omega (arith, less, c.requires.few, search_fits c.args.asked.now.task.now c.args.asked.now.prefix.now c.requires.asked)) c.run.result (rw (c.left.ensures, c.bound_left.ensures) at c.run.ensures.enough)
+    enough_unless _ _ (bound_left c.args.asked.now) (λ less. omega (arith, less, c.requires.few, search_fits c.args.asked.now.task.now c.args.asked.now.prefix.now c.requires.asked)) c.run.result (rw (c.hops_left.ensures, c.bound_left.ensures) at c.run.ensures.enough)
 
 pub returns-clause-bound : goal.returns-clause-bound
 returns-clause-bound g c =
-    omega (arith, rw c.left.ensures at c.run.ensures.counted, c.requires.few, layers_within c.args.asked.now.task.now c.args.asked.now.prefix.now c.requires.asked)
+    omega (arith, rw c.hops_left.ensures at c.run.ensures.counted, c.requires.few, layers_within c.args.asked.now.task.now c.args.asked.now.prefix.now c.requires.asked)
 
 pub returns-clause-cut : goal.returns-clause-cut
 returns-clause-cut g c =
     let task = c.args.asked.now.task.now in
     let prefix = c.args.asked.now.prefix.now in
-    if_ok c.run.result _ _ (λ found cut enough most. omega (arith, cut enough (left_free task prefix c.requires.asked most), c.requires.few)) (rw (c.left.ensures, c.bound_left.ensures) at c.run.ensures.cut)
+    if_ok c.run.result _ _ (λ found cut enough most. omega (arith, cut enough (left_free task prefix c.requires.asked most), c.requires.few)) (rw (c.hops_left.ensures, c.bound_left.ensures) at c.run.ensures.cut)

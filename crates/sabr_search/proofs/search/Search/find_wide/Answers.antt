@@ -5,7 +5,7 @@ use Rattle.sabr_search.proofs.AnswerLemmas.Answered.{left_less}
 use Rattle.sabr_search.proofs.search.Search.find_wide.Goals as goal
 
 pub run-requires-clause-nodes : goal.run-requires-clause-nodes
-run-requires-clause-nodes g c = omega (arith, c.left-left.ensures, left_less c.args.asked.now.task.now c.args.asked.now.prefix.now c.requires.asked, c.requires.asked.task_is.few)
+run-requires-clause-nodes g c = omega (arith, c.hops_left-hops.ensures, left_less c.args.asked.now.task.now c.args.asked.now.prefix.now c.requires.asked, c.requires.asked.task_is.few)
 
 pub run-requires-clause-request : goal.run-requires-clause-request
 run-requires-clause-request g c = rw c.with_shut-wide.ensures c.requires.request

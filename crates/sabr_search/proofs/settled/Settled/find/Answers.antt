@@ -7,7 +7,7 @@ use Rattle.sabr_index.specs.Looks.{looks_taken}
 use Rattle.sabr_search.proofs.WayLemmas.Prefixes.{prefix_facts}
 use Rattle.sabr_search.proofs.WayLemmas.Least.{none_is}
 use Rattle.sabr_search.proofs.AnswerLemmas.Law.{contacts_few, prefix_few}
-use Rattle.sabr_search.proofs.AnswerLemmas.Answered.{floor_told}
+use Rattle.sabr_search.proofs.AnswerLemmas.Answered.{floor_of_ways}
 use Rattle.sabr_search.proofs.WayLemmas.Shortness.{entered_looks}
 use Rattle.sabr_search.proofs.settled.Settled.find.Goals as goal
 
@@ -63,7 +63,7 @@ pub least_after-answer-requires-clause-floor : goal.least_after-answer-requires-
 least_after-answer-requires-clause-floor g c =
     let found = c.in_ok-stop.ensures.entered in
     let both = found c.args.part.excluded.numbers.now in
-    rw (c.new-task.ensures, c.deref.ensures) (floor_told _ c.args.part.prefix.now (record {
+    rw (c.new-task.ensures, c.deref.ensures) (floor_of_ways _ c.args.part.prefix.now (record {
       task_is = both.0;
       behind = both.1;
       fits = c.requires.fits;

@@ -1,4 +1,4 @@
-//! The least way for a delivery, from layers made backward and picks; and within a limit on hops, from layers forward first.
+//! A search by layers alone: forward for the least delivery within a limit on hops, and backward for its least way.
 
 ghost use Rattle.std.specs.Prelude.{◌+◌, ◌*◌, ◌≤◌, ◌<◌, IfOk, length};
 ghost use Rattle.sabr_search.specs.questions.Task.{IsTask, most_nodes};
@@ -16,7 +16,24 @@ use sabr_index::Looks;
 use sabr_model::NoMemory;
 use std::alloc::Allocator;
 
-impl<A: Allocator + Copy> Deadlines<A> {
+/// Layers forward from the start, and layers backward from the goal, kept from call to call.
+#[derive(Drop)]
+pub struct LayerSearch<A: Allocator + Copy> {
+    /// Layers forward, for the least delivery within a limit on hops.
+    forward: Layers<A>,
+    /// Layers backward, for the least way with a delivery.
+    backward: Deadlines<A>,
+}
+
+impl<A: Allocator + Copy> LayerSearch<A> {
+    /// Has no layers. It takes no memory.
+    pub fn new(alloc: A) -> LayerSearch<A> {
+        LayerSearch {
+            forward: Layers::new(alloc),
+            backward: Deadlines::new(alloc),
+        }
+    }
+
     /// Returns the least way of at most so many hops, if it is up to a bound, where the least delivery of such ways is the one
     /// aimed at; else that each is above the bound. It gives up if more looks might be needed than are left.
     pub fn least_up_to(
@@ -39,17 +56,17 @@ impl<A: Allocator + Copy> Deadlines<A> {
         ensures enough { IfOk result (IsEnoughUnless (looks.old.left < 2 * (hops * length aim.now.task.now.plan.contacts)) bound) }
     {
         let most = bound.hops_at(aim.delivery, hops);
-        let made = self.make_back(aim, looks, most)?;
-        let Some(left) = made else {
+        let made = self.backward.make_back(aim, looks, most)?;
+        let Some(layer) = made else {
             return Ok(Found::GaveUp);
         };
-        if left == most {
+        if layer == most {
             return Ok(Found::Beyond(Bound {
                 delivery: aim.delivery,
                 hops: most,
             }));
         }
-        let picked = self.pick(aim, looks, left)?;
+        let picked = self.backward.pick(aim, looks, layer)?;
         let Some(numbers) = picked else {
             return Ok(Found::GaveUp);
         };
@@ -63,7 +80,6 @@ impl<A: Allocator + Copy> Deadlines<A> {
     /// than is aimed at. It gives up if more looks might be needed than are left.
     pub fn least_within(
         &mut self,
-        forward: &mut Layers<A>,
         aim: &Aim<'_, '_, '_, A>,
         looks: &mut Looks,
         hops: usize,
@@ -80,7 +96,9 @@ impl<A: Allocator + Copy> Deadlines<A> {
         ensures enough { IfOk result (IsEnoughUnless (looks.old.left < 3 * (hops * length aim.now.task.now.plan.contacts)) bound) }
     {
         let task = aim.task;
-        let made = forward.make(task, looks, hops, aim.delivery, bound.until())?;
+        let made = self
+            .forward
+            .make(task, looks, hops, aim.delivery, bound.until())?;
         let Some(best) = made else {
             return Ok(Found::GaveUp);
         };

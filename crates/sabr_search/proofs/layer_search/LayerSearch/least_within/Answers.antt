@@ -1,7 +1,7 @@
 use Rattle.std.proofs.Common.{◌≡◌, inl, inr, arith}
 use Rattle.sabr_search.specs.layers.Late.{IsNoneSooner}
 use Rattle.sabr_search.proofs.AnswerLemmas.UpTo.{any_up_to, none_by, enough_unless}
-use Rattle.sabr_search.proofs.backward.deadlines.Deadlines.least_within.Goals as goal
+use Rattle.sabr_search.proofs.layer_search.LayerSearch.least_within.Goals as goal
 
 pub returns-then-best-eq0-clause-found : goal.returns-then-best-eq0-clause-found
 returns-then-best-eq0-clause-found g c =
