@@ -42,11 +42,11 @@ pub struct Task<'a, A: Allocator + Copy> {
 
 impl<'a, A: Allocator + Copy> Model for Task<'a, A> {
     ghost use Rattle.std.specs.Prelude.{◌≡◌, true};
-    ghost use Rattle.sabr_search.specs.questions.Task.{SearchTask};
+    ghost use Rattle.sabr_search.specs.questions.Task.{SearchTask, task_of};
 
     ghost Value = { SearchTask };
 
-    ghost view = { λ a. record { plan = a.index.now.plan; request = a.request.now; table = a.index.now.table; shut = a.shut.now; excluded = a.excluded.numbers.now; start = a.start; goal = a.goal; at = a.at } };
+    ghost view = { λ a. task_of a.index.now a.request.now a.shut.now a.excluded.numbers.now a.start a.at a.goal };
 }
 
 impl<'a, A: Allocator + Copy> Task<'a, A> {
