@@ -23,14 +23,14 @@ pub struct GatheredContacts<A: Allocator + Copy = Global> {
 }
 
 impl<A: Allocator + Copy> Model for GatheredContacts<A> {
-    ghost use Rattle.sabr_model.specs.plan.Plan.{ContactPlan, IsPlan};
-    ghost use Rattle.sabr_gathering.specs.Gathering.{plan_of_contacts, KnowsSome};
+    ghost use Rattle.sabr_model.specs.plan.Plan.{ContactPlan};
+    ghost use Rattle.sabr_gathering.specs.Gathering.{plan_of_contacts, ContactsObey, KnowsSome};
 
     ghost Value = { ContactPlan };
 
     ghost view = { λ g. plan_of_contacts g.contacts.items g.greatest };
 
-    ghost invariant = { λ g. IsPlan (plan_of_contacts g.contacts.items g.greatest) × KnowsSome g.openings.chains.befores.items g.openings.chains.lasts.items g.openings.rising g.openings.last g.contacts.items };
+    ghost invariant = { λ g. ContactsObey g.contacts.items g.greatest × KnowsSome g.openings.chains.befores.items g.openings.chains.lasts.items g.openings.rising g.openings.last g.contacts.items };
 }
 
 impl<A: Allocator + Copy> GatheredContacts<A> {
