@@ -33,16 +33,13 @@ pub struct PlanFeed<A: Allocator + Copy> {
 }
 
 impl<A: Allocator + Copy> Model for PlanFeed<A> {
-    ghost use Rattle.std.specs.Prelude.{◌≤◌, ◌-◌, ◌*◌, length, IsTrue};
-    ghost use Rattle.sabr_plan.specs.Words.{is_one_line};
-    ghost use Rattle.sabr_plan.specs.Reading.{most_line_bytes, most_lines};
-    ghost use Rattle.sabr_plan.specs.Feeding.{Fed};
+    ghost use Rattle.sabr_plan.specs.Feeding.{Fed, BeginsLine};
 
     ghost Value = { Fed };
 
     ghost view = { λ f. record { lines = f.lines; reading = f.reading; held = f.held.items } };
 
-    ghost invariant = { λ f. (f.lines ≤ most_lines) × (length f.held.items ≤ most_line_bytes * (most_lines - f.lines)) × (length f.held.items ≤ most_line_bytes) × IsTrue (is_one_line f.held.items) };
+    ghost invariant = { λ f. BeginsLine f.lines f.held.items };
 }
 
 /// Returns the place of the first LF.
