@@ -14,9 +14,9 @@ use Rattle.sabr_model.specs.declared.contact.Range.{Range}
 use Rattle.sabr_model.specs.Order.{put_in, by_numbers}
 use Rattle.sabr_model.specs.declared.fault.AddFault.{AddFault}
 use Rattle.sabr_model.specs.declared.fault.AddFault.TheVariants.{EmptyWindow, SelfPair, RangeOverlap, TooMany}
-use Rattle.sabr_model.specs.plan.Plan.{IsPlan, IsWindow, IsNode, overlap, none_twice, range_key, last_time}
+use Rattle.sabr_model.specs.plan.Plan.{IsWindow, IsNode, overlap, none_twice, range_key, last_time}
 use Rattle.sabr_model.specs.plan.Adding.{range_refusal, first_refusal, by_range_key}
-use Rattle.sabr_gathering.specs.Gathering.{put_all, plan_of_ranges, gathered, AreTwoLists, AreGathered}
+use Rattle.sabr_gathering.specs.Gathering.{put_all, plan_of_ranges, RangesObey, gathered, AreTwoLists, AreGathered, AreThreeLists}
 use Rattle.sabr_model.proofs.PlanLemmas.RangeLemmas.{same_key_overlaps, accepted_range, choice, IsPlan-range}
 use Rattle.sabr_model.proofs.PlanLemmas.ContactLemmas.{IsPlan-empty}
 use Rattle.sabr_model.proofs.PlanLemmas.Deletions.{IsPlan-fewer_ranges}
@@ -165,7 +165,7 @@ pub any_of_both : (p : Range → Bool) (placed late : List Range) → AreGathere
 any_of_both p placed late h = any_gathered placed h.placed_obey.range_windows p late h.late_obey.range_windows h.late_obey.ranges_apart h.are_apart
 
 -- what passes a test is in one of three lists
-pub any_of_three : (p : Range → Bool) (placed late latest all : List Range) → AreGathered placed (gathered late latest) × AreGathered late latest → gathered placed (gathered late latest) ≡ all → (list_any p latest || (list_any p late || list_any p placed)) ≡ list_any p all
+pub any_of_three : (p : Range → Bool) (placed late latest all : List Range) → AreThreeLists placed late latest → gathered placed (gathered late latest) ≡ all → (list_any p latest || (list_any p late || list_any p placed)) ≡ list_any p all
 any_of_three p placed late latest all h same =
     or_assoc (list_any p latest) (list_any p late) (list_any p placed)
     ∙ ap (λ b. b || list_any p placed) (sym (any_of_both p late latest h.1))
@@ -177,7 +177,7 @@ pub length_of_both : (placed late : List Range) → AreGathered placed late → 
 length_of_both placed late h = length_gathered placed h.placed_obey.range_windows late h.late_obey.range_windows h.late_obey.ranges_apart h.are_apart
 
 -- ranges that stand in their places alone
-pub all_placed : (placed : List Range) → IsPlan (plan_of_ranges placed) → AreGathered placed []
+pub all_placed : (placed : List Range) → RangesObey placed → AreGathered placed []
 all_placed placed h = record { placed_obey = h; late_obey = IsPlan-empty; all_obey = h; are_apart = tt }
 
 -- what the latest leave when they go to their places, or don't because memory is refused
@@ -187,7 +187,7 @@ placed_or_not (Ok u) placed late placed_then late_then h a b c d = rw (a, b) (al
 placed_or_not (Err e) placed late placed_then late_then h a b c d = rw (c, d) (h, refl)
 
 -- what a deletion leaves, or a refusal
-pub deleted_or_not : {U E : Type 0} (r : Result U E) (t : Range → Bool) (all placed_then : List Range) → IsPlan (plan_of_ranges all) → OnOk r (placed_then ≡ filter t all) → OnErr r (placed_then ≡ all) → AreGathered placed_then []
+pub deleted_or_not : {U E : Type 0} (r : Result U E) (t : Range → Bool) (all placed_then : List Range) → RangesObey all → OnOk r (placed_then ≡ filter t all) → OnErr r (placed_then ≡ all) → AreGathered placed_then []
 deleted_or_not (Ok u) t all placed_then h a b = rw a (all_placed (filter t all) (IsPlan-fewer_ranges (plan_of_ranges all) t h))
 deleted_or_not (Err e) t all placed_then h a b = rw b (all_placed all h)
 
@@ -197,11 +197,11 @@ left_or_not (Ok u) late latest both late_then latest_then h a b c = tt
 left_or_not (Err e) late latest both late_then latest_then h a b c = rw (c, a, b) (all_placed (gathered late latest) h.all_obey, refl)
 
 -- what three lists leave when all go to their places in the first, or don't because memory is refused
-pub all_placed_or_not : {U E : Type 0} (r : Result U E) (placed late latest placed_then late_then latest_then : List Range) → AreGathered placed (gathered late latest)
+pub all_placed_or_not : {U E : Type 0} (r : Result U E) (placed late latest placed_then late_then latest_then : List Range) → AreThreeLists placed late latest
     → OnOk r (placed_then ≡ gathered placed (gathered late latest)) → OnOk r (late_then ≡ []) → OnOk r (latest_then ≡ []) → OnErr r (placed_then ≡ placed) → OnErr r (AreGathered late_then latest_then × (gathered late_then latest_then ≡ gathered late latest))
-    → (AreGathered placed_then (gathered late_then latest_then) × AreGathered late_then latest_then) × (gathered placed_then (gathered late_then latest_then) ≡ gathered placed (gathered late latest))
-all_placed_or_not (Ok u) placed late latest placed_then late_then latest_then h a b c d e = rw (a, b, c) ((all_placed (gathered placed (gathered late latest)) h.all_obey, all_placed [] IsPlan-empty), refl)
-all_placed_or_not (Err f) placed late latest placed_then late_then latest_then h a b c d e = rw (d, e.1) ((h, e.0), refl)
+    → AreThreeLists placed_then late_then latest_then × (gathered placed_then (gathered late_then latest_then) ≡ gathered placed (gathered late latest))
+all_placed_or_not (Ok u) placed late latest placed_then late_then latest_then h a b c d e = rw (a, b, c) ((all_placed (gathered placed (gathered late latest)) h.0.all_obey, all_placed [] IsPlan-empty), refl)
+all_placed_or_not (Err f) placed late latest placed_then late_then latest_then h a b c d e = rw (d, e.1) ((h.0, e.0), refl)
 
 -- what is not refused
 pub chosen : (a b c d : Bool) → a ≡ false → b ≡ false → c ≡ false → d ≡ false → cond a (Some EmptyWindow) (cond b (Some SelfPair) (cond c (Some RangeOverlap) (cond d (Some TooMany) None))) ≡ None
@@ -235,13 +235,13 @@ module _ (placed late : List Range) (h : AreGathered placed late) (r : Range) (a
   gathered_more one other ends light = record {
     placed_obey = h.placed_obey;
     late_obey = IsPlan-range (plan_of_ranges late) r h.late_obey one other ends light accept_late;
-    all_obey = subst (λ rs. IsPlan (plan_of_ranges rs)) (sym put_among_all) (IsPlan-range (plan_of_ranges (gathered placed late)) r h.all_obey one other ends light accept);
+    all_obey = subst RangesObey (sym put_among_all) (IsPlan-range (plan_of_ranges (gathered placed late)) r h.all_obey one other ends light accept);
     are_apart = all_put by_range_key (λ s. list_any (overlap s) placed ≡ false) r late news.1 h.are_apart;
   }
 
 -- a range that goes among the latest of three lists
-pub put_among_three : (r : Range) (placed late latest all latest_then : List Range) → AreGathered placed (gathered late latest) × AreGathered late latest → gathered placed (gathered late latest) ≡ all → range_refusal (plan_of_ranges all) r ≡ None → IsNode r.one → IsNode r.other → r.end ≤ last_time → r.light ≤ 1000000
-    → latest_then ≡ put_in by_range_key r latest → (AreGathered placed (gathered late latest_then) × AreGathered late latest_then) × (gathered placed (gathered late latest_then) ≡ put_in by_range_key r all)
+pub put_among_three : (r : Range) (placed late latest all latest_then : List Range) → AreThreeLists placed late latest → gathered placed (gathered late latest) ≡ all → range_refusal (plan_of_ranges all) r ≡ None → IsNode r.one → IsNode r.other → r.end ≤ last_time → r.light ≤ 1000000
+    → latest_then ≡ put_in by_range_key r latest → AreThreeLists placed late latest_then × (gathered placed (gathered late latest_then) ≡ put_in by_range_key r all)
 put_among_three r placed late latest all latest_then h same news one other ends light put =
     let both = gathered late latest in
     let accept = ap (λ rs. range_refusal (plan_of_ranges rs) r) same ∙ news in

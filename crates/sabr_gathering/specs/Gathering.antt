@@ -1,6 +1,6 @@
 -- Contacts that are gathered with what no two of them share; and ranges that are gathered in any order, most in their
 -- places, and the latest beside them.
-use Rattle.std.specs.Prelude.{◌≡◌, ℕ, ◌+◌, ◌*◌, ◌/◌, ◌%◌, ◌^◌, ◌≤◌, Bool, false, true, nat_lt, List, [], ◌∷◌, ◌++◌, map}
+use Rattle.std.specs.Prelude.{◌≡◌, ℕ, ◌+◌, ◌*◌, ◌/◌, ◌%◌, ◌^◌, ◌≤◌, Bool, false, true, nat_lt, List, [], ◌∷◌, ◌++◌, length, map, IsPermutation}
 use Rattle.std.specs.List.{list_any, AllByRecursion}
 use Rattle.std.specs.List.Sorted.{IsStrictlySortedBy}
 use Rattle.std.specs.declared.cmp.Ordering.{Ordering}
@@ -19,6 +19,10 @@ use Rattle.sabr_gathering.specs.ChainedPlaces.{AreChained}
 -- contacts alone and the greatest number given, as a plan without ranges
 abbrev pub plan_of_contacts : List Contact → ℕ → ContactPlan
 plan_of_contacts contacts greatest = record { contacts = contacts; ranges = []; greatest = greatest }
+
+-- the rules of a plan, for these alone
+abbrev pub ContactsObey : List Contact → ℕ → Type 0
+ContactsObey contacts greatest = IsPlan (plan_of_contacts contacts greatest)
 
 -- an opening as one number: by start, then by sender and receiver
 abbrev pub opening_number : Opening → ℕ
@@ -56,6 +60,10 @@ put_all cmp (x ∷ xs) ys = put_in cmp x (put_all cmp xs ys)
 abbrev pub plan_of_ranges : List Range → ContactPlan
 plan_of_ranges ranges = record { contacts = []; ranges = ranges; greatest = 0 }
 
+-- the rules of a plan, for these alone
+abbrev pub RangesObey : List Range → Type 0
+RangesObey ranges = IsPlan (plan_of_ranges ranges)
+
 -- the ranges in their places, and the latest put among them
 abbrev pub gathered : List Range → List Range → List Range
 gathered placed late = put_all by_range_key late placed
@@ -65,6 +73,10 @@ abbrev pub put_in_turn : List Range → List Range → List Range
 put_in_turn [] ys = ys
 put_in_turn (x ∷ xs) ys = put_in_turn xs (put_in by_range_key x ys)
 
+-- put in one by one, the ranges obey the rules of a plan, and none of them is lost
+abbrev pub ObeyInTurn : List Range → Type 0
+ObeyInTurn ranges = RangesObey (put_in_turn ranges []) × IsPermutation ranges (put_in_turn ranges [])
+
 -- the buckets of ranges by their ordered pairs, of 2048
 abbrev pub pair_bucket : ℕ → ℕ → ℕ
 pair_bucket one other = (one % 2048 * 509 + other % 2048) % 2048
@@ -72,9 +84,17 @@ pair_bucket one other = (one % 2048 * 509 + other % 2048) % 2048
 abbrev pub range_buckets : List Range → List ℕ
 range_buckets ranges = map (λ r. pair_bucket r.one r.other) ranges
 
+-- all of them are in chains
+abbrev pub RangesAreChained : List Range → List ℕ → List ℕ → Type 0
+RangesAreChained ranges befores lasts = AreChained (range_buckets ranges) befores lasts × (length befores ≡ length ranges)
+
 -- the range ends after a pair and second, given as a number, in the order of ranges
 abbrev pub ends_after : ℕ → Range → Bool
 ends_after number r = nat_lt number (place_number r.one r.other r.end)
+
+-- none of them does
+abbrev pub EndBy : ℕ → List Range → Type 0
+EndBy number ranges = list_any (ends_after number) ranges ≡ false
 
 -- ranges in order, and others in order that share no second of a pair with them
 pub record AreTwoLists (placed late : List Range) : Type 0 where
@@ -86,7 +106,11 @@ pub record AreTwoLists (placed late : List Range) : Type 0 where
 
 -- both lists and all of them obey the rules of a plan's ranges, and none of the latest overlaps one of the others
 pub record AreGathered (placed late : List Range) : Type 0 where
-  pub placed_obey : IsPlan (plan_of_ranges placed)
-  pub late_obey : IsPlan (plan_of_ranges late)
-  pub all_obey : IsPlan (plan_of_ranges (gathered placed late))
+  pub placed_obey : RangesObey placed
+  pub late_obey : RangesObey late
+  pub all_obey : RangesObey (gathered placed late)
   pub are_apart : AllByRecursion (λ r. list_any (overlap r) placed ≡ false) late
+
+-- the latest ranges beside the late, and these together beside the others
+abbrev pub AreThreeLists : List Range → List Range → List Range → Type 0
+AreThreeLists placed late latest = AreGathered placed (gathered late latest) × AreGathered late latest

@@ -1,7 +1,7 @@
 //! Places in chains by buckets: what is looked for is of one bucket, so a walk along its chain finds it.
 
-ghost use Rattle.std.specs.Prelude.{◌≡◌, ℕ, ◌+◌, ◌<◌, ◌≤◌, List, [], Some, OnOk, OnErr, length, slice_get, slice_index};
-ghost use Rattle.sabr_gathering.specs.ChainedPlaces.{AreChained};
+ghost use Rattle.std.specs.Prelude.{◌≡◌, ℕ, ◌+◌, ◌<◌, ◌≤◌, List, [], OnOk, OnErr, length, slice_index};
+ghost use Rattle.sabr_gathering.specs.ChainedPlaces.{AreChained, ComesNext};
 
 use std::alloc::{AllocError, Allocator};
 
@@ -43,7 +43,7 @@ impl<A: Allocator + Copy> Chains<A> {
     /// Puts the next place into the chain of its bucket.
     pub fn push(&mut self, bucket: usize) -> Result<(), AllocError>
         requires { bucket < length self.old.lasts.items }
-        ensures ok { (of : List ℕ) → AreChained of self.old.befores.items self.old.lasts.items → slice_get of (length self.old.befores.items) ≡ Some bucket → OnOk result (AreChained of self.new.befores.items self.new.lasts.items) }
+        ensures ok { (of : List ℕ) → ComesNext of self.old.befores.items self.old.lasts.items bucket → OnOk result (AreChained of self.new.befores.items self.new.lasts.items) }
         ensures longer { OnOk result (length self.new.befores.items ≡ length self.old.befores.items + 1) }
         ensures sized { length self.new.lasts.items ≡ length self.old.lasts.items }
 

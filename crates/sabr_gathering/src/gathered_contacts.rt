@@ -1,8 +1,8 @@
 //! Contacts that are gathered one by one, for a plan that takes them all at once.
 
-ghost use Rattle.std.specs.Prelude.{◌≡◌, ℕ, ◌<◌, ◌≤◌, ◌+◌, [], None, Some, Err, IfOk, OnOk, OnErr, IsOkUnless, ok_or, unwrap_or, ◌≢◌};
+ghost use Rattle.std.specs.Prelude.{◌≡◌, ◌<◌, ◌≤◌, ◌+◌, [], None, Some, Err, IfOk, OnOk, OnErr, IsOkUnless, ok_or, unwrap_or};
 ghost use Rattle.std.specs.List.{list_any};
-ghost use Rattle.sabr_model.specs.plan.Plan.{last_time, opens, IsPlan, most_records};
+ghost use Rattle.sabr_model.specs.plan.Plan.{last_time, opens, IsPlan};
 ghost use Rattle.sabr_model.specs.declared.fault.AddFault.{AddFault};
 ghost use Rattle.sabr_model.specs.declared.fault.AddFault.TheVariants.{NoMemory, NothingToDelete};
 ghost use Rattle.sabr_model.specs.plan.Adding.{next_contact, contact_refusal, with_contact, number_of_opening, without_contact};
@@ -23,14 +23,14 @@ pub struct GatheredContacts<A: Allocator + Copy = Global> {
 }
 
 impl<A: Allocator + Copy> Model for GatheredContacts<A> {
-    ghost use Rattle.sabr_model.specs.plan.Plan.{ContactPlan, IsPlan};
-    ghost use Rattle.sabr_gathering.specs.Gathering.{plan_of_contacts, KnowsSome};
+    ghost use Rattle.sabr_model.specs.plan.Plan.{ContactPlan};
+    ghost use Rattle.sabr_gathering.specs.Gathering.{plan_of_contacts, ContactsObey, KnowsSome};
 
     ghost Value = { ContactPlan };
 
     ghost view = { λ g. plan_of_contacts g.contacts.items g.greatest };
 
-    ghost invariant = { λ g. IsPlan (plan_of_contacts g.contacts.items g.greatest) × KnowsSome g.openings.chains.befores.items g.openings.chains.lasts.items g.openings.rising g.openings.last g.contacts.items };
+    ghost invariant = { λ g. ContactsObey g.contacts.items g.greatest × KnowsSome g.openings.chains.befores.items g.openings.chains.lasts.items g.openings.rising g.openings.last g.contacts.items };
 }
 
 impl<A: Allocator + Copy> GatheredContacts<A> {

@@ -2,8 +2,8 @@
 
 ghost use Rattle.std.specs.Prelude.{◌≡◌, [], ◌∷◌, ◌++◌, Err, OnOk, OnErr, IsTrue, IsFalse, IsOk, filter, length, not};
 ghost use Rattle.std.specs.List.{list_any};
-ghost use Rattle.sabr_model.specs.plan.Plan.{overlap, IsPlan};
-ghost use Rattle.sabr_gathering.specs.Gathering.{plan_of_ranges, gathered, AreGathered};
+ghost use Rattle.sabr_model.specs.plan.Plan.{overlap};
+ghost use Rattle.sabr_gathering.specs.Gathering.{RangesObey, gathered, AreGathered};
 ghost use Rattle.sabr_model.specs.declared.fault.AddFault.TheVariants.{NothingToDelete};
 ghost use Rattle.sabr_model.specs.plan.Adding.{begins};
 
@@ -24,14 +24,13 @@ pub struct OrderedRanges<A: Allocator + Copy> {
 impl<A: Allocator + Copy> Model for OrderedRanges<A> {
     ghost use Rattle.std.specs.Prelude.{List};
     ghost use Rattle.sabr_model.specs.declared.contact.Range.{Range};
-    ghost use Rattle.sabr_model.specs.plan.Plan.{IsPlan};
-    ghost use Rattle.sabr_gathering.specs.Gathering.{plan_of_ranges};
+    ghost use Rattle.sabr_gathering.specs.Gathering.{RangesObey};
 
     ghost Value = { List Range };
 
     ghost view = { λ r. r.ranges.items };
 
-    ghost invariant = { λ r. IsPlan (plan_of_ranges r.ranges.items) };
+    ghost invariant = { λ r. RangesObey r.ranges.items };
 }
 
 impl<A: Allocator + Copy> OrderedRanges<A> {
@@ -47,7 +46,7 @@ impl<A: Allocator + Copy> OrderedRanges<A> {
 
     /// Takes a list of ranges in order.
     pub fn of(alloc: A, ranges: Vec<Range, A>) -> OrderedRanges<A>
-        requires { IsPlan (plan_of_ranges ranges.items) }
+        requires { RangesObey ranges.items }
         ensures { result ≡ ranges.items }
     {
         OrderedRanges {
@@ -72,7 +71,7 @@ impl<A: Allocator + Copy> OrderedRanges<A> {
 
     /// Adds a range that comes after the others.
     pub fn push(&mut self, range: Range) -> Result<(), AllocError>
-        requires { IsPlan (plan_of_ranges (self.old ++ range ∷ [])) }
+        requires { RangesObey (self.old ++ range ∷ []) }
         ensures ok { OnOk result (self.new ≡ self.old ++ range ∷ []) }
         ensures err { OnErr result (self.new ≡ self.old) }
     {

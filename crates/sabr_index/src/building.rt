@@ -1,9 +1,9 @@
 //! How the links of each node are built.
 
-ghost use Rattle.std.specs.Prelude.{◌≡◌, ◌<◌, ◌≤◌, ◌^◌, ℕ, IfOk, MatchOption, length, map, slice_index};
-ghost use Rattle.sabr_index.specs.Grouping.{AreByNode, AreStanding, numbers_of_places};
-ghost use Rattle.sabr_index.specs.Links.{AreLinksOf, links_in};
-ghost use Rattle.sabr_index.specs.Linking.{AreSent, HasNoLight, IsContactPass, IsBounded, AreBounded, ArePassesOf, AreLinked};
+ghost use Rattle.std.specs.Prelude.{◌≡◌, ◌<◌, ◌≤◌, ◌^◌, IfOk, MatchOption, length};
+ghost use Rattle.sabr_index.specs.Grouping.{AreByNode, AreStanding, number_at, numbers_of_places};
+ghost use Rattle.sabr_index.specs.Links.{links_in};
+ghost use Rattle.sabr_index.specs.Linking.{AreLinksOver, HasNoLight, IsPassOfNumber, AreBounded, ArePassesOf, AreLinked};
 
 use crate::bounds::order_passes;
 use crate::link::{Link, Pass};
@@ -49,7 +49,7 @@ fn links_at<A: Allocator + Copy>(
     requires there { AreStanding plan.now.plan.contacts order.now.places.items places.now }
     requires nodes { length plan.now.table < 2 ^ 16 }
     requires few { length places.now < 2 ^ 16 }
-    ensures links { IfOk result (λ s. (node : ℕ) → AreSent plan.now.plan node (numbers_of_places plan.now.plan.contacts order.now.places.items places.now) → AreLinksOf plan.now node s.links.items s.passes.items) }
+    ensures links { IfOk result (λ s. AreLinksOver plan.now (numbers_of_places plan.now.plan.contacts order.now.places.items places.now) s.links.items s.passes.items) }
     ensures no_more { IfOk result (λ s. length s.links.items ≤ length places.now) }
 {
     let mut passes = passes_at(alloc, plan, order, places)?;
@@ -85,7 +85,7 @@ fn passes_at<A: Allocator + Copy>(
 fn pass_of<A: Allocator + Copy>(plan: &Plan<A>, place: usize) -> Option<Pass>
     requires place { place < length plan.now.plan.contacts }
     requires few { length plan.now.table < 2 ^ 16 }
-    ensures { MatchOption result (HasNoLight plan.now (slice_index (map (λ c. c.number) plan.now.plan.contacts) place)) (λ x. (x.number ≡ slice_index (map (λ c. c.number) plan.now.plan.contacts) place) × IsContactPass plan.now x × IsBounded x) }
+    ensures { MatchOption result (HasNoLight plan.now (number_at plan.now.plan.contacts place)) (IsPassOfNumber plan.now (number_at plan.now.plan.contacts place)) }
 {
     let (number, hop) = plan.hop_at(place);
     let light = hop.light?;

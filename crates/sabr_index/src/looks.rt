@@ -80,7 +80,7 @@ impl Looks {
         ensures aside { result.count + most ≡ many_looks }
     {
         let count = MANY_LOOKS - most;
-        self.left -= count;
+        self.take_many(count);
         SetAside { count }
     }
 

@@ -1,8 +1,7 @@
 -- The lines of a text that is given in parts.
 use Rattle.std.proofs.Common.{◌≡◌, ℕ, suc, ◌<◌, true, false, not, eqb, List, [], ◌∷◌, ◌++◌, ◌+◌, ◌-◌, length, take, drop, get_or, refl, sym, ap, ◌∙◌, arith, append-nil, length-append, length-drop, get_or-drop, add-zero}
-use Rattle.std.proofs.lemmas.Bool.{and_parts, false≢true}
+use Rattle.std.proofs.lemmas.Bool.{and_parts}
 use Rattle.std.proofs.lemmas.List.{take-append-drop, get_or-append-add}
-use Rattle.std.proofs.lemmas.Slice.{first_rest}
 use borrow.Author.Tests.{not-true}
 use Rattle.sabr_plan.specs.Words.{TextLines, is_one_line, before_lines, lines_of}
 
@@ -53,11 +52,6 @@ parted text front back rest end a b h lf c =
     let first : get_or back 0 0 ≡ 10 = ap (λ s. get_or s 0 0) b ∙ get_or-drop end text 0 0 ∙ ap (λ k. get_or text k 0) (add-zero end) ∙ lf in
     let whole : text ≡ front ++ back = rw (a, b) (sym (take-append-drop end text)) in
     whole ∙ ap (λ s. front ++ s) (behind_lf back some first ∙ ap (λ s. 10 ∷ s) (sym c))
-
--- a text with an LF has a first byte
-pub first_byte : (text : List ℕ) → is_one_line text ≡ false → text ≡ get_or text 0 0 ∷ take (length text - 1) (drop 1 text)
-first_byte [] lf = absurd (false≢true (sym lf))
-first_byte (b ∷ text) lf = first_rest (b ∷ text) 0 (omega arith)
 
 -- what comes after a line of a text that ends with LF is empty or ends with LF
 pub still_lf_at_end : (text line rest : List ℕ) → text ≡ line ++ 10 ∷ rest → (0 < length text → get_or text (length text - 1) 0 ≡ 10) → 0 < length rest → get_or rest (length rest - 1) 0 ≡ 10

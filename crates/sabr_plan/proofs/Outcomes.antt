@@ -12,14 +12,14 @@ use Rattle.sabr_plan.specs.Feeding.{Fed, nothing_fed, outcome}
 use Rattle.sabr_plan.proofs.Lines.{in_front, lines_of-front, lines_of-one, lines_of-line}
 
 -- a step after two steps
-and_then-and_then : {A B C E : Type 0} (r : Result A E) (f : A → Result B E) (g : B → Result C E) → and_then (and_then r f) g ≡ and_then r (λ x. and_then (f x) g)
+pub and_then-and_then : {A B C E : Type 0} (r : Result A E) (f : A → Result B E) (g : B → Result C E) → and_then (and_then r f) g ≡ and_then r (λ x. and_then (f x) g)
 and_then-and_then (Ok x) f g = refl
 and_then-and_then (Err e) f g = refl
 
 -- second steps with the same results
-after : {A B E : Type 0} (r : Result A E) {f g : A → Result B E} → ((x : A) → f x ≡ g x) → and_then r f ≡ and_then r g
-after (Ok x) same = same x
-after (Err e) same = refl
+pub and_then-same : {A B E : Type 0} (r : Result A E) {f g : A → Result B E} → ((x : A) → f x ≡ g x) → and_then r f ≡ and_then r g
+and_then-same (Ok x) same = same x
+and_then-same (Err e) same = refl
 
 -- the outcome of the lines of a text, from number n on
 lines_outcome : ℕ → Reading → TextLines → Bool → Result ContactPlan PlanFault
@@ -58,7 +58,7 @@ outcome-line s front rest more ended held one =
     outcome-lines s ((front ++ 10 ∷ rest) ++ more) ended
     ∙ ap (λ t. lines_outcome (s.lines + 1) s.reading t ended) (ap lines_of parts ∙ lines_of-line line (rest ++ more) whole)
     ∙ lines_outcome-more (s.lines + 1) s.reading line t.ended t.open_line ended
-    ∙ after (read_line (s.lines + 1) s.reading line) (λ r. sym (outcome-lines (record { lines = s.lines + 1; reading = r; held = [] }) (rest ++ more) ended))
+    ∙ and_then-same (read_line (s.lines + 1) s.reading line) (λ r. sym (outcome-lines (record { lines = s.lines + 1; reading = r; held = [] }) (rest ++ more) ended))
 
 -- bytes are held
 pub outcome-held : (s : Fed) (bytes more : List ℕ) (ended : Bool) → outcome s (bytes ++ more) ended ≡ outcome (record { lines = s.lines; reading = s.reading; held = s.held ++ bytes }) more ended

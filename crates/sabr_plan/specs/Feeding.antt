@@ -1,5 +1,5 @@
 -- A plan text that is read in pieces: what was read so far, and what comes of the text.
-use Rattle.std.specs.Prelude.{◌≡◌, ℕ, ◌+◌, ◌*◌, Bool, List, [], ◌++◌, length, ◌≤◌, IsTrue, OnOk, OnErr, Result, Ok, Err, ◌⊎◌}
+use Rattle.std.specs.Prelude.{◌≡◌, ℕ, ◌+◌, ◌-◌, ◌*◌, Bool, List, [], ◌++◌, length, ◌≤◌, IsTrue, OnOk, OnErr, Result, Ok, Err, ◌⊎◌}
 use Rattle.sabr_model.specs.plan.Plan.{ContactPlan, TabledPlan}
 use Rattle.sabr_plan.specs.Steps.{and_then}
 use Rattle.sabr_plan.specs.Words.{lines_of, is_one_line}
@@ -14,6 +14,10 @@ pub record Fed : Type 0 where
   pub lines : ℕ
   pub reading : Reading
   pub held : List ℕ
+
+-- after so many lines, the bytes are a beginning of one more, and none if there may be no more
+abbrev pub BeginsLine : ℕ → List ℕ → Type 0
+BeginsLine lines held = (lines ≤ most_lines) × (length held ≤ most_line_bytes * (most_lines - lines)) × (length held ≤ most_line_bytes) × IsTrue (is_one_line held)
 
 -- before the first piece
 abbrev pub nothing_fed : Fed

@@ -1,6 +1,6 @@
 //! A plan text that is read piece by piece. One line at a time is held, in a fixed array.
 
-ghost use Rattle.std.specs.Prelude.{◌≡◌, ◌≢◌, ◌+◌, ◌-◌, ◌*◌, ◌≤◌, ◌<◌, [], ◌∷◌, ◌++◌, Ok, Err, OnOk, IfOk, IfErr, IfSome, IsTrue, IsFalse, length, take, slice_index, MatchOption, false, true};
+ghost use Rattle.std.specs.Prelude.{◌≡◌, ◌≢◌, ◌+◌, ◌-◌, ◌≤◌, ◌<◌, [], ◌∷◌, ◌++◌, Ok, Err, OnOk, IfOk, IfErr, IsTrue, IsFalse, length, take, slice_index, MatchOption, false, true};
 ghost use Rattle.sabr_plan.specs.Words.{is_one_line};
 ghost use Rattle.sabr_plan.specs.Commands.{line_command};
 ghost use Rattle.sabr_plan.specs.Leaving.{Leaves, LeavesAt};
@@ -33,16 +33,13 @@ pub struct PlanFeed<A: Allocator + Copy> {
 }
 
 impl<A: Allocator + Copy> Model for PlanFeed<A> {
-    ghost use Rattle.std.specs.Prelude.{◌≤◌, ◌-◌, ◌*◌, length, IsTrue};
-    ghost use Rattle.sabr_plan.specs.Words.{is_one_line};
-    ghost use Rattle.sabr_plan.specs.Reading.{most_line_bytes, most_lines};
-    ghost use Rattle.sabr_plan.specs.Feeding.{Fed};
+    ghost use Rattle.sabr_plan.specs.Feeding.{Fed, BeginsLine};
 
     ghost Value = { Fed };
 
     ghost view = { λ f. record { lines = f.lines; reading = f.reading; held = f.held.items } };
 
-    ghost invariant = { λ f. (f.lines ≤ most_lines) × (length f.held.items ≤ most_line_bytes * (most_lines - f.lines)) × (length f.held.items ≤ most_line_bytes) × IsTrue (is_one_line f.held.items) };
+    ghost invariant = { λ f. BeginsLine f.lines f.held.items };
 }
 
 /// Returns the place of the first LF.
@@ -78,7 +75,7 @@ fn ended_lines(piece: &[u8]) -> (&[u8], &[u8])
 }
 
 impl<A: Allocator + Copy> PlanFeed<A> {
-    ghost use Rattle.sabr_plan.specs.Reading.{most_line_bytes, most_lines, judged, at_line, limited, read_line, ended_line, broken_line};
+    ghost use Rattle.sabr_plan.specs.Reading.{most_line_bytes, most_lines, limited, ended_line, broken_line};
     ghost use Rattle.sabr_plan.specs.Feeding.{Fed, nothing_fed, outcome, EndsLine, IsFed, weight, most_weight, Answers};
 
     /// Starts before the first piece.

@@ -8,21 +8,12 @@ use Rattle.std.specs.Prelude.{if◌then◌else◌}
 use Rattle.sabr_model.specs.plan.Plan.{ContactPlan}
 use Rattle.sabr_plan.specs.Steps.{and_then}
 use Rattle.sabr_plan.specs.Words.{TextLines, is_one_line, has_bytes, lines_of}
+use Rattle.sabr_plan.proofs.Outcomes.{and_then-and_then, and_then-same}
 use Rattle.sabr_plan.proofs.Lines.{in_front, lines_of-front, lines_of-one, lines_of-line}
 use Rattle.sabr_session.specs.declared.session_fault.SessionFault.{SessionFault}
 use Rattle.sabr_session.specs.declared.session_fault.SessionFault.TheVariants as fault
 use Rattle.sabr_session.specs.SessionRead.{Said, nothing_said, misspelled, line_said, read_line, read_lines, is_after, last_line, said_of}
 use Rattle.sabr_session.specs.SessionFed.{SessionFed, nothing_fed, outcome, is_bad_front}
-
--- a step after two steps
-and_then-and_then : {A B C E : Type 0} (r : Result A E) (f : A → Result B E) (g : B → Result C E) → and_then (and_then r f) g ≡ and_then r (λ x. and_then (f x) g)
-and_then-and_then (Ok x) f g = refl
-and_then-and_then (Err e) f g = refl
-
--- second steps that give the same
-after : {A B E : Type 0} (r : Result A E) {f g : A → Result B E} → ((x : A) → f x ≡ g x) → and_then r f ≡ and_then r g
-after (Ok x) same = same x
-after (Err e) same = refl
 
 or-true : (b : Bool) → (b || true) ≡ true
 or-true true = refl
@@ -66,7 +57,7 @@ module _ (p : ContactPlan) (h : List ℕ) where
       outcome-lines s ((front ++ 10 ∷ rest) ++ more) ended
       ∙ ap (λ t. lines_outcome (s.lines + 1) s.said t ended) (ap lines_of parts ∙ lines_of-line line (rest ++ more) whole)
       ∙ lines_outcome-more (s.lines + 1) s.said line t.ended t.open_line ended
-      ∙ after (read_line p h (s.lines + 1) s.said line) (λ r. sym (outcome-lines (record { lines = s.lines + 1; said = r; held = [] }) (rest ++ more) ended))
+      ∙ and_then-same (read_line p h (s.lines + 1) s.said line) (λ r. sym (outcome-lines (record { lines = s.lines + 1; said = r; held = [] }) (rest ++ more) ended))
 
   -- bytes are held
   pub outcome-held : (s : SessionFed) (bytes more : List ℕ) (ended : Bool) → outcome p h s (bytes ++ more) ended ≡ outcome p h (record { lines = s.lines; said = s.said; held = s.held ++ bytes }) more ended

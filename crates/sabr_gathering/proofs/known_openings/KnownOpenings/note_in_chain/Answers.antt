@@ -14,7 +14,7 @@ returns g c =
     let many = (c.in-Ok-chain_all.ensures {u = tt}).all in (
       sym c.if-opens_in_chain.ensures,
       λ d same. (
-        (c.in-Ok-push.ensures {u = tt}).ok (contact_buckets (cs ++ d ∷ [])) (chained_push f cs d at.befores.items at.lasts.items c.chain_all.ensures.chained) (rw (c.bucket_of.ensures.value, sym same) (next_bucket f cs d (length at.befores.items) many)),
+        (c.in-Ok-push.ensures {u = tt}).ok (contact_buckets (cs ++ d ∷ [])) (chained_push f cs d at.befores.items at.lasts.items c.chain_all.ensures.chained, rw (c.bucket_of.ensures.value, sym same) (next_bucket f cs d (length at.befores.items) many)),
         λ up. absurd cc,
       ),
     )
