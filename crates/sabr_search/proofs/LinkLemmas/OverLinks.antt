@@ -1,5 +1,5 @@
 -- What the bounds beside the passes of a link say of the steps over them.
-use Rattle.std.proofs.Common.{◌≡◌, ℕ, ◌+◌, ◌-◌, ◌<◌, ◌≤◌, max, ◌⊎◌, inl, inr, List, length, drop, true, false, Some, slice_get, slice_index, slice_index_or, refl, sym, ap, subst, ◌∙◌, arith}
+use Rattle.std.proofs.Common.{◌≡◌, ℕ, ◌+◌, ◌-◌, ◌<◌, ◌≤◌, max, ◌⊎◌, inl, inr, zero, suc, List, length, drop, true, false, Some, slice_get, slice_index, slice_index_or, sym, ap, subst, ◌∙◌, arith}
 use Rattle.std.specs.Prelude.{IfSome}
 use Rattle.std.specs.List.Sorted.{IsNonDecreasingBy}
 use Rattle.std.specs.declared.option.Option.{Option}
@@ -9,7 +9,7 @@ use Rattle.sabr_search.specs.declared.visit.Step.{Step}
 use Rattle.sabr_search.specs.layers.Late.{AreOpen}
 use Rattle.sabr_search.specs.layers.Deadlines.{IsInTime}
 use Rattle.sabr_search.specs.layers.Picks.{IsAtMost}
-use Rattle.std.proofs.lemmas.Option.{slice_get-get_or}
+use Rattle.std.proofs.lemmas.Option.{slice_get-get_or, slice_get_within}
 use Rattle.std.proofs.lemmas.Bool.{both_ways, cases_eq}
 use Rattle.sabr_model.specs.declared.contact.Contact.{Contact}
 use Rattle.sabr_model.specs.declared.hop.Hop.{Hop}
@@ -25,7 +25,7 @@ use Rattle.sabr_search.specs.questions.Task.{SearchTask, IsTask, Takes}
 use Rattle.sabr_search.specs.layers.Lists.{IsKnown}
 use Rattle.sabr_model.specs.routes.Hops.{hop_arrival, IsSmall}
 use Rattle.sabr_search.specs.questions.Steps.{IsHopAt}
-use Rattle.sabr_search.specs.questions.Linked.{IsPassAt, IsLinkAt, IsLinkWithin, AreInOrder, HasNumber, passes_of, AreLinksAt}
+use Rattle.sabr_search.specs.questions.Linked.{IsPassAt, IsLinkAt, AreInOrder, HasNumber, passes_of, AreLinksAt, IsLinkHere, IsRuledOut}
 use Rattle.sabr_search.proofs.LinkLemmas.Arrivals.{arrival_parts}
 use Rattle.sabr_search.proofs.LinkLemmas.PlanFacts.{hop_small}
 use Rattle.sabr_search.proofs.ForwardLemmas.Forward.{hop_takes}
@@ -140,7 +140,7 @@ module _ (task : SearchTask) (is : IsTask task) (u to : ℕ) (passes : List Pass
       ]
 
   -- if the bounds of the link rule it out, nothing arrives over it before a second
-  pub ruled_out : (b : LinkBounds) → AreWithin b passes → (at before : ℕ) → (b.latest_end ≤ at) ⊎ ((before ≤ b.soonest) ⊎ (before ≤ at + b.least_light)) →
+  pub ruled_out : (b : LinkBounds) → AreWithin b passes → (at before : ℕ) → IsRuledOut b at before →
       (n t w x : ℕ) → HasNumber passes n → at ≤ t → Takes task n u t w x → before ≤ x
   ruled_out b within at before why n t w x has after s =
       let o = over_pass task is u to t has.1 w x (link.each has.0 has.1 has.2) (step_over task passes n u t w x has s) in
@@ -160,39 +160,38 @@ pub link_receiver : (task : SearchTask) → IsTask task → (u : ℕ) (links : L
 link_receiver task is u links passes are i l at n t w b has s =
     (over_pass task is u l.receiver t has.1 w b ((are.each i l at).each has.0 has.1 has.2) (step_over task (passes_of passes l) n u t w b has s)).receiver
 
--- the link at a place among those of a node, and the passes on it
-pub record IsLinkHere (task : SearchTask) (u : ℕ) (links : List Link) (passes : List Pass) (i : ℕ) (l : Link) (over : List Pass) : Type 0 where
-  pub here : slice_get links i ≡ Some l
-  pub receiver : l.receiver < length task.table
-  pub ordered : l.first ≤ l.end
-  pub within : l.end ≤ length passes
-  pub link : IsLinkWithin task u l.receiver over l.bounds
+-- the links of a node lie one after another
+links_in_row : (task : SearchTask) (u : ℕ) (links : List Link) (passes : List Pass) → AreLinksAt task u links passes → (i d : ℕ) (l m : Link) → slice_get links i ≡ Some l → slice_get links (i + 1 + d) ≡ Some m → l.end ≤ m.first
+links_in_row task u links passes are i zero l m at_l at_m =
+    let there : i + 1 ≡ i + 1 + zero = omega arith in
+    are.in_row i l m at_l (ap (slice_get links) there ∙ at_m)
+links_in_row task u links passes are i (suc d) l m at_l at_m =
+    let k = slice_index_or links (i + 1 + d) no_link in
+    let at_k : slice_get links (i + 1 + d) ≡ Some k = slice_get-get_or links (i + 1 + d) no_link (omega (arith, slice_get_within links (i + 1 + suc d) m at_m)) in
+    let there : i + 1 + d + 1 ≡ i + 1 + suc d = omega arith in
+    omega (arith, links_in_row task u links passes are i d l k at_l at_k, are.ordered (i + 1 + d) k at_k, are.in_row (i + 1 + d) k m at_k (ap (slice_get links) there ∙ at_m))
+
+-- what holds of the link at a place among those of a node, to the node at place w over these passes
+pub record IsInPlace (task : SearchTask) (u : ℕ) (links : List Link) (passes : List Pass) (i to : ℕ) (over : List Pass) (l : Link) : Type 0 where
   pub few : l.first + length over ≤ length passes
-  pub next : (m : Link) → slice_get links (i + 1) ≡ Some m → l.first + length over ≤ m.first
+  pub later : (j : ℕ) (m : Link) → i < j → slice_get links j ≡ Some m → l.first + length over ≤ m.first
   pub own : (j : ℕ) (x : Link) (n : ℕ) → slice_get links j ≡ Some x → j ≡ i → HasNumber (passes_of passes x) n → HasNumber over n
-  pub to : IsTask task → (n t w b : ℕ) → HasNumber over n → Takes task n u t w b → w ≡ l.receiver
+  pub leads : IsTask task → (n t w b : ℕ) → HasNumber over n → Takes task n u t w b → w ≡ to
 
-pub link_here : (task : SearchTask) (u : ℕ) (links : List Link) (passes : List Pass) → AreLinksAt task u links passes → (i : ℕ) → i < length links → (over : List Pass) → over ≡ passes_of passes (slice_index_or links i no_link) → IsLinkHere task u links passes i (slice_index_or links i no_link) over
-link_here task u links passes are i less over is =
-    let l = slice_index_or links i no_link in
-    let here : slice_get links i ≡ Some l = slice_get-get_or links i no_link less in
-    let many : length over ≡ l.end - l.first = rw is (passes_length passes l (are.within i l here)) in
+pub in_place : (task : SearchTask) (u : ℕ) (links : List Link) (passes : List Pass) → AreLinksAt task u links passes → (i to : ℕ) (over : List Pass) (is : IsLinkHere links passes i to over) → IsInPlace task u links passes i to over is.link
+in_place task u links passes are i to over is =
+    let l = is.link in
+    let many : length over ≡ l.end - l.first = rw is.lies (passes_length passes l (are.within i l is.here)) in
     record {
-      here = here;
-      receiver = are.receivers i l here;
-      ordered = are.ordered i l here;
-      within = are.within i l here;
-      link = rw is (are.each i l here, are.bounds i l here);
-      few = omega (arith, many, are.ordered i l here, are.within i l here);
-      next = λ m after. omega (arith, many, are.ordered i l here, are.in_row i l m here after);
+      few = omega (arith, many, are.ordered i l is.here, are.within i l is.here);
+      later = λ j m less at.
+          (let there : i + 1 + (j - (i + 1)) ≡ j = omega (arith, less) in
+          omega (arith, many, are.ordered i l is.here, links_in_row task u links passes are i (j - (i + 1)) l m is.here (ap (slice_get links) there ∙ at)));
       own = λ j x n at same has.
-          (let one : x ≡ l = same_some (sym at ∙ ap (slice_get links) same ∙ here) in
-          rw is (subst (λ (y : Link). HasNumber (passes_of passes y) n) one has));
-      to = λ task_is n t w b has s. link_receiver task task_is u links passes are i l here n t w b (rw is at has) s;
+          (let one : x ≡ l = same_some (sym at ∙ ap (slice_get links) same ∙ is.here) in
+          rw is.lies (subst (λ (y : Link). HasNumber (passes_of passes y) n) one has));
+      leads = λ task_is n t w b has s. link_receiver task task_is u links passes are i l is.here n t w b (rw is.lies at has) s ∙ sym is.receiver;
     }
-
-pub link_by_place : (task : SearchTask) (u : ℕ) (links : List Link) (passes : List Pass) → AreLinksAt task u links passes → (i : ℕ) → i < length links → IsLinkHere task u links passes i (slice_index_or links i no_link) (passes_of passes (slice_index_or links i no_link))
-link_by_place task u links passes are i less = link_here task u links passes are i less (passes_of passes (slice_index_or links i no_link)) refl
 
 -- what is at most a number is at most a greater one
 pub at_most_more : (o : Option Step) (m n : ℕ) → m ≤ n → IsAtMost o m → IsAtMost o n
@@ -212,12 +211,14 @@ chosen_from task ends entries hops opens u t to before in_time (Some s) h =
     let step = h.2 (opens admits.1.0 (record { node = to; before = admits.0 }) admits.1.3).1 in
     rw h.0 (step, admits)
 
--- what the bounds of a link rule out is known, if the goal's own arrival is no sooner than the best delivery
-pub told_known : (task : SearchTask) → IsTask task → (u t : ℕ) (l : Link) (over : List Pass) → IsLinkWithin task u l.receiver over l.bounds → (arrival : List ℕ) (best : ℕ) → best ≤ slice_index arrival task.goal →
-    (slice_index arrival l.receiver ≤ l.bounds.soonest) ⊎ (slice_index arrival l.receiver ≤ t + l.bounds.least_light) →
-    (n w b : ℕ) → HasNumber over n → Takes task n u t w b → w ≡ l.receiver → IsKnown task.goal arrival best w b
-told_known task is u t l over link arrival best goal_late told n w b has s to =
-    let by : slice_index arrival w ≤ b = rw to (ruled_out task is u l.receiver over link.0 l.bounds link.1 t (slice_index arrival l.receiver) (inr told) n t w b has (omega arith) s) in
+-- what comes over links that are ruled out by what is known of their receivers is known, if the goal's own arrival is no
+-- sooner than the best delivery
+pub known_skipped : (task : SearchTask) → IsTask task → (u t : ℕ) (links : List Link) (passes : List Pass) → AreLinksAt task u links passes → (arrival : List ℕ) (best : ℕ) → best ≤ slice_index arrival task.goal →
+    (first last : ℕ) → ((j : ℕ) (l : Link) → first ≤ j → j < last → slice_get links j ≡ Some l → IsRuledOut l.bounds t (slice_index arrival l.receiver)) →
+    (j : ℕ) (l : Link) (n w b : ℕ) → first ≤ j → j < last → slice_get links j ≡ Some l → HasNumber (passes_of passes l) n → Takes task n u t w b → IsKnown task.goal arrival best w b
+known_skipped task is u t links passes are arrival best goal_late first last out j l n w b from less at has s =
+    let to = link_receiver task is u links passes are j l at n t w b has s in
+    let by : slice_index arrival w ≤ b = rw to (ruled_out task is u l.receiver (passes_of passes l) (are.each j l at) l.bounds (are.bounds j l at) t (slice_index arrival l.receiver) (out j l from less at) n t w b has (omega arith) s) in
     elim (cases_eq w task.goal) [
       | inl same ↦ inl (omega (arith, goal_late, by, ap (slice_index arrival) same))
       | inr other ↦ inr (other, by)

@@ -1,5 +1,5 @@
 -- The links that a search walks at one node: the contacts that it sends, by receiver, as passes.
-use Rattle.std.specs.Prelude.{◌≡◌, ℕ, ◌+◌, ◌-◌, ◌<◌, ◌≤◌, List, length, take, drop, false, slice_get, slice_index_or}
+use Rattle.std.specs.Prelude.{◌≡◌, ◌⊎◌, ℕ, ◌+◌, ◌-◌, ◌<◌, ◌≤◌, List, length, take, drop, false, slice_get, slice_index_or}
 use Rattle.std.specs.List.{sum_by}
 use Rattle.std.specs.declared.option.Option.TheVariants.{Some}
 use Rattle.sabr_model.specs.declared.contact.Contact.{Contact}
@@ -47,6 +47,17 @@ IsLeftBefore task u w before t = (b : ℕ) × (b < before) × (slice_index_or ta
 -- the passes at the places of the link
 abbrev pub passes_of : List Pass → Link → List Pass
 passes_of passes l = take (l.end - l.first) (drop l.first passes)
+
+-- the link at place i of these leads to the node at place w, over these passes
+pub record IsLinkHere (links : List Link) (passes : List Pass) (i w : ℕ) (over : List Pass) : Type 0 where
+  pub link : Link
+  pub here : slice_get links i ≡ Some link
+  pub receiver : w ≡ link.receiver
+  pub lies : over ≡ passes_of passes link
+
+-- by the bounds of a link, what is at its sender at t or later doesn't arrive before a second
+abbrev pub IsRuledOut : LinkBounds → ℕ → ℕ → Type 0
+IsRuledOut b t before = (b.latest_end ≤ t) ⊎ ((before ≤ b.soonest) ⊎ (before ≤ t + b.least_light))
 
 -- the links of the node at place u, one after another, each within its bounds: every step from there is over a pass of
 -- one of them, and there are no more passes than the node has contacts

@@ -9,7 +9,6 @@ ghost use Rattle.sabr_search.specs.layers.Picks.{IsLeastStep, IsPicked};
 
 use crate::backward::deadlines::Deadlines;
 use crate::backward::from_goal::Aim;
-use crate::links::over_link::{WalkedLink, link_passes};
 use crate::task::Task;
 use crate::visit::{Step, Visit};
 use sabr_index::{Links, Looks};
@@ -40,19 +39,13 @@ impl<A: Allocator + Copy> Deadlines<A> {
         ensures none { IfNone result ((n w b : ℕ) → Takes task.now n from.node from.at w b → IsInTime self.now.ends.items self.now.entries.items hops w b → ⊥) }
     {
         let mut least: Option<Step> = None;
-        for link in links.links {
-            let before = self.deadline(hops, link.receiver as usize);
+        for place in 0..links.links.len() {
+            let link = task.link(links, from.node, place);
+            let before = self.deadline(hops, link.to);
             if before <= from.at {
                 continue;
             }
-            let passes = link_passes(links, link);
-            let walked = WalkedLink {
-                from: from.node,
-                to: link.receiver as usize,
-                passes,
-                bounds: link.bounds,
-            };
-            least = task.least_over(looks, walked, from.at, before, least);
+            least = task.least_over(looks, link, from.at, before, least);
         }
         least
     }

@@ -6,7 +6,6 @@ ghost use Rattle.sabr_search.specs.questions.Steps.{degree};
 ghost use Rattle.sabr_search.specs.questions.FirstSteps.{ComesTo, AreFirstSteps};
 ghost use Rattle.sabr_search.specs.layers.Settling.{AreReal};
 
-use crate::links::over_link::{WalkedLink, link_passes};
 use crate::task::Task;
 use crate::visit::{NEVER, Visit};
 use sabr_index::Looks;
@@ -45,26 +44,16 @@ impl<'a, A: Allocator + Copy> Task<'a, A> {
     {
         first.clear();
         let links = self.links(from.node);
-        for link in links.links {
-            let passes = link_passes(links, link);
-            if passes.len() as u64 > looks.left() {
+        for place in 0..links.links.len() {
+            let link = self.link(links, from.node, place);
+            if link.passes.len() as u64 > looks.left() {
                 return Ok(false);
             }
-            if self.shut()[link.receiver as usize] {
+            if self.shut()[link.to] {
                 continue;
             }
-            let walked = WalkedLink {
-                from: from.node,
-                to: link.receiver as usize,
-                passes,
-                bounds: link.bounds,
-            };
-            let at = self.arrive_over(looks, walked, from.at, NEVER);
-            let step = Visit {
-                node: link.receiver as usize,
-                at,
-            };
-            put_step(first, step)?;
+            let at = self.arrive_over(looks, link, from.at, NEVER);
+            put_step(first, Visit { node: link.to, at })?;
         }
         Ok(true)
     }

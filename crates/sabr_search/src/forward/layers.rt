@@ -9,10 +9,11 @@ ghost use Rattle.sabr_search.specs.questions.FirstSteps.{IsNoneBefore};
 ghost use Rattle.sabr_search.specs.layers.Made.{AreOpened, IsBestWithin};
 
 use crate::forward::arrivals::open_nodes;
-use crate::links::over_link::{WalkedLink, is_soonest, link_passes};
+use crate::forward::news::{news_before, next_news};
+use crate::links::over_link::{WalkedLink, is_soonest};
 use crate::task::Task;
 use crate::visit::{NEVER, Visit};
-use sabr_index::{Link, Looks};
+use sabr_index::Looks;
 use sabr_model::NoMemory;
 use std::alloc::Allocator;
 
@@ -28,37 +29,6 @@ pub struct Best {
 struct Layer {
     begin: usize,
     best: u64,
-}
-
-/// Returns the second before which an arrival at a node is news.
-pub fn news_before<A: Allocator + Copy>(
-    arrival: &[u64],
-    task: &Task<'_, A>,
-    to: usize,
-    best: u64,
-) -> u64
-    requires many { length arrival.now ≡ length task.now.shut }
-    requires task { IsTask task.now }
-    requires node { to < length task.now.table }
-    ensures goal { to ≡ task.now.goal → result ≡ best }
-    ensures other { to ≢ task.now.goal → result ≡ min best (slice_index arrival.now to) }
-{
-    if to == task.goal() {
-        best
-    } else {
-        best.min(arrival[to])
-    }
-}
-
-/// Returns true if, by the bounds of a link, nothing that is at its sender at `at` comes to its receiver sooner than is known.
-#[inline(always)]
-pub fn is_told(arrival: &[u64], link: &Link, at: u64) -> bool
-    requires receiver { link.now.receiver < length arrival.now }
-    requires early { at ≤ latest_arrival }
-    ensures { IsTrue result → (slice_index arrival.now link.now.receiver ≤ link.now.bounds.soonest) ⊎ (slice_index arrival.now link.now.receiver ≤ at + link.now.bounds.least_light) }
-{
-    let known = arrival[link.receiver as usize];
-    known <= link.bounds.soonest.max(at + link.bounds.least_light as u64)
 }
 
 /// The layers, and what is known of each node.
@@ -163,19 +133,12 @@ impl<A: Allocator + Copy> Layers<A> {
     {
         let links = task.links(from.node);
         let mut least = best;
-        for link in links.links {
-            if is_told(&self.arrival, link, from.at) {
-                continue;
-            }
-            let passes = link_passes(links, link);
-            let walked = WalkedLink {
-                from: from.node,
-                to: link.receiver as usize,
-                passes,
-                bounds: link.bounds,
-            };
+        let mut place = next_news(&self.arrival, links.links, 0, from.at);
+        while place < links.links.len() {
+            let link = task.link(links, from.node, place);
             let layer = Layer { begin, best: least };
-            least = self.take_link(task, looks, from.at, walked, layer)?;
+            least = self.take_link(task, looks, from.at, link, layer)?;
+            place = next_news(&self.arrival, links.links, place + 1, from.at);
         }
         Ok(least)
     }

@@ -11,9 +11,10 @@ ghost use Rattle.sabr_search.specs.layers.Settling.{IsBound, AreReal, AreArrival
 
 use crate::backward::since::seconds_of;
 use crate::forward::arrivals::open_nodes;
-use crate::forward::layers::{Best, is_told};
+use crate::forward::layers::Best;
+use crate::forward::news::next_news;
 use crate::forward::queue::Queue;
-use crate::links::over_link::{WalkedLink, link_passes};
+use crate::links::over_link::WalkedLink;
 use crate::task::Task;
 use crate::visit::Visit;
 use sabr_index::{Links, Looks};
@@ -206,18 +207,11 @@ impl<A: Allocator + Copy> Settling<A> {
     {
         self.settled[event.node] = true;
         let mut least = best;
-        for link in links.links {
-            if is_told(&self.arrival, link, event.at) {
-                continue;
-            }
-            let passes = link_passes(links, link);
-            let walked = WalkedLink {
-                from: event.node,
-                to: link.receiver as usize,
-                passes,
-                bounds: link.bounds,
-            };
-            least = self.take_link(forward, looks, event, walked, least)?;
+        let mut place = next_news(&self.arrival, links.links, 0, event.at);
+        while place < links.links.len() {
+            let link = forward.task.link(links, event.node, place);
+            least = self.take_link(forward, looks, event, link, least)?;
+            place = next_news(&self.arrival, links.links, place + 1, event.at);
         }
         Ok(least)
     }

@@ -8,7 +8,6 @@ ghost use Rattle.sabr_search.specs.layers.Level.{AreDeadEnds, IsDeadEnd, IsLevel
 ghost use Rattle.sabr_search.specs.questions.Ways.{Leads};
 
 use crate::level::Level;
-use crate::links::over_link::{WalkedLink, link_passes};
 use crate::task::Task;
 use crate::visit::{Step, Visit};
 use sabr_index::{Links, Looks};
@@ -129,24 +128,17 @@ impl<A: Allocator + Copy> Walk<A> {
     {
         let end = level.end_of(hops);
         let mut least: Option<Step> = None;
-        for link in links.links {
-            let to = link.receiver as usize;
-            if task.shut()[to] {
+        for place in 0..links.links.len() {
+            let link = task.link(links, from.node, place);
+            if task.shut()[link.to] {
                 continue;
             }
-            let deadline = level.before(to, end);
+            let deadline = level.before(link.to, end);
             if deadline <= from.at {
                 continue;
             }
-            let before = self.before_end(to, hops, deadline);
-            let passes = link_passes(links, link);
-            let walked = WalkedLink {
-                from: from.node,
-                to,
-                passes,
-                bounds: link.bounds,
-            };
-            least = task.least_over(looks, walked, from.at, before, least);
+            let before = self.before_end(link.to, hops, deadline);
+            least = task.least_over(looks, link, from.at, before, least);
         }
         least
     }

@@ -5,11 +5,11 @@ ghost use Rattle.sabr_index.specs.declared.link.Pass.{Pass};
 ghost use Rattle.sabr_model.specs.routes.Hops.{IsSmall};
 ghost use Rattle.sabr_search.specs.questions.Task.{IsTask, Takes};
 ghost use Rattle.sabr_search.specs.questions.Steps.{IsHopAt};
-ghost use Rattle.sabr_search.specs.questions.Linked.{IsPassAt, IsLinkWithin, AreInOrder, HasNumber, passes_of};
+ghost use Rattle.sabr_search.specs.questions.Linked.{IsPassAt, IsLinkWithin, IsLinkHere, AreLinksAt, AreInOrder, HasNumber, IsRuledOut};
 
 use crate::links::finger::Finger;
 use crate::task::Task;
-use sabr_index::{Link, LinkBounds, Links, Looked, Looks, Pass};
+use sabr_index::{LinkBounds, Links, Looked, Looks, Pass};
 use sabr_model::Hop;
 use std::alloc::Allocator;
 
@@ -21,15 +21,6 @@ pub struct WalkedLink<'a> {
     pub to: usize,
     pub passes: &'a [Pass],
     pub bounds: LinkBounds,
-}
-
-/// The passes of a link.
-pub fn link_passes<'a>(links: Links<'a>, link: &Link) -> &'a [Pass]
-    requires ordered { link.now.first ≤ link.now.end }
-    requires within { link.now.end ≤ length links.passes.now }
-    ensures { result.now ≡ passes_of links.entry.passes.now link.now }
-{
-    &links.passes[link.first as usize..link.end as usize]
 }
 
 /// Returns true if, by what bounds the arrivals over a whole link, nothing that is at its sender at `at` or later arrives
@@ -44,7 +35,7 @@ pub fn is_soonest(soonest: u64, least_light: u32, at: u64, before: u64) -> bool
 /// Returns true if, by the bounds of the whole link, nothing that is at its sender at `at` or later arrives before
 /// `before`.
 pub fn rules_out(bounds: LinkBounds, at: u64, before: u64) -> bool
-    ensures late { IsTrue result → (bounds.latest_end ≤ at) ⊎ ((before ≤ bounds.soonest) ⊎ (before ≤ at + bounds.least_light)) }
+    ensures late { IsTrue result → IsRuledOut bounds at before }
     ensures early { result ≡ false → at < before }
 {
     bounds.latest_end <= at || is_soonest(bounds.soonest, bounds.least_light, at, before)
@@ -72,6 +63,25 @@ pub fn comes_late(pass: &Looked<'_>, at: u64, before: u64) -> bool
 }
 
 impl<'a, A: Allocator + Copy> Task<'a, A> {
+    /// Returns the link at a place among those of a node.
+    #[inline(always)]
+    pub fn link<'l>(&self, links: Links<'l>, from: usize, place: usize) -> WalkedLink<'l>
+        requires links { AreLinksAt self.now from links.links.now links.passes.now }
+        requires place { place < length links.links.now }
+        ensures from { result.from ≡ from }
+        ensures receiver { result.to < length self.now.table }
+        ensures link { IsLinkWithin self.now from result.to result.passes.now result.bounds }
+        ensures here { IsLinkHere links.entry.links.now links.entry.passes.now place result.to result.passes.now }
+    {
+        let link = &links.links[place];
+        WalkedLink {
+            from,
+            to: link.receiver as usize,
+            passes: &links.passes[link.first as usize..link.end as usize],
+            bounds: link.bounds,
+        }
+    }
+
     /// Returns the record of a pass that was looked at.
     pub fn hop_over(&self, to: usize, pass: &Looked<'_>) -> Hop
         requires pass { (node : ℕ) × IsPassAt self.now node to pass.now }

@@ -6,12 +6,12 @@ use Rattle.sabr_search.specs.questions.Linked.{HasNumber, AreLinksAt, passes_of}
 use Rattle.sabr_search.specs.questions.FirstSteps.{ComesTo}
 use Rattle.sabr_search.proofs.task.Task.steps_from.Given as goal
 
-abbrev pub invariant-loop-link : goal.invariant-loop-link
-invariant-loop-link g l = record {
+abbrev pub invariant-loop-place : goal.invariant-loop-place
+invariant-loop-place g l = record {
   links : AreLinksAt l.self l.from.node l.links.links.now l.links.passes.now;
-  placed : (x : Link) → slice_get l.link-items l.link-index ≡ Some x → l.fn.looks.left ≤ l.looks.left + x.first;
+  placed : (k : ℕ) (x : Link) → l.place ≤ k → slice_get l.links.links.now k ≡ Some x → l.fn.looks.left ≤ l.looks.left + x.first;
   all : l.fn.looks.left ≤ l.looks.left + length l.links.passes.now;
   real : (k : ℕ) (s : Visit) → slice_get l.first.items k ≡ Some s → (n : ℕ) × Takes l.self n l.from.node l.from.at s.node s.at;
   inside : (k : ℕ) (s : Visit) → slice_get l.first.items k ≡ Some s → s.node < length l.self.table;
-  come : (j : ℕ) (x : Link) (n w b : ℕ) → j < l.link-index → slice_get l.link-items j ≡ Some x → HasNumber (passes_of l.links.passes.now x) n → Takes l.self n l.from.node l.from.at w b → ComesTo l.first.items w b;
+  come : (j : ℕ) (x : Link) (n w b : ℕ) → j < l.place → slice_get l.links.links.now j ≡ Some x → HasNumber (passes_of l.links.passes.now x) n → Takes l.self n l.from.node l.from.at w b → ComesTo l.first.items w b;
 }

@@ -7,12 +7,12 @@ use Rattle.sabr_search.specs.layers.Level.{IsDeadEnd}
 use Rattle.sabr_search.specs.layers.Picks.{IsAtMost}
 use Rattle.sabr_search.proofs.level.walk.Walk.next.Given as goal
 
-abbrev pub invariant-loop-link : goal.invariant-loop-link
-invariant-loop-link g l = record {
+abbrev pub invariant-loop-place : goal.invariant-loop-place
+invariant-loop-place g l = record {
   links : AreLinksAt l.task l.from.node l.links.links.now l.links.passes.now;
   counted : l.fn.looks.left ≤ l.looks.left + length l.links.passes.now;
   looked : l.looks.left ≤ l.fn.looks.left;
-  placed : (x : Link) → slice_get l.link-items l.link-index ≡ Some x → l.fn.looks.left ≤ l.looks.left + x.first;
+  placed : (k : ℕ) (x : Link) → l.place ≤ k → slice_get l.links.links.now k ≡ Some x → l.fn.looks.left ≤ l.looks.left + x.first;
   chosen : IfSome l.least (λ s. Takes l.task s.number l.from.node l.from.at s.node s.at × (l.hops ≡ 0 → (s.node ≡ l.task.goal) × (s.at ≤ l.level.delivery)));
-  least : (j : ℕ) (x : Link) (n w b : ℕ) → j < l.link-index → slice_get l.link-items j ≡ Some x → HasNumber (passes_of l.links.passes.now x) n → Takes l.task n l.from.node l.from.at w b → IsDeadEnd l.task l.level.delivery w b l.hops ⊎ IsAtMost l.least n;
+  least : (j : ℕ) (x : Link) (n w b : ℕ) → j < l.place → slice_get l.links.links.now j ≡ Some x → HasNumber (passes_of l.links.passes.now x) n → Takes l.task n l.from.node l.from.at w b → IsDeadEnd l.task l.level.delivery w b l.hops ⊎ IsAtMost l.least n;
 }
