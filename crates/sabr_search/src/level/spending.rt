@@ -16,7 +16,8 @@ const FIRST_PRICE: u64 = 64;
 /// `relay-moon-2000` took 3 percent more.
 const MOST_TIMES: u64 = 2048;
 
-/// So many questions are asked of layers before it is counted how many they answered.
+/// So many questions are asked of layers before it is counted how many they answered. With 16, `iridium-6-10` took 13 percent
+/// more and `grid-8` 6 fewer, with 0.7 more in the mean of twelve plans; with 64, `relay-moon-2000` took 4 more.
 const TRIES: u32 = 32;
 
 /// If they answered fewer, `PAUSE` questions aren't asked of them. With 0, `relay-moon-2000` took 7 percent more; with 20,
