@@ -30,7 +30,7 @@ use std::alloc::Allocator;
 /// To vary it: `bench/further.py --parts limits`.
 const TRIES: u32 = 16;
 
-/// How many of them it must answer. With 4 they took 0.4 percent more, and with 12 0.1, the means of the same eight questions.
+/// How many of them it must answer. With 4, the same eight took 0.4 percent more, and with 12 they took 0.1.
 const LEAST: u32 = 8;
 
 /// How many such questions begin with layers forward otherwise. With 256, dense-60 took 4 percent more; with 4096 nothing
