@@ -211,14 +211,13 @@ chosen_from task ends entries hops opens u t to before in_time (Some s) h =
     let step = h.2 (opens admits.1.0 (record { node = to; before = admits.0 }) admits.1.3).1 in
     rw h.0 (step, admits)
 
--- what comes over links that are ruled out by what is known of their receivers is known, if the goal's own arrival is no
--- sooner than the best delivery
+-- what comes over a link of a node that is ruled out by what is known of its receiver is known, if the goal's own arrival is
+-- no sooner than the best delivery
 pub known_skipped : (task : SearchTask) → IsTask task → (u t : ℕ) (links : List Link) (passes : List Pass) → AreLinksAt task u links passes → (arrival : List ℕ) (best : ℕ) → best ≤ slice_index arrival task.goal →
-    (first last : ℕ) → ((j : ℕ) (l : Link) → first ≤ j → j < last → slice_get links j ≡ Some l → IsRuledOut l.bounds t (slice_index arrival l.receiver)) →
-    (j : ℕ) (l : Link) (n w b : ℕ) → first ≤ j → j < last → slice_get links j ≡ Some l → HasNumber (passes_of passes l) n → Takes task n u t w b → IsKnown task.goal arrival best w b
-known_skipped task is u t links passes are arrival best goal_late first last out j l n w b from less at has s =
+    (j : ℕ) (l : Link) → slice_get links j ≡ Some l → IsRuledOut l.bounds t (slice_index arrival l.receiver) → (n w b : ℕ) → HasNumber (passes_of passes l) n → Takes task n u t w b → IsKnown task.goal arrival best w b
+known_skipped task is u t links passes are arrival best goal_late j l at out n w b has s =
     let to = link_receiver task is u links passes are j l at n t w b has s in
-    let by : slice_index arrival w ≤ b = rw to (ruled_out task is u l.receiver (passes_of passes l) (are.each j l at) l.bounds (are.bounds j l at) t (slice_index arrival l.receiver) (out j l from less at) n t w b has (omega arith) s) in
+    let by : slice_index arrival w ≤ b = rw to (ruled_out task is u l.receiver (passes_of passes l) (are.each j l at) l.bounds (are.bounds j l at) t (slice_index arrival l.receiver) out n t w b has (omega arith) s) in
     elim (cases_eq w task.goal) [
       | inl same ↦ inl (omega (arith, goal_late, by, ap (slice_index arrival) same))
       | inr other ↦ inr (other, by)

@@ -3,6 +3,7 @@
 use Rattle.std.specs.Prelude.{◌≡◌, ◌≢◌, ◌⊎◌, ℕ, ◌+◌, ◌≤◌, ◌<◌, List, [], ◌∷◌, ◌++◌, length, false, slice_get, slice_set, slice_index, slice_index_or}
 use Rattle.std.specs.declared.option.Option.TheVariants.{Some}
 use Rattle.sabr_search.specs.declared.backward.deadlines.Deadline.{Deadline}
+use Rattle.sabr_search.specs.declared.backward.deadlines.Deadlines.{Deadlines}
 use Rattle.sabr_search.specs.questions.Ways.{Leads}
 use Rattle.sabr_search.specs.layers.Layers.{Entries}
 use Rattle.sabr_search.specs.questions.Task.{SearchTask, Takes}
@@ -68,6 +69,10 @@ abbrev pub IsToldByHead : SearchTask → List ℕ → List ℕ → SenderHead �
 IsToldByHead task since late head before =
     (to end : ℕ) (passes : List Pass) → IsLinkWithin task head.node to passes (bounds_until end head) → IsToldOver task since late head.node passes before
 
+-- so it is for each step that comes to a node before its deadline
+abbrev pub IsToldTo : SearchTask → List ℕ → List ℕ → Deadline → Type 0
+IsToldTo task since late to = (n u t b : ℕ) → Takes task n u t to.node b → b < to.before → IsToldLate task since late u t
+
 -- that holds for each step to an entry at the places from `first` to before `begin`
 abbrev pub AreTold : SearchTask → List ℕ → List Deadline → ℕ → ℕ → List ℕ → Type 0
 AreTold task since entries first begin late = (p : ℕ) (e : Deadline) (n u t b : ℕ) → first ≤ p → p < begin → slice_get entries p ≡ Some e → Takes task n u t e.node b → b < e.before → IsToldLate task since late u t
@@ -116,6 +121,10 @@ pub record AreMet (task : SearchTask) (since : List ℕ) (d left : ℕ) (ends pl
   pub arrivals : AreArrivals task since
   pub met : IsMet task left ends entries
   pub flags : length place ≡ length task.table
+
+-- so it is with what a search keeps
+abbrev pub StayMet : {A : Type 0} → SearchTask → List ℕ → ℕ → ℕ → Deadlines A → Type 0
+StayMet task since d left s = AreMet task since d left s.ends.items s.place.items s.entries.items
 
 -- each entry is of an open node
 abbrev pub AreOpen : SearchTask → List Deadline → Type 0

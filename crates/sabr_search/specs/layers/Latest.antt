@@ -18,6 +18,10 @@ pub record IsWhole (task : SearchTask) : Type 0 where
 abbrev pub IsLeftBy : SearchTask → List ℕ → ℕ → ℕ → Type 0
 IsLeftBy task late u t = slice_index_or task.shut u false ≡ false → u ≢ task.goal → t < slice_index late u
 
+-- so it is for each step over these passes from node u to node w before a second
+abbrev pub IsLeftOver : SearchTask → List ℕ → ℕ → List Pass → ℕ → ℕ → Type 0
+IsLeftOver task late u passes w before = (n t b : ℕ) → HasNumber passes n → Takes task n u t w b → b < before → IsLeftBy task late u t
+
 -- so it is for each step that leads to node w in time
 abbrev pub IsTakenBy : SearchTask → List ℕ → ℕ → Type 0
 IsTakenBy task late w = (n u t b : ℕ) → Takes task n u t w b → b < slice_index late w → IsLeftBy task late u t

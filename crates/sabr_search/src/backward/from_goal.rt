@@ -2,13 +2,13 @@
 //! many hops lead to the goal by then, starting later than fewer hops can.
 
 ghost use Rattle.std.specs.Prelude.{◌≡◌, ◌≢◌, ℕ, ◌+◌, ◌*◌, ◌^◌, ◌≤◌, ◌<◌, take, length, true, false, IsTrue, slice_get, slice_index, slice_index_or, slice_set, Some, None, OnOk, IfOk, IfSome, IfNone, [], ◌∷◌};
-ghost use Rattle.sabr_search.specs.questions.Task.{IsTask, Takes, never};
+ghost use Rattle.sabr_search.specs.questions.Task.{IsTask, never};
 ghost use Rattle.sabr_search.specs.questions.Steps.{received};
 ghost use Rattle.sabr_search.specs.questions.Linked.{IsLinkWithin};
 ghost use Rattle.sabr_search.specs.layers.Deadlines.{IsApart};
 ghost use Rattle.sabr_search.specs.questions.FirstSteps.{AreFirstSteps};
 ghost use Rattle.sabr_search.specs.layers.Settling.{AreReal};
-ghost use Rattle.sabr_search.specs.layers.Late.{InTimeFor, AreLateAfter, IsNotedLate, IsToldLate, IsToldOver, IsToldByHead, IsLayerTold, AreArrivals, AreMet, IsNoneWithin};
+ghost use Rattle.sabr_search.specs.layers.Late.{InTimeFor, AreLateAfter, IsNotedLate, IsToldTo, IsToldOver, IsToldByHead, IsLayerTold, AreArrivals, StayMet, IsNoneWithin};
 ghost use Rattle.sabr_search.specs.layers.Level.{AreWhole};
 
 use crate::backward::deadlines::{Deadline, Deadlines};
@@ -58,7 +58,7 @@ impl<A: Allocator + Copy> Deadlines<A> {
     /// as the start, or what is listed with it shows that its sender is too late then already, or that no way comes there
     /// soon enough. What is cheapest is compared first.
     #[inline(always)]
-    fn is_told(&self, aim: &Aim<'_, '_, '_, A>, head: SenderHead, before: u64) -> bool
+    fn brings_nothing(&self, aim: &Aim<'_, '_, '_, A>, head: SenderHead, before: u64) -> bool
         requires task { IsTask aim.now.task.now }
         requires many { length self.now.late ≡ length aim.now.task.now.table }
         requires arrivals { length aim.now.since.now ≡ length aim.now.task.now.table }
@@ -151,12 +151,12 @@ impl<A: Allocator + Copy> Deadlines<A> {
         ensures lists { OnOk result (AreLateAfter aim.now.task.now self.old.ends.items left self.new.late self.new.place.items self.new.entries.items) }
         ensures kept { OnOk result (take (slice_index self.old.ends.items (left + 1)) self.new.entries.items ≡ take (slice_index self.old.ends.items (left + 1)) self.old.entries.items) }
         ensures rises { OnOk result ((k : ℕ) → slice_index self.old.late k ≤ slice_index self.new.late k) }
-        ensures told { IfOk result (λ whole. IsTrue whole → (n u t b : ℕ) → Takes aim.now.task.now n u t to.node b → b < to.before → IsToldLate aim.now.task.now aim.now.since.now self.new.late u t) }
+        ensures told { IfOk result (λ whole. IsTrue whole → IsToldTo aim.now.task.now aim.now.since.now self.new.late to) }
     {
         let senders = aim.task.senders(to.node);
         for place in 0..senders.len() {
             let head = senders.head(place);
-            if self.is_told(aim, head, to.before) {
+            if self.brings_nothing(aim, head, to.before) {
                 continue;
             }
             let from = senders.at(place);
@@ -290,7 +290,7 @@ impl<A: Allocator + Copy> Deadlines<A> {
         ensures counted { looks.old.left ≤ looks.new.left + hops * length aim.now.task.now.plan.contacts }
         ensures within { IfOk result (λ o. IfSome o (λ left. left ≤ hops)) }
         ensures layers { IfOk result (λ o. IfSome o (λ left. left < hops → looks.old.left ≤ looks.new.left + (left + 1) * length aim.now.task.now.plan.contacts)) }
-        ensures met { IfOk result (λ o. IfSome o (λ left. left < hops → AreMet aim.now.task.now aim.now.since.now aim.now.delivery left self.new.ends.items self.new.place.items self.new.entries.items)) }
+        ensures met { IfOk result (λ o. IfSome o (λ left. left < hops → StayMet aim.now.task.now aim.now.since.now aim.now.delivery left self.new)) }
         ensures beyond { IfOk result (λ o. IfSome o (λ left. left ≡ hops → IsNoneWithin aim.now.task.now hops aim.now.delivery)) }
         ensures none { IfOk result (λ o. IfNone o (looks.old.left < hops * length aim.now.task.now.plan.contacts)) }
     {

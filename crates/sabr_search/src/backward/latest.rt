@@ -2,11 +2,11 @@
 //! graph.
 
 ghost use Rattle.std.specs.Prelude.{◌≡◌, ◌≢◌, ℕ, ◌+◌, ◌*◌, ◌^◌, ◌≤◌, ◌<◌, [], Some, IfOk, OnOk, IsTrue, false, length, slice_get, slice_index, slice_index_or};
-ghost use Rattle.sabr_search.specs.questions.Task.{IsTask, Takes};
-ghost use Rattle.sabr_search.specs.questions.Linked.{IsLinkWithin, HasNumber};
+ghost use Rattle.sabr_search.specs.questions.Task.{IsTask};
+ghost use Rattle.sabr_search.specs.questions.Linked.{IsLinkWithin};
 ghost use Rattle.sabr_search.specs.questions.FirstSteps.{tabled_of};
 ghost use Rattle.sabr_search.specs.layers.Reach.{AreLateFor};
-ghost use Rattle.sabr_search.specs.layers.Latest.{IsWhole, IsBegun, AreRising, AreTaken, IsTakenBy, IsLeftBy};
+ghost use Rattle.sabr_search.specs.layers.Latest.{IsWhole, IsBegun, AreRising, AreTaken, IsTakenBy, IsLeftOver};
 
 use crate::forward::queue::{LAST_AT, Queue};
 use crate::links::over_link::{WalkedLink, is_soonest};
@@ -67,7 +67,7 @@ impl<A: Allocator + Copy> Latest<A> {
         ensures rising { OnOk result (AreRising (IsTakenBy task.now) task.now self.new.late.items self.new.taken.items self.new.queue to) }
         ensures same { OnOk result (slice_index self.new.late.items to ≡ before) }
         ensures rises { OnOk result ((k : ℕ) → slice_index self.old.late.items k ≤ slice_index self.new.late.items k) }
-        ensures told { OnOk result ((n t b : ℕ) → HasNumber from.entry.passes.now n → Takes task.now n from.entry.node t to b → b < before → IsLeftBy task.now self.new.late.items from.entry.node t) }
+        ensures told { OnOk result (IsLeftOver task.now self.new.late.items from.entry.node from.entry.passes.now to before) }
     {
         let node = from.node;
         if node == to {

@@ -3,7 +3,7 @@
 ghost use Rattle.std.specs.Prelude.{◌≡◌, ℕ, ◌+◌, ◌*◌, ◌^◌, ◌≤◌, ◌<◌, false, Some, IfOk, IfSome, IfNone, IsTrue, length, slice_index};
 ghost use Rattle.sabr_search.specs.questions.Task.{IsTask, Takes, most_nodes};
 ghost use Rattle.sabr_search.specs.questions.Linked.{AreLinksAt};
-ghost use Rattle.sabr_search.specs.layers.Late.{AreMet, AreOpen, IsNoneSooner};
+ghost use Rattle.sabr_search.specs.layers.Late.{StayMet, AreOpen, IsNoneSooner};
 ghost use Rattle.sabr_search.specs.layers.Deadlines.{IsInTime, ArePointed};
 ghost use Rattle.sabr_search.specs.layers.Picks.{IsLeastStep, IsPicked};
 
@@ -60,7 +60,7 @@ impl<A: Allocator + Copy> Deadlines<A> {
     ) -> Result<Option<Vec<u32, A>>, NoMemory>
         requires task { IsTask aim.now.task.now }
         requires many { left < most_nodes }
-        requires met { AreMet aim.now.task.now aim.now.since.now aim.now.delivery left self.old.ends.items self.old.place.items self.old.entries.items }
+        requires met { StayMet aim.now.task.now aim.now.since.now aim.now.delivery left self.old }
         requires least { IsNoneSooner aim.now.task.now (left + 1) aim.now.delivery }
         ensures counted { looks.old.left ≤ looks.new.left + (left + 1) * length aim.now.task.now.plan.contacts }
         ensures none { IfOk result (λ o. IfNone o (looks.old.left < (left + 1) * length aim.now.task.now.plan.contacts)) }

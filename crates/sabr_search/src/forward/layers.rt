@@ -9,7 +9,7 @@ ghost use Rattle.sabr_search.specs.questions.FirstSteps.{IsNoneBefore};
 ghost use Rattle.sabr_search.specs.layers.Made.{AreOpened, IsBestWithin};
 
 use crate::forward::arrivals::open_nodes;
-use crate::forward::news::{news_before, next_news};
+use crate::forward::news::{brings_none, news_before};
 use crate::links::over_link::{WalkedLink, is_soonest};
 use crate::task::Task;
 use crate::visit::{NEVER, Visit};
@@ -133,12 +133,13 @@ impl<A: Allocator + Copy> Layers<A> {
     {
         let links = task.links(from.node);
         let mut least = best;
-        let mut place = next_news(&self.arrival, links.links, 0, from.at);
-        while place < links.links.len() {
+        for place in 0..links.links.len() {
+            if brings_none(&self.arrival, &links.links[place], from.at) {
+                continue;
+            }
             let link = task.link(links, from.node, place);
             let layer = Layer { begin, best: least };
             least = self.take_link(task, looks, from.at, link, layer)?;
-            place = next_news(&self.arrival, links.links, place + 1, from.at);
         }
         Ok(least)
     }

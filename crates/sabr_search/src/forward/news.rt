@@ -1,7 +1,6 @@
 //! What is news: an arrival at a node that is sooner than is known, and the links that may bring one.
 
-ghost use Rattle.std.specs.Prelude.{◌≡◌, ◌≢◌, IsTrue, Some, ℕ, min, ◌+◌, ◌^◌, ◌≤◌, ◌<◌, length, slice_get, slice_index};
-ghost use Rattle.sabr_index.specs.declared.link.Link.{Link};
+ghost use Rattle.std.specs.Prelude.{◌≡◌, ◌≢◌, IsTrue, ℕ, min, ◌+◌, ◌^◌, ◌≤◌, ◌<◌, length, slice_index};
 ghost use Rattle.sabr_search.specs.questions.Task.{IsTask, latest_arrival};
 ghost use Rattle.sabr_search.specs.questions.Linked.{IsRuledOut};
 
@@ -30,8 +29,9 @@ pub fn news_before<A: Allocator + Copy>(
 }
 
 /// Returns true if, by the bounds of a link, nothing that is at its sender at `at` comes to its receiver sooner than is known.
+/// Whether the link has ended is seen first.
 #[inline(always)]
-fn brings_none(arrival: &[u64], link: &Link, at: u64) -> bool
+pub fn brings_none(arrival: &[u64], link: &Link, at: u64) -> bool
     requires receiver { link.now.receiver < length arrival.now }
     requires early { at ≤ latest_arrival }
     ensures { IsTrue result → IsRuledOut link.now.bounds at (slice_index arrival.now link.now.receiver) }
@@ -39,20 +39,4 @@ fn brings_none(arrival: &[u64], link: &Link, at: u64) -> bool
     let known = arrival[link.receiver as usize];
     link.bounds.latest_end <= at
         || known <= link.bounds.soonest.max(at + link.bounds.least_light as u64)
-}
-
-/// Returns the place of the first link, from the one at `first` on, that may bring news from its sender at `at`; the number of
-/// links if there is none.
-#[inline(always)]
-pub fn next_news(arrival: &[u64], links: &[Link], first: usize, at: u64) -> usize
-    requires receivers { (j : ℕ) (l : Link) → slice_get links.now j ≡ Some l → l.receiver < length arrival.now }
-    requires early { at ≤ latest_arrival }
-    ensures later { first ≤ result }
-    ensures none { (j : ℕ) (l : Link) → first ≤ j → j < result → slice_get links.now j ≡ Some l → IsRuledOut l.bounds at (slice_index arrival.now l.receiver) }
-{
-    let mut place = first;
-    while place < links.len() && brings_none(arrival, &links[place], at) {
-        place += 1;
-    }
-    place
 }

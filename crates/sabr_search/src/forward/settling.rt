@@ -12,7 +12,7 @@ ghost use Rattle.sabr_search.specs.layers.Settling.{IsBound, AreReal, AreArrival
 use crate::backward::since::seconds_of;
 use crate::forward::arrivals::open_nodes;
 use crate::forward::layers::Best;
-use crate::forward::news::next_news;
+use crate::forward::news::brings_none;
 use crate::forward::queue::Queue;
 use crate::links::over_link::WalkedLink;
 use crate::task::Task;
@@ -207,11 +207,12 @@ impl<A: Allocator + Copy> Settling<A> {
     {
         self.settled[event.node] = true;
         let mut least = best;
-        let mut place = next_news(&self.arrival, links.links, 0, event.at);
-        while place < links.links.len() {
+        for place in 0..links.links.len() {
+            if brings_none(&self.arrival, &links.links[place], event.at) {
+                continue;
+            }
             let link = forward.task.link(links, event.node, place);
             least = self.take_link(forward, looks, event, link, least)?;
-            place = next_news(&self.arrival, links.links, place + 1, event.at);
         }
         Ok(least)
     }

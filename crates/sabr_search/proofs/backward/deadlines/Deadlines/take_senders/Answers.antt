@@ -29,16 +29,16 @@ one_node : (g : Over) (c : After-at-from g) → c.at-from.result.node ≡ c.head
 one_node g c = ap (λ (s : SentLink). s.sender) (same_some (sym c.at-from.ensures.link ∙ c.head-head.ensures.1))
 
 pub take_sender-requires-clause-unshut : goal.take_sender-requires-clause-unshut
-take_sender-requires-clause-unshut g c = rw (one_node g (goal.at.take_sender-requires-clause-unshut g c).After-at-from) (c.is_told.ensures.unshut c.if-is_told.false)
+take_sender-requires-clause-unshut g c = rw (one_node g (goal.at.take_sender-requires-clause-unshut g c).After-at-from) (c.brings_nothing.ensures.unshut c.if-brings_nothing.false)
 
 pub take_sender-requires-clause-other : goal.take_sender-requires-clause-other
-take_sender-requires-clause-other g c = rw (one_node g (goal.at.take_sender-requires-clause-other g c).After-at-from) (c.is_told.ensures.other c.if-is_told.false)
+take_sender-requires-clause-other g c = rw (one_node g (goal.at.take_sender-requires-clause-other g c).After-at-from) (c.brings_nothing.ensures.other c.if-brings_nothing.false)
 
-pub is_told-requires-clause-node : goal.is_told-requires-clause-node
-is_told-requires-clause-node g c = c.senders-senders.ensures.senders c.loop-place.place (record { sender = c.head-head.result.node; passes = c.head-head.ensures.0 }) c.head-head.ensures.1
+pub brings_nothing-requires-clause-node : goal.brings_nothing-requires-clause-node
+brings_nothing-requires-clause-node g c = c.senders-senders.ensures.senders c.loop-place.place (record { sender = c.head-head.result.node; passes = c.head-head.ensures.0 }) c.head-head.ensures.1
 
-pub loop-place-preserved-then-is_told : goal.loop-place-preserved-then-is_told
-loop-place-preserved-then-is_told g c =
+pub loop-place-preserved-then-brings_nothing : goal.loop-place-preserved-then-brings_nothing
+loop-place-preserved-then-brings_nothing g c =
     let so_far = c.loop-place.invariant in
     let here = c.head-head.ensures in
     let link = c.senders-senders.ensures.each c.loop-place.place (record { sender = c.head-head.result.node; passes = here.0 }) here.1 in
@@ -49,7 +49,7 @@ loop-place-preserved-then-is_told g c =
       kept = so_far.kept;
       rises = so_far.rises;
       told = each_until (λ (s : SentLink). IsToldOver c.args.aim.now.task.now c.args.aim.now.since.now c.loop-place.self.late s.sender s.passes c.args.to.before) c.senders-senders.result c.loop-place.place _ here.1 so_far.told
-          (c.is_told.ensures.told c.if-is_told.true c.args.to.node here.2 here.0 (link, here.3));
+          (c.brings_nothing.ensures.told c.if-brings_nothing.true c.args.to.node here.2 here.0 (link, here.3));
     }
 
 pub loop-place-preserved-then-from-at : goal.loop-place-preserved-then-from-at

@@ -1,20 +1,14 @@
-use Rattle.std.proofs.Common.{◌≡◌, ◌<◌, inl, inr, ℕ, List, slice_index, sym, ap, ◌∙◌, arith}
+use Rattle.std.proofs.Common.{◌≡◌, inl, inr, slice_index, sym, ap, ◌∙◌, arith}
 use Rattle.std.proofs.lemmas.Bool.{cases_lt}
 use Rattle.sabr_index.specs.Links.{SentLink}
 use Rattle.sabr_index.specs.Incoming.{bounds_until}
-use Rattle.sabr_search.specs.questions.Task.{SearchTask, Takes}
-use Rattle.sabr_search.specs.questions.Linked.{HasNumber}
-use Rattle.sabr_search.specs.layers.Latest.{IsLeftBy}
+use Rattle.sabr_search.specs.layers.Latest.{IsLeftOver}
 use Rattle.sabr_search.proofs.LinkLemmas.OverLinks.{ruled_out}
 use Rattle.std.proofs.lemmas.Option.{slice_get_within}
 use Rattle.sabr_search.proofs.ForwardLemmas.LayerEntries.{read_at}
 use Rattle.sabr_search.proofs.WayLemmas.RoutesAndWays.{same_some}
 use Rattle.sabr_search.proofs.BackwardLemmas.LastSeconds.{left_later, left_before, each_until}
 use Rattle.sabr_search.proofs.backward.latest.Latest.take_senders.Goals as goal
-
--- what is told of one link to the node
-abbrev IsTold : SearchTask → List ℕ → ℕ → ℕ → SentLink → Type 0
-IsTold task late to before s = (n t b : ℕ) → HasNumber s.passes n → Takes task n s.sender t to b → b < before → IsLeftBy task late s.sender t
 
 pub loop-place-init : goal.loop-place-init
 loop-place-init g c = record {
@@ -39,7 +33,7 @@ loop-place-preserved-then-is_soonest g c =
       rising = so_far.rising;
       rises = so_far.rises;
       same = so_far.same;
-      told = each_until (IsTold task c.loop-place.self.late.items c.args.to c.index-before.result.now) c.senders-senders.result c.loop-place.place _ here.1 so_far.told
+      told = each_until (λ (s : SentLink). IsLeftOver task c.loop-place.self.late.items s.sender s.passes c.args.to c.index-before.result.now) c.senders-senders.result c.loop-place.place _ here.1 so_far.told
           (λ n t b has s by open' other. elim (cases_lt t (slice_index c.loop-place.self.late.items u)) [
             | inl early ↦ early
             | inr late_there ↦
@@ -60,7 +54,7 @@ loop-place-preserved-then-from-latest g c =
       rising = so_far.rising;
       rises = so_far.rises;
       same = so_far.same;
-      told = each_until (IsTold task c.loop-place.self.late.items c.args.to c.index-before.result.now) c.senders-senders.result c.loop-place.place _ here.link so_far.told
+      told = each_until (λ (s : SentLink). IsLeftOver task c.loop-place.self.late.items s.sender s.passes c.args.to c.index-before.result.now) c.senders-senders.result c.loop-place.place _ here.link so_far.told
           (λ n t b has s by open' other. omega (arith, late, left_before task c.requires.task from.node c.args.to from.passes.now from.bounds (link, here.bounds) c.index-latest.result.now c.if-from-latest.true n t c.args.to b has s));
     }
 
@@ -79,7 +73,7 @@ loop-place-preserved g c =
       rising = one.rising;
       rises = λ k. omega (arith, so_far.rises k, one.rises k);
       same = one.same;
-      told = each_until (IsTold task c.take_sender.new.self.late.items c.args.to c.index-before.result.now) c.senders-senders.result c.loop-place.place _ c.at-from.ensures.link
+      told = each_until (λ (s : SentLink). IsLeftOver task c.take_sender.new.self.late.items s.sender s.passes c.args.to c.index-before.result.now) c.senders-senders.result c.loop-place.place _ c.at-from.ensures.link
           (λ j s less at n t b has step by. left_later task _ _ one.rises s.sender t (so_far.told j s less at n t b has step by))
           one.told;
     }

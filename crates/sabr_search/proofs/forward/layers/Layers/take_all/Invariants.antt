@@ -1,4 +1,4 @@
-use Rattle.std.proofs.Common.{◌≡◌, ℕ, ◌+◌, ◌-◌, ◌<◌, ◌≤◌, Some, length, slice_get}
+use Rattle.std.proofs.Common.{◌≡◌, ℕ, ◌+◌, ◌<◌, ◌≤◌, Some, length, slice_get}
 use Rattle.sabr_index.specs.declared.link.Link.{Link}
 use Rattle.sabr_search.specs.questions.Task.{Takes}
 use Rattle.sabr_search.specs.layers.Lists.{IsLowered, IsKnown}
@@ -13,6 +13,3 @@ invariant-loop-place g l = record {
   lowered : IsLowered l.task.shut l.task.goal l.task.at l.begin (λ w x. (n : ℕ) × Takes l.task n l.from.node l.from.at w x) l.fn.self.arrival.items l.fn.self.reached.items l.best l.self.arrival.items l.self.place.items l.self.reached.items l.least;
   known : (j : ℕ) (x : Link) (n w b : ℕ) → j < l.place → slice_get l.links.links.now j ≡ Some x → HasNumber (passes_of l.links.passes.now x) n → Takes l.task n l.from.node l.from.at w b → IsKnown l.task.goal l.self.arrival.items l.least w b;
 }
-
-abbrev pub decreases-loop-place : goal.decreases-loop-place
-decreases-loop-place g l = length l.links.links.now - l.place

@@ -1,32 +1,43 @@
-use Rattle.std.proofs.Common.{inl, inr, refl, ap, ◌∙◌, ◌+◌, ◌-◌, slice_index, arith}
-use Rattle.std.proofs.lemmas.Bool.{cases_lt}
-use Rattle.std.proofs.lemmas.Option.{slice_get_within}
+use Rattle.std.proofs.Common.{inl, inr, ap, sym, ◌∙◌, ◌-◌, slice_index, slice_get, arith}
+use Rattle.std.proofs.lemmas.Option.{slice_get_within, slice_get-get_or}
 use Rattle.sabr_search.proofs.ForwardLemmas.Forward.{known_lower, last_or_before}
+use Rattle.sabr_search.proofs.WayLemmas.RoutesAndWays.{same_some}
 use Rattle.sabr_search.proofs.AnswerLemmas.Law.{way_early}
-use Rattle.sabr_search.proofs.LinkLemmas.OverLinks.{known_skipped, in_place}
+use Rattle.sabr_search.proofs.LinkLemmas.OverLinks.{known_skipped, no_link, in_place}
 use Rattle.sabr_search.proofs.ForwardLemmas.Queues.{fallen_more, taken_settled}
 use Rattle.sabr_search.proofs.forward.settling.Settling.settle.Goals as goal
 
-pub next_news-place-requires-clause-early : goal.next_news-place-requires-clause-early
-next_news-place-requires-clause-early g c =
+pub brings_none-requires-clause-receiver : goal.brings_none-requires-clause-receiver
+brings_none-requires-clause-receiver g c =
+    let so_far = c.loop-place.invariant in
+    omega (arith, so_far.links.receivers c.loop-place.place _ (slice_get-get_or c.args.links.links.now c.loop-place.place no_link c.loop-place-test.true), so_far.state.flags, c.requires.task.as_many)
+
+pub brings_none-requires-clause-early : goal.brings_none-requires-clause-early
+brings_none-requires-clause-early g c =
     let task = c.args.forward.now.task.now in
     let way = c.requires.state.real in
     way_early task c.requires.task way.0 task.start task.at c.args.event.node c.args.event.at c.requires.task.time way.2
 
-pub loop-place-init : goal.loop-place-init
-loop-place-init g c =
+pub loop-place-preserved-then-brings_none : goal.loop-place-preserved-then-brings_none
+loop-place-preserved-then-brings_none g c =
     let task = c.args.forward.now.task.now in
+    let so_far = c.loop-place.invariant in
+    let here = slice_get-get_or c.args.links.links.now c.loop-place.place no_link c.loop-place-test.true in
     record {
-      links = c.requires.links;
-      settled = refl;
-      counted = omega arith;
-      placed = λ k x from at. omega arith;
-      state = c.requires.state;
-      fallen = record { lower = omega arith; lowered = λ k. omega arith; kept = λ k on. refl };
-      known = λ j x n w b less at has s.
-          known_skipped task c.requires.task c.args.event.node c.args.event.at _ _ c.requires.links c.args.self.now.arrival.items (c.args.best.delivery - slice_index c.args.forward.now.costs.now w)
-          (omega (arith, c.requires.state.goal_late)) 0 c.next_news-place.result (rw c.deref.ensures.value at c.next_news-place.ensures.none) j x n w b (omega arith) less at has s;
-      pushes = omega arith;
+      links = so_far.links;
+      settled = so_far.settled;
+      counted = so_far.counted;
+      placed = λ k x from at. so_far.placed k x (omega (arith, from)) at;
+      state = so_far.state;
+      fallen = so_far.fallen;
+      known = λ j x n w b less at has s. elim (last_or_before j c.loop-place.place less) [
+        | inl before ↦ so_far.known j x n w b before at has s
+        | inr same ↦
+            (let is = same_some (sym at ∙ ap (slice_get c.args.links.links.now) same ∙ here) in
+            known_skipped task c.requires.task c.args.event.node c.args.event.at _ _ so_far.links c.loop-place.self.arrival.items (c.loop-place.least.delivery - slice_index c.args.forward.now.costs.now w)
+            (omega (arith, so_far.state.goal_late)) j x at (rw is (rw c.deref.ensures.value at (c.brings_none.ensures c.if-brings_none.true))) n w b has s)
+      ];
+      pushes = so_far.pushes;
     }
 
 pub take_link-requires-clause-few : goal.take_link-requires-clause-few
@@ -41,15 +52,6 @@ returns-in_err-least-clause-looks g c =
     let here = c.link-link.ensures.here in
     omega (arith, so_far.placed c.loop-place.place here.link (omega arith) here.here, c.take_link.ensures.looks, (in_place _ _ _ _ so_far.links _ _ _ here).few)
 
-pub next_news-place-requires-in-loop-place-clause-receivers : goal.next_news-place-requires-in-loop-place-clause-receivers
-next_news-place-requires-in-loop-place-clause-receivers g c = λ j l at. omega (arith, c.requires.links.receivers j l at, c.in_ok-least.ensures.state.flags, c.requires.task.as_many)
-
-pub next_news-place-requires-in-loop-place-clause-early : goal.next_news-place-requires-in-loop-place-clause-early
-next_news-place-requires-in-loop-place-clause-early g c =
-    let task = c.args.forward.now.task.now in
-    let way = c.requires.state.real in
-    way_early task c.requires.task way.0 task.start task.at c.args.event.node c.args.event.at c.requires.task.time way.2
-
 pub loop-place-preserved : goal.loop-place-preserved
 loop-place-preserved g c =
     let task = c.args.forward.now.task.now in
@@ -58,23 +60,16 @@ loop-place-preserved g c =
     let link = in_place _ _ _ _ so_far.links _ _ _ here in
     let own = so_far.placed c.loop-place.place here.link (omega arith) here.here in
     let gained = rw so_far.settled at c.in_ok-least.ensures.fallen in
-    let state = rw so_far.settled at c.in_ok-least.ensures.state in
-    let jump = c.next_news-place-in-loop-place.ensures in
     record {
       links = so_far.links;
       settled = ap (λ v. v.items) c.take_link.ensures.settled ∙ so_far.settled;
       counted = omega (arith, own, c.take_link.ensures.looks, link.few);
-      placed = λ k x from at. omega (arith, own, c.take_link.ensures.looks, link.later k x (omega (arith, from, jump.later)) at);
-      state = state;
+      placed = λ k x from at. omega (arith, own, c.take_link.ensures.looks, link.later k x (omega (arith, from)) at);
+      state = rw so_far.settled at c.in_ok-least.ensures.state;
       fallen = fallen_more _ _ _ _ _ _ _ so_far.fallen gained;
-      known = λ j x n w b less at has s. elim (cases_lt j (c.loop-place.place + 1)) [
-        | inl until ↦ elim (last_or_before j c.loop-place.place until) [
-          | inl before ↦ known_lower task.goal _ _ _ _ w b gained.lowered (omega (arith, gained.lower)) (so_far.known j x n w b before at has s)
-          | inr same ↦ (rw c.link-link.ensures.from at c.in_ok-least.ensures.known) n w b (link.own j x n at same has) s
-        ]
-        | inr beyond ↦
-            known_skipped task c.requires.task c.args.event.node c.args.event.at _ _ so_far.links c.take_link.new.self.arrival.items (c.in_ok-least.least.delivery - slice_index c.args.forward.now.costs.now w)
-            (omega (arith, state.goal_late)) (c.loop-place.place + 1) _ (rw c.deref-in-loop-place.ensures.value at jump.none) j x n w b beyond less at has s
+      known = λ j x n w b less at has s. elim (last_or_before j c.loop-place.place less) [
+        | inl before ↦ known_lower task.goal _ _ _ _ w b gained.lowered (omega (arith, gained.lower)) (so_far.known j x n w b before at has s)
+        | inr same ↦ (rw c.link-link.ensures.from at c.in_ok-least.ensures.known) n w b (link.own j x n at same has) s
       ];
       pushes = omega (arith, so_far.pushes, c.in_ok-least.ensures.pushes);
     }

@@ -17,6 +17,3 @@ invariant-loop-place g l = record {
   known : (j : ℕ) (x : Link) (n w b : ℕ) → j < l.place → slice_get l.links.links.now j ≡ Some x → HasNumber (passes_of l.links.passes.now x) n → Takes l.forward.task.now n l.event.node l.event.at w b → IsKnown l.forward.task.now.goal l.self.arrival.items (l.least.delivery - slice_index l.forward.costs.now w) w b;
   pushes : length l.self.queue + l.looks.left ≤ length l.fn.self.queue + l.fn.looks.left;
 }
-
-abbrev pub decreases-loop-place : goal.decreases-loop-place
-decreases-loop-place g l = length l.links.links.now - l.place

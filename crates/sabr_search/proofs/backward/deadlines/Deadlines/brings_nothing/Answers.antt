@@ -2,7 +2,7 @@ use Rattle.std.proofs.Common.{inl, inr, slice_index, arith}
 use Rattle.std.proofs.lemmas.Bool.{cases_lt}
 use Rattle.sabr_index.specs.Incoming.{bounds_until}
 use Rattle.sabr_search.proofs.LinkLemmas.OverLinks.{ruled_out}
-use Rattle.sabr_search.proofs.backward.deadlines.Deadlines.is_told.Goals as goal
+use Rattle.sabr_search.proofs.backward.deadlines.Deadlines.brings_nothing.Goals as goal
 
 pub returns-then-is_soonest-clause-told : goal.returns-then-is_soonest-clause-told
 returns-then-is_soonest-clause-told g c = λ told to end passes link n t w b has s less unshut other soon.
