@@ -8,6 +8,10 @@ use std::marker::Model;
 
 /// For each node a second, which is 0 until it is set. To begin anew takes a step for each time that a node was set, and none
 /// for the others. Contracts see the seconds.
+///
+/// With a list that is filled for each search in its place, 1000 routes over grid-40 take 3 percent more instructions and over
+/// sparse-20000 2, and over six other plans up to 0.2 percent fewer, in a copy of this design in plain Rust. To vary it:
+/// `bench/figures.py --counts 100,1000 --only grid-40,sparse-20000,grid-8`.
 #[derive(Drop)]
 pub struct Seconds<A: Allocator + Copy> {
     seconds: Vec<u64, A>,
