@@ -132,17 +132,25 @@ def what_was_refused_before(room):
     yield "all if it is asked", whole, lambda: room.tried("--anew")[1]
 
 
-def what_is_listed(room):
+def what_the_gate_tries(room):
     """Which of four mutations are tried."""
     room.try_them(*["wrong"] * 4)
-    room.file("clone/docs/proofs.md", "`crates/low/mutations/{m1,m3}.edit`, `crates/low/mutations/m4.edit`\n")
+    room.file("clone/docs/proofs.md", """
+### Tried by the gate
+
+`crates/low/mutations/{m1,m3}.edit`, `crates/low/mutations/m4.edit`
+
+### Tried by whoever changes a crate
+
+`crates/low/mutations/m2.edit`
+""")
     for title, ran, *words in (
-        ("those that the document names", "f1 f3 f4 0, f1 f3 f4 3", "--listed"),
-        ("and have a word in their names", "f3 0, f3 1", "--listed", "--only", "3"),
-        ("one that isn't named, if it isn't asked for the named ones", "f2 0, f2 1", "--only", "2"),
+        ("those that the document names for it", "f1 f3 f4 0, f1 f3 f4 3", "--gate"),
+        ("and have a word in their names", "f3 0, f3 1", "--gate", "--only", "3"),
+        ("another, if it isn't asked for those of the gate", "f2 0, f2 1", "--only", "2"),
     ):
         yield title, ran, lambda: room.tried("--anew", *words)[1]
 
 
 def checks(_):
-    return checks_of("mutations", Tried(), [trials, what_was_refused_before, what_is_listed])
+    return checks_of("mutations", Tried(), [trials, what_was_refused_before, what_the_gate_tries])
