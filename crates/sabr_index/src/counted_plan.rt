@@ -40,6 +40,16 @@ impl<'p, A: Allocator + Copy> Model for CountedPlan<'p, A> {
     ghost invariant = { λ i. IsIndex i.plan.now i.linked i.incoming.starts.items i.incoming.named.items };
 }
 
+/// The links of an index without its plan. An owner of a plan keeps them beside it, and has the plan's index again at no
+/// cost, as long as the plan stays the same.
+#[derive(Drop)]
+pub struct PlanLinks<A: Allocator + Copy = Global> {
+    /// By node its links.
+    pub linked: LinkTable<A>,
+    /// By node the links to it.
+    pub incoming: IncomingLinks<A>,
+}
+
 /// What one look at a contact tells of a list of numbers that goes on by it: the contact as a search reads it, if one
 /// stands, and what the record of a route tells of the longer list.
 #[derive(Clone, Copy)]
@@ -63,6 +73,18 @@ impl<'p, A: Allocator + Copy> CountedPlan<'p, A> {
             linked,
             incoming,
         }
+    }
+
+    /// The links, without the plan.
+    pub(crate) fn into_links(self) -> PlanLinks<A>
+        ensures { IsIndex self.entry result.linked result.incoming.starts.items result.incoming.named.items }
+    {
+        let CountedPlan {
+            plan: _,
+            linked,
+            incoming,
+        } = self;
+        PlanLinks { linked, incoming }
     }
 
     /// The plan.

@@ -3,10 +3,11 @@
 ghost use Rattle.std.specs.Prelude.{◌≡◌, ◌<◌, ◌^◌, ℕ, Some, IfOk, length, slice_get};
 ghost use Rattle.sabr_model.specs.plan.ContactEnds.{AreEnds};
 ghost use Rattle.sabr_model.specs.plan.Tabled.{IsTabled};
+ghost use Rattle.sabr_index.specs.Index.{IsIndex};
 ghost use Rattle.sabr_index.specs.Links.{AreLinksOf};
 
 use crate::building::link_nodes;
-use crate::counted_plan::CountedPlan;
+use crate::counted_plan::{CountedPlan, PlanLinks};
 use crate::ends::ends_of_contacts;
 use crate::incoming::incoming_links;
 use crate::link::Links;
@@ -60,6 +61,25 @@ impl<'p, A: Allocator + Copy> Index<'p, A> {
         Ok(Index {
             counted: CountedPlan::over(plan, linked, incoming),
         })
+    }
+
+    /// The links, without the plan: the index can be had again by [`from_links`](Index::from_links).
+    pub fn into_links(self) -> PlanLinks<A>
+        ensures { IsIndex self.entry result.linked result.incoming.starts.items result.incoming.named.items }
+    {
+        let Index { counted } = self;
+        counted.into_links()
+    }
+
+    /// The index of a plan that has these links. Its cost is constant.
+    pub fn from_links(plan: &'p Plan<A>, links: PlanLinks<A>) -> Index<'p, A>
+        requires { IsIndex plan.now links.linked links.incoming.starts.items links.incoming.named.items }
+        ensures { result ≡ plan.now }
+    {
+        let PlanLinks { linked, incoming } = links;
+        Index {
+            counted: CountedPlan::over(plan, linked, incoming),
+        }
     }
 
     /// The plan.

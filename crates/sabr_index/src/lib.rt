@@ -16,7 +16,7 @@ mod rows;
 mod senders;
 mod table;
 
-pub use counted_plan::{CountedPlan, Followed};
+pub use counted_plan::{CountedPlan, Followed, PlanLinks};
 pub use index::Index;
 pub use link::{Link, LinkBounds, Links, Pass, Sender, SenderHead};
 pub use looked::Looked;
