@@ -6,9 +6,9 @@ use Rattle.sabr_frontier.proofs.session.paused.PausedSession.resume.Goals as goa
 pub invariant_of-result : goal.invariant_of-result
 invariant_of-result g c =
     let s = c.args.self in
-    subst (λ (a : Asking). IsSession a.asked s.tree s.pages.items s.is_sure) (sym c.resume.ensures) c.requires.session
+    subst (λ (a : Asking). IsSession a.asked s.tree s.pages.items s.is_sure) (sym c.resume-asker.ensures) c.requires.session
 
 pub returns : goal.returns
 returns g c =
     let s = c.args.self in
-    ap (λ (a : Asking). seen a s.tree s.pages.items s.searches) c.resume.ensures
+    ap (λ (a : Asking). seen a s.tree s.pages.items s.searches) c.resume-asker.ensures
