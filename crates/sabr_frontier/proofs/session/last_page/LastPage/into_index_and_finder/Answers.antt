@@ -5,4 +5,4 @@ use Rattle.sabr_frontier.proofs.session.last_page.LastPage.into_index_and_finder
 
 pub returns-clause-calls : goal.returns-clause-calls
 returns-clause-calls g c =
-    ap g.B.BestOf.calls_of c.into_finder.ensures ∙ ap (λ (a : Asking). a.calls) c.pause.ensures.asking ∙ ap (λ (v : LastSeen). v.calls) c.self.view_is
+    ap g.B.BestOf.calls_of c.into_finder.ensures ∙ ap (λ (a : Asking). a.calls) c.pause-asker.ensures.asking ∙ ap (λ (v : LastSeen). v.calls) c.self.view_is

@@ -6,6 +6,6 @@ use Rattle.sabr_frontier.proofs.session.last_page.LastPage.start_again.Goals as 
 
 pub returns : goal.returns
 returns g c =
-    let made = c.into_index_and_finder in
+    let made = c.into_index_and_finder-index in
     subst (λ (p : TabledPlan). IfOk c.start_with_index.result (λ s. s ≡ started p c.args.request (c.args.self.calls + 1))) made.ensures.index
     (subst (λ (n : ℕ). IfOk c.start_with_index.result (λ s. s ≡ started made.result.0 c.args.request (n + 1))) made.ensures.calls c.start_with_index.ensures)
