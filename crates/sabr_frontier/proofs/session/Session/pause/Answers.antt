@@ -1,4 +1,4 @@
-use Rattle.std.proofs.Common.{◌≡◌, ap, sym, subst, ◌∙◌}
+use Rattle.std.proofs.Common.{◌≡◌, ap, sym, subst}
 use Rattle.sabr_frontier.specs.session.Paused.{IsPausedOver, seen_over}
 use Rattle.sabr_frontier.specs.session.Session.{IsSession, Seen, seen}
 use Rattle.sabr_frontier.specs.tree.Asking.{Asking}
