@@ -1,0 +1,16 @@
+//! Laws of the definitions, each the contract of a function that does nothing.
+
+ghost use Rattle.sabr_laws.specs.Fewer.{LostContactsTakeTheirRoutes, LimitsLeaveRoutesOut};
+
+/// States that the listing of a plan without a contact is the listing without the routes that have the contact. The others
+/// deliver as they did, so a plan never delivers sooner without a contact.
+pub fn lost_contacts_take_their_routes()
+    ensures { LostContactsTakeTheirRoutes }
+{}
+
+/// States that the listing under a lower limit on hops, or with more avoided nodes, is the listing without the routes that
+/// have more hops or go over one of the nodes. The others deliver as they did, so a request never delivers sooner with
+/// limits.
+pub fn limits_leave_routes_out()
+    ensures { LimitsLeaveRoutesOut }
+{}

@@ -1,0 +1,6 @@
+//! Laws of plans, listings and session texts. Each is the contract of a function that does nothing.
+#![tactic(auto)]
+
+mod laws;
+
+pub use laws::{limits_leave_routes_out, lost_contacts_take_their_routes};
