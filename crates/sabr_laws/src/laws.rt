@@ -1,6 +1,7 @@
 //! Laws of the definitions, each the contract of a function that does nothing.
 
 ghost use Rattle.sabr_laws.specs.Fewer.{LostContactsTakeTheirRoutes, LimitsLeaveRoutesOut};
+ghost use Rattle.sabr_laws.specs.OneText.{CanonicalTextsTellPlans};
 
 /// States that the listing of a plan without a contact is the listing without the routes that have the contact. The others
 /// deliver as they did, so a plan never delivers sooner without a contact.
@@ -13,4 +14,10 @@ pub fn lost_contacts_take_their_routes()
 /// limits.
 pub fn limits_leave_routes_out()
     ensures { LimitsLeaveRoutesOut }
+{}
+
+/// States that plans with one canonical text have the same contacts, with their numbers, and the same ranges. So they have
+/// the same listings, with the same records.
+pub fn canonical_texts_tell_plans()
+    ensures { CanonicalTextsTellPlans }
 {}

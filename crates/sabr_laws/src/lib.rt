@@ -3,4 +3,6 @@
 
 mod laws;
 
-pub use laws::{limits_leave_routes_out, lost_contacts_take_their_routes};
+pub use laws::{
+    canonical_texts_tell_plans, limits_leave_routes_out, lost_contacts_take_their_routes,
+};
