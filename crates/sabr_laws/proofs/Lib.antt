@@ -1,6 +1,7 @@
 pub mod SameListing
 pub mod Alike
 pub mod Left
+pub mod Kept
 pub mod Lost
 pub mod Limited
 pub mod Words

@@ -1,5 +1,5 @@
 -- The spelling of a number is a word.
-use Rattle.std.proofs.Common.{◌≡◌, ℕ, ◌+◌, ◌%◌, ◌<◌, ◌≤◌, ◌^◌, List, [], ◌∷◌, ◌++◌, arith, decimal}
+use Rattle.std.proofs.Common.{ℕ, ◌+◌, ◌%◌, ◌<◌, ◌^◌, List, [], ◌∷◌, ◌++◌, arith, decimal}
 use Rattle.std.proofs.lemmas.Fmt.{decimal_by_steps_wide}
 
 abbrev pub IsWord : List ℕ → Type 0

@@ -1,12 +1,13 @@
--- What a listing loses with a contact of its plan, and by stricter limits.
+-- What a listing loses with contacts of its plan, and by stricter limits.
 use Rattle.std.specs.Prelude.{◌≡◌, ℕ, ◌≤◌, Bool, ◌&&◌, not, nat_le, IsTrue, List, length}
 use Rattle.std.specs.List.{Contains, filter, list_all}
 use Rattle.std.specs.declared.option.Option.TheVariants.{Some}
+use Rattle.sabr_model.specs.declared.contact.Contact.{Contact}
 use Rattle.sabr_model.specs.plan.Plan.{ContactPlan, IsPlan, has}
 use Rattle.sabr_model.specs.plan.Adding.{number_of_opening, without_contact}
 use Rattle.sabr_model.specs.routes.Arrival.{RouteRequest}
 use Rattle.sabr_model.specs.routes.Asking.{with_limits}
-use Rattle.sabr_model.specs.routes.Route.{receivers, delivery_of}
+use Rattle.sabr_model.specs.routes.Route.{contacts_of, receivers, delivery_of}
 use Rattle.sabr_model.specs.routes.Listing.{routes}
 use Rattle.sabr_model.specs.routes.Journeys.{FirstDeliversBy}
 
@@ -18,6 +19,16 @@ pub record LeavesOf (p : ContactPlan) (r : RouteRequest) (q : ContactPlan) (u : 
   pub deliveries : (s : List ℕ) → Contains (routes q u) s → delivery_of q u s ≡ delivery_of p r s
   -- if a first route is left, the former first route delivered no later
   pub never_sooner : (d : ℕ) → FirstDeliversBy q u d → FirstDeliversBy p r d
+
+-- the plan with those of its contacts alone that pass a test
+abbrev pub with_only : (Contact → Bool) → ContactPlan → ContactPlan
+with_only stays p = record { contacts = filter stays p.contacts; ranges = p.ranges; greatest = p.greatest }
+
+-- with some of its contacts, the listing of a plan is the routes over these alone
+abbrev pub FewerContactsTakeTheirRoutes : Type 0
+FewerContactsTakeTheirRoutes =
+    (p : ContactPlan) (r : RouteRequest) (stays : Contact → Bool) → IsPlan p
+    → LeavesOf p r (with_only stays p) r (λ s. list_all stays (contacts_of p s))
 
 -- without a contact, the listing is that of the plan without the routes that have its number
 abbrev pub LostContactsTakeTheirRoutes : Type 0

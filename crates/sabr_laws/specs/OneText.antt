@@ -1,7 +1,5 @@
 -- What a plan's canonical text tells.
 use Rattle.std.specs.Prelude.{◌≡◌, List, ℕ}
-use Rattle.sabr_model.specs.declared.contact.Contact.{Contact}
-use Rattle.sabr_model.specs.declared.contact.Range.{Range}
 use Rattle.sabr_model.specs.plan.Plan.{ContactPlan, IsPlan}
 use Rattle.sabr_model.specs.routes.Arrival.{RouteRequest}
 use Rattle.sabr_model.specs.routes.Listing.{routes}

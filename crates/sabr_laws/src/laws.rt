@@ -1,10 +1,16 @@
 //! Laws of the definitions, each the contract of a function that does nothing.
 
-ghost use Rattle.sabr_laws.specs.Fewer.{LostContactsTakeTheirRoutes, LimitsLeaveRoutesOut};
+ghost use Rattle.sabr_laws.specs.Fewer.{FewerContactsTakeTheirRoutes, LostContactsTakeTheirRoutes, LimitsLeaveRoutesOut};
 ghost use Rattle.sabr_laws.specs.OneText.{CanonicalTextsTellPlans};
 
+/// States that the listing of a plan with some of its contacts is the routes over these alone, in the same order. They
+/// deliver as they did, so a plan never delivers sooner with fewer contacts.
+pub fn fewer_contacts_take_their_routes()
+    ensures { FewerContactsTakeTheirRoutes }
+{}
+
 /// States that the listing of a plan without a contact is the listing without the routes that have the contact. The others
-/// deliver as they did, so a plan never delivers sooner without a contact.
+/// deliver as they did.
 pub fn lost_contacts_take_their_routes()
     ensures { LostContactsTakeTheirRoutes }
 {}
