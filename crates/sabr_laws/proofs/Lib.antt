@@ -4,6 +4,8 @@ pub mod Left
 pub mod Kept
 pub mod Lost
 pub mod Limited
-pub mod Words
 pub mod PlanTexts
 pub mod OneText
+pub mod TextLines
+pub mod CutTexts
+pub mod WholeTexts

@@ -53,15 +53,15 @@ pub lost_contacts_take_their_routes : LostContactsTakeTheirRoutes
 lost_contacts_take_their_routes p r from to start n plan named =
     let c = numbered p from to start n named in
     let without : filter (λ d. not (opens from to start d)) p.contacts ≡ without_number n p.contacts =
-        without_opening p from to start c.0 plan c.1 ∙ ap (λ k. without_number k p.contacts) c.2 in
+    without_opening p from to start c.0 plan c.1 ∙ ap (λ k. without_number k p.contacts) c.2 in
     let stays = λ (d : Contact). not (eqb d.number n) in
     let left : LeavesOf p r (with_only stays p) r (λ s. not (has n s)) =
-        let all = fewer_contacts_take_their_routes p r stays plan in
-        record {
-          listing =
-              all.listing
-              ∙ filter_alike (λ s. list_all stays (contacts_of p s)) (λ s. not (has n s)) (routes p r) (λ s there. none_numbered p n r.source s r.destination (listed_route p r plan s there).reaches);
-          deliveries = all.deliveries;
-          never_sooner = all.never_sooner;
-        } in
+    let all = fewer_contacts_take_their_routes p r stays plan in
+    record {
+      listing =
+          all.listing
+          ∙ filter_alike (λ s. list_all stays (contacts_of p s)) (λ s. not (has n s)) (routes p r) (λ s there. none_numbered p n r.source s r.destination (listed_route p r plan s there).reaches);
+      deliveries = all.deliveries;
+      never_sooner = all.never_sooner;
+    } in
     subst (λ cs. LeavesOf p r (record { contacts = cs; ranges = p.ranges; greatest = p.greatest }) r (λ s. not (has n s))) (sym without) left

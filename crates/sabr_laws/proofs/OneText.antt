@@ -76,12 +76,12 @@ module _ (p q : ContactPlan) (plan : IsPlan p) (other : IsPlan q) where
   unfolding contact_line range_line
   records_same same =
       let contacts = records_and_rest 99 contact_fields contact_of (λ c. refl) p.contacts q.contacts (flat_map range_line p.ranges ++ codes "end\n") (flat_map range_line q.ranges ++ codes "end\n")
-          (small_contacts p.greatest p.contacts plan.count plan.contact_windows plan.contact_nodes plan.numbers_given plan.rates)
-          (small_contacts q.greatest q.contacts other.count other.contact_windows other.contact_nodes other.numbers_given other.rates)
-          (ranges_follow p.ranges) (ranges_follow q.ranges) (ranges_behind p q same) in
+      (small_contacts p.greatest p.contacts plan.count plan.contact_windows plan.contact_nodes plan.numbers_given plan.rates)
+      (small_contacts q.greatest q.contacts other.count other.contact_windows other.contact_nodes other.numbers_given other.rates)
+      (ranges_follow p.ranges) (ranges_follow q.ranges) (ranges_behind p q same) in
       let ranges = records_and_rest 114 range_fields range_of (λ r. refl) p.ranges q.ranges (codes "end\n") (codes "end\n")
-          (small_ranges p.ranges plan.range_windows plan.range_nodes plan.lights) (small_ranges q.ranges other.range_windows other.range_nodes other.lights)
-          (λ e. omega arith) (λ e. omega arith) contacts.1 in
+      (small_ranges p.ranges plan.range_windows plan.range_nodes plan.lights) (small_ranges q.ranges other.range_windows other.range_nodes other.lights)
+      (λ e. omega arith) (λ e. omega arith) contacts.1 in
       (contacts.0, ranges.0)
 
   module _ (contacts : p.contacts ≡ q.contacts) (ranges : p.ranges ≡ q.ranges) where

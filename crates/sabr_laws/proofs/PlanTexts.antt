@@ -5,7 +5,7 @@ use Rattle.std.specs.List.{AllByRecursion, flat_map}
 use Rattle.std.proofs.lemmas.Fmt.{decimal_injective}
 use Rattle.std.proofs.lemmas.List.Concat.{flat_map-cons}
 use Rattle.sabr_plan.specs.Canonical.{spaced_numbers, record_line}
-use Rattle.sabr_laws.proofs.Words.{IsWord, decimal_is_word}
+use Rattle.sabr_session.proofs.WordLemmas.SpelledWords.{IsWord, decimal_is_word}
 
 -- the text goes on with a space or LF
 abbrev EndsWord : List ℕ → Type 0
@@ -43,7 +43,7 @@ numbers_and_rest [] (m ∷ ms) s t one other e = let off : ◌≡◌ {A = ℕ} 1
 numbers_and_rest (n ∷ ns) [] s t one other e = let off : ◌≡◌ {A = ℕ} 32 10 = cc in absurd (omega (arith, off))
 numbers_and_rest (n ∷ ns) (m ∷ ms) s t one other e =
     let rest : decimal n ++ (spaced_numbers ns ++ 10 ∷ s) ≡ decimal m ++ (spaced_numbers ms ++ 10 ∷ t) =
-        sym (append_assoc (decimal n) (spaced_numbers ns) (10 ∷ s)) ∙ tail_same e ∙ append_assoc (decimal m) (spaced_numbers ms) (10 ∷ t) in
+    sym (append_assoc (decimal n) (spaced_numbers ns) (10 ∷ s)) ∙ tail_same e ∙ append_assoc (decimal m) (spaced_numbers ms) (10 ∷ t) in
     let first = word_and_rest (decimal n) (decimal m) (spaced_numbers ns ++ 10 ∷ s) (spaced_numbers ms ++ 10 ∷ t) (small_word n one.0) (small_word m other.0) (numbers_end ns s) (numbers_end ms t) rest in
     let behind = numbers_and_rest ns ms s t one.1 other.1 first.1 in
     (ap (λ k. k ∷ ns) (decimal_injective n m one.0 other.0 first.0) ∙ ap (λ ks. m ∷ ks) behind.0, behind.1)

@@ -1,6 +1,7 @@
 //! Laws of the definitions, each the contract of a function that does nothing.
 
 ghost use Rattle.sabr_laws.specs.Fewer.{FewerContactsTakeTheirRoutes, LostContactsTakeTheirRoutes, LimitsLeaveRoutesOut};
+ghost use Rattle.sabr_laws.specs.CutTexts.{CutTextsAreRefused, NoTextBeginsAnother};
 ghost use Rattle.sabr_laws.specs.OneText.{CanonicalTextsTellPlans};
 
 /// States that the listing of a plan with some of its contacts is the routes over these alone, in the same order. They
@@ -26,4 +27,15 @@ pub fn limits_leave_routes_out()
 /// the same listings, with the same records.
 pub fn canonical_texts_tell_plans()
     ensures { CanonicalTextsTellPlans }
+{}
+
+/// States that a text that spells a session over a plan spells none if bytes are left out at its end.
+pub fn no_text_begins_another()
+    ensures { NoTextBeginsAnother }
+{}
+
+/// States that no proper beginning of the text of an accepted request and a well-formed state spells a session over its
+/// plan, in either version. So a session that was written in part is refused.
+pub fn cut_texts_are_refused()
+    ensures { CutTextsAreRefused }
 {}

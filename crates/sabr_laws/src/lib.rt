@@ -4,6 +4,6 @@
 mod laws;
 
 pub use laws::{
-    canonical_texts_tell_plans, fewer_contacts_take_their_routes, limits_leave_routes_out,
-    lost_contacts_take_their_routes,
+    canonical_texts_tell_plans, cut_texts_are_refused, fewer_contacts_take_their_routes,
+    limits_leave_routes_out, lost_contacts_take_their_routes, no_text_begins_another,
 };
