@@ -1,5 +1,5 @@
 -- No proper beginning of a session's text spells a session.
-use Rattle.std.proofs.Common.{◌≡◌, ℕ, true, List, ◌++◌, sym, subst, Ok}
+use Rattle.std.proofs.Common.{ℕ, true, List, sym, subst, Ok}
 use Rattle.sabr_plan.specs.Canonical.{digest_of}
 use Rattle.sabr_session.specs.SessionRead.{IsSessionOf}
 use Rattle.sabr_session.proofs.TextLemmas.OneAnswer.{is_read_back}
