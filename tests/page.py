@@ -144,7 +144,8 @@ class Pages(Room):
 def what_stands_there(room):
     yield within("the bytes of relay", 100_000, os.path.getsize, room.relay)
     text = text_of(room.relay)
-    yield "nothing is loaded", [], re.findall, r"""https?:|\bsrc=|\bhref=|url\(|@import|\bfetch\(|XMLHttp""", text
+    loads = r"""https?:(?!//www\.w3\.org/2000/svg")|\bsrc=|\bhref=|url\((?!#)|@import|\bfetch\(|XMLHttp"""
+    yield "nothing is loaded", [], re.findall, loads, text
     for kind in ("style", "script"):
         inside = re.search(rf"<{kind}>(.*?)</{kind}>", text, re.S)[1]
         hashed = base64.b64encode(hashlib.sha256(inside.encode()).digest()).decode()
@@ -167,6 +168,18 @@ def lost_contacts(room):
         wanted = [[contact, seconds(send), seconds(arrive)] for contact, _, send, arrive in room.hops_of(RELAY, best[2])]
         found = [[contact, send + base, arrive + base] for contact, send, arrive in it["hops"]]
         yield f"the best route without contact {number}", wanted, lambda: found
+
+
+def writing(room):
+    """A page goes to standard output; one that can't be written leaves what stood there."""
+    told = room.run(f"{TOP}/tools/timeline --plan {RELAY} --html -", at=room.path)
+    yield "standard output", ("<!DOCTYPE html>", "</html>"), lambda: (told.out[:15], told.out.split()[-1])
+    yield "no file of that name", False, os.path.exists, f"{room.path}/-"
+    old = room.file("old.html", "old")
+    before = sorted(os.listdir(room.path))
+    ran = room.run("bash -c", ['ulimit -f 8; exec "$@"'], f"bash {TOP}/tools/timeline --plan {RELAY} --html {old}")
+    yield "no room", (5, "", f"timeline: {old}: File too large\n"), lambda: tuple(ran)
+    yield "what stood there", ("old", before), lambda: (text_of(old), sorted(os.listdir(room.path)))
 
 
 def refusals(room):
@@ -528,9 +541,13 @@ def finding(it, _):
     it.part("one").click()
     it.settle()
     yield "other links again", 15, it.run, "return rows.list.length"
+    it.click(11)
     it.part("find").send_keys("nobody")
     yield "nothing is found", "Nothing found", it.says, "found"
     it.keys(Keys.ESCAPE)
+    yield "Escape there takes the text alone back", ("", 11), lambda: (
+        it.part("find").get_property("value"), it.run("return known.number[chosen.lost]"))
+    it.run("startOver()")
 
 
 def touch(it, _):
@@ -570,6 +587,9 @@ def surroundings(it, room):
     it.open(room.relay, "#theme=dark&lost=11")
     yield "dark, as the address says", "rgb(13, 17, 23)", it.run, back
     yield "lost, as the address says", "3 h 40 min later", lambda: it.says("lost").split("\n")[1]
+    it.run("location.hash = 'lost=12'")
+    it.settle()
+    yield "another address", "Contact 12 lost low relay → south station", lambda: it.says("lost").split("\n")[0]
     it.open(room.relay)
     printed = base64.b64decode(it.command("Page.printToPDF", preferCSSPageSize=True, printBackground=True)["data"])
     yield "a print", (b"%PDF", True), lambda: (printed[:4], 1 <= len(re.findall(rb"/Type\s*/Page\b", printed)) <= 3)
@@ -581,6 +601,84 @@ def surroundings(it, room):
     tables = "dispatchEvent(new Event(arguments[0])); return document.querySelectorAll('.hops table').length"
     printed = [it.run(tables, event) for event in ("beforeprint", "afterprint")]
     yield "the hops of all routes are printed", [3, 0], lambda: printed
+
+
+PAPER = (1047, 718)  # A4 across, without its margins, in pixels
+
+
+def prints(it, room):
+    """A print has all rows, on sheets of which each has the axis and fits its paper."""
+    it.open(room.make("twelve", "--plan", RELAY, *ASKED, "--count", "12"))
+    wanted = {f"{sender} → {receiver}" for _, sender, receiver in starts_of(RELAY).values()}
+    it.command("Emulation.setEmulatedMedia", media="print")
+    it.command("Emulation.setDeviceMetricsOverride", width=PAPER[0], height=PAPER[1], deviceScaleFactor=1, mobile=False)
+    it.run("dispatchEvent(new Event('beforeprint'))")
+    told = it.run("return [...document.querySelectorAll('#sheets svg')].map((sheet) => ["
+                  "[...sheet.querySelectorAll('text')].map((it) => it.textContent), sheet.getBoundingClientRect().height])")
+    first = it.run("return document.querySelector('#sheets svg').getBoundingClientRect().bottom")
+    it.run("dispatchEvent(new Event('afterprint'))")
+    it.command("Emulation.clearDeviceMetricsOverride")
+    it.command("Emulation.setEmulatedMedia", media="")
+    yield "all rows", wanted, lambda: {text for texts, _ in told for text in texts if " → " in text}
+    yield "the axis on each sheet", (True, []), lambda: (len(told) > 1, [texts for texts, _ in told if "UTC" not in texts])
+    yield "the first sheet has room below the heading", True, lambda: first <= PAPER[1] or first
+    yield "no sheet is higher than its paper", [], lambda: [high for _, high in told if high > PAPER[1]]
+    it.part("some").click()
+    it.run("dispatchEvent(new Event('beforeprint'))")
+    hidden = len(wanted) - len({link for route in room.routes_of(RELAY, 12) for link in links_in(route[2])})
+    left_out = it.run("return byId('sheets').lastChild.textContent")
+    it.run("dispatchEvent(new Event('afterprint'))")
+    yield "links that aren't shown", f"{hidden} more links of the plan not shown", lambda: left_out
+
+
+def links_in(contacts):
+    return [starts_of(RELAY)[number][1:] for number in contacts]
+
+
+def in_view(it, room):
+    """What was chosen is brought into view."""
+    it.open(room.make("twelve", "--plan", RELAY, *ASKED, "--count", "12"))
+    it.run("showSpan(0, 3600); scroller.scrollTop = 0")
+    for rank in (12, 1):
+        it.all("#routes .route")[rank - 1].click()
+        it.settle()
+        is_in_time = "routes[chosen.route].hops[0].send >= view.first && routes[chosen.route].delivery <= view.last"
+        yield f"route {rank}, its time", (rank - 1, True), lambda: it.run(f"return [chosen.route, {is_in_time}]") and tuple(
+            it.run(f"return [chosen.route, {is_in_time}]"))
+
+
+AXIS_TEXTS = """
+const found = [], real = paper.fillText;
+paper.fillText = function (text, x, y, ...more) {
+  const wide = this.measureText(text).width, left = x - { left: 0, center: wide / 2, right: wide }[this.textAlign];
+  if (y < AXIS) found.push([text, y, left, left + wide]);
+  return real.call(this, text, x, y, ...more);
+};
+paint();
+delete paper.fillText;
+return found;
+"""
+
+
+def rooms(it, room):
+    """Texts don't hide each other."""
+    for first in range(-36000, 3600, 1800):
+        it.run("showSpan(arguments[0], arguments[0] + 90000)", first)
+        texts = it.run(AXIS_TEXTS)
+        hiding = [(one[0], other[0]) for at, one in enumerate(texts) for other in texts[:at]
+                  if one[1] == other[1] and max(one[2], other[2]) < min(one[3], other[3])]
+        yield f"the axis from {first} on", [], lambda: hiding
+    late = room.file("late.txt", """\
+a contact 2030/01/01-00:00:00 2030/01/01-00:01:00 1 2 5
+a contact 2030/01/24-03:33:27 2030/01/24-04:00:00 1 2 5
+a range 2030/01/01-00:00:00 2030/01/25-00:00:00 1 2 1
+""")
+    it.open(room.make("late", "--plan", late, "--from", "1", "--to", "2", "--at", "2030/01/01-00:00:00", "--count", "2"))
+    places = "const [card, ...parts] = ['', ' .delivery', ' .late'].map((it) => "
+    places += "document.querySelectorAll('#routes li' + it)[1].getBoundingClientRect());"
+    yield "a long lateness", ["+ 23 d 3 h 33 min 27 s", True, True], it.run, (
+        f"{places} return [document.querySelectorAll('.late')[1].textContent, parts[0].right <= parts[1].left, "
+        "parts[1].right < card.right]")
 
 
 def reader(it, _):
@@ -691,6 +789,11 @@ def narrow(room):
         it.open(room.relay)
         yield ("a page isn't wider than its window", True,
                lambda: it.run("return document.documentElement.scrollWidth <= innerWidth"))
+        it.command("Emulation.setDeviceMetricsOverride", width=390, height=844, deviceScaleFactor=2, mobile=True)
+        it.open(room.relay)
+        it.click(11)
+        yield "the answer is in view", True, lambda: it.run(
+            "const { top, bottom } = byId('lost').getBoundingClientRect(); return 0 <= top && bottom <= innerHeight")
     finally:
         it.driver.quit()
 
@@ -705,9 +808,9 @@ def driven(section, room):
     yield "no complaint, and nothing loaded", [], room.browser.faults
 
 
-SECTIONS = {it.__name__.replace("_", " "): it for it in (what_stands_there, lost_contacts, refusals)}
-DRIVEN = (head, tips, losses, mouse, keys, finding, touch, surroundings, reader, others, sizes)
-BROWSED = {**{it.__name__: partial(driven, it) for it in DRIVEN}, "narrow": narrow}
+SECTIONS = {it.__name__.replace("_", " "): it for it in (what_stands_there, lost_contacts, writing, refusals)}
+DRIVEN = (head, tips, losses, mouse, keys, finding, touch, surroundings, prints, in_view, rooms, reader, others, sizes)
+BROWSED = {**{it.__name__.replace("_", " "): partial(driven, it) for it in DRIVEN}, "narrow": narrow}
 
 
 def named(name, section, room):

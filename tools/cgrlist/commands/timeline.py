@@ -15,7 +15,8 @@
     tools/timeline .. --order link             the links by their nodes, and not as the routes go
     tools/timeline .. --width PX [--all]       how wide the picture is; it is at most 20000 high without --all
     tools/timeline .. --text [--columns N]     the same as text
-    tools/timeline .. --html H                 a page to touch: the file H, which needs no network and no server
+    tools/timeline .. --html H                 a page to touch: the file H, which needs no network and no server; `-`
+                                               is standard output
     tools/timeline --plan F --list             each contact with its number, one a line
 
 Each option may go with the others. With routes, only the links that they use are shown, those of the first route first
@@ -44,7 +45,7 @@ from ..drawing.page import MOST_ROUTES, Page, Told
 from ..drawing.picture import LINE, MOST, Picture
 from ..drawing.scene import Choice, View
 from ..drawing.text import Text, list_text
-from ..errors import WORDS_STATUS, Refused
+from ..errors import FILE_STATUS, WORDS_STATUS, Refused
 from ..listing import add_choice_words, added, check_choice_words, listing_of, pages_of, tell_looked
 from ..lost import losses
 from ..routes import Answer, explained_routes, report_of
@@ -208,9 +209,26 @@ def write_page(asked, view, routes):
         request, digest = asked.request(), asked.program.run("check").split()[-1]
         told = Told(ranked(routes), request, best_without(asked, request, routes), digest)
     text = Page(view, asked.plan, asked.lost, told).html()
-    with open(asked.words.html, "w", encoding="utf-8", newline="\n") as file:
-        file.write(text)
+    if asked.words.html == "-":
+        return text
+    write_whole(asked.words.html, text)
     return ""
+
+
+def write_whole(path, text):
+    """Writes a file. If that fails, what stood there stays: a file beside it is written, which then takes its name."""
+    path = os.path.realpath(path)
+    is_special = os.path.exists(path) and not os.path.isfile(path)  # a pipe or a device
+    beside = path if is_special else f"{path}.{os.getpid()}"
+    try:
+        with open(beside, "w", encoding="utf-8", newline="\n") as file:
+            file.write(text)
+        os.replace(beside, path)
+    except OSError as error:
+        raise Refused(f"{path}: {error.strerror}", FILE_STATUS) from error
+    finally:
+        if beside != path and os.path.exists(beside):
+            os.unlink(beside)
 
 
 def best_without(asked, request, routes):

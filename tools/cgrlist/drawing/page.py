@@ -15,7 +15,7 @@ from ..plans import links_of
 from ..routes import Request
 
 FOLDER = Path(__file__).resolve().parent / "html"
-SCRIPTS = ("plan", "times", "view", "picture", "words", "hands", "find", "start")  # in the order in which they run
+SCRIPTS = ("plan", "times", "view", "svg", "picture", "words", "hands", "find", "start")  # in the order in which they run
 MOST_ROUTES = 1000  # so many are on a page that isn't asked for twice
 EXACT = 2**53 - 1  # up to here, numbers are exact in JavaScript
 

@@ -29,6 +29,7 @@ function single(place) {
   chosen.route = chosen.route === place ? null : place;
   chosen.lost = null;
   change();
+  bringIntoView();
 }
 
 // Loses a contact, or takes that back.
@@ -37,8 +38,15 @@ function lose(contact) {
   if (isLosing()) chosen.route = null;
   hideTip();
   change();
-  const best = bestThen();
-  if (best && (best.delivery > view.last || best.hops[0].send < view.first)) showRoutes();
+  bringIntoView();
+}
+
+// Brings what was chosen into view: the answer or the card beside the picture, and the route in it.
+function bringIntoView() {
+  const part = isLosing() ? byId("lost") : document.querySelector("#routes .on");
+  const route = isLosing() ? bestThen() : routes[chosen.route];
+  part?.scrollIntoView({ block: "nearest" });
+  if (route) revealRoute(route);
 }
 
 function showLinks(which, node = null) {
@@ -227,7 +235,7 @@ document.onkeydown = (event) => {
     event.preventDefault();
     byId("find").focus();
   }
-  if (event.key === "Escape") startOver();
+  if (event.key === "Escape") event.target === byId("find") ? closeFound() : startOver();
 };
 
 // Takes back all that was chosen.

@@ -7,7 +7,8 @@ const COLOURS = [
   "back", "band", "ink", "soft", "line", "grid", "day", "bar", "edge", "used", "number", "accent", "bad", "calm",
 ];
 
-const paper = chart.getContext("2d", { alpha: false });
+const screen = chart.getContext("2d", { alpha: false });
+let paper = screen; // what is painted on
 const map = byId("map");
 const ink = { routes: [] };
 let traced = []; // the pieces of routes that were drawn, for the mouse
@@ -35,8 +36,7 @@ function draw() {
   });
 }
 
-function paint() {
-  const scroll = scroller.scrollTop;
+function paint(scroll = scroller.scrollTop) {
   const last = firstRowAt(scroll + size.height - AXIS) + 1;
   const inView = rows.list.slice(firstRowAt(scroll), last);
   const top = AXIS - scroll; // that of the first row of all
@@ -378,28 +378,39 @@ function paintAxis(ticks, step) {
     const first = ticks.find((tick) => xOf(tick) > size.left) ?? view.first;
     write(step.seconds < DAY ? dayText(first) : yearText(first), size.left - 10, 15, ink.number, "right");
   }
-  for (const tick of ticks) paintTick(tick, step);
-  paintStartLabel();
+  const label = startLabel(ticks, step);
+  for (const tick of ticks) paintTick(tick, step, label);
+  if (label) paintStartLabel(label);
 }
 
-function paintTick(tick, step) {
+function paintTick(tick, step, label) {
   const text = tickLabel(tick, step), period = tickPeriod(tick, step);
   const x = Math.min(xOf(tick), size.width - 26);
   if (x < size.left + text.length * 3.7 - 8) return;
   write(text, x, AXIS - 10, ink.number, "center");
   fillBox(ink.day, Math.round(xOf(tick)), AXIS - 5, 1, 5);
-  if (period && x > size.left + 60 && x < size.width - 36) write(period, x, 15, ink.number, "center");
+  if (period && hasPeriod(x) && !isBelow(label, x)) write(period, x, 15, ink.number, "center");
 }
 
-// The label hangs right of its line, or left of it near the right end.
-function paintStartLabel() {
+const hasPeriod = (x) => x > size.left + 60 && x < size.width - 36; // or there is no room for it
+const isBelow = (label, x) => label && label.left - 44 < x && x < label.right + 44;
+
+// The label of the second at which the bundle is at the source: right of its line, or left of it if there it has room
+// and hides no date. Nothing if the line isn't in view.
+function startLabel(ticks, step) {
   const x = request ? xOf(request.at) : -1;
-  if (x < size.left - 1 || x > size.width - 4) return;
+  if (x < size.left - 1 || x > size.width - 4) return null;
+  paper.font = SMALL;
+  const text = `bundle at the source ${clockText(request.at)}`, wide = paper.measureText(text).width + 9;
+  const dates = ticks.filter((tick) => tickPeriod(tick, step)).map(xOf).filter(hasPeriod);
+  const right = { text, x, left: x, right: x + wide }, left = { text, x, left: x - wide, right: x };
+  const hides = (label) => label.right > size.width || label.left < size.left || dates.some((date) => isBelow(label, date));
+  return hides(right) && (!hides(left) || right.right > size.width) ? left : right;
+}
+
+function paintStartLabel({ text, x, left }) {
   useFont(SMALL, "alphabetic");
-  const text = `bundle at the source ${clockText(request.at)}`, width = paper.measureText(text).width;
-  const isLeft = x + width + 10 > size.width;
-  fillBox(ink.back, isLeft ? x - width - 10 : x - 4, 4, width + 14, 17);
-  write(text, x + (isLeft ? -5 : 5), 15, ink.soft, isLeft ? "right" : "left");
+  write(text, left < x ? x - 5 : x + 5, 15, ink.soft, left < x ? "right" : "left");
   fillBox(ink.soft, Math.round(x), 6, 1, 13);
 }
 
@@ -449,7 +460,7 @@ function placePart() {
 
 // Gives a canvas its size in pixels of the screen.
 function fitCanvas(canvas, width, height, brush) {
-  const scale = (isPrinting ? 3 : devicePixelRatio) || 1;
+  const scale = devicePixelRatio || 1;
   const [wide, high] = [Math.round(width * scale), Math.round(height * scale)];
   if (canvas.width !== wide || canvas.height !== high) {
     [canvas.width, canvas.height] = [wide, high];
@@ -458,16 +469,21 @@ function fitCanvas(canvas, width, height, brush) {
   brush.setTransform(scale, 0, 0, scale, 0, 0);
 }
 
-// Measures the page, and draws all for it.
-function fitAll() {
-  size.width = isPrinting ? 1040 : scroller.clientWidth;
+// Lays all out in a width and a height.
+function fitTo(width, height) {
+  size.width = width;
   paper.font = SMALL;
   digitWidth = paper.measureText("0").width;
   size.left = namesWidth();
-  size.height = isPrinting ? 0 : scroller.clientHeight;
+  size.height = height;
   layOut();
-  if (isPrinting) size.height = Math.min(rows.height + AXIS + 6, 1400);
-  fitCanvas(chart, size.width, size.height, paper);
+}
+
+// Measures the page, and draws all for it.
+function fitAll() {
+  if (!scroller.clientWidth) return; // as in a print
+  fitTo(scroller.clientWidth, scroller.clientHeight);
+  fitCanvas(chart, size.width, size.height, screen);
   paint();
   paintMap();
   placePart();
@@ -481,4 +497,36 @@ function namesWidth() {
   const long = names.filter((name) => name.length >= longest - 2).slice(0, 50);
   const wide = Math.max(84, ...long.map((name) => paper.measureText(name).width + 26));
   return Math.round(Math.min(wide, size.width * 0.32));
+}
+
+// ---- Pictures of their own ----
+
+// Rows as an SVG: those that lie from a place on, in a height.
+function svgText(scroll, height) {
+  const before = size.height;
+  [paper, size.height] = [new SvgPaper(size.width, height), height];
+  paint(scroll);
+  const text = paper.text(known.title);
+  [paper, size.height] = [screen, before];
+  return text;
+}
+
+const SHEET = { width: 1040, first: 620, height: 690 }; // of a print; the first one has the heading
+
+// The sheets of a print, as SVGs: all rows, and the axis on each.
+function sheets() {
+  fitTo(SHEET.width, SHEET.first);
+  const cuts = [];
+  for (const row of rows.list) {
+    const most = (cuts.length > 1 ? SHEET.height : SHEET.first) - AXIS;
+    if (!cuts.length || row.top + row.height - cuts.at(-1) > most) cuts.push(row.top);
+  }
+  return cuts.map((top, place) => svgText(top, AXIS + (cuts[place + 1] ?? rows.height) - top));
+}
+
+function makeSheets() {
+  const parser = new DOMParser();
+  const made = sheets().map((text) => parser.parseFromString(text, "image/svg+xml").documentElement);
+  const hidden = links.length - rows.list.length;
+  byId("sheets").replaceChildren(...made, hidden ? `${count(hidden, "more link")} of the plan not shown` : "");
 }

@@ -1,9 +1,9 @@
 // The beginning: buttons, light and dark, printing, and the state that the address keeps, as `#lost=11&theme=dark`.
 
 const MANY = 60; // of more links, those of the routes alone are shown at first
-const opened = new URLSearchParams(location.hash.slice(1));
+const opened = () => new URLSearchParams(location.hash.slice(1));
 const surroundings = matchMedia("(prefers-color-scheme: dark)");
-const theme = { isDark: false, isChosen: opened.has("theme"), before: false };
+const theme = { isDark: false, isChosen: opened().has("theme"), before: false };
 
 function useTheme(isDark) {
   theme.isDark = isDark;
@@ -71,14 +71,16 @@ function chooseTheme() {
 
 // What the address says is chosen.
 function recall() {
-  const lost = contactWith.get(Number(opened.get("lost")));
-  const route = routes.find((it) => String(it.rank) === opened.get("route"));
+  const state = opened(), lost = contactWith.get(Number(state.get("lost")));
+  const route = routes.find((it) => String(it.rank) === state.get("route"));
+  Object.assign(chosen, { lost: null, route: null });
   if (answers.has(lost)) chosen.lost = lost;
   else if (route) chosen.route = route.place;
+  if (state.has("theme")) useTheme(state.get("theme") === "dark");
 }
 
 function start() {
-  useTheme(theme.isChosen ? opened.get("theme") === "dark" : surroundings.matches);
+  useTheme(surroundings.matches);
   tellHead();
   prepareButtons();
   recall();
@@ -89,20 +91,31 @@ function start() {
   new ResizeObserver(() => isPrinting || fitAll()).observe(scroller);
 }
 
+// The address was changed by hand.
+addEventListener("hashchange", () => {
+  theme.isChosen = opened().has("theme");
+  recall();
+  change();
+  paintMap();
+  bringIntoView();
+});
+
 surroundings.onchange = () => theme.isChosen || changeTheme(surroundings.matches);
 
-// A print is light, as wide as a page, and has all rows and the hops of all routes.
+// A print is light, and has all rows that are chosen and the hops of all routes.
 addEventListener("beforeprint", () => {
   theme.before = theme.isDark;
   isPrinting = true;
-  changeTheme(false);
-  fitAll();
+  useTheme(false);
+  listRoutes();
+  makeSheets();
 });
 
 addEventListener("afterprint", () => {
   isPrinting = false;
-  changeTheme(theme.before);
+  byId("sheets").replaceChildren();
   fitAll();
+  changeTheme(theme.before);
 });
 
 start();

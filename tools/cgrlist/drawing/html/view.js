@@ -167,6 +167,24 @@ function spanOfRoutes() {
 const showRoutes = () => flyTo(...spanOfRoutes());
 const showPlan = () => flyTo(...spanOfPlan());
 
+// Brings a route into view: its rows and its time, when a contact is lost beside the routes before.
+function revealRoute(route) {
+  const tops = route.hops.map((hop) => rows.of.get(linkOf[hop.contact])).flatMap((row) => [row.top, row.top + row.height]);
+  revealRows(Math.min(...tops), Math.max(...tops));
+  const first = route.hops[0].send, last = route.delivery;
+  if (view.first <= first && last <= view.last) return;
+  const wide = Math.max(view.last - view.first, (last - first) * 1.2), middle = (first + last) / 2;
+  if (isLosing()) showRoutes();
+  else flyTo(middle - wide / 2, middle + wide / 2);
+}
+
+// Scrolls so that rows are in view, the upper ones if there is no room for all.
+function revealRows(top, bottom) {
+  const height = size.height - AXIS, { scrollTop } = scroller;
+  if (bottom > scrollTop + height) scroller.scrollTop = Math.min(top, bottom - height);
+  if (top < scroller.scrollTop) scroller.scrollTop = top;
+}
+
 // Brings a contact into view.
 function reveal(contact) {
   if (!rows.of.has(linkOf[contact])) {
