@@ -15,14 +15,44 @@ let traced = []; // the pieces of routes that were drawn, for the mouse
 let digitWidth = 7;
 let isPrinting = false;
 
-const hueOf = (route) => ink.routes[route.place % HUES];
-
 // Reads the colours of the page's style.
 function readColours() {
   const style = getComputedStyle(document.documentElement);
   const colour = (name) => style.getPropertyValue(`--${name}`).trim();
   for (const name of COLOURS) ink[name] = colour(name);
   ink.routes = Array.from({ length: HUES }, (_, place) => colour(`c${place}`));
+  ink.faint = ink.routes.map(faintOf);
+  ink.faintSoft = faintOf(ink.soft);
+}
+
+const FOLLOWED = 3; // the contrast that a line needs so that eyes can follow it
+const partsOf = (colour) => [1, 3, 5].map((at) => parseInt(colour.slice(at, at + 2), 16));
+
+// As WCAG 2 has it.
+function luminance(colour) {
+  const [red, green, blue] = partsOf(colour).map((part) => part / 255)
+    .map((part) => (part <= 0.03928 ? part / 12.92 : ((part + 0.055) / 1.055) ** 2.4));
+  return 0.2126 * red + 0.7152 * green + 0.0722 * blue;
+}
+
+function contrast(one, other) {
+  const [low, high] = [luminance(one), luminance(other)].sort((a, b) => a - b);
+  return (high + 0.05) / (low + 0.05);
+}
+
+// A colour as far towards the ground as it can be followed.
+function faintOf(colour) {
+  const mixed = (part) => `#${partsOf(colour)
+    .map((it, at) => Math.round(it * part + partsOf(ink.back)[at] * (1 - part)).toString(16).padStart(2, "0")).join("")}`;
+  const parts = Array.from({ length: 20 }, (_, step) => (step + 1) / 20);
+  const isClear = (it) => contrast(it, ink.back) >= FOLLOWED && contrast(it, ink.band) >= FOLLOWED;
+  return parts.map(mixed).find(isClear) ?? colour;
+}
+
+function colourOf(route) {
+  const place = route.place % HUES;
+  if (isBroken(route)) return ink.faintSoft;
+  return isFaint(route) ? ink.faint[place] : ink.routes[place];
 }
 
 let due = 0;
@@ -32,6 +62,7 @@ function draw() {
   due = due || requestAnimationFrame(() => {
     due = 0;
     paint();
+    paintStarts();
     placePart();
   });
 }
@@ -104,11 +135,38 @@ function paintGround(inView, top, ticks, step) {
 
 // Draws a link's contacts, and returns their numbers, which are written over the routes.
 function paintRow(row, top, used) {
+  if (!isOfLink(row)) return paintGroup(row, top);
   const { strips } = links[row.link];
   const numbers = strips.flatMap((strip, place) => paintStrip(strip, top + topOfStrip(row, place), used));
   useFont(SMALL);
   paintElsewhere(strips, top + row.top + ABOVE + BAR / 2);
   return numbers;
+}
+
+// When some of a group's links have a contact.
+function paintGroup(row, top) {
+  const crowd = new Crowd(top + row.top + ABOVE);
+  for (const [first, last] of spansOf(row)) {
+    if (last > view.first && first < view.last) crowd.add(Math.max(xOf(first), size.left), Math.min(xOf(last), size.width));
+  }
+  crowd.paint();
+  return [];
+}
+
+const spans = new Map();
+
+// The times at which some links have a contact, as spans apart from each other.
+function spansOf({ sender, its }) {
+  if (!spans.has(sender)) {
+    const found = [], contacts = its.flatMap((link) => links[link].strips.flat());
+    for (const contact of contacts.sort((one, other) => known.start[one] - known.start[other])) {
+      const last = found.at(-1);
+      if (last && known.start[contact] <= last[1]) last[1] = Math.max(last[1], ends[contact]);
+      else found.push([known.start[contact], ends[contact]]);
+    }
+    spans.set(sender, found);
+  }
+  return spans.get(sender);
 }
 
 // The contacts of the routes that don't stand back.
@@ -136,7 +194,7 @@ function paintStrip(strip, y, used) {
 }
 
 function kindOf(contact, used) {
-  if (contact === chosen.lost || missing.has(contact)) return "lost";
+  if (isLost(contact)) return "lost";
   return used.has(contact) ? "used" : "plain";
 }
 
@@ -250,8 +308,8 @@ function paintOutline(contact, top) {
 // The line of the second at which the bundle is at the source.
 function paintStart(bottom) {
   if (!request) return;
-  const x = Math.round(xOf(request.at)) + 0.5;
-  paper.strokeStyle = ink.soft;
+  const x = Math.round(xOf(startSecond())) + 0.5;
+  paper.strokeStyle = isStarting() ? ink.accent : ink.soft;
   paper.lineWidth = 1;
   paper.setLineDash([2, 3]);
   paper.beginPath();
@@ -286,9 +344,8 @@ class Turns {
 
 // A thick line for each hop, a thin one for the wait before it, and a dot with the rank at the delivery.
 function paintRoute(route, top, turns) {
-  const colour = isBroken(route) ? ink.soft : hueOf(route);
+  const colour = colourOf(route);
   paper.strokeStyle = paper.fillStyle = colour;
-  paper.globalAlpha = isFaint(route) ? (isBroken(route) ? 0.5 : 0.32) : 1;
   paper.lineCap = paper.lineJoin = "round";
   let at = null; // where the bundle is: the end of the last hop
   for (const hop of route.hops) {
@@ -298,7 +355,6 @@ function paintRoute(route, top, turns) {
     at = { x: piece.arrive, y: piece.y };
   }
   paintDelivery(route, at, colour);
-  paper.globalAlpha = 1;
 }
 
 function hopPlace(route, hop, top) {
@@ -312,10 +368,11 @@ function paintWait(piece, turns) {
   paper.setLineDash(DASHES[(piece.route.place % HUES) % DASHES.length]);
   paper.beginPath();
   if (piece.from) turnTo(piece, turns);
-  else if (request && piece.hop.send > request.at) {
-    paper.moveTo(xOf(request.at), piece.y);
+  else if (request && piece.hop.send > startOf(piece.route)) {
+    const start = xOf(startOf(piece.route));
+    paper.moveTo(start, piece.y);
     paper.lineTo(piece.send, piece.y);
-    traced.push(tracedPiece(piece, xOf(request.at), piece.send, true));
+    traced.push(tracedPiece(piece, start, piece.send, true));
   }
   paper.stroke();
   paper.setLineDash([]);
@@ -356,17 +413,31 @@ function paintDelivery(route, { x, y }, colour) {
 // ---- Names and axis ----
 
 function paintNames(inView, top) {
-  useFont(MIDDLE);
   for (const row of inView) {
-    const { from, to } = links[row.link], isOfNode = shows.node !== null && (from === shows.node || to === shows.node);
     fillBox(row.isBanded ? ink.band : ink.back, 0, top + row.top, size.left, row.height);
-    paper.fillStyle = isOfNode ? ink.accent : rows.lanes.has(row.link) ? ink.number : ink.soft;
+    paper.fillStyle = shows.node !== null || !isOfLink(row) ? ink.accent : rows.lanes.has(row.link) ? ink.number : ink.soft;
     paper.textAlign = "right";
-    paper.fillText(linkName(row.link), size.left - 10, top + row.top + ABOVE + BAR / 2 + 0.5, size.left - 16);
+    paintName(row, top + row.top + ABOVE + BAR / 2 + 0.5);
   }
   fillBox(ink.back, 0, top + rows.height, size.left, size.height);
   fillBox(ink.line, size.left - 1, AXIS, 1, Math.min(size.height, top + rows.height) - AXIS);
   if (!rows.list.length) write(contactCount ? "no link is chosen" : "no contacts", size.left + 12, AXIS + 24, ink.soft);
+}
+
+// A name in one line, or in two smaller ones if it is too wide.
+function paintName(row, y) {
+  useFont(MIDDLE);
+  const most = size.left - 16, name = rowName(row), isWide = isOfLink(row) && paper.measureText(name).width > most;
+  const lines = isWide ? [`${nameOf(links[row.link].from)} →`, nameOf(links[row.link].to)] : [name];
+  if (isWide) useFont(SMALL);
+  lines.forEach((line, place) => {
+    paper.fillText(line, size.left - 10, y + (isWide ? place * 12 - 5 : 0), most);
+  });
+}
+
+function rowName(row) {
+  if (isOfLink(row)) return linkName(row.link);
+  return `${shows.open.has(row.sender) ? "▾" : "▸"} ${nameOf(row.sender)} → (${row.its.length})`;
 }
 
 function paintAxis(ticks, step) {
@@ -398,10 +469,10 @@ const isBelow = (label, x) => label && label.left - 44 < x && x < label.right + 
 // The label of the second at which the bundle is at the source: right of its line, or left of it if there it has room
 // and hides no date. Nothing if the line isn't in view.
 function startLabel(ticks, step) {
-  const x = request ? xOf(request.at) : -1;
+  const x = request ? xOf(startSecond()) : -1;
   if (x < size.left - 1 || x > size.width - 4) return null;
   paper.font = SMALL;
-  const text = `bundle at the source ${clockText(request.at)}`, wide = paper.measureText(text).width + 9;
+  const text = `bundle at the source ${clockText(startSecond())}`, wide = paper.measureText(text).width + 9;
   const dates = ticks.filter((tick) => tickPeriod(tick, step)).map(xOf).filter(hasPeriod);
   const right = { text, x, left: x, right: x + wide }, left = { text, x, left: x - wide, right: x };
   const hides = (label) => label.right > size.width || label.left < size.left || dates.some((date) => isBelow(label, date));
@@ -485,6 +556,7 @@ function fitAll() {
   fitTo(scroller.clientWidth, scroller.clientHeight);
   fitCanvas(chart, size.width, size.height, screen);
   paint();
+  paintStarts();
   paintMap();
   placePart();
 }

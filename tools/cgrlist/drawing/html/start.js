@@ -1,6 +1,5 @@
 // The beginning: buttons, light and dark, printing, and the state that the address keeps, as `#lost=11&theme=dark`.
 
-const MANY = 60; // of more links, those of the routes alone are shown at first
 const opened = () => new URLSearchParams(location.hash.slice(1));
 const surroundings = matchMedia("(prefers-color-scheme: dark)");
 const theme = { isDark: false, isChosen: opened().has("theme"), before: false };
@@ -21,7 +20,9 @@ function changeTheme(isDark) {
 // Keeps what is chosen in the address, so that it can be given on. Some browsers refuse that for files.
 function remember() {
   const state = new URLSearchParams();
-  if (isLosing()) state.set("lost", known.number[chosen.lost]);
+  if (chosen.lost.size) state.set("lost", lostNumbers().join(","));
+  if (isStarting()) state.set("at", timeText(chosen.start));
+  if (chosen.gone.size) state.set("avoid", [...chosen.gone].map((node) => known.nodes[node]).join(","));
   if (chosen.route !== null) state.set("route", routes[chosen.route].rank);
   if (theme.isChosen) state.set("theme", theme.isDark ? "dark" : "light");
   try {
@@ -34,6 +35,9 @@ function remember() {
 function tellHead() {
   byId("title").textContent = known.title;
   byId("made").textContent = known.made;
+  byId("how").textContent = known.how;
+  byId("below").hidden = !starts;
+  if (!request && !routes.length) document.body.classList.add("alone");
   const limits = request?.limits ? `, ${request.limits}` : "";
   const ends = () => `${fullName(request.from)} → ${fullName(request.to)}`;
   const start = () => `bundle at the source ${timeText(request.at)}${known.iso ? "" : " UTC"}`;
@@ -59,6 +63,9 @@ function prepareButtons() {
     whole: showPlan,
     theme: chooseTheme,
     print: () => print(),
+    keys: () => byId("help").showModal(),
+    csv: saveRoutes,
+    svg: savePicture,
   };
   for (const [name, action] of Object.entries(does)) byId(name).onclick = action;
 }
@@ -71,11 +78,13 @@ function chooseTheme() {
 
 // What the address says is chosen.
 function recall() {
-  const state = opened(), lost = contactWith.get(Number(state.get("lost")));
+  const state = opened(), listed = (name) => state.get(name)?.split(",") ?? [];
+  const lost = listed("lost").map((number) => contactWith.get(Number(number))).filter((it) => it !== undefined);
+  const gone = listed("avoid").map((node) => known.nodes.indexOf(node)).filter((node) => node >= 0);
   const route = routes.find((it) => String(it.rank) === state.get("route"));
-  Object.assign(chosen, { lost: null, route: null });
-  if (answers.has(lost)) chosen.lost = lost;
-  else if (route) chosen.route = route.place;
+  Object.assign(chosen, { lost: new Set(known.asks ? lost : []), gone: new Set(known.asks ? gone : []), route: null });
+  chosen.start = starts && state.has("at") ? timesFor(state.get("at").toLowerCase())[0]?.second ?? null : null;
+  if (route && !isAsking()) chosen.route = route.place;
   if (state.has("theme")) useTheme(state.get("theme") === "dark");
 }
 
