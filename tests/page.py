@@ -144,7 +144,7 @@ class Pages(Room):
 
 
 def what_stands_there(room):
-    yield within("the bytes of relay", 100_000, os.path.getsize, room.relay)
+    yield within("the bytes of relay", 130_000, os.path.getsize, room.relay)
     text = text_of(room.relay)
     loads = r"""https?:(?!//www\.w3\.org/2000/svg")|\bsrc=|\bhref=|url\((?!#)|@import|\bfetch\(|XMLHttp"""
     yield "nothing is loaded", [], re.findall, loads, text
@@ -538,7 +538,7 @@ def keys(it, _):
     it.keys(Keys.ENTER)
     yield from said(it, "Contact 4 lost lander → high relay. 3 h 40 min later. Next is: 2030/01/01-06:27:22")
     it.keys("?")
-    yield "the list of keys", (True, 9), lambda: (it.part("help").is_displayed(), len(it.all("#help dt")))
+    yield "the list of keys", (True, 10), lambda: (it.part("help").is_displayed(), len(it.all("#help dt")))
     it.keys(Keys.ESCAPE)
     yield "Escape closes the list alone", (False, True), lambda: (it.part("help").is_displayed(), it.run("return isLosing()"))
     it.run("chart.focus()")

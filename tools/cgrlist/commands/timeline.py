@@ -309,7 +309,8 @@ def timeline():
     check_routes(asked.plan, routes or [])
     if words.html is not None:
         return write_page(asked, view, routes)
-    scene = view.scene(asked.plan, routes and ranked(routes), () if words.list else asked.lost, words.list)
+    second = words.at if asks_for_routes(words) else None
+    scene = view.scene(asked.plan, routes and ranked(routes), () if words.list else asked.lost, words.list, second)
     if words.list:
         return list_text(scene, words.names)
     return Text(scene, words.columns).text() if words.text else picture_text(scene, words)

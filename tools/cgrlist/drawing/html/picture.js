@@ -321,40 +321,51 @@ function paintStart(bottom) {
 
 function paintRoutes(top) {
   traced = [];
-  const turns = new Turns();
   const order = (one, other) => isFaint(other) - isFaint(one) || other.place - one.place;
-  for (const route of drawnRoutes().sort(order)) paintRoute(route, top, turns);
+  const drawn = drawnRoutes().sort(order).map((route) => [route, piecesOf(route, top)]);
+  shareTurns(drawn.flatMap(([, pieces]) => pieces.filter((piece) => piece.from)));
+  for (const [route, pieces] of drawn) paintRoute(route, pieces);
 }
 
-// Keeps the lines apart by which routes change rows: each has a place that is free in all rows between.
-class Turns {
-  constructor() {
-    this.taken = [];
-  }
-
-  // A free place at x or right of it.
-  free(x, low, high) {
-    const isTaken = (at) => this.taken.some((it) => Math.abs(it.x - at) < 3 && it.low < high && low < it.high);
-    let at = x;
-    while (at < x + 18 && isTaken(at)) at += 3;
-    this.taken.push({ x: at, low, high });
-    return at;
-  }
+// The hops of a route, each with where it lies, and from where the route comes.
+function piecesOf(route, top) {
+  let from = null; // the end of the last hop
+  return route.hops.map((hop) => {
+    const piece = { route, hop, from, ...hopPlace(route, hop, top) };
+    from = { x: piece.arrive, y: piece.y };
+    return piece;
+  });
 }
+
+const THIN = 1.5; // lines that are less apart hide each other
+const DASH = 5; // of a route where several change rows at one place
+
+// Of routes that change rows at one place, each has a dash of the line in turn.
+function shareTurns(pieces) {
+  const meets = (one, other) => Math.abs(one.from.x - other.from.x) < THIN && lowest(one) < highest(other) && lowest(other) < highest(one);
+  for (const [place, piece] of pieces.entries()) {
+    const taken = new Set(pieces.slice(0, place).filter((other) => meets(other, piece)).map((other) => other.share));
+    piece.share = 0;
+    while (taken.has(piece.share)) piece.share++;
+  }
+  for (const piece of pieces) piece.shares = 1 + Math.max(...pieces.filter((other) => meets(other, piece)).map((it) => it.share));
+  for (const piece of pieces) piece.shares = Math.max(...pieces.filter((other) => meets(other, piece)).map((it) => it.shares));
+}
+
+const lowest = ({ from, y }) => Math.min(from.y, y);
+const highest = ({ from, y }) => Math.max(from.y, y);
 
 // A thick line for each hop, a thin one for the wait before it, and a dot with the rank at the delivery.
-function paintRoute(route, top, turns) {
+function paintRoute(route, pieces) {
   const colour = colourOf(route);
   paper.strokeStyle = paper.fillStyle = colour;
   paper.lineCap = paper.lineJoin = "round";
-  let at = null; // where the bundle is: the end of the last hop
-  for (const hop of route.hops) {
-    const piece = { route, hop, from: at, ...hopPlace(route, hop, top) };
-    paintWait(piece, turns);
+  for (const piece of pieces) {
+    paintWait(piece);
     paintHop(piece);
-    at = { x: piece.arrive, y: piece.y };
   }
-  paintDelivery(route, at, colour);
+  const { arrive, y } = pieces.at(-1);
+  paintDelivery(route, { x: arrive, y }, colour);
 }
 
 function hopPlace(route, hop, top) {
@@ -363,32 +374,37 @@ function hopPlace(route, hop, top) {
   return { y, send, arrive: Math.max(xOf(hop.arrive), send + 0.1) };
 }
 
-function paintWait(piece, turns) {
-  paper.lineWidth = isFaint(piece.route) ? 1.2 : 1.6;
-  paper.setLineDash(DASHES[(piece.route.place % HUES) % DASHES.length]);
-  paper.beginPath();
-  if (piece.from) turnTo(piece, turns);
-  else if (request && piece.hop.send > startOf(piece.route)) {
-    const start = xOf(startOf(piece.route));
-    paper.moveTo(start, piece.y);
-    paper.lineTo(piece.send, piece.y);
-    traced.push(tracedPiece(piece, start, piece.send, true));
-  }
-  paper.stroke();
+function paintWait(piece) {
+  const { route, hop, from, y, send } = piece, start = from ? from.x : xOf(startOf(route));
+  if (from) paintTurn(piece);
+  if (!from && !(request && hop.send > startOf(route))) return;
+  paper.lineWidth = isFaint(route) ? 1.2 : 1.6;
+  paper.setLineDash(dashesOf(route));
+  strokeLine(start, y, send, y);
   paper.setLineDash([]);
+  traced.push(tracedPiece(piece, start, send, true));
 }
 
-// From the lane of the hop before to that of this one, and on to its sending.
-function turnTo(piece, turns) {
-  const { from, y, send } = piece, low = Math.min(from.y, y), high = Math.max(from.y, y);
-  const x = turns.free(from.x, low, high), down = Math.sign(y - from.y);
-  const bend = Math.min(5, (high - low) / 2, Math.max(0, send - x));
-  paper.moveTo(from.x, from.y);
-  paper.lineTo(x, from.y);
-  paper.lineTo(x, y - bend * down);
-  paper.quadraticCurveTo(x, y, x + bend, y);
-  paper.lineTo(send, y);
-  traced.push({ ...tracedPiece(piece, x, x, true), low, high }, tracedPiece(piece, x, send, true));
+const dashesOf = (route) => DASHES[(route.place % HUES) % DASHES.length];
+
+function strokeLine(...[x, y, toX, toY]) {
+  paper.beginPath();
+  paper.moveTo(x, y);
+  paper.lineTo(toX, toY);
+  paper.stroke();
+}
+
+// From the lane of the hop before to that of this one, where the bundle arrives.
+function paintTurn(piece) {
+  const { route, from, y, share, shares } = piece;
+  paper.lineWidth = isFaint(route) ? 1.2 : 1.6;
+  paper.lineCap = shares > 1 ? "butt" : "round";
+  paper.setLineDash(shares > 1 ? [DASH, DASH * (shares - 1)] : dashesOf(route));
+  paper.lineDashOffset = shares > 1 ? lowest(piece) - DASH * share : 0;
+  strokeLine(from.x, lowest(piece), from.x, highest(piece));
+  paper.lineDashOffset = 0;
+  paper.lineCap = "round";
+  traced.push({ ...tracedPiece(piece, from.x, from.x, true), low: lowest(piece), high: highest(piece) });
 }
 
 function paintHop(piece) {
