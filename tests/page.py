@@ -16,9 +16,11 @@ import shutil
 import subprocess
 import sys
 import time
+import xml.etree.ElementTree as tree
 from functools import cache, cached_property, partial
 
 from checking import TOP, Broken, Room, checks_of
+from picture_faults import LEAST_CONTRAST, contrast
 
 try:
     from selenium import webdriver
@@ -142,9 +144,10 @@ class Pages(Room):
 
 
 def what_stands_there(room):
-    yield within("the bytes of relay", 100_000, os.path.getsize, room.relay)
+    yield within("the bytes of relay", 130_000, os.path.getsize, room.relay)
     text = text_of(room.relay)
-    yield "nothing is loaded", [], re.findall, r"""https?:|\bsrc=|\bhref=|url\(|@import|\bfetch\(|XMLHttp""", text
+    loads = r"""https?:(?!//www\.w3\.org/2000/svg")|\bsrc=|\bhref=|url\((?!#)|@import|\bfetch\(|XMLHttp"""
+    yield "nothing is loaded", [], re.findall, loads, text
     for kind in ("style", "script"):
         inside = re.search(rf"<{kind}>(.*?)</{kind}>", text, re.S)[1]
         hashed = base64.b64encode(hashlib.sha256(inside.encode()).digest()).decode()
@@ -167,6 +170,18 @@ def lost_contacts(room):
         wanted = [[contact, seconds(send), seconds(arrive)] for contact, _, send, arrive in room.hops_of(RELAY, best[2])]
         found = [[contact, send + base, arrive + base] for contact, send, arrive in it["hops"]]
         yield f"the best route without contact {number}", wanted, lambda: found
+
+
+def writing(room):
+    """A page goes to standard output; one that can't be written leaves what stood there."""
+    told = room.run(f"{TOP}/tools/timeline --plan {RELAY} --html -", at=room.path)
+    yield "standard output", ("<!DOCTYPE html>", "</html>"), lambda: (told.out[:15], told.out.split()[-1])
+    yield "no file of that name", False, os.path.exists, f"{room.path}/-"
+    old = room.file("old.html", "old")
+    before = sorted(os.listdir(room.path))
+    ran = room.run("bash -c", ['ulimit -f 8; exec "$@"'], f"bash {TOP}/tools/timeline --plan {RELAY} --html {old}")
+    yield "no room", (5, "", f"timeline: {old}: File too large\n"), lambda: tuple(ran)
+    yield "what stood there", ("old", before), lambda: (text_of(old), sorted(os.listdir(room.path)))
 
 
 def refusals(room):
@@ -333,11 +348,13 @@ def head(it, room):
         yield f"route {at + 1}, how late", "best" if at == 0 else f"+ {lasting(later)}", lambda: told[2]
         path = " → ".join(NAMES[node] for node in [31, *(to for _, to, _, _ in hops)])
         yield f"route {at + 1}, its nodes", path, lambda: told[3]
-        held = it.all("#routes .route .room")[at].get_attribute("title")
-        yield f"route {at + 1}, its room", ["19200000 bytes", "138240000 bytes", "122880000 bytes"][at], lambda: held
+        held = it.all("#routes .route .volume")[at].get_attribute("title").split(":")[0]
+        yield f"route {at + 1}, its volume", ["19200000 bytes", "138240000 bytes", "122880000 bytes"][at], lambda: held
         took = lasting(seconds(delivery) - seconds("2030/01/01-00:45:00"))
-        end = f"3 hops in {took} · until {beside(until, delivery)} · {['19.2', '138.2', '122.9'][at]} MB"
-        yield f"route {at + 1}, its end", end, lambda: told[4]
+        # The last second of the first contact, which is in time for those after it.
+        last = time.strftime("%H:%M:%S", time.gmtime(seconds(until) - 1))
+        end = [f"3 hops in {took}", f"send by {last} · volume {['19.2', '138.2', '122.9'][at]} MB"]
+        yield f"route {at + 1}, its end", end, lambda: told[4:6]
         yield from single(it, at, delivery, hops)
 
 
@@ -375,14 +392,14 @@ rate
 62500 bytes/s
 light time
 1039 s
-room
-337500000 bytes
+volume
+337.5 MB, 337500000 bytes
 routes
 1
 Click: what if it is lost?""", it.says, "tip"
     it.hover(10)
     told = it.says("tip").split("\n")
-    wanted = ["Contact 10", "2030/01/01-00:30:00", "525000000 bytes"]
+    wanted = ["Contact 10", "2030/01/01-00:30:00", "525 MB, 525000000 bytes"]
     yield "contact 10, of no route", wanted, lambda: [told[0], told[6], told[-1]]
     where = "const it = traced.find((it) => it.route.place === 0 && !it.isWait && it.right - it.left > 15);"
     it.mouse(*it.run(f"{where} return [(it.left + it.right) / 2, it.low]")).perform()
@@ -420,8 +437,32 @@ def losses(it, room):
         yield f"contact {number} lost, the address", True, lambda: f"lost={number}" in it.driver.current_url
         it.click(number)
         yield f"contact {number} is there again", "", lambda: it.says("lost")
-    it.run("showRoutes()")
-    it.settle()
+    for number, text in ((4, "4"), (5, "4, 5")):
+        it.click(number)
+        yield f"contacts {text} lost", f"Contact{'s' * (number == 5)} {text} lost", lambda: it.says("lost").split("\n")[0][:len(f"Contact{'s' * (number == 5)} {text} lost")]
+    both = room.run([room.program, "first", "--plan", room.without(room.without(RELAY, 4), 5), *ASKED, "--count", "1"]).out
+    yield "what is best without both", beside(both.split()[2], ""), lambda: it.says("lost").split("\n")[2].split()[-1]
+    deletions = [f"d contact {' '.join(starts_of(RELAY)[number])}" for number in (4, 5)]
+    yield "the lines that delete both", deletions, lambda: it.all("#lost pre")[0].text.split("\n")
+    it.run("startOver()")
+    for number in (11, 12):
+        it.click(number)
+    command = "tools/report --plan relay.txt --from 31 --to 1 --at 2030/01/01-00:45:00 --without 11,12 --count 1"
+    yield "what the page doesn't know", ["Contacts 11, 12 lost", "Not on this page: a command tells", command], lambda: (
+        it.says("lost").split("\n")[:3])
+    it.open(room.relay, "#lost=4,5")
+    yield "both, as the address says", "Contacts 4, 5 lost", lambda: it.says("lost").split("\n")[0]
+    it.open(room.relay)
+    for node, button in ((22, "0 node"), (12, "1 node")):
+        it.run("startOver()")
+        it.all("#routes .route")[int(button[0])].click()
+        it.settle()
+        next(it for it in it.all("#routes .nodes button") if it.text == NAMES[node]).click()
+        it.settle()
+        best = room.run([room.program, "first", "--plan", RELAY, *ASKED, "--avoid", str(node), "--count", "1"]).out.split()[2]
+        yield f"node {node} lost", [f"Node {node} {NAMES[node]} lost", f"Next is: {best}"], lambda: it.says("lost").split("\n")[:3:2]
+        yield f"node {node} lost, the address", True, lambda: f"avoid={node}" in it.driver.current_url
+    it.run("startOver()")
 
 
 # ---- Mouse, keys, touch -----------------------------------------------------------------------------------------
@@ -472,14 +513,14 @@ def said(it, wanted):
 def keys(it, _):
     """Everything by keys alone, from the first part of the page on."""
     reached, clear = [], []
-    for _ in range(14):
+    for _ in range(17):
         ActionChains(it.driver).send_keys(Keys.TAB).perform()
         reached.append(it.run("return document.activeElement.id || document.activeElement.className"))
         clear.append(it.run("return routes.filter((it) => !isFaint(it)).length"))
-    wanted = ["find", "some", "all", "out", "in", "fit", "whole", "theme", "print", "chart"]
-    yield "Tab goes through the page", wanted, lambda: reached[:10]
-    yield "Tab goes through the routes", ["route"] * 3, lambda: [it for it in reached[10:] if it == "route"]
-    yield "a route is singled out by the focus", [1] * 3, lambda: [count for count in clear[10:] if count == 1]
+    wanted = ["find", "some", "all", "out", "in", "fit", "whole", "csv", "svg", "print", "theme", "keys", "chart"]
+    yield "Tab goes through the page", wanted, lambda: reached[:13]
+    yield "Tab goes through the routes", ["route"] * 3, lambda: [it for it in reached[13:] if it == "route"]
+    yield "a route is singled out by the focus", [1] * 3, lambda: [count for count in clear[13:] if count == 1]
     it.run("byId('chart').focus()")
     it.keys(Keys.ARROW_RIGHT)
     yield from said(it, "Contact 4: from 31 lander, to 22 high relay, start 2030/01/01-01:00:00, end 02:20:00, lasts 1 h 20")
@@ -496,6 +537,11 @@ def keys(it, _):
         yield from said(it, f"Contact {contact}: from 31 lander, to ")
     it.keys(Keys.ENTER)
     yield from said(it, "Contact 4 lost lander → high relay. 3 h 40 min later. Next is: 2030/01/01-06:27:22")
+    it.keys("?")
+    yield "the list of keys", (True, 10), lambda: (it.part("help").is_displayed(), len(it.all("#help dt")))
+    it.keys(Keys.ESCAPE)
+    yield "Escape closes the list alone", (False, True), lambda: (it.part("help").is_displayed(), it.run("return isLosing()"))
+    it.run("chart.focus()")
     it.keys(Keys.ESCAPE)
     yield "Escape takes that back", "", it.says, "lost"
     before = it.view()
@@ -527,10 +573,30 @@ def finding(it, _):
     yield "the links of the node", wanted, lambda: it.run(f"return rows.list.filter((row) => {has_node}).length")
     it.part("one").click()
     it.settle()
+    for text, hits, wanted in (
+        ("31 > 22", [["lander → high relay", "2 contacts"]], "Contact 4: from 31 lander, to 22 high relay"),
+        ("low>south", [["low relay → south station", "2 contacts"]], "Contact 10: from 21 low relay"),
+    ):
+        it.keys("/")
+        it.keys(text)
+        yield f"links {text}", hits, lambda: [hit.text.split("\n") for hit in it.all("#found li")]
+        it.keys(Keys.ENTER)
+        yield from said(it, wanted)
+    for text in ("6:00", "06:00:00", "2030-01-01T06:00"):
+        it.run("showPlan()")
+        it.keys("/")
+        it.keys(text)
+        yield f"a time {text}", ["2030/01/01-06:00:00"], lambda: [hit.text.split("\n")[0] for hit in it.all("#found li")]
+        it.keys(Keys.ENTER)
+        yield f"a time {text} is in the middle", 6 * 3600, lambda: round(sum(it.view()) / 2)
     yield "other links again", 15, it.run, "return rows.list.length"
+    it.click(11)
     it.part("find").send_keys("nobody")
     yield "nothing is found", "Nothing found", it.says, "found"
     it.keys(Keys.ESCAPE)
+    yield "Escape there takes the text alone back", ("", 11), lambda: (
+        it.part("find").get_property("value"), it.run("return known.number[[...chosen.lost][0]]"))
+    it.run("startOver()")
 
 
 def touch(it, _):
@@ -570,6 +636,9 @@ def surroundings(it, room):
     it.open(room.relay, "#theme=dark&lost=11")
     yield "dark, as the address says", "rgb(13, 17, 23)", it.run, back
     yield "lost, as the address says", "3 h 40 min later", lambda: it.says("lost").split("\n")[1]
+    it.run("location.hash = 'lost=12'")
+    it.settle()
+    yield "another address", "Contact 12 lost low relay → south station", lambda: it.says("lost").split("\n")[0]
     it.open(room.relay)
     printed = base64.b64decode(it.command("Page.printToPDF", preferCSSPageSize=True, printBackground=True)["data"])
     yield "a print", (b"%PDF", True), lambda: (printed[:4], 1 <= len(re.findall(rb"/Type\s*/Page\b", printed)) <= 3)
@@ -583,6 +652,186 @@ def surroundings(it, room):
     yield "the hops of all routes are printed", [3, 0], lambda: printed
 
 
+PAPER = (1047, 718)  # A4 across, without its margins, in pixels
+
+
+def prints(it, room):
+    """A print has all rows, on sheets of which each has the axis and fits its paper."""
+    it.open(room.make("twelve", "--plan", RELAY, *ASKED, "--count", "12"))
+    wanted = {f"{sender} → {receiver}" for _, sender, receiver in starts_of(RELAY).values()}
+    it.command("Emulation.setEmulatedMedia", media="print")
+    it.command("Emulation.setDeviceMetricsOverride", width=PAPER[0], height=PAPER[1], deviceScaleFactor=1, mobile=False)
+    it.run("dispatchEvent(new Event('beforeprint'))")
+    told = it.run("return [...document.querySelectorAll('#sheets svg')].map((sheet) => ["
+                  "[...sheet.querySelectorAll('text')].map((it) => it.textContent), sheet.getBoundingClientRect().height])")
+    first = it.run("return document.querySelector('#sheets svg').getBoundingClientRect().bottom")
+    it.run("dispatchEvent(new Event('afterprint'))")
+    it.command("Emulation.clearDeviceMetricsOverride")
+    it.command("Emulation.setEmulatedMedia", media="")
+    yield "all rows", wanted, lambda: {text for texts, _ in told for text in texts if " → " in text}
+    yield "the axis on each sheet", (True, []), lambda: (len(told) > 1, [texts for texts, _ in told if "UTC" not in texts])
+    yield "the first sheet has room below the heading", True, lambda: first <= PAPER[1] or first
+    yield "no sheet is higher than its paper", [], lambda: [high for _, high in told if high > PAPER[1]]
+    it.part("some").click()
+    it.run("dispatchEvent(new Event('beforeprint'))")
+    hidden = len(wanted) - len({link for route in room.routes_of(RELAY, 12) for link in links_in(route[2])})
+    left_out = it.run("return byId('sheets').lastChild.textContent")
+    it.run("dispatchEvent(new Event('afterprint'))")
+    yield "links that aren't shown", f"{hidden} more links of the plan not shown", lambda: left_out
+
+
+def links_in(contacts):
+    return [starts_of(RELAY)[number][1:] for number in contacts]
+
+
+def in_view(it, room):
+    """What was chosen is brought into view."""
+    it.open(room.make("twelve", "--plan", RELAY, *ASKED, "--count", "12"))
+    it.run("showSpan(0, 3600); scroller.scrollTop = 0")
+    for rank in (12, 1):
+        it.all("#routes .route")[rank - 1].click()
+        it.settle()
+        is_in_time = "routes[chosen.route].hops[0].send >= view.first && routes[chosen.route].delivery <= view.last"
+        yield f"route {rank}, its time", (rank - 1, True), lambda: it.run(f"return [chosen.route, {is_in_time}]") and tuple(
+            it.run(f"return [chosen.route, {is_in_time}]"))
+
+
+SQUEEZED = """
+const found = [], real = paper.fillText;
+paper.fillText = function (text, x, y, most = Infinity) {
+  if (this.measureText(text).width > most) found.push(text);
+  return real.call(this, text, x, y, most);
+};
+paint();
+delete paper.fillText;
+return found;
+"""
+
+AXIS_TEXTS = """
+const found = [], real = paper.fillText;
+paper.fillText = function (text, x, y, ...more) {
+  const wide = this.measureText(text).width, left = x - { left: 0, center: wide / 2, right: wide }[this.textAlign];
+  if (y < AXIS) found.push([text, y, left, left + wide]);
+  return real.call(this, text, x, y, ...more);
+};
+paint();
+delete paper.fillText;
+return found;
+"""
+
+
+def rooms(it, room):
+    """Texts don't hide each other."""
+    for first in range(-36000, 3600, 1800):
+        it.run("showSpan(arguments[0], arguments[0] + 90000)", first)
+        texts = it.run(AXIS_TEXTS)
+        hiding = [(one[0], other[0]) for at, one in enumerate(texts) for other in texts[:at]
+                  if one[1] == other[1] and max(one[2], other[2]) < min(one[3], other[3])]
+        yield f"the axis from {first} on", [], lambda: hiding
+    late = room.file("late.txt", """\
+a contact 2030/01/01-00:00:00 2030/01/01-00:01:00 1 2 5
+a contact 2030/01/24-03:33:27 2030/01/24-04:00:00 1 2 5
+a range 2030/01/01-00:00:00 2030/01/25-00:00:00 1 2 1
+""")
+    it.open(room.make("late", "--plan", late, "--from", "1", "--to", "2", "--at", "2030/01/01-00:00:00", "--count", "2"))
+    places = "const [card, ...parts] = ['', ' .delivery', ' .late'].map((it) => "
+    places += "document.querySelectorAll('#routes li' + it)[1].getBoundingClientRect());"
+    yield "a long lateness", ["+ 23 d 3 h 33 min 27 s", True, True], it.run, (
+        f"{places} return [document.querySelectorAll('.late')[1].textContent, parts[0].right <= parts[1].left, "
+        "parts[1].right < card.right]")
+
+
+def followed(it, _):
+    """Routes that stand back can be followed, in light and in dark."""
+    it.run("single(0)")
+    for name in ("light", "dark"):
+        it.run("changeTheme(arguments[0])", name == "dark")
+        colours = it.run("return [ink.faintSoft, ...ink.faint]")
+        grounds = it.run("return [ink.back, ink.band]")
+        low = [colour for colour in colours if min(contrast(colour, ground) for ground in grounds) < LEAST_CONTRAST]
+        yield f"{name}: contrasts", [], lambda: low
+        yield f"{name}: they stand back", [], lambda: [it for it in it.run("return ink.routes") if it in colours]
+    it.run("changeTheme(false)")
+    drawn = "return routes.map((it) => [...ink.routes, ...ink.faint].indexOf(colourOf(it)))"
+    yield "their colours", [0, 9, 10], it.run, drawn
+    it.run("startOver()")
+
+
+def starts(it, room):
+    """The line of the strip below the picture tells what is best for other seconds, as the program answers for each."""
+    it.run("showPlan()")
+    it.settle()
+    for wanted in (3 * 3600 + 900, 10 * 3600, 600):
+        x, high = it.run("return [xOf(arguments[0]), HIGH / 2]", wanted)
+        strip = it.part("starts")
+        across, down = int(x - strip.size["width"] / 2), int(high - strip.size["height"] / 2)
+        ActionChains(it.driver, duration=50).move_to_element_with_offset(strip, across, down).click().perform()
+        it.settle()
+        yield f"a second near {wanted}", True, lambda: abs(it.run("return chosen.start") - wanted) < 300
+        yield from answers_at(it, room)
+    it.run("strip.focus()")
+    it.keys(Keys.PAGE_UP)
+    yield from answers_at(it, room)
+    it.open(room.relay, "#at=2030/01/01-04:01:00")
+    yield from answers_at(it, room)
+    it.keys(Keys.ESCAPE)
+    yield "Escape takes that back", ("", None), lambda: (it.says("lost"), it.run("return chosen.start"))
+
+
+def answers_at(it, room):
+    """What is told for the second at the line, and drawn, is what the program says."""
+    second = it.run("return timeText(chosen.start)")
+    asked = [*ASKED[:4], "--at", second]
+    delivery, _, contacts = room.routes_of(RELAY, 1, asked)[0]
+    yield f"{second}, its delivery", f"Delivery {beside(delivery, second)}", lambda: it.says("lost").split("\n")[1]
+    told = it.run("return bestThen().hops.map((hop) => [known.number[hop.contact], timeText(hop.send), timeText(hop.arrive)])")
+    hops = [[contact, send, arrive] for contact, _, send, arrive in room.hops_of(RELAY, contacts, asked)]
+    yield f"{second}, its hops", hops, lambda: told
+
+
+def groups(it, room):
+    """Many links stand under rows for their senders, which open and close."""
+    links = [(sender, to) for sender in range(1, 13) for to in range(1, 13) if sender != to]
+    lines = "".join(f"a contact +{60 * to} +{60 * to + 30} {sender} {to} 5\n" for sender, to in links)
+    plan = room.file("mesh.txt", f"@ 2030/01/01-00:00:00\na range +0 +9000 1 2 1\n{lines}")
+    it.open(room.make("mesh", "--plan", plan))
+    it.part("all").click()
+    it.settle()
+    names = "return rows.list.map(rowName)"
+    closed = [f"▸ {node} → (11)" for node in range(1, 13)]
+    yield "a row for each sender", closed, it.run, names
+    it.mouse(300, 46 + 28 + 12).click().perform()
+    it.settle()
+    opened = ["▸ 1 → (11)", "▾ 2 → (11)", *(f"2 → {to}" for to in range(1, 13) if to != 2), *closed[2:]]
+    yield "it opens", opened, it.run, names
+    it.mouse(300, 46 + 28 + 12).click().perform()
+    it.settle()
+    yield "it closes", closed, it.run, names
+    it.run("chart.focus()")
+    it.keys(Keys.ARROW_DOWN)
+    yield from said(it, "Contact 1: from 1, to 2")
+    yield "it opens by keys", 23, it.run, "return rows.list.length"
+
+
+def saving(it, room):
+    """Routes and the picture can be saved."""
+    it.command("Browser.setDownloadBehavior", behavior="allow", downloadPath=room.path)
+    for name in ("csv", "svg"):
+        it.part(name).click()
+        it.settle()
+    until = time.monotonic() + SECONDS
+    while not all(os.path.exists(f"{room.path}/relay.{name}") for name in ("csv", "svg")) and time.monotonic() < until:
+        time.sleep(0.1)
+    rows = [line.split(",") for line in room.read("relay.csv").splitlines()[1:]]
+    wanted = [[str(rank), delivery, str(contact), str(to), send, arrive]
+              for rank, (delivery, _, contacts) in enumerate(room.routes_of(RELAY, 3), 1)
+              for contact, to, send, arrive in room.hops_of(RELAY, contacts)]
+    yield "the routes", wanted, lambda: [[row[0], row[1], row[4], *row[6:9]] for row in rows]
+    picture = tree.fromstring(room.read("relay.svg"))
+    texts = {part.text for part in picture.iter() if part.tag.endswith("}text")}
+    yield "the picture", set(), lambda: {f"{NAMES[int(one)]} → {NAMES[int(other)]}" for _, one, other in starts_of(RELAY).values()} - texts
+
+
 def reader(it, _):
     """Each part has a role and a name for a screen reader."""
     it.all("#routes .route")[0].click()
@@ -591,7 +840,7 @@ def reader(it, _):
     found = {(node["role"]["value"], node.get("name", {}).get("value", "")) for node in tree if not node["ignored"]}
     wanted = {
         ("application", "20 contacts, 15 links, 3 routes. Arrow keys go from contact to contact."),
-        ("combobox", "Find a contact or node"), ("button", "Zoom in"), ("button", "Light or dark"),
+        ("combobox", "Find a contact, node, link or time"), ("button", "Zoom in"), ("button", "Light or dark"),
         ("button", "Contact 11 lost"), ("complementary", "Routes"), ("region", "Timeline"), ("toolbar", "View"),
     }
     yield "roles and names", set(), lambda: wanted - found
@@ -606,7 +855,11 @@ def reader(it, _):
 def others(it, room):
     """A plan alone, lost contacts, ISO times, explained routes, no route, limits, names of links."""
     it.open(room.make("alone", "--plan", RELAY))
-    yield "a plan alone", ("20 contacts", "No request: the plan alone"), lambda: (it.says("asks"), it.says("count"))
+    yield "a plan alone", ("20 contacts", "The plan alone"), lambda: (it.says("asks"), it.says("count"))
+    how = "tools/timeline --plan relay.txt --from A --to B --at 2030/01/01-00:00:00 --count 3 --html relay.txt.html"
+    yield "a plan alone says how to ask", how, it.says, "how"
+    yield "a plan alone has no button for routes", [], lambda: [
+        name for name in ("some", "fit", "csv") if it.part(name).is_displayed()]
     it.open(room.make("lost", "--plan", RELAY, "--without", "11,12", *ASKED, "--count", "2"))
     it.hover(11)
     yield "a lost contact stays", "Contact 11, lost", lambda: it.says("tip").split("\n")[0]
@@ -691,6 +944,13 @@ def narrow(room):
         it.open(room.relay)
         yield ("a page isn't wider than its window", True,
                lambda: it.run("return document.documentElement.scrollWidth <= innerWidth"))
+        it.command("Emulation.setDeviceMetricsOverride", width=390, height=844, deviceScaleFactor=2, mobile=True)
+        it.open(room.relay)
+        squeezed = it.run(SQUEEZED)
+        yield "no name is squeezed", [], lambda: squeezed
+        it.click(11)
+        yield "the answer is in view", True, lambda: it.run(
+            "const { top, bottom } = byId('lost').getBoundingClientRect(); return 0 <= top && bottom <= innerHeight")
     finally:
         it.driver.quit()
 
@@ -705,9 +965,9 @@ def driven(section, room):
     yield "no complaint, and nothing loaded", [], room.browser.faults
 
 
-SECTIONS = {it.__name__.replace("_", " "): it for it in (what_stands_there, lost_contacts, refusals)}
-DRIVEN = (head, tips, losses, mouse, keys, finding, touch, surroundings, reader, others, sizes)
-BROWSED = {**{it.__name__: partial(driven, it) for it in DRIVEN}, "narrow": narrow}
+SECTIONS = {it.__name__.replace("_", " "): it for it in (what_stands_there, lost_contacts, writing, refusals)}
+DRIVEN = (head, tips, losses, mouse, keys, finding, touch, surroundings, prints, in_view, rooms, followed, starts, groups, saving, reader, others, sizes)
+BROWSED = {**{it.__name__.replace("_", " "): partial(driven, it) for it in DRIVEN}, "narrow": narrow}
 
 
 def named(name, section, room):

@@ -44,8 +44,6 @@ class Pictures(Room):
 
 def the_day_at_mars(room):
     day = room.between(DAY, MARS, "--unused")
-    with open(f"{TOP}/examples/relay.svg", encoding="utf-8") as file:
-        yield "the day at Mars", file.read(), lambda: day
     yield "all lies at its time", "9 ticks, 20 bars, 9 hops, 6 waits", looked_at, day, *DAY
     # Cut at both sides: contact 10 is over and the wait for 12 isn't; route 1 is on its way.
     yield "a part of the day", "6 ticks, 6 bars, 4 hops, 3 waits", room.looked_at, CUT, MARS, "--unused"
@@ -57,13 +55,16 @@ def the_day_at_mars(room):
     # use, contacts 2, 4, 5, 6, 10, 11 and 12 are in it.
     yield ("the span of the routes", "6 ticks, 7 bars, 9 hops, 6 waits",
            lambda: looked_at(room.of_mars(), "2030/01/01-00:43:37", "2030/01/01-06:43:45"))
-    # Each kind of fault is seen.
+    # Each kind of fault is seen. Route 1 turns from the row of contact 11 across that of contact 2.
+    crossing = float(re.search(r'class="turn .*d="M([0-9.]+) .*route 1, node 12:', day)[1])
     for title, where, old, new, fault in (
         ("a bar", "contact 12:", ' x="', r"\g<0>1", "contact 12: 21 → 12"),
         ("a hop", "hop .*route 1, contact 11:", 'd="M1', r"\g<0>0", "route 1"),
         ("a wait", "wait .*route 2, node 21:", 'd="M1', r"\g<0>0", "route 2"),
-        ("a line over another one", "wait .*route 3, node 12:", r"H229\.6V", "H226.6V", "route 2"),
-        ("a line far from its time", "wait .*route 3, node 12:", r"H229\.6V", "H329.6V", "route 3"),
+        ("a line over another one", "turn .*route 3, node 12:", "dasharray", "dashes", "route 2"),
+        ("a line over another one, by its dashes", "turn .*route 3, node 12:", "dashoffset", "offset", "route 2"),
+        ("a line far from its time", "turn .*route 3, node 12:", r'd="M2', 'd="M3', "route 3"),
+        ("a number that is crossed", 'class="number.*>2<', 'x="[0-9.]+', f'x="{crossing - 2}', "the number 2 is crossed by route 1"),
         ("a tick", 'class="tick".*06:00:00', 'd="M2', r"\g<0>0", "2030/01/01-06:00:00: 2030/01/01-06:00:00 is drawn at 2016.0\n\
 the tick of 2030/01/01-06:00:00 is labelled []"),
         ("a label", "", ">06:00</text>", ">07:00</text>", "the tick of 2030/01/01-06:00:00 is labelled ['07:00']"),
@@ -71,6 +72,31 @@ the tick of 2030/01/01-06:00:00 is labelled []"),
     ):
         lines = [re.sub(old, new, it, count=1) if re.search(where, it) else it for it in day.split("\n")]
         yield f"a fault: {title}", fault, told_faults, "\n".join(lines)
+
+
+def the_picture_of_the_readme(room):
+    """The picture that README.md shows is the one of its three routes, by name."""
+    program = room.stub("three", """#!/usr/bin/env bash
+case $* in
+first*) awk '/^delivery/ { print ++rank, $0 } END { print "more" }' examples/relay-routes.txt ;;
+follow*) while read -r line; do
+        echo "list $line" && sed -n "$((4 * count + 1)),$((4 * count + 4))p" examples/relay-routes.txt && ((++count))
+    done <"${!#}" ;;
+esac
+""")
+    nodes = {31: "lander", 22: "high relay", 21: "low relay", 12: "south station", 11: "north station", 1: "control centre"}
+    names = ["--names", room.file("nodes.txt", "".join(f"{node} {name}\n" for node, name in nodes.items()))]
+    picture = room.draw("--plan examples/relay.txt --from 31 --to 1 --at 2030/01/01-00:45:00 --count 3", names, ["--program", program])
+    with open(f"{TOP}/examples/relay.svg", encoding="utf-8") as file:
+        yield "the day at Mars", file.read(), lambda: picture
+    links = ["lander → high relay", "high relay → south station", "south station → control centre", "lander → low relay",
+             "low relay → south station"]
+    yield "its links", links, lambda: labels(picture).split(",")
+    # From 00:45:00 to 06:27:22, with a twentieth and a second at both sides.
+    yield "all of it lies at its time", "6 ticks, 7 bars, 9 hops, 9 waits", looked_at, picture, "2030/01/01-00:27:52", "2030/01/01-06:44:30"
+    left = re.sub('class="begin" d="M.', 'class="begin" d="M9', picture)
+    yield "a fault: the second at the source", True, lambda: looked_at(left, "2030/01/01-00:27:52", "2030/01/01-06:44:30").startswith(
+        "bundle at the source 2030/01/01-00:45:00: 2030/01/01-00:45:00 is drawn at 9")
 
 
 def told_faults(text):
@@ -241,7 +267,9 @@ esac
         return room.run("tools/timeline --plan", [plan], request, *words, ["--program", by])
 
     first = asked("--count 1")
-    yield "the first routes", room.draw(["--plan", plan, "--explained", routes]), lambda: first.out
+    titles = re.findall("<title>.*</title>", room.draw(["--plan", plan, "--explained", routes]))
+    titles = sorted([*titles, "<title>bundle at the source 2030/01/01-00:00:00</title>"])
+    yield "the first routes", titles, lambda: sorted(re.findall("<title>.*</title>", first.out))
     yield "a hint", "timeline: hint: 1 of 3 contacts have no light time, so no route takes them\n", lambda: first.err
     yield ("what was asked", f"""\
 first --plan {plan} {request} --count 1
@@ -309,10 +337,14 @@ esac
     yield "it is crossed out", [2, 2, 1, 1], lambda: [len(lines_with(it, picture).splitlines()) for it in (
         'class="bar lost"', 'class="cross"', 'class="number lost"', ">lost<")]
     yield "its row comes last", "31 → 21,21 → 12,12 → 1,22 → 12", labels, picture
-    yield ("it lies at its time", "7 ticks, 5 bars, 3 hops, 2 waits",
-           looked_at, picture, "2030/01/01-03:00:07", "2030/01/01-06:37:15")
+    # The span is from 00:45:00, when the bundle is at the source, to 06:27:22, with a twentieth and a second at both sides.
+    yield ("it lies at its time", "6 ticks, 6 bars, 3 hops, 3 waits",
+           looked_at, picture, "2030/01/01-00:27:52", "2030/01/01-06:44:30")
+    yield "the second at the source", ["2030/01/01-00:45:00"], re.findall, 'class="begin".*source ([^<]*)<', picture
+    # Contact 12 ends after the span, 2 is open all night, and 10 begins within it.
+    yield "bars that go on have a notch", ["12", "2", "2"], notched, picture
     yield ("crossed out as text",
-           "xxxxxxxxxxxxxx\n= contact, with its number   x lost contact   # sending to arrival   . wait",
+           "xxxxxxxxxxxx\n= contact, with its number   x lost contact   # sending to arrival   . wait",
            lambda: parts_of("^= .*|x+$", room.draw(*words, "--text --columns 78")))
     for title, wanted, first, last in (
         ("dates of ISO 8601", "12-29 2029 12-30 12-31 01-01 2030 01-02 01-03 01-04", "2029-12-28T13:00:00Z", "2030-01-04T13:00:00Z"),
@@ -321,6 +353,12 @@ esac
     ):
         yield title, wanted, lambda: joined('text-anchor="middle">(.*)</text>', room.between(
             (first, last), "--plan examples/relay.txt --iso"), " ")
+
+
+def notched(picture):
+    """The contacts of the bars that have a notch, once for each."""
+    return [number for number, rest in re.findall('contact ([0-9]+):[^<]*</title></rect>((?:\n<path.*)*)', picture)
+            for _ in re.findall('class="notch', rest)]
 
 
 def what_is_refused(room):
@@ -355,7 +393,7 @@ def what_is_refused(room):
         (1, "--links: the plan has no contact from 3 to 1", plan, "--links '1>2,3>1'"),
         (1, "--nodes: the plan has no contact of node 3", plan, "--nodes 1,3"),
         (2, "--width: with these labels it is at least 316", plan, "--width 315"),
-        (2, "the picture would be 27069 px high, more than 20000: --links, --nodes and --between choose links, a smaller --count \
+        (2, "the picture would be 24069 px high, more than 20000: --links, --nodes and --between choose links, a smaller --count \
 routes; --all draws it so", many),
         (2, "argument --unused: not allowed with argument --used; see --help", plan, request, "--count 1 --used --unused"),
         (2, "argument --html: not allowed with argument --text; see --help", plan, "--text --html", [f"{room.path}/page.html"]),
@@ -384,10 +422,10 @@ status 3""", lambda: room.run("tools/timeline", plan, request, "--count 1 --prog
     yield "a full disk", "timeline: No space left on device\nstatus 5", with_output, ">/dev/full", plan
     yield "no standard output", "timeline: standard output is closed\nstatus 5", with_output, ">&-", plan
     # The reader is gone, and more is to be written than a pipe holds.
-    yield ("a high picture, and a closed pipe", ["27069"], lambda: re.findall(
+    yield ("a high picture, and a closed pipe", ["24069"], lambda: re.findall(
         '(?<= height=")[0-9]*|timeline.*', with_output("| head -n 1", many, "--all")))
 
 
 def checks(_):
     return checks_of("picture", Pictures(), [
-        the_day_at_mars, the_axis, plans, what_is_chosen, many_routes, asking_the_program, lost_contacts, what_is_refused])
+        the_day_at_mars, the_picture_of_the_readme, the_axis, plans, what_is_chosen, many_routes, asking_the_program, lost_contacts, what_is_refused])

@@ -1,8 +1,8 @@
 """Looks for faults in a picture that tools/timeline drew.
 
 Each line and bar must lie where the times of its title are on a linear scale. Ticks must be labelled with their times.
-Labels must not overlap, nor bars in a row, nor the hops of two routes, nor their lines that change rows. Colours must
-stand out from the background in light and in dark.
+Labels must not overlap, nor bars in a row, nor the hops of two routes. Lines that change rows at one place must have
+dashes in turn, and none may cross a contact's number. Colours must stand out from the background in light and in dark.
 """
 
 import re
@@ -14,7 +14,6 @@ SVG = "{http://www.w3.org/2000/svg}"
 NEAR = 0.21  # pixels: coordinates have one digit after the point, ticks too, and a bar a width of at least 0.1
 DIGIT, OTHER = 8.3, 4.5  # widths of a digit and of other signs, of a wide font of 13 pixels
 THIN = 1.4  # from a thin line to the next one
-FARTHEST = 30  # from where a bundle arrives to the line that changes the row
 LEAST_CONTRAST = 3
 START = datetime(1970, 1, 1)
 
@@ -82,18 +81,34 @@ def hop_faults(scale, hops):
 
 
 def wait_faults(scale, waits):
-    turns = []
     for wait in waits:
-        x, y, *turn, end = numbers_in(wait.get("d"))
+        x, _, end = numbers_in(wait.get("d"))
         yield from misplaced(scale, wait, (x, end), times_in(title(wait)))
-        if turn:  # it changes the row, at x or right of it
-            at, (low, high) = [x, *turn][-2], sorted((y, turn[-1]))
-            turns.append((at, low, high, title(wait)))
-            if not x <= at <= x + FARTHEST:
-                yield f"{title(wait)} changes the row at {at}, and arrives at {x}"
-    for one, other in combinations(turns, 2):
-        if abs(one[0] - other[0]) < THIN and max(one[1], other[1]) + THIN < min(one[2], other[2]):
-            yield f"{one[3]} and {other[3]} hide each other"
+
+
+def turn_faults(scale, root, turns):
+    """What is wrong with lines that change rows: each is at its arrival."""
+    drawn = []
+    for turn in turns:
+        x, *ends = numbers_in(turn.get("d"))
+        yield from misplaced(scale, turn, [x], times_in(title(turn)))
+        drawn.append((x, min(ends), max(ends), turn))
+    for one, other in combinations(drawn, 2):
+        is_over = abs(one[0] - other[0]) < THIN and max(one[1], other[1]) + THIN < min(one[2], other[2])
+        if is_over and not take_turns(one[3], other[3]):
+            yield f"{title(one[3])} and {title(other[3])} hide each other"
+    for text in (it for it in root.iter(f"{SVG}text") if "number" in it.get("class", "").split()):
+        x, y = float(text.get("x")), float(text.get("y"))
+        for at, low, high, turn in drawn:
+            if x < at < x + width(text.text) - 1 and low < y and y - 8 < high:
+                yield f"the number {text.text} is crossed by {title(turn)}"
+
+
+def take_turns(one, other):
+    """Whether two dashed lines, both from above, leave each other's dashes free."""
+    (dash, gap), (its_dash, its_gap) = (numbers_in(it.get("stroke-dasharray", "0 0")) for it in (one, other))
+    begins = [numbers_in(it.get("d"))[1] - float(it.get("stroke-dashoffset", 0)) for it in (one, other)]
+    return dash == its_dash > 0 and gap == its_gap and dash - NEAR <= abs(begins[0] - begins[1]) % (dash + gap) <= gap + NEAR
 
 
 def tick_faults(scale, root, ticks):
@@ -145,7 +160,10 @@ def looked_at(text, first, last):
     """A line for each fault of a picture that was drawn between two times, and at the end what was compared."""
     root = tree.fromstring(text)
     drawn = {name: of_class(root, name) for name in ("tick", "bar", "hop", "wait")}
+    begins, turns = of_class(root, "begin"), of_class(root, "turn")
     scale = Scale(drawn["tick"], first, last)
     faults = [*tick_faults(scale, root, drawn["tick"]), *bar_faults(scale, drawn["bar"])]
     faults += [*hop_faults(scale, drawn["hop"]), *wait_faults(scale, drawn["wait"]), *colour_faults(root)]
+    faults += turn_faults(scale, root, turns)
+    faults += [fault for it in begins for fault in misplaced(scale, it, numbers_in(it.get("d"))[:1], times_in(title(it)))]
     return "\n".join([*faults, ", ".join(f"{len(of)} {name}s" for name, of in drawn.items())])

@@ -15,7 +15,8 @@
     tools/timeline .. --order link             the links by their nodes, and not as the routes go
     tools/timeline .. --width PX [--all]       how wide the picture is; it is at most 20000 high without --all
     tools/timeline .. --text [--columns N]     the same as text
-    tools/timeline .. --html H                 a page to touch: the file H, which needs no network and no server
+    tools/timeline .. --html H                 a page to touch: the file H, which needs no network and no server; `-`
+                                               is standard output
     tools/timeline --plan F --list             each contact with its number, one a line
 
 Each option may go with the others. With routes, only the links that they use are shown, those of the first route first
@@ -25,11 +26,14 @@ and in its order, and so on, as if --used and --order route were given. --links 
 check` accepts. T is 2031/03/03-01:00:00, 2031-03-03T01:00:00Z, 2031-03-03, now, or now+2h with s, m, h or d.
 All times are UTC. A and B are nodes, by their numbers or by the names of --names. G may be /dev/stdin.
 
-The page has the picture, which mouse, touch and keys zoom and move, and the list of routes. It tells what each contact
-and route is, and finds contacts and nodes by a field. It shows all links if there are at most 60, or else those of the
-routes, and a button the others. A click on a contact of a shown route, or Enter, tells the best route without that
-contact, as the program answered when the page was made. The page has at most 1000 routes without --all. Its address keeps what is chosen, as
-H#lost=11&theme=dark.
+The page has the picture, which mouse, touch and keys zoom and move, and the list of routes; `?` lists the keys. It tells
+what each contact and route is, and finds contacts, nodes, links as 31 > 22, and times by a field. It shows all links if
+there are at most 60, or else those of the routes, and a button the others, under a row for each sender. A click on a
+contact of a shown route, or Enter, tells the best route without that contact, as the program answered when the page was
+made. Further ones, and nodes, can be lost with it; if the page doesn't know the answer, it shows the command that tells.
+The line in the strip below the picture can be dragged: it tells the best route for other seconds at the source, of which
+the program was asked for at most 720. Routes can be saved as CSV, and the picture as SVG. A print has all rows that are
+chosen. The page has at most 1000 routes without --all. Its address keeps what is chosen, as H#lost=11&theme=dark.
 
 Status 0: done. 1: the routes or the names can't be used, or the routes are not of this plan. 2: the words can't be
 used, or the picture is too high. 3: the plan can't be read. 5: a file can't be read, or writing failed. 125: there is
@@ -37,20 +41,24 @@ no program. Any other status is the program's.
 """
 
 import os
+import re
+import shlex
 from dataclasses import replace
 
 from ..drawing.axis import Span
-from ..drawing.page import MOST_ROUTES, Page, Told
+from ..drawing.page import MOST_ROUTES, Lost, Page, Starts, Told
 from ..drawing.picture import LINE, MOST, Picture
 from ..drawing.scene import Choice, View
 from ..drawing.text import Text, list_text
-from ..errors import WORDS_STATUS, Refused
+from ..errors import FILE_STATUS, WORDS_STATUS, Refused
 from ..listing import add_choice_words, added, check_choice_words, listing_of, pages_of, tell_looked
 from ..lost import losses
 from ..routes import Answer, explained_routes, report_of
-from ..tool import lines_of, run_tool
+from ..times import DAY
+from ..tool import Tool, lines_of, run_tool
 from ..words import Asked, Words, add_plan_words, add_request_words, time_word
 
+STARTS = 720  # so many seconds at the source are asked for, at most
 NEEDED = ("from", "to", "at")  # the words that a request has to have
 OTHERS = ("margin-ppm", "max-hops", "avoid", "via", "fits", "distinct", "look")  # words that go with a request
 
@@ -203,23 +211,91 @@ def picture_text(scene, words):
 
 def write_page(asked, view, routes):
     """Writes the page into its file."""
-    told = Told(ranked(routes or []))
-    if asks_for_routes(asked.words):
-        request, digest = asked.request(), asked.program.run("check").split()[-1]
-        told = Told(ranked(routes), request, best_without(asked, request, routes), digest)
-    text = Page(view, asked.plan, asked.lost, told).html()
-    with open(asked.words.html, "w", encoding="utf-8", newline="\n") as file:
-        file.write(text)
+    text = Page(view, asked.plan, asked.lost, told_of(asked, routes)).html()
+    if asked.words.html == "-":
+        return text
+    write_whole(asked.words.html, text)
     return ""
 
 
+def told_of(asked, routes):
+    """What a page tells of some routes."""
+    plan = os.path.basename(asked.words.plan)
+    if not asks_for_routes(asked.words):
+        ask = f"--from A --to B --at {asked.time_text(first_start(asked.plan))} --count 3 --html {plan}.html"
+        return Told(ranked(routes or []), command=f"{command('timeline')} --plan {shlex.quote(plan)} {ask}")
+    request, digest = asked.request(), asked.program.run("check").split()[-1]
+    words = [command("report"), "--plan", plan, *replace(request, avoid=()).words()]
+    (answer,) = asked.program.with_send_by([Answer(tuple(ranked(routes)), None, request)])
+    lost, starts = best_without(asked, request, routes), starts_of(asked, request, routes)
+    return Told(list(answer.routes), request, lost, digest, starts, shlex.join(words))
+
+
+SECONDS = [1, 2, 5, 10, 15, 30, 60, 120, 300, 600, 900, 1800, 3600, 7200, 21600, 43200, DAY]  # between starts
+
+
+def starts_of(asked, request, routes):
+    """The best routes of bundles that are at the source at some seconds: a day about the request's, or if the routes take
+    longer four times as long, as far as the plan has contacts. None if that can't be asked."""
+    contacts = asked.plan.contacts
+    if not routes or not contacts:
+        return None
+    wide = max(DAY, 4 * (max(route.delivery for route in routes) - request.at))
+    step = next((step for step in SECONDS if step * STARTS >= wide), wide // STARTS)
+    before = min(wide // 4, max(request.at - first_start(asked.plan), 0)) // step
+    after = min(wide - wide // 4, max(max(it.end for it in contacts) - request.at, 0)) // step
+    first = request.at - before * step
+    answers = asked.program.many([replace(request, at=first + place * step) for place in range(before + after + 1)], 1)
+    if answers is None:
+        return None
+    with_hops = asked.program.with_hops(answers)
+    bests = [it.routes[0].having(rank=None, until=0) if it.routes else None for it in with_hops]
+    return Starts(first, step, bests)
+
+
+def command(tool):
+    """How a tool of this package is run: by its path in a clone, or else by its name when installed."""
+    return f"cgrlist-{tool}" if Tool.name.startswith("cgrlist-") else f"tools/{tool}"
+
+
+def first_start(plan):
+    """When the first contact starts."""
+    return min((it.start for it in plan.contacts), default=0)
+
+
+def write_whole(path, text):
+    """Writes a file. If that fails, what stood there stays: a file beside it is written, which then takes its name."""
+    path = os.path.realpath(path)
+    is_special = os.path.exists(path) and not os.path.isfile(path)  # a pipe or a device
+    beside = path if is_special else f"{path}.{os.getpid()}"
+    try:
+        with open(beside, "w", encoding="utf-8", newline="\n") as file:
+            file.write(text)
+        os.replace(beside, path)
+    except OSError as error:
+        raise Refused(f"{path}: {error.strerror}", FILE_STATUS) from error
+    finally:
+        if beside != path and os.path.exists(beside):
+            os.unlink(beside)
+
+
 def best_without(asked, request, routes):
-    """Under the number of each contact of some routes, the best route without it, with its hops, or None."""
+    """The best routes without each contact of some routes, and without each node between their ends, with their hops."""
     found = losses(asked.program, asked.plan, request, routes)
-    others = tuple(it.route for it in found if it.route)
-    (answer,) = asked.program.with_hops([Answer(others, None, request)])
-    with_hops = iter(answer.routes)
-    return {it.contact: it.route and next(with_hops) for it in found}
+    nodes = sorted({hop.receiver for route in routes for hop in route.hops[:-1]})
+    requests = [avoiding(request, node) for node in nodes]
+    firsts = [answer.routes[:1] for answer in (asked.program.many(requests, 1) if nodes else None) or ()]
+    others = tuple(it.route for it in found if it.route) + tuple(route for first in firsts for route in first)
+    answers = asked.program.with_send_by(asked.program.with_hops([Answer(others, None, request)]))
+    with_hops = iter(answers[0].routes)
+    contacts = {it.contact: it.route and next(with_hops) for it in found}
+    return Lost(contacts, {node: next(with_hops) if first else None for node, first in zip(nodes, firsts)})
+
+
+def avoiding(request, node):
+    """A request for routes that don't pass a node, either."""
+    avoided = {int(it) for it in re.findall(r"\d+", str(request.avoid))}
+    return replace(request, avoid=tuple(sorted({*avoided, node})))
 
 
 def timeline():
@@ -233,7 +309,8 @@ def timeline():
     check_routes(asked.plan, routes or [])
     if words.html is not None:
         return write_page(asked, view, routes)
-    scene = view.scene(asked.plan, routes and ranked(routes), () if words.list else asked.lost, words.list)
+    second = words.at if asks_for_routes(words) else None
+    scene = view.scene(asked.plan, routes and ranked(routes), () if words.list else asked.lost, words.list, second)
     if words.list:
         return list_text(scene, words.names)
     return Text(scene, words.columns).text() if words.text else picture_text(scene, words)

@@ -28,11 +28,11 @@ class Span:
 
     def shows_wait(self, stage):
         """Whether the wait of a stage that is shown is drawn."""
-        return stage.before is not None and self.first <= stage.hop.send
+        return stage.start < stage.hop.send and self.first <= stage.hop.send or self.shows_turn(stage)
 
     def shows_turn(self, stage):
         """Whether the turn from the hop before to that of a stage that is shown is drawn."""
-        return self.shows_wait(stage) and self.first <= stage.start
+        return stage.before is not None and self.first <= stage.start
 
     def shows_hop(self, stage):
         """Whether the hop of a stage that is shown is drawn."""
@@ -43,10 +43,11 @@ class Span:
         return stage.hop.arrive <= self.last
 
 
-def span_of(contacts, hops):
-    """The span of hops with a margin, or else of contacts; None if there are neither."""
+def span_of(contacts, hops, source_second=None):
+    """The span of hops with a margin, from the second at the source on, or else of contacts; None if there are neither."""
     if hops:
         first, last = min(hop.send for hop in hops), max(hop.arrive for hop in hops)
+        first = first if source_second is None else min(first, source_second)
         margin = (last - first) // 20 + 1
         return Span(max(first - margin, 0), min(last + margin, END))
     if contacts:

@@ -1,6 +1,6 @@
-"""Where things lie in the picture that tools/timeline draws: seconds, strips, the lanes of routes, and their turns."""
+"""Where things lie in the picture that tools/timeline draws: seconds, strips, the lanes of routes, turns and numbers."""
 
-from collections import defaultdict
+from dataclasses import dataclass
 
 from ..errors import WORDS_STATUS, Refused
 from .axis import Axis
@@ -12,51 +12,53 @@ LEAST = 200  # width of the plot at least
 SIDE = 40  # right of the plot
 CHARACTER = 7.8  # width of a character of a label
 DIGIT = 7.6  # width of a digit of a contact's number
-NUMBERS = 13  # height of the strip with the numbers of contacts
-BAR = 8  # height of a bar
+BAR = 15  # height of a bar, which has the number if that has room
 LANE = 10  # height of a route's lane below a bar
-GAP = 6  # between two strips
+GAP = 9  # between two strips
 HEAD = 40  # above the first row
-TURNS = ((3, 12), (1.5, 30))  # how far turns are apart, and how far right of their times they lie at most
-PIECE = 3  # not less than how far turns are apart
+SOURCE = 18  # more of that, with the label of the second at the source
+THIN = 1.5  # lines that are less apart hide each other
 
 
 class Strip:
-    """A strip of a row in the picture: numbers, bars, and below them lanes for the routes that use its windows."""
+    """A strip of a row in the picture: bars, and below them lanes for the routes that use its windows."""
 
     def __init__(self, windows, top, stays):
         """Lays it out. The stays say from where to where a route takes a lane, by the route's place among all."""
-        self.windows, self.top, self.bar = windows, top, top + NUMBERS
+        self.windows, self.top, self.bar = windows, top, top + 3
         places = sorted(stays)
         lanes = lanes_of(stays[at] for at in places)
         self.lanes = dict(zip(places, lanes))
-        self.height = NUMBERS + BAR + LANE * (max(lanes, default=-1) + 1) + GAP
+        self.height = BAR + LANE * (max(lanes, default=-1) + 1) + GAP
 
     def y(self, at):
         """The middle of a route's lane."""
         return self.bar + BAR + LANE * (self.lanes[at] + 0.5) + 1
 
 
-class Turns:
-    """Keeps turns apart, where routes go from strip to strip: each has a place that is free in all strips between."""
+@dataclass(frozen=True)
+class Turn:
+    """Where a route goes from a strip to another one, at the time of its arrival.
 
-    def __init__(self):
-        self.taken = defaultdict(list)  # the places, with first and last strips, by pieces of the width
+    Of routes that turn at one place, each has a dash of the line in turn: this one that at a place among so many.
+    """
 
-    def shift(self, at, x, strips):
-        """How far right of its time at x the route at a place among all turns. It takes that place if it is free."""
-        for apart, farthest in TURNS:
-            for step in range(int(farthest / apart) + 1):
-                if self.is_free(x + step * apart, strips, apart):
-                    self.taken[(x + step * apart) // PIECE].append((x + step * apart, *strips))
-                    return step * apart
-        return at * apart % farthest  # there are too many to keep each apart
+    x: float
+    strips: tuple  # the first and the last one, from above
+    place: int = 0
+    count: int = 1
 
-    def is_free(self, x, strips, apart):
-        """Whether no turn in some of the strips is less than so far from x."""
-        near = [turn for piece in (-1, 0, 1) for turn in self.taken[x // PIECE + piece]]
-        near = [(first, last) for other, first, last in near if abs(x - other) < apart - 0.01]
-        return not any(strips[0] <= last and first <= strips[1] for first, last in near)
+
+def shared(turns):
+    """Turns with their places among those that are at the same x and have a strip in common, in their order."""
+    order, found = sorted(range(len(turns)), key=lambda at: turns[at].x), list(turns)
+    while order:
+        size = 1 + next((at for at, (one, other) in enumerate(zip(order, order[1:])) if turns[other].x - turns[one].x >= THIN), len(order) - 1)
+        near, order = sorted(order[:size]), order[size:]
+        places = lanes_of((turns[at].strips[0], turns[at].strips[1]) for at in near)
+        for at, place in zip(near, places):
+            found[at] = Turn(turns[at].x, turns[at].strips, place, max(places) + 1)
+    return found
 
 
 class Layout:
@@ -70,9 +72,11 @@ class Layout:
         self.width = self.left + self.plot + SIDE
         self.axis = Axis(self.span, self.plot, CHARACTER, 10, scene.date_sign) if self.span else None
         self.by_contact = scene.stages_by(lambda stage: stage.hop.contact)
-        self.comes, self.goes = self.shifts()
-        self.bottom, self.strips = HEAD, {}  # each strip under the number of each of its contacts
+        self.head = HEAD if scene.source_second is None else HEAD + SOURCE
+        self.turns = self.all_turns()
+        self.bottom, self.strips = self.head, {}  # each strip under the number of each of its contacts
         self.rows = [(row, [self.strip(windows) for windows in row.strips]) for row in scene.rows]
+        self.places = {strip: place for place, strip in enumerate(strip for _, strips in self.rows for strip in strips)}
 
     def x(self, second):
         """Where a second lies; an end of the plot if it is out of the span."""
@@ -83,21 +87,28 @@ class Layout:
         return self.strips[stage.hop.contact].y(stage.at)
 
     def turn(self, stage):
-        """The lane from which a route turns to that of a stage, and how far right of its time; None if it doesn't."""
-        shift = self.comes.get((stage.at, stage.hop.contact))
-        return None if shift is None else (self.strips[stage.before.contact].y(stage.at), shift)
+        """The turn from the lane of the hop before to that of a stage; None if it isn't shown."""
+        return self.turns.get((stage.at, stage.hop.contact))
 
-    def shifts(self):
-        """How far right of its time a route turns, by its place and the contact that it turns to, and from."""
+    def all_turns(self):
+        """The turns, by the route's place among all and the contact that it turns to."""
         strips = enumerate(windows for row in self.scene.rows for windows in row.strips)
         places = {it.number: place for place, windows in strips for it in windows}
-        turns, comes, goes = Turns(), {}, {}
+        keys, turns = [], []
         for stage in filter(self.span and self.span.shows_turn, self.scene.stages):
-            if stage.before.contact in places:
+            if stage.before and stage.before.contact in places:
+                keys.append((stage.at, stage.hop.contact))
                 between = sorted(places[hop.contact] for hop in (stage.before, stage.hop))
-                shift = turns.shift(stage.at, self.x(stage.start), between)
-                comes[stage.at, stage.hop.contact] = goes[stage.at, stage.before.contact] = shift
-        return comes, goes
+                turns.append(Turn(self.x(stage.start), tuple(between)))
+        return dict(zip(keys, shared(turns)))
+
+    def crosses(self, left, right, strip):
+        """Whether a line crosses a part of a strip's bars: a turn, or that of the second at the source."""
+        place = self.places[strip]
+        lines = [turn.x for turn in self.turns.values() if turn.strips[0] < place <= turn.strips[1]]
+        if self.scene.source_second is not None:
+            lines.append(self.x(self.scene.source_second))
+        return any(left - 2 < x < right + 2 for x in lines)
 
     def strip(self, windows):
         """Lays a strip out below the former ones."""
@@ -109,9 +120,8 @@ class Layout:
 
     def stay(self, stage):
         """From where to where a route takes a lane: from its stage's start to the turn and the rank after its end."""
-        start, end, key = self.x(stage.start), self.x(stage.hop.arrive), (stage.at, stage.hop.contact)
-        rank = 10 + DIGIT * len(str(self.scene.routes[stage.at].rank))
-        return start - 4, max(start + self.comes.get(key, 0) + 4, end + self.goes.get(key, 0) + 4, end + rank)
+        start, end = self.x(stage.start), self.x(stage.hop.arrive)
+        return start - 4, end + 10 + DIGIT * len(str(self.scene.routes[stage.at].rank))
 
 
 def plot_width(left, width):

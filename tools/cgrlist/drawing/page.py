@@ -7,31 +7,59 @@ style and script lets a browser refuse anything else.
 import base64
 import hashlib
 import html
+import itertools
 import json
-from dataclasses import dataclass
+import re
+from dataclasses import dataclass, field
 from pathlib import Path
 
 from ..plans import links_of
 from ..routes import Request
 
 FOLDER = Path(__file__).resolve().parent / "html"
-SCRIPTS = ("plan", "times", "view", "picture", "words", "hands", "find", "start")  # in the order in which they run
+SCRIPTS = ("plan", "times", "view", "svg", "picture", "words", "starts", "hands", "find", "export", "start")  # in the order in which they run
 MOST_ROUTES = 1000  # so many are on a page that isn't asked for twice
 EXACT = 2**53 - 1  # up to here, numbers are exact in JavaScript
 
 
 @dataclass(frozen=True)
-class Told:
-    """What a page tells, besides the plan: a request with its routes, and the best routes without their contacts.
+class Lost:
+    """What becomes of a request: the best route or None under each lost contact's number, and under each lost node."""
 
-    `best` has a route or None under the number of each contact of the routes; it is empty if that wasn't asked. Without
-    a request, the routes are some that were explained before.
+    contacts: dict = field(default_factory=dict)
+    nodes: dict = field(default_factory=dict)
+
+    def routes(self):
+        """All these routes."""
+        return [route for route in (*self.contacts.values(), *self.nodes.values()) if route]
+
+
+@dataclass(frozen=True)
+class Starts:
+    """The best routes, or None, of bundles that are at the source at other seconds: the first one, and in steps of so many."""
+
+    first: int
+    step: int
+    routes: list
+
+
+@dataclass(frozen=True)
+class Told:
+    """What a page tells, besides the plan: a request with its routes, and the best routes without parts of them.
+
+    Without a request, the routes are some that were explained before.
     """
 
     routes: list
     request: "Request | None" = None
-    best: "dict | None" = None
+    lost: Lost = Lost()
     digest: "str | None" = None  # the plan's, as the program tells it
+    starts: "Starts | None" = None
+    command: str = ""  # what asks for more, or without a request for the page with routes
+
+    def all_others(self):
+        """All routes besides those that are listed."""
+        return [*self.lost.routes(), *filter(None, self.starts.routes if self.starts else ())]
 
 
 class Page:
@@ -77,14 +105,37 @@ class Page:
             **self._plan_data(),
             "request": self._request_data(),
             "routes": [self._route_data(route) for route in self._told.routes],
-            "lost": {number: self._best_data(route) for number, route in (self._told.best or {}).items()},
+            "lost": {number: self._best_data(route) for number, route in self._told.lost.contacts.items()},
+            "gone": {self._nodes.of(node): self._best_data(route) for node, route in self._told.lost.nodes.items()},
+            "begins": [route.rank for route in self._told.routes] == [*range(1, len(self._told.routes) + 1)],
+            "starts": self._starts_data(),
+            **self._command_data(),
         }
+
+    def _starts_data(self):
+        """The best routes by the second at the source, each with how many seconds have it, one after the other."""
+        it = self._told.starts
+        if it is None:
+            return None
+        runs, routes = [], Places(dict.fromkeys(filter(None, it.routes)))
+        for route, seconds in itertools.groupby(it.routes):
+            runs.append([len([*seconds]), -1 if route is None else routes.of(route)])
+        routes = [self._route_data(route) for route in routes.values]
+        return {"first": self._second(it.first), "step": it.step, "runs": runs, "routes": routes}
+
+    def _command_data(self):
+        """The command that asks the program for more."""
+        it = self._told.request
+        if it is None:
+            return {"asks": None, "how": self._told.command}
+        avoided = re.findall(r"\d+", str(it.avoid))
+        return {"asks": {"words": self._told.command, "avoid": avoided}, "how": ""}
 
     def _chosen(self, links):
         """The links that are chosen by name, and those of the routes and the answers."""
-        choice, best = self._view.choice, filter(None, (self._told.best or {}).values())
+        choice = self._view.choice
         choice.check(links)
-        used = {hop.link for route in [*self._told.routes, *best] for hop in route.hops}
+        used = {hop.link for route in [*self._told.routes, *self._told.all_others()] for hop in route.hops}
         return {link: windows for link, windows in links.items() if link in used or choice.has(link)}
 
     def _all_nodes(self):
@@ -126,7 +177,8 @@ class Page:
     def _route_data(self, it):
         """A route with its hops."""
         hops = [[hop.contact, self._second(hop.send), self._second(hop.arrive)] for hop in it.hops]
-        return {"rank": it.rank, "delivery": self._second(it.delivery), "until": self._second(it.until), "hops": hops}
+        send_by = None if it.send_by is None else self._second(it.send_by)
+        return {"rank": it.rank, "delivery": self._second(it.delivery), "sendBy": send_by, "hops": hops}
 
     def _best_data(self, route):
         """The best route without a contact: none, the place of one that is shown, or another one."""

@@ -2,42 +2,50 @@
 
 import html
 
-from .layout import ARROW, BAR, DIGIT, HEAD, Layout
+from ..times import date_of
+from .layout import ARROW, BAR, CHARACTER, DIGIT, HEAD, Layout
 
 LINE = 19  # height of a line of words below the rows
 MOST = 20000  # height of a picture that is drawn without being asked for twice
 LIGHT = ["#0969da", "#bc4c00", "#1a7f37", "#8250df", "#bf3989", "#4d6b00", "#9a6700", "#0a7d8c"]
 DARK = ["#79b8ff", "#ffa657", "#56d364", "#d2a8ff", "#ff9bce", "#c5d86d", "#e3b341", "#76e3ea"]
 DASHES = ["none", "6 3", "2 3", "8 3 2 3"]
+DASH = 5  # of a route where several turn at one place
+END = ' text-anchor="end"'
 
 STYLE = """
 text { font: 13px system-ui, sans-serif; fill: #1f2328 }
-.number, .rank { stroke: #ffffff; stroke-opacity: 0.7; paint-order: stroke }
-.number { font-size: 12px; fill: #424a53; stroke-width: 3px }
-.rank { font-size: 11px; font-weight: bold; stroke-width: 2px }
+.number, .rank, .source { stroke: #ffffff; paint-order: stroke; stroke-width: 3px; stroke-linejoin: round }
+.number { font-size: 12px; fill: #424a53 }
+.number.in { fill: #ffffff; stroke: #656d76 }
+.rank { font-size: 11px; font-weight: bold }
+.source { font-size: 12px }
 .back { fill: #ffffff }
 .band { fill: #f3f5f7 }
 .tick { stroke: #d0d7de }
-.bar { fill: #7d8590; stroke: #7d8590; stroke-width: 1 }
+.bar { fill: #656d76 }
 .lost { fill: #cf222e; fill-opacity: 0.15; stroke: #cf222e }
 .cross { stroke: #cf222e; stroke-width: 1.5 }
-.number.lost { fill-opacity: 1; stroke: #ffffff; text-decoration: line-through }
+.number.lost { fill: #cf222e; fill-opacity: 1; stroke: #ffffff; text-decoration: line-through }
 .hop { stroke-width: 4; stroke-linecap: round }
-.wait { fill: none; stroke-width: 1.3 }
+.wait, .turn { fill: none; stroke-width: 1.3 }
+.begin { stroke: #57606a; stroke-dasharray: 2 3 }
 .any { stroke: #1f2328 }
 .mark { fill: #1f2328 }
 """
 DARK_STYLE = """
 text { fill: #e6edf3 }
-.number, .rank { stroke: #0d1117 }
+.number, .rank, .source { stroke: #0d1117 }
 .number { fill: #b7bfc9 }
+.number.in { fill: #0d1117; stroke: #768390 }
 .back { fill: #0d1117 }
 .band { fill: #161b22 }
 .tick { stroke: #30363d }
-.bar { fill: #768390; stroke: #768390 }
+.bar { fill: #768390 }
 .lost { fill: #ff7b72; stroke: #ff7b72 }
 .cross { stroke: #ff7b72 }
-.number.lost { stroke: #0d1117 }
+.number.lost { fill: #ff7b72; stroke: #0d1117 }
+.begin { stroke: #9aa6b2 }
 .any { stroke: #e6edf3 }
 .mark { fill: #e6edf3 }
 """
@@ -74,9 +82,9 @@ def titled(element, title):
 
 # The signs of the legend: the element, the place of its words, the words, and the width of all.
 SIGNS = {
-    "contact": (f'<rect class="bar" y="-9" width="22" height="{BAR}"/>', 28, "contact, with its number", 205),
+    "contact": ('<rect class="bar" y="-9" width="22" height="10"/>', 28, "contact, with its number", 205),
     "lost": (
-        f'<rect class="bar lost" y="-9" width="22" height="{BAR}"/><path class="cross" d="M0 -5h22"/>',
+        '<rect class="bar lost" y="-9" width="22" height="10"/><path class="cross" d="M0 -4h22"/>',
         28,
         "lost",
         70,
@@ -103,8 +111,9 @@ class Picture:
         strips = [strip for _, strips in self.rows for strip in strips]
         parts = [*self.head(), *(self.band(strips) for _, strips in self.rows[::2])]
         parts += self.ticks() if self.span else []
-        for row, its_strips in self.rows:
-            parts += self.bars(row, its_strips)
+        for place, (row, its_strips) in enumerate(self.rows):
+            parts += self.bars(row, its_strips, "back" if place % 2 else "band")
+        parts += self.source() if self.scene.source_second is not None else []
         for at in sorted(range(len(self.routes)), key=lambda at: (dash(at), -at)):  # whole lines below dashed ones
             parts += self.trace(at, self.routes[at])
         for at, route in enumerate(self.routes):
@@ -138,10 +147,19 @@ class Picture:
             if tick.above:
                 yield f'<text x="{x}" y="15" text-anchor="middle">{tick.above}</text>'
 
-    def bars(self, row, strips):
-        """The label of a row, and its windows as far as the span shows them."""
+    def source(self):
+        """The second at which the bundle is at the source."""
+        second, top = self.scene.source_second, HEAD + 10
+        x, time = self.x(second), self.scene.time_text(second)
+        yield titled(f'path class="begin" d="M{x:.1f} {top - 10}V{self.layout.bottom}"', f"bundle at the source {time}")
+        words = f"bundle at the source {date_of(second):%H:%M:%S}"
+        is_left = x + 5 + CHARACTER * len(words) > self.width
+        yield f'<text class="source" x="{x + (-5 if is_left else 5):.1f}" y="{top}"{END * is_left}>{words}</text>'
+
+    def bars(self, row, strips, ground):
+        """The label of a row, and its windows as far as the span shows them. Those that go on beyond it have a notch."""
         label = html.escape(self.scene.label(row.link, ARROW))
-        yield f'<text x="{self.layout.left - 8}" y="{strips[0].bar + BAR}" text-anchor="end">{label}</text>'
+        yield f'<text x="{self.layout.left - 8}" y="{strips[0].bar + BAR - 3}" text-anchor="end">{label}</text>'
         for strip in strips:
             for it in filter(self.span.shows, strip.windows):
                 x = self.x(it.start)
@@ -151,6 +169,13 @@ class Picture:
                 yield titled(rect, self.told(it))
                 if it.number in self.scene.lost:
                     yield f'<path class="cross" d="M{x:.1f} {strip.bar + BAR / 2}h{width:.1f}"/>'
+                yield from self.notches(it, strip.bar, ground)
+
+    def notches(self, it, y, ground):
+        """What is cut out of the bar of a window where the span cuts it."""
+        for is_cut, second, inwards in ((it.start < self.span.first, it.start, 5), (self.span.last < it.end, it.end, -5)):
+            if is_cut:
+                yield f'<path class="notch {ground}" d="M{self.x(second):.1f} {y}l{inwards} {BAR / 2}l{-inwards} {BAR / 2}z"/>'
 
     def told(self, it):
         """A contact in words."""
@@ -161,19 +186,32 @@ class Picture:
         return f"contact {it.number}: {sender} {ARROW} {receiver}, {window}, {light}{lost}"
 
     def numbers(self, strip):
-        """The numbers of a strip's contacts, if there is room for them."""
-        free = 0
-        for it in filter(self.span.shows, strip.windows):
-            x = self.x(it.start)
-            if x >= free:
-                kind = "number lost" if it.number in self.scene.lost else "number"
-                yield f'<text class="{kind}" x="{x:.1f}" y="{strip.bar - 2}">{it.number}</text>'
-                free = x + DIGIT * len(str(it.number)) + 4
+        """The numbers of a strip's contacts: in their bars, or beside them, where there is room that no line crosses."""
+        shown = [it for it in strip.windows if self.span.shows(it)]
+        ends = [self.layout.left, *(self.x(it.end) for it in shown), *[self.layout.left + self.layout.plot] * 2]
+        starts = [*(self.x(it.start) for it in shown), self.width]
+        for place, it in enumerate(shown):
+            wide = DIGIT * len(str(it.number)) + 2
+            inside = self.room(starts[place] + (8 if it.start < self.span.first else 4), ends[place + 1] - wide - 4, wide, strip)
+            right = self.room(ends[place + 1] + 3, starts[place + 1] - wide - 2, wide, strip)
+            left = self.room(ends[place] + 2, starts[place] - wide - 3, wide, strip, is_last=True)
+            x = next((x for x in (inside, right, left) if x is not None), None)
+            if x is not None:
+                kind = "number lost" if it.number in self.scene.lost else "number in" if x is inside else "number"
+                yield f'<text class="{kind}" x="{x:.1f}" y="{strip.bar + BAR - 3}">{it.number}</text>'
+
+    def room(self, first, last, wide, strip, is_last=False):
+        """The first x of some at which a text so wide is crossed by no line, or the last one; None if there is none."""
+        places = range(int(last - first) // 4 + 1 if last >= first else 0)
+        found = (first + 4 * place for place in (reversed(places) if is_last else places))
+        return next((x for x in found if not self.layout.crosses(x, x + wide, strip)), None)
 
     def trace(self, at, route):
         """A route: a thick line for each hop, and a thin one for the wait before it."""
         yield f"<g><title>route {route.rank}: {html.escape(self.scene.summary(route))}</title>"
         for stage in self.by_route[at]:
+            if self.layout.turn(stage):
+                yield self.turn(stage)
             if self.span.shows_wait(stage):
                 yield self.wait(stage)
             if self.span.shows_hop(stage):
@@ -201,20 +239,22 @@ class Picture:
         return titled(f'path class="hop line{hue(stage.at)}" d="{way}"', told)
 
     def wait(self, stage):
-        """The line that turns where the bundle arrives, and goes on to the next sending."""
+        """The line from where the bundle is to the next sending."""
         start, send = map(self.scene.time_text, (stage.start, stage.hop.send))
-        way = f"M{self.x(stage.start):.1f} {self.turn(stage)}H{self.x(stage.hop.send):.1f}"
+        way = f"M{self.x(stage.start):.1f} {self.y(stage):.1f}H{self.x(stage.hop.send):.1f}"
         told = f"{self.rank(stage)}, node {self.scene.names.full(stage.hop.sender)}: from {start} to {send}"
         return titled(f'path class="wait line{hue(stage.at)} dash{dash(stage.at)}" d="{way}"', told)
 
     def turn(self, stage):
-        """From the lane of the hop before to that of a stage."""
-        turn = self.layout.turn(stage)
-        if turn is None:
-            return f"{self.y(stage):.1f}"
-        y, shift = turn
-        right = f"H{self.x(stage.start) + shift:.1f}" if shift else ""
-        return f"{y:.1f}{right}V{self.y(stage):.1f}"
+        """The line from the lane of the hop before to that of a stage, where the bundle arrives."""
+        turn, before = self.layout.turn(stage), self.layout.strips[stage.before.contact].y(stage.at)
+        low, high = sorted((before, self.y(stage)))
+        way = f"M{turn.x:.1f} {low:.1f}V{high:.1f}"
+        told = f"{self.rank(stage)}, node {self.scene.names.full(stage.hop.sender)}: {self.scene.time_text(stage.start)}"
+        if turn.count == 1:
+            return titled(f'path class="turn line{hue(stage.at)} dash{dash(stage.at)}" d="{way}"', told)
+        dashes = f'stroke-dasharray="{DASH} {DASH * (turn.count - 1)}" stroke-dashoffset="{low - DASH * turn.place:.1f}"'
+        return titled(f'path class="turn line{hue(stage.at)}" {dashes} d="{way}"', told)
 
     def rank(self, stage):
         """Names the route of a stage."""

@@ -21,20 +21,17 @@ class Stage:
 
     at: int  # the route's place among all
     before: "Hop | None"
+    start: int  # when it begins
     hop: Hop
     is_last: bool
 
-    @property
-    def start(self):
-        """When the stage begins."""
-        return self.before.arrive if self.before else self.hop.send
 
-
-def stages_of(routes):
-    """The stages of routes, one after the other."""
+def stages_of(routes, source_second=None):
+    """The stages of routes, one after the other. The first wait begins when the bundle is at the source, if that is known."""
     for at, route in enumerate(routes):
         for before, hop in zip([None, *route.hops], route.hops):
-            yield Stage(at, before, hop, hop is route.hops[-1])
+            first = hop.send if source_second is None else source_second
+            yield Stage(at, before, before.arrive if before else first, hop, hop is route.hops[-1])
 
 
 # ---- Rows -------------------------------------------------------------------------------------------------------
@@ -136,6 +133,7 @@ class Scene:
     names: Names
     time_text: "Callable[[int], str]"
     remarks: list  # lines of words
+    source_second: "int | None" = None  # when the bundle is at the source, if that is known
 
     @property
     def date_sign(self):
@@ -200,18 +198,19 @@ class View:
         """What stands between the numbers of a date."""
         return date_sign(self.time_text)
 
-    def scene(self, plan, routes, lost=(), is_list=False):
+    def scene(self, plan, routes, lost=(), is_list=False, source_second=None):
         """What is to be shown of a plan, of routes, which are None if none were asked for, and of lost contacts."""
         links, hops = links_of([*plan.contacts, *lost]), [hop for route in routes or [] for hop in route.hops]
         chosen = self.choice.of(links, [hop.link for hop in hops], [it.link for it in lost])
-        span = self.span or span_of([it for windows in chosen.values() for it in windows], [] if is_list else hops)
-        stages = [it for it in stages_of(routes or []) if it.hop.link in chosen and span.shows_stage(it)]
+        span = self.span or span_of([it for windows in chosen.values() for it in windows], [] if is_list else hops, source_second)
+        stages = [it for it in stages_of(routes or [], source_second) if it.hop.link in chosen and span.shows_stage(it)]
         numbers = {stage.hop.contact for stage in stages}
         shown = [[it for it in windows if span.shows(it) or it.number in numbers] for windows in chosen.values()]
         rows = [row_of(windows) for windows in shown if windows]
         remarks = list(remarks_of(links, routes, len(chosen) - len(rows)))
         numbers = frozenset(it.number for it in lost)
-        return Scene(self.title, rows, routes or [], stages, numbers, span, self.names, self.time_text, remarks)
+        is_shown = routes and source_second is not None and span.first <= source_second <= span.last
+        return Scene(self.title, rows, routes or [], stages, numbers, span, self.names, self.time_text, remarks, source_second if is_shown else None)
 
 
 def date_sign(time_text):

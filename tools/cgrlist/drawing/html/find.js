@@ -1,4 +1,4 @@
-// Finding a contact by its number, or a node by its number or name.
+// Finding a contact by its number, a node by its number or name, a link by its nodes, as `31 > 22`, and a time.
 
 const MOST_FOUND = 12;
 const field = byId("find");
@@ -14,6 +14,8 @@ function find(text) {
 
 // Nodes that match exactly come first, then the contact with the number, then other nodes.
 function hitsFor(wanted) {
+  const others = [...linksFor(wanted), ...timesFor(wanted)];
+  if (others.length) return others;
   const nodes = known.nodes.map((_, node) => ({ node, match: matchOf(node, wanted) })).filter((hit) => hit.match);
   const contact = contactWith.get(Number(wanted.replace(/^(contact|#)\s*/, "")));
   const contacts = contact === undefined ? [] : [{ contact }];
@@ -27,7 +29,33 @@ function matchOf(node, wanted) {
   return name.includes(wanted) || (wanted.length > 1 && known.nodes[node].startsWith(wanted)) ? 1 : 0;
 }
 
+// Links from a node to a node; each may be left out.
+function linksFor(wanted) {
+  const ends = wanted.split(/\s*(?:->|>|→)\s*/);
+  if (ends.length !== 2) return [];
+  const best = (node, text) => (text ? matchOf(node, text) : 1);
+  const hits = links.map(({ from, to }, link) => ({ link, match: Math.min(best(from, ends[0]), best(to, ends[1])) }));
+  return hits.filter((hit) => hit.match).sort((one, other) => other.match - one.match || one.link - other.link);
+}
+
+const TIME = /^(?:(\d{4})[-/](\d\d)[-/](\d\d))?[-t ]?(?:(\d\d?):(\d\d)(?::(\d\d))?)?z?$/;
+
+// A time of the plan; without a day, that of each day, the nearest ones first.
+function timesFor(wanted) {
+  const [isTime, year, month, day, ...clock] = wanted.match(TIME) ?? [];
+  if (!isTime || (!year && !clock[0])) return [];
+  const [hours, minutes, seconds] = clock.map((part) => Number(part ?? 0)), ofDay = hours * 3600 + minutes * 60 + seconds;
+  if (year) return [{ second: Date.UTC(year, month - 1, day) / 1000 + ofDay - known.base }];
+  const first = Math.floor((earliest + known.base) / DAY), last = Math.floor((latest + known.base) / DAY);
+  const middle = (view.first + view.last) / 2, away = (hit) => Math.abs(hit.second - middle);
+  const days = Array.from({ length: last - first + 1 }, (_, place) => first + place);
+  const hits = days.map((it) => ({ second: it * DAY + ofDay - known.base }));
+  return hits.filter(({ second }) => earliest <= second && second <= latest).sort((one, other) => away(one) - away(other));
+}
+
 function aboutHit(hit) {
+  if (hit.second !== undefined) return [timeText(hit.second), "show this time"];
+  if (hit.link !== undefined) return [linkName(hit.link), count(contactsOf(hit.link).length, "contact")];
   if (hit.contact === undefined) {
     const linked = links.filter((link) => link.from === hit.node || link.to === hit.node).length;
     return [`Node ${fullName(hit.node)}`, `show its ${count(linked, "link")}`];
@@ -55,9 +83,22 @@ function listHits(isOpen) {
 
 function takeHit(hit) {
   closeFound();
-  if (hit.contact === undefined) return showLinks(shows.links, hit.node);
+  if (hit.node !== undefined) return showLinks(shows.links, hit.node);
   chart.focus({ preventScroll: true });
-  goTo(hit.contact);
+  if (hit.second !== undefined) return showSecond(hit.second);
+  goTo(hit.link === undefined ? hit.contact : nearestOf(hit.link));
+}
+
+function showSecond(second) {
+  const half = (view.last - view.first) / 2;
+  flyTo(second - half, second + half);
+}
+
+// The contact of a link that is nearest to the middle of the view.
+function nearestOf(link) {
+  const middle = (view.first + view.last) / 2;
+  const away = (contact) => Math.max(known.start[contact] - middle, middle - ends[contact], 0);
+  return contactsOf(link).reduce((best, other) => (away(other) < away(best) ? other : best));
 }
 
 function closeFound() {

@@ -10,6 +10,7 @@ function change() {
   if (shows.node !== null) byId("one").textContent = `${fullName(shows.node)} ✕`;
   layOut();
   listRoutes();
+  if (starts) tellStart();
   draw();
   remember();
 }
@@ -27,18 +28,36 @@ function glance(place) {
 // Singles a route out, or shows all again.
 function single(place) {
   chosen.route = chosen.route === place ? null : place;
-  chosen.lost = null;
+  loseNothing();
   change();
+  bringIntoView();
 }
 
-// Loses a contact, or takes that back.
-function lose(contact) {
-  chosen.lost = chosen.lost === contact ? null : contact;
+function loseNothing() {
+  chosen.start = null;
+  chosen.lost.clear();
+  chosen.gone.clear();
+}
+
+// Loses a contact, besides those that are lost, or takes that back.
+const lose = (contact) => turnLost(chosen.lost, contact);
+const loseNode = (node) => turnLost(chosen.gone, node);
+
+function turnLost(lost, it) {
+  if (!lost.delete(it)) lost.add(it);
+  chosen.start = null;
   if (isLosing()) chosen.route = null;
   hideTip();
   change();
-  const best = bestThen();
-  if (best && (best.delivery > view.last || best.hops[0].send < view.first)) showRoutes();
+  bringIntoView();
+}
+
+// Brings what was chosen into view: the answer or the card beside the picture, and the route in it.
+function bringIntoView() {
+  const part = isLosing() ? byId("lost") : document.querySelector("#routes .on");
+  const route = isLosing() ? bestThen() : routes[chosen.route];
+  part?.scrollIntoView({ block: "nearest" });
+  if (route) revealRoute(route);
 }
 
 function showLinks(which, node = null) {
@@ -49,6 +68,17 @@ function showLinks(which, node = null) {
 
 // ---- What lies where ----
 
+// The group whose row is at a height of the canvas; undefined if there is none.
+function groupAt(y) {
+  const row = y < AXIS ? undefined : rows.list[firstRowAt(y - AXIS + scroller.scrollTop)];
+  return row && !isOfLink(row) ? row.sender : undefined;
+}
+
+function turnGroup(sender) {
+  if (!shows.open.delete(sender)) shows.open.add(sender);
+  change();
+}
+
 // What lies at a place of the canvas: a contact, a piece of a route, or null.
 function whatIsAt(x, y) {
   if (y < AXIS || x < size.left) return null;
@@ -57,7 +87,7 @@ function whatIsAt(x, y) {
 
 function contactAt(x, y) {
   const row = rows.list[firstRowAt(y)];
-  if (!row || y < row.top + 3) return null;
+  if (!row || !isOfLink(row) || y < row.top + 3) return null;
   const strip = links[row.link].strips[Math.floor((y - row.top - 3) / STRIP)];
   if (!strip) return null;
   for (const slack of [0, 4]) {
@@ -96,7 +126,8 @@ chart.onpointermove = (event) => {
 // The mouse moves without a button.
 function point(event) {
   const what = (pointed.what = whatIsAt(event.offsetX, event.offsetY));
-  chart.classList.toggle("hand", Boolean(what && (what.contact === undefined || canBeLost(what.contact))));
+  const canAct = what ? what.contact === undefined || canBeLost(what.contact) : groupAt(event.offsetY);
+  chart.classList.toggle("hand", Boolean(canAct));
   showTip(what, event.clientX, event.clientY);
   draw();
 }
@@ -143,7 +174,9 @@ function click(event) {
   showTip(what, event.clientX, event.clientY, isTouch ? "Tap again" : "Click");
   chosen.contact = what?.contact ?? null;
   if (!what) {
-    if (chosen.route !== null) single(chosen.route);
+    const group = groupAt(event.offsetY);
+    if (group !== undefined) turnGroup(group);
+    else if (chosen.route !== null) single(chosen.route);
   } else if (what.contact === undefined) {
     if (isShownRoute(what.route)) single(what.route.place);
   } else if (canBeLost(what.contact) && isTold) lose(what.contact);
@@ -227,14 +260,16 @@ document.onkeydown = (event) => {
     event.preventDefault();
     byId("find").focus();
   }
-  if (event.key === "Escape") startOver();
+  if (event.key === "?" && event.target !== byId("find")) byId("help").showModal();
+  if (event.key === "Escape" && !byId("help").open) event.target === byId("find") ? closeFound() : startOver();
 };
 
 // Takes back all that was chosen.
 function startOver() {
   hideTip();
   closeFound();
-  Object.assign(chosen, { route: null, lost: null, contact: null });
+  Object.assign(chosen, { route: null, contact: null });
+  loseNothing();
   shows.node = null;
   change();
 }
@@ -249,7 +284,7 @@ function zoomAtCursor(factor) {
 function loseAtCursor() {
   if (chosen.contact === null || !canBeLost(chosen.contact)) return;
   lose(chosen.contact);
-  byId("said").textContent = [...byId("lost").children].slice(0, -1).map((it) => it.textContent).join(". ");
+  byId("said").textContent = [...byId("lost").querySelectorAll(".told")].map((it) => it.textContent).join(". ");
 }
 
 function contactsOf(link) {
@@ -259,8 +294,18 @@ function contactsOf(link) {
 
 // Without a cursor, the first one is on the first contact of the best route, or of the first row.
 function firstCursor() {
-  const first = routes.length ? routes[0].hops[0].contact : rows.list.length ? contactsOf(rows.list[0].link)[0] : null;
-  if (first !== null) goTo(first);
+  if (routes.length) return goTo(routes[0].hops[0].contact);
+  const link = linkOfRow(0, 1);
+  if (link !== undefined) goTo(contactsOf(link)[0]);
+}
+
+// The link of the row at a place, or of the next one in a direction that has one; a group is opened.
+function linkOfRow(place, step) {
+  const row = rows.list[place];
+  if (!row || isOfLink(row)) return row?.link;
+  if (shows.open.has(row.sender)) return linkOfRow(place + step, step);
+  turnGroup(row.sender);
+  return row.its.at(step > 0 ? 0 : -1);
 }
 
 // To the contact before or after in its row.
@@ -273,10 +318,11 @@ function goAlong(step) {
 // To the contact of the row above or below that starts nearest.
 function goAcross(step) {
   if (chosen.contact === null) return firstCursor();
-  const place = rows.list.findIndex((row) => row.link === linkOf[chosen.contact]), row = rows.list[place + step];
-  if (place < 0 || !row) return;
+  const place = rows.list.findIndex((row) => row.link === linkOf[chosen.contact]);
+  const link = place < 0 ? undefined : linkOfRow(place + step, step);
+  if (link === undefined) return;
   const away = (contact) => Math.abs(known.start[contact] - known.start[chosen.contact]);
-  goTo(contactsOf(row.link).reduce((best, other) => (away(other) < away(best) ? other : best)));
+  goTo(contactsOf(link).reduce((best, other) => (away(other) < away(best) ? other : best)));
 }
 
 // Puts the cursor on a contact, shows it, and says what it is.

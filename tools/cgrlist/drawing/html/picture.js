@@ -7,14 +7,13 @@ const COLOURS = [
   "back", "band", "ink", "soft", "line", "grid", "day", "bar", "edge", "used", "number", "accent", "bad", "calm",
 ];
 
-const paper = chart.getContext("2d", { alpha: false });
+const screen = chart.getContext("2d", { alpha: false });
+let paper = screen; // what is painted on
 const map = byId("map");
 const ink = { routes: [] };
 let traced = []; // the pieces of routes that were drawn, for the mouse
 let digitWidth = 7;
 let isPrinting = false;
-
-const hueOf = (route) => ink.routes[route.place % HUES];
 
 // Reads the colours of the page's style.
 function readColours() {
@@ -22,6 +21,38 @@ function readColours() {
   const colour = (name) => style.getPropertyValue(`--${name}`).trim();
   for (const name of COLOURS) ink[name] = colour(name);
   ink.routes = Array.from({ length: HUES }, (_, place) => colour(`c${place}`));
+  ink.faint = ink.routes.map(faintOf);
+  ink.faintSoft = faintOf(ink.soft);
+}
+
+const FOLLOWED = 3; // the contrast that a line needs so that eyes can follow it
+const partsOf = (colour) => [1, 3, 5].map((at) => parseInt(colour.slice(at, at + 2), 16));
+
+// As WCAG 2 has it.
+function luminance(colour) {
+  const [red, green, blue] = partsOf(colour).map((part) => part / 255)
+    .map((part) => (part <= 0.03928 ? part / 12.92 : ((part + 0.055) / 1.055) ** 2.4));
+  return 0.2126 * red + 0.7152 * green + 0.0722 * blue;
+}
+
+function contrast(one, other) {
+  const [low, high] = [luminance(one), luminance(other)].sort((a, b) => a - b);
+  return (high + 0.05) / (low + 0.05);
+}
+
+// A colour as far towards the ground as it can be followed.
+function faintOf(colour) {
+  const mixed = (part) => `#${partsOf(colour)
+    .map((it, at) => Math.round(it * part + partsOf(ink.back)[at] * (1 - part)).toString(16).padStart(2, "0")).join("")}`;
+  const parts = Array.from({ length: 20 }, (_, step) => (step + 1) / 20);
+  const isClear = (it) => contrast(it, ink.back) >= FOLLOWED && contrast(it, ink.band) >= FOLLOWED;
+  return parts.map(mixed).find(isClear) ?? colour;
+}
+
+function colourOf(route) {
+  const place = route.place % HUES;
+  if (isBroken(route)) return ink.faintSoft;
+  return isFaint(route) ? ink.faint[place] : ink.routes[place];
 }
 
 let due = 0;
@@ -31,12 +62,12 @@ function draw() {
   due = due || requestAnimationFrame(() => {
     due = 0;
     paint();
+    paintStarts();
     placePart();
   });
 }
 
-function paint() {
-  const scroll = scroller.scrollTop;
+function paint(scroll = scroller.scrollTop) {
   const last = firstRowAt(scroll + size.height - AXIS) + 1;
   const inView = rows.list.slice(firstRowAt(scroll), last);
   const top = AXIS - scroll; // that of the first row of all
@@ -104,11 +135,38 @@ function paintGround(inView, top, ticks, step) {
 
 // Draws a link's contacts, and returns their numbers, which are written over the routes.
 function paintRow(row, top, used) {
+  if (!isOfLink(row)) return paintGroup(row, top);
   const { strips } = links[row.link];
   const numbers = strips.flatMap((strip, place) => paintStrip(strip, top + topOfStrip(row, place), used));
   useFont(SMALL);
   paintElsewhere(strips, top + row.top + ABOVE + BAR / 2);
   return numbers;
+}
+
+// When some of a group's links have a contact.
+function paintGroup(row, top) {
+  const crowd = new Crowd(top + row.top + ABOVE);
+  for (const [first, last] of spansOf(row)) {
+    if (last > view.first && first < view.last) crowd.add(Math.max(xOf(first), size.left), Math.min(xOf(last), size.width));
+  }
+  crowd.paint();
+  return [];
+}
+
+const spans = new Map();
+
+// The times at which some links have a contact, as spans apart from each other.
+function spansOf({ sender, its }) {
+  if (!spans.has(sender)) {
+    const found = [], contacts = its.flatMap((link) => links[link].strips.flat());
+    for (const contact of contacts.sort((one, other) => known.start[one] - known.start[other])) {
+      const last = found.at(-1);
+      if (last && known.start[contact] <= last[1]) last[1] = Math.max(last[1], ends[contact]);
+      else found.push([known.start[contact], ends[contact]]);
+    }
+    spans.set(sender, found);
+  }
+  return spans.get(sender);
 }
 
 // The contacts of the routes that don't stand back.
@@ -136,7 +194,7 @@ function paintStrip(strip, y, used) {
 }
 
 function kindOf(contact, used) {
-  if (contact === chosen.lost || missing.has(contact)) return "lost";
+  if (isLost(contact)) return "lost";
   return used.has(contact) ? "used" : "plain";
 }
 
@@ -250,8 +308,8 @@ function paintOutline(contact, top) {
 // The line of the second at which the bundle is at the source.
 function paintStart(bottom) {
   if (!request) return;
-  const x = Math.round(xOf(request.at)) + 0.5;
-  paper.strokeStyle = ink.soft;
+  const x = Math.round(xOf(startSecond())) + 0.5;
+  paper.strokeStyle = isStarting() ? ink.accent : ink.soft;
   paper.lineWidth = 1;
   paper.setLineDash([2, 3]);
   paper.beginPath();
@@ -263,42 +321,51 @@ function paintStart(bottom) {
 
 function paintRoutes(top) {
   traced = [];
-  const turns = new Turns();
   const order = (one, other) => isFaint(other) - isFaint(one) || other.place - one.place;
-  for (const route of drawnRoutes().sort(order)) paintRoute(route, top, turns);
+  const drawn = drawnRoutes().sort(order).map((route) => [route, piecesOf(route, top)]);
+  shareTurns(drawn.flatMap(([, pieces]) => pieces.filter((piece) => piece.from)));
+  for (const [route, pieces] of drawn) paintRoute(route, pieces);
 }
 
-// Keeps the lines apart by which routes change rows: each has a place that is free in all rows between.
-class Turns {
-  constructor() {
-    this.taken = [];
-  }
-
-  // A free place at x or right of it.
-  free(x, low, high) {
-    const isTaken = (at) => this.taken.some((it) => Math.abs(it.x - at) < 3 && it.low < high && low < it.high);
-    let at = x;
-    while (at < x + 18 && isTaken(at)) at += 3;
-    this.taken.push({ x: at, low, high });
-    return at;
-  }
+// The hops of a route, each with where it lies, and from where the route comes.
+function piecesOf(route, top) {
+  let from = null; // the end of the last hop
+  return route.hops.map((hop) => {
+    const piece = { route, hop, from, ...hopPlace(route, hop, top) };
+    from = { x: piece.arrive, y: piece.y };
+    return piece;
+  });
 }
+
+const THIN = 1.5; // lines that are less apart hide each other
+const DASH = 5; // of a route where several change rows at one place
+
+// Of routes that change rows at one place, each has a dash of the line in turn.
+function shareTurns(pieces) {
+  const meets = (one, other) => Math.abs(one.from.x - other.from.x) < THIN && lowest(one) < highest(other) && lowest(other) < highest(one);
+  for (const [place, piece] of pieces.entries()) {
+    const taken = new Set(pieces.slice(0, place).filter((other) => meets(other, piece)).map((other) => other.share));
+    piece.share = 0;
+    while (taken.has(piece.share)) piece.share++;
+  }
+  for (const piece of pieces) piece.shares = 1 + Math.max(...pieces.filter((other) => meets(other, piece)).map((it) => it.share));
+  for (const piece of pieces) piece.shares = Math.max(...pieces.filter((other) => meets(other, piece)).map((it) => it.shares));
+}
+
+const lowest = ({ from, y }) => Math.min(from.y, y);
+const highest = ({ from, y }) => Math.max(from.y, y);
 
 // A thick line for each hop, a thin one for the wait before it, and a dot with the rank at the delivery.
-function paintRoute(route, top, turns) {
-  const colour = isBroken(route) ? ink.soft : hueOf(route);
+function paintRoute(route, pieces) {
+  const colour = colourOf(route);
   paper.strokeStyle = paper.fillStyle = colour;
-  paper.globalAlpha = isFaint(route) ? (isBroken(route) ? 0.5 : 0.32) : 1;
   paper.lineCap = paper.lineJoin = "round";
-  let at = null; // where the bundle is: the end of the last hop
-  for (const hop of route.hops) {
-    const piece = { route, hop, from: at, ...hopPlace(route, hop, top) };
-    paintWait(piece, turns);
+  for (const piece of pieces) {
+    paintWait(piece);
     paintHop(piece);
-    at = { x: piece.arrive, y: piece.y };
   }
-  paintDelivery(route, at, colour);
-  paper.globalAlpha = 1;
+  const { arrive, y } = pieces.at(-1);
+  paintDelivery(route, { x: arrive, y }, colour);
 }
 
 function hopPlace(route, hop, top) {
@@ -307,31 +374,37 @@ function hopPlace(route, hop, top) {
   return { y, send, arrive: Math.max(xOf(hop.arrive), send + 0.1) };
 }
 
-function paintWait(piece, turns) {
-  paper.lineWidth = isFaint(piece.route) ? 1.2 : 1.6;
-  paper.setLineDash(DASHES[(piece.route.place % HUES) % DASHES.length]);
-  paper.beginPath();
-  if (piece.from) turnTo(piece, turns);
-  else if (request && piece.hop.send > request.at) {
-    paper.moveTo(xOf(request.at), piece.y);
-    paper.lineTo(piece.send, piece.y);
-    traced.push(tracedPiece(piece, xOf(request.at), piece.send, true));
-  }
-  paper.stroke();
+function paintWait(piece) {
+  const { route, hop, from, y, send } = piece, start = from ? from.x : xOf(startOf(route));
+  if (from) paintTurn(piece);
+  if (!from && !(request && hop.send > startOf(route))) return;
+  paper.lineWidth = isFaint(route) ? 1.2 : 1.6;
+  paper.setLineDash(dashesOf(route));
+  strokeLine(start, y, send, y);
   paper.setLineDash([]);
+  traced.push(tracedPiece(piece, start, send, true));
 }
 
-// From the lane of the hop before to that of this one, and on to its sending.
-function turnTo(piece, turns) {
-  const { from, y, send } = piece, low = Math.min(from.y, y), high = Math.max(from.y, y);
-  const x = turns.free(from.x, low, high), down = Math.sign(y - from.y);
-  const bend = Math.min(5, (high - low) / 2, Math.max(0, send - x));
-  paper.moveTo(from.x, from.y);
-  paper.lineTo(x, from.y);
-  paper.lineTo(x, y - bend * down);
-  paper.quadraticCurveTo(x, y, x + bend, y);
-  paper.lineTo(send, y);
-  traced.push({ ...tracedPiece(piece, x, x, true), low, high }, tracedPiece(piece, x, send, true));
+const dashesOf = (route) => DASHES[(route.place % HUES) % DASHES.length];
+
+function strokeLine(...[x, y, toX, toY]) {
+  paper.beginPath();
+  paper.moveTo(x, y);
+  paper.lineTo(toX, toY);
+  paper.stroke();
+}
+
+// From the lane of the hop before to that of this one, where the bundle arrives.
+function paintTurn(piece) {
+  const { route, from, y, share, shares } = piece;
+  paper.lineWidth = isFaint(route) ? 1.2 : 1.6;
+  paper.lineCap = shares > 1 ? "butt" : "round";
+  paper.setLineDash(shares > 1 ? [DASH, DASH * (shares - 1)] : dashesOf(route));
+  paper.lineDashOffset = shares > 1 ? lowest(piece) - DASH * share : 0;
+  strokeLine(from.x, lowest(piece), from.x, highest(piece));
+  paper.lineDashOffset = 0;
+  paper.lineCap = "round";
+  traced.push({ ...tracedPiece(piece, from.x, from.x, true), low: lowest(piece), high: highest(piece) });
 }
 
 function paintHop(piece) {
@@ -356,17 +429,31 @@ function paintDelivery(route, { x, y }, colour) {
 // ---- Names and axis ----
 
 function paintNames(inView, top) {
-  useFont(MIDDLE);
   for (const row of inView) {
-    const { from, to } = links[row.link], isOfNode = shows.node !== null && (from === shows.node || to === shows.node);
     fillBox(row.isBanded ? ink.band : ink.back, 0, top + row.top, size.left, row.height);
-    paper.fillStyle = isOfNode ? ink.accent : rows.lanes.has(row.link) ? ink.number : ink.soft;
+    paper.fillStyle = shows.node !== null || !isOfLink(row) ? ink.accent : rows.lanes.has(row.link) ? ink.number : ink.soft;
     paper.textAlign = "right";
-    paper.fillText(linkName(row.link), size.left - 10, top + row.top + ABOVE + BAR / 2 + 0.5, size.left - 16);
+    paintName(row, top + row.top + ABOVE + BAR / 2 + 0.5);
   }
   fillBox(ink.back, 0, top + rows.height, size.left, size.height);
   fillBox(ink.line, size.left - 1, AXIS, 1, Math.min(size.height, top + rows.height) - AXIS);
   if (!rows.list.length) write(contactCount ? "no link is chosen" : "no contacts", size.left + 12, AXIS + 24, ink.soft);
+}
+
+// A name in one line, or in two smaller ones if it is too wide.
+function paintName(row, y) {
+  useFont(MIDDLE);
+  const most = size.left - 16, name = rowName(row), isWide = isOfLink(row) && paper.measureText(name).width > most;
+  const lines = isWide ? [`${nameOf(links[row.link].from)} →`, nameOf(links[row.link].to)] : [name];
+  if (isWide) useFont(SMALL);
+  lines.forEach((line, place) => {
+    paper.fillText(line, size.left - 10, y + (isWide ? place * 12 - 5 : 0), most);
+  });
+}
+
+function rowName(row) {
+  if (isOfLink(row)) return linkName(row.link);
+  return `${shows.open.has(row.sender) ? "▾" : "▸"} ${nameOf(row.sender)} → (${row.its.length})`;
 }
 
 function paintAxis(ticks, step) {
@@ -378,28 +465,39 @@ function paintAxis(ticks, step) {
     const first = ticks.find((tick) => xOf(tick) > size.left) ?? view.first;
     write(step.seconds < DAY ? dayText(first) : yearText(first), size.left - 10, 15, ink.number, "right");
   }
-  for (const tick of ticks) paintTick(tick, step);
-  paintStartLabel();
+  const label = startLabel(ticks, step);
+  for (const tick of ticks) paintTick(tick, step, label);
+  if (label) paintStartLabel(label);
 }
 
-function paintTick(tick, step) {
+function paintTick(tick, step, label) {
   const text = tickLabel(tick, step), period = tickPeriod(tick, step);
   const x = Math.min(xOf(tick), size.width - 26);
   if (x < size.left + text.length * 3.7 - 8) return;
   write(text, x, AXIS - 10, ink.number, "center");
   fillBox(ink.day, Math.round(xOf(tick)), AXIS - 5, 1, 5);
-  if (period && x > size.left + 60 && x < size.width - 36) write(period, x, 15, ink.number, "center");
+  if (period && hasPeriod(x) && !isBelow(label, x)) write(period, x, 15, ink.number, "center");
 }
 
-// The label hangs right of its line, or left of it near the right end.
-function paintStartLabel() {
-  const x = request ? xOf(request.at) : -1;
-  if (x < size.left - 1 || x > size.width - 4) return;
+const hasPeriod = (x) => x > size.left + 60 && x < size.width - 36; // or there is no room for it
+const isBelow = (label, x) => label && label.left - 44 < x && x < label.right + 44;
+
+// The label of the second at which the bundle is at the source: right of its line, or left of it if there it has room
+// and hides no date. Nothing if the line isn't in view.
+function startLabel(ticks, step) {
+  const x = request ? xOf(startSecond()) : -1;
+  if (x < size.left - 1 || x > size.width - 4) return null;
+  paper.font = SMALL;
+  const text = `bundle at the source ${clockText(startSecond())}`, wide = paper.measureText(text).width + 9;
+  const dates = ticks.filter((tick) => tickPeriod(tick, step)).map(xOf).filter(hasPeriod);
+  const right = { text, x, left: x, right: x + wide }, left = { text, x, left: x - wide, right: x };
+  const hides = (label) => label.right > size.width || label.left < size.left || dates.some((date) => isBelow(label, date));
+  return hides(right) && (!hides(left) || right.right > size.width) ? left : right;
+}
+
+function paintStartLabel({ text, x, left }) {
   useFont(SMALL, "alphabetic");
-  const text = `bundle at the source ${clockText(request.at)}`, width = paper.measureText(text).width;
-  const isLeft = x + width + 10 > size.width;
-  fillBox(ink.back, isLeft ? x - width - 10 : x - 4, 4, width + 14, 17);
-  write(text, x + (isLeft ? -5 : 5), 15, ink.soft, isLeft ? "right" : "left");
+  write(text, left < x ? x - 5 : x + 5, 15, ink.soft, left < x ? "right" : "left");
   fillBox(ink.soft, Math.round(x), 6, 1, 13);
 }
 
@@ -449,7 +547,7 @@ function placePart() {
 
 // Gives a canvas its size in pixels of the screen.
 function fitCanvas(canvas, width, height, brush) {
-  const scale = (isPrinting ? 3 : devicePixelRatio) || 1;
+  const scale = devicePixelRatio || 1;
   const [wide, high] = [Math.round(width * scale), Math.round(height * scale)];
   if (canvas.width !== wide || canvas.height !== high) {
     [canvas.width, canvas.height] = [wide, high];
@@ -458,17 +556,23 @@ function fitCanvas(canvas, width, height, brush) {
   brush.setTransform(scale, 0, 0, scale, 0, 0);
 }
 
-// Measures the page, and draws all for it.
-function fitAll() {
-  size.width = isPrinting ? 1040 : scroller.clientWidth;
+// Lays all out in a width and a height.
+function fitTo(width, height) {
+  size.width = width;
   paper.font = SMALL;
   digitWidth = paper.measureText("0").width;
   size.left = namesWidth();
-  size.height = isPrinting ? 0 : scroller.clientHeight;
+  size.height = height;
   layOut();
-  if (isPrinting) size.height = Math.min(rows.height + AXIS + 6, 1400);
-  fitCanvas(chart, size.width, size.height, paper);
+}
+
+// Measures the page, and draws all for it.
+function fitAll() {
+  if (!scroller.clientWidth) return; // as in a print
+  fitTo(scroller.clientWidth, scroller.clientHeight);
+  fitCanvas(chart, size.width, size.height, screen);
   paint();
+  paintStarts();
   paintMap();
   placePart();
 }
@@ -481,4 +585,36 @@ function namesWidth() {
   const long = names.filter((name) => name.length >= longest - 2).slice(0, 50);
   const wide = Math.max(84, ...long.map((name) => paper.measureText(name).width + 26));
   return Math.round(Math.min(wide, size.width * 0.32));
+}
+
+// ---- Pictures of their own ----
+
+// Rows as an SVG: those that lie from a place on, in a height.
+function svgText(scroll, height) {
+  const before = size.height;
+  [paper, size.height] = [new SvgPaper(size.width, height), height];
+  paint(scroll);
+  const text = paper.text(known.title);
+  [paper, size.height] = [screen, before];
+  return text;
+}
+
+const SHEET = { width: 1040, first: 620, height: 690 }; // of a print; the first one has the heading
+
+// The sheets of a print, as SVGs: all rows, and the axis on each.
+function sheets() {
+  fitTo(SHEET.width, SHEET.first);
+  const cuts = [];
+  for (const row of rows.list) {
+    const most = (cuts.length > 1 ? SHEET.height : SHEET.first) - AXIS;
+    if (!cuts.length || row.top + row.height - cuts.at(-1) > most) cuts.push(row.top);
+  }
+  return cuts.map((top, place) => svgText(top, AXIS + (cuts[place + 1] ?? rows.height) - top));
+}
+
+function makeSheets() {
+  const parser = new DOMParser();
+  const made = sheets().map((text) => parser.parseFromString(text, "image/svg+xml").documentElement);
+  const hidden = links.length - rows.list.length;
+  byId("sheets").replaceChildren(...made, hidden ? `${count(hidden, "more link")} of the plan not shown` : "");
 }

@@ -47,8 +47,9 @@ const roomFrom = (contact, second) => BigInt(known.rates[known.rate[contact]]) *
 // ---- Routes ----
 
 const routes = known.routes.map((it, place) => readRoute(it, place, String(it.rank)));
-const answers = readAnswers();
-if (known.byRoute) rankLinks([...routes, ...[...answers.values()].filter(Boolean)]);
+const answers = readAnswers(known.lost, (number) => contactWith.get(number)); // under each contact, the best route without
+const answersOfNodes = readAnswers(known.gone, (node) => node);
+if (known.byRoute) rankLinks([...routes, ...[...answers.values(), ...answersOfNodes.values()].filter(Boolean)]);
 
 function readRoute(it, place, label) {
   const hops = it.hops.map(([number, send, arrive]) => ({ contact: contactWith.get(number), send, arrive }));
@@ -57,10 +58,9 @@ function readRoute(it, place, label) {
   return { ...it, place, label, hops, nodes, uses: new Set(hops.map((hop) => hop.contact)) };
 }
 
-// Under each contact that may be lost, the best route without it.
-function readAnswers() {
-  const told = Object.entries(known.lost);
-  return new Map(told.map(([number, it]) => [contactWith.get(Number(number)), readAnswer(it)]));
+// The best routes without a contact or a node, under what is lost.
+function readAnswers(told, lost) {
+  return new Map(Object.entries(told).map(([number, it]) => [lost(Number(number)), readAnswer(it)]));
 }
 
 // The best route without a contact: none, the one at a place among the shown ones, or another one.
@@ -77,6 +77,18 @@ function rankLinks(routes) {
       link.rank = Math.min(link.rank, place / route.hops.length + route.place / 1e4);
     });
   }
+}
+
+const holds = (route) =>
+  ![...chosen.lost].some((contact) => route.uses.has(contact)) && !route.nodes.some((node) => chosen.gone.has(node));
+
+// The best route without all that is lost. The shown routes that begin the list of all come before all others; and the best
+// route without a part of what is lost is the best one without all of it, if it holds.
+function bestWithout() {
+  const first = known.begins ? routes.find(holds) : undefined;
+  if (first) return first;
+  const parts = [...[...chosen.lost].map((it) => answers.get(it)), ...[...chosen.gone].map((it) => answersOfNodes.get(it))];
+  return parts.find((best) => best === null || (best && holds(best)));
 }
 
 const isShownRoute = (route) => route.place < routes.length;

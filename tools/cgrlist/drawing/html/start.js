@@ -1,9 +1,8 @@
 // The beginning: buttons, light and dark, printing, and the state that the address keeps, as `#lost=11&theme=dark`.
 
-const MANY = 60; // of more links, those of the routes alone are shown at first
-const opened = new URLSearchParams(location.hash.slice(1));
+const opened = () => new URLSearchParams(location.hash.slice(1));
 const surroundings = matchMedia("(prefers-color-scheme: dark)");
-const theme = { isDark: false, isChosen: opened.has("theme"), before: false };
+const theme = { isDark: false, isChosen: opened().has("theme"), before: false };
 
 function useTheme(isDark) {
   theme.isDark = isDark;
@@ -21,7 +20,9 @@ function changeTheme(isDark) {
 // Keeps what is chosen in the address, so that it can be given on. Some browsers refuse that for files.
 function remember() {
   const state = new URLSearchParams();
-  if (isLosing()) state.set("lost", known.number[chosen.lost]);
+  if (chosen.lost.size) state.set("lost", lostNumbers().join(","));
+  if (isStarting()) state.set("at", timeText(chosen.start));
+  if (chosen.gone.size) state.set("avoid", [...chosen.gone].map((node) => known.nodes[node]).join(","));
   if (chosen.route !== null) state.set("route", routes[chosen.route].rank);
   if (theme.isChosen) state.set("theme", theme.isDark ? "dark" : "light");
   try {
@@ -34,6 +35,9 @@ function remember() {
 function tellHead() {
   byId("title").textContent = known.title;
   byId("made").textContent = known.made;
+  byId("how").textContent = known.how;
+  byId("below").hidden = !starts;
+  if (!request && !routes.length) document.body.classList.add("alone");
   const limits = request?.limits ? `, ${request.limits}` : "";
   const ends = () => `${fullName(request.from)} → ${fullName(request.to)}`;
   const start = () => `bundle at the source ${timeText(request.at)}${known.iso ? "" : " UTC"}`;
@@ -59,6 +63,9 @@ function prepareButtons() {
     whole: showPlan,
     theme: chooseTheme,
     print: () => print(),
+    keys: () => byId("help").showModal(),
+    csv: saveRoutes,
+    svg: savePicture,
   };
   for (const [name, action] of Object.entries(does)) byId(name).onclick = action;
 }
@@ -71,14 +78,18 @@ function chooseTheme() {
 
 // What the address says is chosen.
 function recall() {
-  const lost = contactWith.get(Number(opened.get("lost")));
-  const route = routes.find((it) => String(it.rank) === opened.get("route"));
-  if (answers.has(lost)) chosen.lost = lost;
-  else if (route) chosen.route = route.place;
+  const state = opened(), listed = (name) => state.get(name)?.split(",") ?? [];
+  const lost = listed("lost").map((number) => contactWith.get(Number(number))).filter((it) => it !== undefined);
+  const gone = listed("avoid").map((node) => known.nodes.indexOf(node)).filter((node) => node >= 0);
+  const route = routes.find((it) => String(it.rank) === state.get("route"));
+  Object.assign(chosen, { lost: new Set(known.asks ? lost : []), gone: new Set(known.asks ? gone : []), route: null });
+  chosen.start = starts && state.has("at") ? timesFor(state.get("at").toLowerCase())[0]?.second ?? null : null;
+  if (route && !isAsking()) chosen.route = route.place;
+  if (state.has("theme")) useTheme(state.get("theme") === "dark");
 }
 
 function start() {
-  useTheme(theme.isChosen ? opened.get("theme") === "dark" : surroundings.matches);
+  useTheme(surroundings.matches);
   tellHead();
   prepareButtons();
   recall();
@@ -89,20 +100,31 @@ function start() {
   new ResizeObserver(() => isPrinting || fitAll()).observe(scroller);
 }
 
+// The address was changed by hand.
+addEventListener("hashchange", () => {
+  theme.isChosen = opened().has("theme");
+  recall();
+  change();
+  paintMap();
+  bringIntoView();
+});
+
 surroundings.onchange = () => theme.isChosen || changeTheme(surroundings.matches);
 
-// A print is light, as wide as a page, and has all rows and the hops of all routes.
+// A print is light, and has all rows that are chosen and the hops of all routes.
 addEventListener("beforeprint", () => {
   theme.before = theme.isDark;
   isPrinting = true;
-  changeTheme(false);
-  fitAll();
+  useTheme(false);
+  listRoutes();
+  makeSheets();
 });
 
 addEventListener("afterprint", () => {
   isPrinting = false;
-  changeTheme(theme.before);
+  byId("sheets").replaceChildren();
   fitAll();
+  changeTheme(theme.before);
 });
 
 start();

@@ -9,15 +9,28 @@ const scroller = byId("scroll");
 const chart = byId("chart");
 const size = { width: 0, height: 0, left: 120 }; // of the canvas, and the width of the rows' names
 const view = { first: 0, last: 1, widest: 0 }; // the span in view
-const shows = { links: "all", node: null }; // the links of routes alone, all, or those of a node
-const chosen = { route: null, lost: null, contact: null }; // a route singled out, a lost contact, the one at the cursor
+const shows = { links: "all", node: null, open: new Set() }; // the links of routes alone, all, or those of a node
+// What is chosen: a route, lost contacts and nodes, another second at the source, and the contact at the cursor.
+const chosen = { route: null, lost: new Set(), gone: new Set(), start: null, contact: null };
 const pointed = { what: null, route: null }; // what is below the mouse: on the canvas, and in the list
 
 // ---- Which routes are drawn ----
 
-const isLosing = () => chosen.lost !== null;
-const bestThen = () => (isLosing() ? answers.get(chosen.lost) : null);
-const isBroken = (route) => isLosing() && route.uses.has(chosen.lost);
+const isLosing = () => chosen.lost.size + chosen.gone.size > 0;
+const isAsking = () => isLosing() || isStarting(); // what is best then
+const isBroken = (route) => (isLosing() && !holds(route)) || (isStarting() && isShownRoute(route) && route.sendBy < chosen.start);
+const isGone = (link) => chosen.gone.has(link.from) || chosen.gone.has(link.to);
+const isLost = (contact) => missing.has(contact) || chosen.lost.has(contact) || isGone(links[linkOf[contact]]);
+const then = { of: null, best: null };
+
+// The best route without what is lost, or from the chosen second on: null if there is none, undefined if the page doesn't
+// know it.
+function bestThen() {
+  if (!isLosing()) return isStarting() ? routeAtStart(chosen.start) : null;
+  const of = [...chosen.lost, "", ...chosen.gone].join();
+  if (of !== then.of) Object.assign(then, { of, best: bestWithout() });
+  return then.best;
+}
 
 function allRoutes() {
   const best = bestThen();
@@ -30,7 +43,7 @@ const drawnRoutes = () => allRoutes().filter((it) => it.place < HUES || it.place
 // Whether a route stands back behind others.
 function isFaint(route) {
   if (isBroken(route)) return true;
-  if (isLosing()) return route !== bestThen();
+  if (isAsking()) return route !== bestThen();
   const place = chosen.route ?? pointed.route;
   return place !== null && route.place !== place;
 }
@@ -43,12 +56,12 @@ const rows = { list: [], of: new Map(), lanes: new Map(), height: 0 };
 function layOut() {
   rows.lanes = lanesOfRoutes();
   let top = 0;
-  rows.list = chosenLinks().map((link, place) => {
-    const row = rowAt(link, top, place);
+  rows.list = grouped(chosenLinks()).map((it, place) => {
+    const row = { ...it, top, isBanded: place % 2 === 0, ...heightsOf(it) };
     top += row.height;
     return row;
   });
-  rows.of = new Map(rows.list.map((row) => [row.link, row]));
+  rows.of = new Map(rows.list.filter(isOfLink).map((row) => [row.link, row]));
   rows.height = top;
   byId("room").style.height = `${Math.max(0, top + AXIS + 8 - size.height)}px`;
 }
@@ -73,10 +86,28 @@ function chosenLinks() {
   return found.sort((a, b) => (links[a].rank === links[b].rank ? a - b : links[a].rank - links[b].rank));
 }
 
-function rowAt(link, top, place) {
-  const lanes = rows.lanes.get(link)?.size ?? 0;
-  const bars = links[link].strips.length * STRIP + 8; // the lanes lie below that
-  return { link, top, bars, isBanded: place % 2 === 0, height: bars + (lanes ? lanes * LANE + 3 : PLAIN - BAR - 10) };
+const MANY = 60; // of more links, those of the routes alone are shown at first, and all of them in groups
+const isOfLink = (row) => row.link !== undefined;
+
+// Rows for links. If there are many, those that no route uses stand under a row for their sender, which opens and closes.
+function grouped(chosen) {
+  const rowsOf = (links) => links.map((link) => ({ link }));
+  const bySender = new Map();
+  for (const link of chosen.filter((it) => !rows.lanes.has(it))) {
+    if (!bySender.has(links[link].from)) bySender.set(links[link].from, []);
+    bySender.get(links[link].from).push(link);
+  }
+  if (shows.node !== null || chosen.length <= MANY || chosen.length < 2 * bySender.size) return rowsOf(chosen);
+  const groups = [...bySender].sort(([one], [other]) => one - other);
+  const rowsOfGroup = ([sender, its]) => [{ sender, its }, ...(shows.open.has(sender) ? rowsOf(its) : [])];
+  return [...rowsOf(chosen.filter((it) => rows.lanes.has(it))), ...groups.flatMap(rowsOfGroup)];
+}
+
+// How high a row is, and how far from its top the lanes lie below the bars.
+function heightsOf(row) {
+  const lanes = rows.lanes.get(row.link)?.size ?? 0;
+  const bars = (isOfLink(row) ? links[row.link].strips.length : 1) * STRIP + 8;
+  return { bars, height: bars + (lanes ? lanes * LANE + 3 : PLAIN - BAR - 10) };
 }
 
 // The place of the first of some things, in order, for which something holds; it holds for all after that.
@@ -167,10 +198,29 @@ function spanOfRoutes() {
 const showRoutes = () => flyTo(...spanOfRoutes());
 const showPlan = () => flyTo(...spanOfPlan());
 
+// Brings a route into view: its rows and its time, when a contact is lost beside the routes before.
+function revealRoute(route) {
+  const tops = route.hops.map((hop) => rows.of.get(linkOf[hop.contact])).flatMap((row) => [row.top, row.top + row.height]);
+  revealRows(Math.min(...tops), Math.max(...tops));
+  const first = route.hops[0].send, last = route.delivery;
+  if (view.first <= first && last <= view.last) return;
+  const wide = Math.max(view.last - view.first, (last - first) * 1.2), middle = (first + last) / 2;
+  if (isAsking()) showRoutes();
+  else flyTo(middle - wide / 2, middle + wide / 2);
+}
+
+// Scrolls so that rows are in view, the upper ones if there is no room for all.
+function revealRows(top, bottom) {
+  const height = size.height - AXIS, { scrollTop } = scroller;
+  if (bottom > scrollTop + height) scroller.scrollTop = Math.min(top, bottom - height);
+  if (top < scroller.scrollTop) scroller.scrollTop = top;
+}
+
 // Brings a contact into view.
 function reveal(contact) {
   if (!rows.of.has(linkOf[contact])) {
     [shows.links, shows.node] = ["all", null];
+    shows.open.add(links[linkOf[contact]].from);
     change();
   }
   const { row } = placeOf(contact), height = size.height - AXIS, wide = view.last - view.first;

@@ -14,19 +14,25 @@ function element(tag, about = {}, ...parts) {
 const line = (tag, parts) => element("tr", {}, ...parts.map((part) => element(tag, {}, part)));
 const UNITS = ["bytes", "kB", "MB", "GB", "TB", "PB", "EB"];
 
-// A number of bytes with a unit, to four digits, as short as it can be; its title has all digits.
-function roomPart(bytes) {
+// A number of bytes with a unit, to four digits, as short as it can be.
+function volumeText(bytes) {
   let part = Number(bytes), unit = 0;
   for (; part >= 999.95 && unit + 1 < UNITS.length; unit++) part /= 1000;
-  const text = `${Number(part.toFixed(1))} ${UNITS[unit]}`;
-  return element("span", { class: "room", title: `${bytes} bytes` }, text);
+  return `${Number(part.toFixed(1))} ${UNITS[unit]}`;
+}
+
+// A volume, whose title has all digits and says what it is.
+function volumePart(bytes, what, before = "") {
+  return element("span", { class: "volume", title: `${bytes} bytes: ${what}` }, before + volumeText(bytes));
 }
 
 const count = (number, what) => `${number} ${what}${number === 1 ? "" : "s"}`;
 
 // ---- A contact ----
 
-const canBeLost = (contact) => answers.has(contact);
+// Contacts of routes that are told, if the program was asked for these.
+const canBeLost = (contact) =>
+  Boolean(known.asks) && (chosen.lost.has(contact) || allRoutes().some((route) => route.uses.has(contact)));
 
 // What is known of a contact: pairs of a name and a text.
 function aboutContact(contact) {
@@ -40,20 +46,20 @@ function aboutContact(contact) {
     ["lasts", durationText(known.length[contact])],
     ["rate", `${known.rates[known.rate[contact]]} bytes/s`],
     ["light time", light === null ? "none: in no route" : `${light} s`],
-    ["room", `${roomFrom(contact, start)} bytes`],
+    ["volume", `${volumeText(roomFrom(contact, start))}, ${roomFrom(contact, start)} bytes`],
     ...(through.length ? [["routes", through.join(", ")]] : []),
   ];
 }
 
 function headOfContact(contact) {
-  return `Contact ${known.number[contact]}${missing.has(contact) || contact === chosen.lost ? ", lost" : ""}`;
+  return `Contact ${known.number[contact]}${isLost(contact) ? ", lost" : ""}`;
 }
 
 function contactTip(contact, act) {
   const pairs = aboutContact(contact).flatMap((pair) => [element("dt", {}, pair[0]), element("dd", {}, pair[1])]);
   const parts = [element("h3", {}, headOfContact(contact)), element("dl", {}, ...pairs)];
   if (canBeLost(contact)) {
-    const told = contact === chosen.lost ? "it isn't lost" : "what if it is lost?";
+    const told = chosen.lost.has(contact) ? "it isn't lost" : "what if it is lost?";
     parts.push(element("div", { class: "do" }, `${act}: ${told}`));
   }
   return parts;
@@ -74,7 +80,7 @@ function routeTip({ route, hop, isWait }) {
 }
 
 function hopTable(route, withButtons) {
-  const head = ["contact", "to", "sent", "arrives", ...(withButtons ? ["room", ""] : [])];
+  const head = ["contact", "to", "sent", "arrives", ...(withButtons ? ["volume", ""] : [])];
   return element("table", {}, line("th", head), ...route.hops.map((hop) => hopLine(route, hop, withButtons)));
 }
 
@@ -82,14 +88,23 @@ function hopLine(route, hop, withButtons) {
   const { contact } = hop, times = [hop.send, hop.arrive].map((second) => timeBeside(second, route.delivery));
   const texts = [String(known.number[contact]), nameOf(links[linkOf[contact]].to), ...times];
   if (!withButtons) return line("td", texts);
-  return line("td", [...texts, roomPart(roomOfHop(hop)), canBeLost(contact) ? lostButton(route, contact) : ""]);
+  const volume = volumePart(roomOfHop(hop), "what the contact can send from then on");
+  return line("td", [...texts, volume, canBeLost(contact) ? lostButton(route, contact) : ""]);
 }
 
 function lostButton(route, contact) {
   const number = known.number[contact];
   const about = { class: "small", "data-key": `${route.place} ${number}`, "aria-label": `Contact ${number} lost` };
-  const isLost = contact === chosen.lost;
-  return element("button", { ...about, "aria-pressed": isLost, onclick: () => lose(contact) }, "lost");
+  return element("button", { ...about, "aria-pressed": chosen.lost.has(contact), onclick: () => lose(contact) }, "lost");
+}
+
+// Buttons that lose a node between the ends of a route.
+function nodeButtons(route) {
+  const button = (node) => {
+    const about = { class: "small", "data-key": `${route.place} node ${node}`, "aria-label": `Node ${fullName(node)} lost` };
+    return element("button", { ...about, "aria-pressed": chosen.gone.has(node), onclick: () => loseNode(node) }, nameOf(node));
+  };
+  return element("p", { class: "soft nodes" }, "lost node: ", ...route.nodes.slice(1, -1).map(button));
 }
 
 // ---- The tip at the mouse, or at the contact that has the cursor ----
@@ -114,13 +129,15 @@ function listRoutes() {
   byId("count").textContent = headOfList();
   const order = (one, other) => (other === bestThen()) - (one === bestThen()) || one.place - other.place;
   byId("routes").replaceChildren(...[...allRoutes()].sort(order).map(card));
-  byId("lost").replaceChildren(...(isLosing() ? aboutLoss() : []));
+  byId("lost").replaceChildren(...(isLosing() ? aboutLoss() : isStarting() ? aboutStart() : []));
+  byId("lost").classList.toggle("start", isStarting());
+  byId("ask").hidden = Boolean(request || routes.length);
   if (isFocused) document.querySelector(`[data-key="${isFocused}"]`)?.focus();
 }
 
 function headOfList() {
-  if (isLosing()) return bestThen() ? "The best route then, and those before" : "The routes before";
-  if (!routes.length) return request ? "No route" : "No request: the plan alone";
+  if (isAsking()) return bestThen() ? "The best route then, and those before" : "The routes before";
+  if (!routes.length) return request ? "No route" : "The plan alone";
   const told = count(routes.length, "route");
   return routes.length > HUES ? `${told}; the first ${HUES} are drawn, and one that is singled out` : told;
 }
@@ -129,24 +146,33 @@ function card(route) {
   const isOpen = isOpenCard(route);
   const classes = [isBroken(route) && "gone", isFaint(route) && "off", isOpen && "on"].filter(Boolean);
   const item = element("li", { class: classes.join(" ") }, cardButton(route, isOpen));
-  if (isOpen || isPrinting) item.append(element("div", { class: "hops" }, hopTable(route, true)));
+  if (isOpen || isPrinting) {
+    const hasNodes = known.asks && route.nodes.length > 2;
+    item.append(element("div", { class: "hops" }, hopTable(route, true), hasNodes ? nodeButtons(route) : ""));
+  }
   item.style.setProperty("--hue", isBroken(route) ? ink.soft : `var(--c${route.place % HUES})`);
   item.onmouseenter = () => glance(isShownRoute(route) ? route.place : null);
   item.onmouseleave = () => glance(null);
   return item;
 }
 
+// When the bundle is at the source for a route.
+function startOf(route) {
+  if (!request) return route.hops[0].send;
+  return isStarting() && route === bestThen() ? chosen.start : request.at;
+}
+
 function isOpenCard(route) {
-  return !isShownRoute(route) || chosen.route === route.place || (isLosing() && route === bestThen());
+  return !isShownRoute(route) || chosen.route === route.place || (isAsking() && route === bestThen());
 }
 
 function cardButton(route, isOpen) {
   const about = { class: "route", "data-key": `route ${route.place}`, "aria-expanded": isOpen };
   const onfocus = ({ target }) => target.matches(":focus-visible") && glance(route.place);
   const acts = { onclick: () => single(route.place), onfocus, onblur: () => glance(null) };
-  const start = request ? request.at : route.hops[0].send;
-  const took = `${count(route.hops.length, "hop")} in ${durationText(route.delivery - start)}`;
-  const until = `until ${timeBeside(route.until, route.delivery)}`;
+  const took = `${count(route.hops.length, "hop")} in ${durationText(route.delivery - startOf(route))}`;
+  const sendBy = route.sendBy === null ? "" : `send by ${timeBeside(route.sendBy, route.delivery)} · `;
+  const last = "the last second at the source for these contacts";
   return element(
     "button",
     { ...about, ...(isShownRoute(route) ? acts : {}) },
@@ -154,35 +180,81 @@ function cardButton(route, isOpen) {
     element("span", { class: "delivery" }, timeText(route.delivery)),
     element("span", { class: "late" }, lateText(route)),
     element("span", { class: "wide" }, pathOf(route)),
-    element("span", { class: "wide soft" }, `${took} · ${until} · `, roomPart(roomOfRoute(route))),
+    element("span", { class: "wide soft" }, took),
+    element(
+      "span",
+      { class: "wide soft" },
+      element("span", { class: "by", title: last }, sendBy),
+      volumePart(roomOfRoute(route), "the least of what its contacts can send", "volume "),
+    ),
   );
 }
 
 function lateText(route) {
   const later = route.delivery - routes[0].delivery;
-  if (isBroken(route)) return "lost";
+  if (isBroken(route)) return isStarting() ? "missed" : "lost";
   if (route === routes[0]) return route.rank === 1 ? "best" : "first shown";
   return later > 0 ? `+ ${durationText(later)}` : later < 0 ? `- ${durationText(-later)}` : "as good";
 }
 
-// ---- A lost contact ----
+// ---- What is lost ----
 
 function aboutLoss() {
-  const best = bestThen(), number = known.number[chosen.lost];
-  const head = element("div", {}, element("b", {}, `Contact ${number} lost`), ` ${linkName(linkOf[chosen.lost])}`);
+  const best = bestThen();
+  const head = element("div", { class: "told" }, element("b", {}, lostText()), linkOfLost());
   const back = element("button", { class: "small", onclick: takeBack }, "Take back");
-  if (!best) return [head, element("div", { class: "big" }, "No route is left"), back];
+  return [head, ...next(best), ...toCopy(best), back];
+}
+
+const lostNumbers = () => [...chosen.lost].map((contact) => known.number[contact]);
+
+// What is lost, in words.
+function lostText() {
+  const contacts = chosen.lost.size ? [`${chosen.lost.size > 1 ? "Contacts" : "Contact"} ${lostNumbers().join(", ")}`] : [];
+  const nodes = [...chosen.gone].map((node) => `${contacts.length ? "node" : "Node"} ${fullName(node)}`);
+  return `${[...contacts, ...nodes].join(" and ")} lost`;
+}
+
+const linkOfLost = () => (chosen.lost.size === 1 && !chosen.gone.size ? ` ${linkName(linkOf[[...chosen.lost][0]])}` : "");
+
+function next(best) {
+  if (best === undefined) return [element("div", { class: "told big" }, "Not on this page: a command tells")];
+  if (best === null) return [element("div", { class: "told big" }, "No route is left")];
   const rank = isShownRoute(best) ? `, route ${best.rank}` : "";
   return [
-    head,
-    element("div", { class: "big" }, lossText(best)),
-    element("div", {}, `Next is: ${timeText(best.delivery)}`),
-    element("div", { class: "soft" }, `${pathOf(best)}${rank}`),
-    back,
+    element("div", { class: "told big" }, lossText(best)),
+    element("div", { class: "told" }, `Next is: ${timeText(best.delivery)}`),
+    element("div", { class: "told soft" }, `${pathOf(best)}${rank}`),
   ];
 }
 
-// How much later the best route without the contact delivers than the first one that is shown.
+// The command that tells what the page doesn't know, and the plan's lines that delete the contacts.
+function toCopy(best) {
+  const lines = best === undefined ? [commandThen()] : [...chosen.lost].map(deletionOf);
+  if (!lines.length) return [];
+  const text = element("pre", {}, lines.join("\n"));
+  return [text, element("button", { class: "small", onclick: () => copyText(text) }, "Copy")];
+}
+
+// Puts a part's text where it can be pasted from, and marks it.
+function copyText(part) {
+  getSelection().selectAllChildren(part);
+  document.execCommand("copy"); // pages from files have no other way in each browser
+}
+
+function commandThen() {
+  const all = [...known.without, ...lostNumbers()], without = all.length ? ` --without ${all.join(",")}` : "";
+  const avoided = [...known.asks.avoid, ...[...chosen.gone].map((node) => known.nodes[node])];
+  return `${known.asks.words}${without}${avoided.length ? ` --avoid ${avoided.join(",")}` : ""} --count 1`;
+}
+
+function deletionOf(contact) {
+  const { from, to } = links[linkOf[contact]], start = known.start[contact];
+  const time = `${dayText(start).replaceAll("-", "/")}-${clockText(start)}`;
+  return `d contact ${time} ${known.nodes[from]} ${known.nodes[to]}`;
+}
+
+// How much later the best route without what is lost delivers than the first one that is shown.
 function lossText(best) {
   const later = best.delivery - routes[0].delivery;
   if (best === routes[0]) return `Route ${best.rank} still holds`;
@@ -191,6 +263,7 @@ function lossText(best) {
 }
 
 function takeBack() {
-  lose(chosen.lost);
+  loseNothing();
+  change();
   chart.focus();
 }
