@@ -1,8 +1,12 @@
 """Tries the tools that ask the program: over the worked plans, with answers that were worked out by hand, and over stubs in
 place of the program."""
 
+import gzip
+import hashlib
 import json
+import lzma
 import os
+import random
 import re
 import shutil
 import signal
@@ -607,30 +611,123 @@ def hints(room):
 
 
 def programs_of_clones(room):
-    """The clone's script is told to start no trial; what it says is told, and its status kept. If the built program is there
-    and current, it is asked itself."""
+    """If the clone's proved program isn't current, the clone's script makes a trial, which is asked; unless CGRLIST_TRIAL is no.
+    Else the built program is asked itself. CGRLIST names another one."""
     clone = f"{room.path}/clone"
     os.makedirs(f"{clone}/crates/cgrlist/out")
     shutil.copytree(f"{TOP}/tools", f"{clone}/tools")
-    room.stub("clone/cgrlist", """#!/bin/sh
-[ "$CGRLIST_TRIAL" = no ] && [ ! -e "$0.current" ] || exit 2
-echo "cgrlist: the proved program comes first" >&2; exit 125
+    room.stub("clone/cgrlist", f"""#!/bin/sh
+[ ! -e "$0.current" ] || exit 2
+[ "$CGRLIST_TRIAL" != no ] || {{ echo "cgrlist: the proved program comes first" >&2; exit 125; }}
+[ ! -e "$0.fails" ] || {{ echo "cgrlist: the trial fails" >&2; exit 125; }}
+echo "cgrlist: a trial answers" >&2
+ln -sf {room.program} "${{0%/*}}/crates/cgrlist/out/trial"
 """)
 
-    def in_clone():
-        words = "--plan examples/a.txt --from 1 --to 3 --at 2030-01-01 --count 1"
-        shown = room.run([f"{clone}/tools/report"], words).all()
-        return shown if shown.startswith("cgrlist") else last_of(shown)
+    def in_clone(*words, **further):
+        words = words or ["report --from 1 --to 3 --at 2030-01-01 --count 1"]
+        tool, _, words = words[0].partition(" ")
+        ran = room.run([f"{clone}/tools/{tool}"], words, "--plan examples/a.txt", **further)
+        return f"{ran.err}{last_of(ran.out)}"
 
-    first = "cgrlist: the proved program comes first\nstatus 125"
-    yield "no trial is started", first, in_clone
+    first = "cgrlist: the proved program comes first\n"
+    drawn = "cgrlist did not check this plan: there is no program"
+    yield "no trial is started", first, lambda: in_clone(CGRLIST_TRIAL="no")
+    yield "a plan is drawn, and the picture says that it wasn't checked", drawn, in_clone, "timeline --text"
+    yield "and a page says so", 1, lambda: room.run(
+        [f"{clone}/tools/timeline"], "--plan examples/a.txt --html /dev/stdout").out.count(drawn)
+    yield "a named program has to be there", "timeline: there is no program: looked for /nowhere\n", in_clone, \
+        "timeline --text --program /nowhere"
+    room.file("clone/cgrlist.fails")
+    yield "a trial that fails", "cgrlist: the trial fails\n", in_clone
+    os.remove(f"{clone}/cgrlist.fails")
+    yield "a trial answers, and one note says so", "cgrlist: a trial answers\nmore", in_clone
+    yield "CGRLIST names the program", "more", lambda: in_clone(CGRLIST=room.program)
     os.symlink(room.program, f"{clone}/crates/cgrlist/out/cgrlist")
-    yield "nor an old program", first, in_clone
+    yield "no old program answers", first, lambda: in_clone(CGRLIST_TRIAL="no")
     room.file("clone/cgrlist.current")
     yield "the built program", "more", in_clone
+    yield "the plan is checked", "= contact, with its number", in_clone, "timeline --text"
+
+
+# ---- Plans without a program ------------------------------------------------------------------------------------
+
+# What words of the lines of a plan become, so that some of them are bad.
+WORDS = ["", "+0", "+5", "+000000000007", "+9999999999999", "-1", "2030/01/01-00:00:10", "2030/1/1-00:00:00", "9999/01/01-00:00:00",
+         "9998/12/31-23:59:59", "1969/12/31-23:59:59", "0", "1", "2", "3", "02", "18446744073709551615", "18446744073709551616", "1000000",
+         "1000001", "a", "d", "@", "#", "contact", "range", "x" * 255, "é", "\t", "\r", "\x0b", "\x7f", "*", "ipn:1"]
+EMPTY = f"digest {hashlib.sha256(b'cgr-plan 1' + bytes([10]) + b'end' + bytes([10])).hexdigest()}"
+JUDGES = """import sys
+sys.path.insert(0, "tools")
+from cgrlist import Plan, Refused
+for path in sys.argv[1:]:
+    try:
+        print("digest", Plan.from_file(path).digest)
+    except Refused as refused:
+        print(refused.message)
+"""
+
+
+def drawn_plans(count):
+    """Plans of a few lines, in which words are exchanged at random."""
+    draw = random.Random(1)
+    for _ in range(count):
+        lines = ["@ 2030/01/01-00:00:00", "a contact +0 +10 1 2 5", "a range +0 +10 1 2 5", "a contact +5 +20 1 2 7",
+                 "a range +10 +20 1 2 0", "a range +3 +7 2 1 1", "d contact +0 1 2", "d range +0 1 2", "# two words", ""]
+        draw.shuffle(lines)
+        lines = lines[: draw.randint(1, 9)] + lines[: draw.randint(0, 3)]
+        lines.insert(0 if draw.random() < 0.8 else 2, "@ 2030/01/01-00:00:00")
+        place = draw.randrange(len(lines))
+        words = lines[place].split(" ")
+        words[draw.randrange(len(words))] = draw.choice(WORDS)
+        lines[place] = " ".join(words)
+        yield draw.choice(["", "\n"]).join(["\n".join(lines), ""])
+
+
+def plans_judged_alike(room):
+    """What reads plans for the tools accepts what `cgrlist check` accepts, and refuses the rest for the same line and reason."""
+    edges = ["", "\n", "#", "#" * 255, "#" * 256, f"a contact +0 +1 1 1{'x' * 250}",
+             "@ 9998/12/31-23:59:58\na contact +0 +1 1 2 3\na contact +0 +2 1 2 3",
+             "@ 2030/01/01-00:00:00\n" + "".join(f"a range +{at} +{at + 1} 1 2 5\n" for at in range(20001))]
+    paths = [room.file(f"drawn-{place}", text) for place, text in enumerate([*edges, *drawn_plans(300)])]
+
+    def by_the_program():
+        told = (room.run([room.program, "check", "--plan", path]) for path in paths)
+        return [last_of(it.out) if it.status == 0 else it.err.strip().partition(": ")[2] for it in told]
+
+    def judged(*paths):
+        return room.run("python3 -B -c", [JUDGES], paths).out.splitlines()
+
+    yield "plans are judged alike", True, lambda: judged(*paths) == by_the_program()
+    yield "they are of all kinds", 14, lambda: len({re.sub(r"digest \w+|line \d+", "", it) for it in judged(*paths)})
+    yield ("a plan of too many lines", ["plan line 1000001: TooMany", EMPTY],
+           lambda: judged(room.file("lines", "#\n" * 1000000 + "\n"), room.file("fewer", "#\n" * 1000000)))
+
+
+def refused_plans(room):
+    bad = room.file("bad2.txt", f"@ {DAY}-00:00:00\na range +0 +100 1 2 5\na range +0 +50 1 2 9\na contact +0 +10 3 3 5\n")
+    yield "a refused plan isn't drawn, and the other line is named", """\
+timeline: plan line 3: RangeOverlap
+timeline: hint: plan line 3 is: a range +0 +50 1 2 9
+timeline: hint: plan line 2 is: a range +0 +100 1 2 5
+timeline: hint: a range of these nodes shares a second with it: let one end where the next starts
+status 3""", lambda: room.run("tools/timeline --plan", [bad], CGRLIST_TRIAL="no", CGRLIST="").all().replace("cgrlist: plan", "timeline: plan")
+    a = read("examples/a.txt")
+    for title, text, told in (
+        ("JSON", '{"contacts": []}\n', "JSON: if it is HDTN's, from_ionrc --form hdtn {} makes a plan of it"),
+        ("UTF-16", a.encode("utf-16"), "text in UTF-16: iconv -f UTF-16 -t UTF-8 {} | .. --plan -"),
+        ("gzip", gzip.compress(a.encode()), "compressed: gzip -dc {} | .. --plan -"),
+        ("xz", lzma.compress(a.encode()), "compressed: xz -dc {} | .. --plan -"),
+    ):
+        plan = room.file(f"plan.{title}", text)
+        yield f"what a plan is: {title}", f"the plan is {told.format(plan)}", room.hinted, plan, "--from 1 --to 3 --at 2030-01-01"
+    from_a = "report --from 1 --to 3 --at 2030-01-01 --count 1 --plan"
+    yield "a plan from standard input", "more", lambda: last_of(room.told(from_a, "-", given=a))
+    yield "a plan from a pipe", "more", lambda: last_of(room.run(
+        "bash -c", [f"tools/{from_a} <(cat examples/a.txt) --without 3 --program {room.program}"]).all())
 
 
 def checks(asked):
     return checks_of("answers", Tools(asked.program("cgrlist")), [
         latest_seconds, refusals, reports, reports_that_are_read, times_and_names, hops_and_room, many_routes,
-        a_planners_questions, plans_compared, many_requests, hints, programs_of_clones])
+        a_planners_questions, plans_compared, many_requests, hints, programs_of_clones, plans_judged_alike, refused_plans])

@@ -10,18 +10,18 @@ A tool reads its words and what they ask for as follows; a bad word is refused i
 
 import argparse
 import functools
+import os
 import re
 from concurrent.futures import ThreadPoolExecutor
-from pathlib import Path
 
 from . import hints
-from .errors import WORDS_STATUS, Refused
+from .errors import START_STATUS, WORDS_STATUS, Refused
 from .names import Names
 from .plans import Plan
 from .program import Program, program_path
 from .routes import Request
 from .times import TIMES, iso_text, time_of, time_text
-from .tool import Tool
+from .tool import Tool, kept_file
 
 # ---- The parser -------------------------------------------------------------------------------------------------
 
@@ -89,7 +89,7 @@ def numbers_word(text):
 def add_plan_words(parser):
     """Adds the words about the plan, the program and the way to print to a parser of the command line."""
     places = "if not given, the clone's script cgrlist, or else the one in the path"
-    parser.add_argument("--plan", required=True, metavar="F", help="the plan's file")
+    parser.add_argument("--plan", required=True, metavar="F", help="the plan's file, or - for standard input")
     parser.add_argument("--without", type=numbers_word, metavar="LIST", help="contacts that are lost, by number")
     parser.add_argument("--names", metavar="FILE", help="names of nodes: lines as '31 lander'; '#' begins a comment")
     parser.add_argument("--iso", action="store_true", help="print times as 2031-03-03T01:00:00Z")
@@ -114,6 +114,11 @@ def node_word(parser, names, word, text):
         return names.node(text)
     except ValueError as error:
         return parser.error(f"argument --{word}: {error}")
+
+
+def named_program(words):
+    """The program that the words or the environment name; None if they don't."""
+    return words.program if words.program is not None else os.environ.get("CGRLIST") or None
 
 
 class Asked:
@@ -146,17 +151,32 @@ class Asked:
         return {"margin_ppm": words.margin_ppm, "max_hops": words.max_hops, "avoid": tuple(words.avoid)}
 
     @functools.cached_property
+    def plan_file(self):
+        """The path of the plan's text, which can be read more than once."""
+        hints.check_file(self.words.plan)
+        return kept_file(self.words.plan)
+
+    @functools.cached_property
     def program(self):
         """The program over the plan without the contacts that are lost."""
-        if Path(self.words.plan).is_fifo():
-            raise Refused("the plan is a pipe: the program has to read it again, so give it as a file")
-        hints.check_file(self.words.plan)
         self._reading  # begins now, beside the program's first run
-        program = Program(program_path(self.words.program), self.words.plan)
+        program = Program(program_path(named_program(self.words)), self.plan_file)
         if not self.words.without:
             return program
         program.check()
         return Program(program.path, self.plan.file)
+
+    def is_plan_checked(self):
+        """Whether there is a program, not a trial, which then accepts the plan. One that is named has to be there."""
+        named = named_program(self.words)
+        try:
+            path = program_path(named, with_trial=False)
+        except Refused as refused:
+            if refused.status != START_STATUS or named is not None:
+                raise
+            return False
+        Program(path, self.plan_file).check()
+        return True
 
     @functools.cached_property
     def plan(self):
@@ -174,7 +194,7 @@ class Asked:
 
     @functools.cached_property
     def _reading(self):
-        return ThreadPoolExecutor(1).submit(Plan.from_file, self.words.plan, self.names)
+        return ThreadPoolExecutor(1).submit(Plan.from_file, self.plan_file, self.names)
 
     @property
     def plan_after_check(self):

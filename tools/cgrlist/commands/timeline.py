@@ -52,6 +52,7 @@ from ..tool import lines_of, run_tool
 from ..words import Asked, Words, add_plan_words, add_request_words, time_word
 
 NEEDED = ("from", "to", "at")  # the words that a request has to have
+NOT_CHECKED = "cgrlist did not check this plan: there is no program"
 OTHERS = ("margin-ppm", "max-hops", "avoid", "via", "fits", "distinct", "look")  # words that go with a request
 
 
@@ -126,7 +127,8 @@ def view_of(asked, parser):
     span = Span(*words.between) if words.between else None
     if span and span.first >= span.last:
         parser.error("--between: the first time isn't before the second")
-    return View(os.path.basename(words.plan), choice, span, asked.names, asked.time_text)
+    remarks = () if asks_for_routes(words) or asked.is_plan_checked() else (NOT_CHECKED,)
+    return View(os.path.basename(words.plan), choice, span, asked.names, asked.time_text, remarks)
 
 
 def nodes_of(asked, word, text, sign=","):
