@@ -71,6 +71,11 @@ class Plan:
         return [self._numbered[number] for number in sorted(self._numbered)]
 
     @property
+    def range_count(self):
+        """How many ranges stand."""
+        return self._ranges.count
+
+    @property
     def digest(self):
         """The digest of what stands, as `cgrlist check` prints it."""
         lines = ["cgr-plan 1"]

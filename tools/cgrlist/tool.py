@@ -200,7 +200,7 @@ def _keep_what_was_found():
 def _give_up(refused):
     """Ends a tool, with one line that says why, unless it was printed already."""
     if refused.is_told:
-        sys.stderr.write(refused.message)
+        sys.stderr.write(refused.message.rstrip("\n") + "\n")
     elif refused.message is not None:
         tell(refused.message)
     for hint in refused.hints:

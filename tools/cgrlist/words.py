@@ -20,8 +20,10 @@ from .names import Names
 from .plans import Plan
 from .program import Program, program_path
 from .routes import Request
-from .times import TIMES, iso_text, time_of, time_text
+from .tables import CSV, JSON, TEXT, Spelling
+from .times import TIMES, iso_text, sheet_text, time_of, time_text
 from .tool import Tool, kept_file
+from .version import VERSION
 
 # ---- The parser -------------------------------------------------------------------------------------------------
 
@@ -55,6 +57,7 @@ class Words(argparse.ArgumentParser):
         self.register("action", None, Once)
         self.register("action", "store_true", Flag)
         self.register("action", "store_const", Flag)
+        self.add_argument("--version", action="version", version=f"{Tool.name} {VERSION}", help="print the version")
 
     def error(self, message):
         """Refuses the words."""
@@ -86,14 +89,35 @@ def numbers_word(text):
     return sorted(set(map(int, text.split(","))))
 
 
+def add_plan_word(parser):
+    """Adds the plan to a parser of the command line."""
+    plan = os.environ.get("CGRLIST_PLAN") or None
+    parser.add_argument("--plan", default=plan, required=not plan, metavar="F", help="the plan's file, or - for standard input")
+
+
 def add_plan_words(parser):
     """Adds the words about the plan, the program and the way to print to a parser of the command line."""
-    places = "if not given, the clone's script cgrlist, or else the one in the path"
-    parser.add_argument("--plan", required=True, metavar="F", help="the plan's file, or - for standard input")
+    add_plan_word(parser)
     parser.add_argument("--without", type=numbers_word, metavar="LIST", help="contacts that are lost, by number")
-    parser.add_argument("--names", metavar="FILE", help="names of nodes: lines as '31 lander'; '#' begins a comment")
+    add_further_words(parser)
+
+
+def add_further_words(parser):
+    """Adds the words about names, times and the program."""
+    names = {"default": os.environ.get("CGRLIST_NAMES") or None, "metavar": "FILE"}
+    parser.add_argument("--names", **names, help="names of nodes: lines as '31 lander'; '#' begins a comment")
     parser.add_argument("--iso", action="store_true", help="print times as 2031-03-03T01:00:00Z")
+    places = "if not given, the clone's script cgrlist, or else the one in the path"
     parser.add_argument("--program", metavar="P", help=f"the program; {places}")
+
+
+def add_form_words(parser):
+    """Adds the words that choose the form of a table."""
+    form = parser.add_mutually_exclusive_group()
+    form.add_argument("--csv", dest="form", action="store_const", const=CSV, help="comma-separated values")
+    form.add_argument("--json", dest="form", action="store_const", const=JSON, help="JSON")
+    parser.set_defaults(form=TEXT)
+    return form
 
 
 def add_request_words(parser, required=(), without=()):
@@ -144,6 +168,16 @@ class Asked:
         words = vars(self.words)
         return Request(words["from"], words["to"], words["at"] if at is None else at, **self.limits)
 
+    def request_or_none(self):
+        """The request, if the words have a whole one."""
+        return self.request() if None not in map(vars(self.words).get, ("from", "to", "at")) else None
+
+    @functools.cached_property
+    def spelling(self):
+        """How values are spelled in the form that the words ask for."""
+        is_sheet = getattr(self.words, "form", TEXT) == CSV and not self.words.iso
+        return Spelling(self.names, sheet_text if is_sheet else self.time_text, lambda: self.plan.contacts)
+
     @property
     def limits(self):
         """The limits of the request."""
@@ -161,7 +195,7 @@ class Asked:
         """The program over the plan without the contacts that are lost."""
         self._reading  # begins now, beside the program's first run
         program = Program(program_path(named_program(self.words)), self.plan_file)
-        if not self.words.without:
+        if not getattr(self.words, "without", None):
             return program
         program.check()
         return Program(program.path, self.plan.file)
@@ -181,7 +215,7 @@ class Asked:
     @functools.cached_property
     def plan(self):
         """The plan without the contacts that are lost. Ask the program first: it says more if it refuses the plan."""
-        return self._whole_plan.without(self.words.without) if self.words.without else self._whole_plan
+        return self._whole_plan.without(self.words.without) if getattr(self.words, "without", None) else self._whole_plan
 
     @property
     def lost(self):
