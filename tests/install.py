@@ -8,7 +8,7 @@ import time
 
 from checking import TOP, Room, checks_of, last_of, lines_with, parts_of
 
-TOOLS = ("compare", "from_ionrc", "latest", "report", "timeline", "timetable")
+TOOLS = ("check", "compare", "from_ionrc", "latest", "report", "timeline", "timetable")
 COMMANDS = "check explain first follow help many next verify".split()
 # What each shell runs to tell what it offers after some words, the last of which is to be completed. In zsh, the commands of
 # the line editor have stubs.

@@ -34,7 +34,7 @@ from ..names import Names
 from ..plans import Plan
 from ..program import Program, program_path
 from ..requests import requests_of
-from ..routes import Fault, Request
+from ..routes import Fault, Request, Route
 from ..tables import (JSON, NUMBER, NUMBERS, PATH, TEXT, TIME, WORD, Kind, Spelling, Table, json_of, request_json, request_text)
 from ..times import iso_text, time_text
 from ..tool import kept_file, lines_of, run_tool
@@ -148,11 +148,11 @@ class Comparison:
         return {contacts: found[there] for contacts, there in mapped.items() if there in found}
 
 
-def counted(changes, all_of_new, kinds):
-    """How many stay, and how many of each kind differ."""
+def counted(changes, news, kinds):
+    """How many of the new ones, by their numbers or contacts, stay, and how many of each kind differ."""
     found = [it.kind for it in changes]
-    stay = all_of_new - sum(it.new is not None for it in changes)
-    return {"stay": stay, **{kind: found.count(kind) for kind in kinds}}
+    stay = news - {it.new.contacts if isinstance(it.new, Route) else it.new.number for it in changes if it.new}
+    return {"stay": len(stay), **{kind: found.count(kind) for kind in kinds}}
 
 
 def counts_text(what, counts):
@@ -235,12 +235,12 @@ def tool():
     old, new = (Side(path, words, names) for path in (words.old, words.new))
     both, how = Comparison(old, new), Spelling(names, iso_text if words.iso else time_text, lambda: [*old.plan.contacts, *new.plan.contacts])
     contacts, told, differs = both.contacts(), [], False
-    counts = counted(contacts, len(new.plan.contacts), CONTACT_KINDS)
+    counts = counted(contacts, {it.number for it in new.plan.contacts}, CONTACT_KINDS)
     if words.form == TEXT:
         yield from contacts_text(contacts, counts, how)
     for request, *answers in zip(requests, *(answers_of(it.program, requests, words.count) for it in (old, new))):
         changes = both.routes(request, answers)
-        of_routes = counted(changes, len(answers[1].routes), ROUTE_KINDS)
+        of_routes = counted(changes, {it.contacts for it in answers[1].routes}, ROUTE_KINDS)
         differs = differs or bool(changes)
         if words.form == TEXT:
             yield from routes_text(request, changes, of_routes, how)
