@@ -1,8 +1,12 @@
 """Tries the tools that ask the program: over the worked plans, with answers that were worked out by hand, and over stubs in
 place of the program."""
 
+import gzip
+import hashlib
 import json
+import lzma
 import os
+import random
 import re
 import shutil
 import signal
@@ -15,6 +19,7 @@ from itertools import groupby
 from checking import SECONDS, TOP, Room, checks_of, last_of, lines_with, parts_of
 
 DAY = "2030/01/01"
+RELAY_DIGEST = "1742355ab40bb9304358b80eea1f07137fa6c7a830d70d3ebaadf26f2add99e2"
 NAMES = "# the names of the nodes\n31 lander\n22 relay high\n"
 TIMES = "a time is 2031/03/03-01:00:00, 2031-03-03T01:00:00Z, 2031-03-03 01:00, 2031-062, now or now+2h"
 HEAD = "rank  delivery             hops  until                contacts  nodes"
@@ -129,6 +134,27 @@ def latest_seconds(room):
         yield title, wanted, room.told, "latest --plan", [plan], words, *further
 
 
+def versions_and_environments(room):
+    for tool in sorted(os.listdir(f"{TOP}/tools")):
+        if tool not in ("cgrlist", "manual_pages", "mutations", "pyproject.toml", "completions"):
+            yield f"the version of {tool}", f"{tool} 1.1.0", lambda: room.run(f"tools/{tool} --version").all()
+    by_environment = {"CGRLIST_PLAN": f"{TOP}/examples/relay.txt", "CGRLIST_NAMES": room.names[1], "CGRLIST": room.program}
+    yield ("plan, names and program by the environment", "lander > relay high > 12 > 1", lambda: parts_of("lander.*", room.run(
+        f"tools/report --from lander --to 1 --at {DAY}-00:45:00 --count 1", **by_environment).all()))
+    yield "words come first", "lander > relay high > 12 > 1", lambda: parts_of("lander.*", room.told(
+        "report --plan examples/relay.txt --from lander --to 1 --count 1", f"--at {DAY}-00:45:00", room.names, CGRLIST="/none",
+        CGRLIST_PLAN="/none", CGRLIST_NAMES="/none"))
+    latest = "latest --plan examples/a.txt --from 1 --to 3 --json"
+    found = {"rank": 1, "delivery": "2030-01-01T00:00:15Z", "hops": 2, "entry": 2, "until": "2030-01-01T00:01:40Z", "contacts": [1, 4], "nodes": [1, 2, 3]}
+    for by, second in (("15", "2030-01-01T00:00:00Z"), ("14", None)):
+        yield f"latest as JSON, by second {by}", (second, f"2030-01-01T00:00:{by}Z", found, int(second is None)), lambda: (
+            lambda ran: (lambda it: (it["latest"], it["by"], it["route"], ran.status))(json.loads(ran.out)))(room.ask(latest, f"--by {DAY}-00:00:{by}"))
+    listed = {"contact": 3, "from": 1, "to": 3, "start": "2030-01-01T00:00:50Z", "end": "2030-01-01T00:01:30Z", "rate": 1000, "light": 40}
+    yield "the list as JSON", listed, lambda: json.loads(room.ask("timeline --plan examples/a.txt --list --json").out)["contacts"][2]
+    yield ("the list as CSV", "3,1,3,2030-01-01 00:00:50,2030-01-01 00:01:30,1000,40",
+           lambda: room.told("timeline --plan examples/a.txt --list --csv").splitlines()[3])
+
+
 def refusal(tool):
     """What is told of the plan `bad`."""
     return f"""\
@@ -196,9 +222,12 @@ rank,delivery,hops,entry,until,contacts,nodes,room
 {"routes": [
   {"rank": 1, "delivery": "2030-01-01T20:37:21Z", "hops": 3, "entry": 21, "until": "2030-01-01T17:34:00Z", \
 "contacts": [9, 15, 1], "nodes": [31, 21, 11, 1], "room": 122880000}],
- "names": {"31": "lander"},
+ "request": {"from": 31, "to": 1, "at": "2030-01-01T16:00:00Z", "margin_ppm": 0, "max_hops": 5, "avoid": [12]},
  "looked_at": 1,
- "end": true}""", room.from_lander, f"--at {DAY}-16:00:00 --count 10 --json --room", room.names
+ "end": true,
+ "names": {"31": "lander"},
+ "plan": "1742355ab40bb9304358b80eea1f07137fa6c7a830d70d3ebaadf26f2add99e2",
+ "version": "1.1.0"}""", room.from_lander, f"--at {DAY}-16:00:00 --count 10 --json --room --max-hops 5 --avoid 12", room.names
     asked = [f"report --plan examples/relay.txt --from 31 --to 1 --at {DAY}-{at} --count 2 --json" for at in ("00:45:00", "17:34:00")]
     yield ("it is JSON", [(2, False), (0, True)],
            lambda: [(len(it["routes"]), it["end"]) for it in (json.loads(room.ask(words).out) for words in asked)])
@@ -432,6 +461,48 @@ line  rank  delivery             later  contacts  fault
     yield ("a choice that is none", "report: choices line 1: the plan has no contact with these nodes and that start: 31>22@2030-01-02\n\
 status 1", lambda: room.from_lander(morning, "--choices /dev/stdin", given="31>22@2030-01-02\n"))
 
+    def as_json(*words):
+        return json.loads(room.ask(*words).out)
+
+    lander = f"report --plan examples/relay.txt --from 31 --to 1 {morning} --json"
+    lost = {"lost": 4, "link": [31, 22], "delivery": "2030-01-01T06:27:22Z", "later": 13200, "contacts": [5, 12, 2], "nodes": [31, 21, 12, 1]}
+    yield "lost contacts as JSON", (lost, {"31": "lander", "22": "relay high"}, RELAY_DIGEST), lambda: (
+        lambda it: (it["lost"][0], it["names"], it["plan"]))(as_json(lander, "--count 1 --lost", room.names))
+    yield "choices as JSON", [
+        {"line": 2, "rank": 1, "delivery": "2030-01-01T02:47:22Z", "later": 0, "contacts": [4, 11, 2], "fault": None},
+        {"line": 4, "rank": None, "delivery": None, "later": None, "contacts": [1, 3], "fault": "hop 1: NotChained"},
+    ], lambda: as_json(lander, "--choices", [choices])["choices"][::2]
+    routed = room.file("routed", f"""\
+4,11,2 31 1 {DAY}-00:45:00
+5 12 2 31 1 {DAY}-00:45:00
+31>21@2030-01-01T03:10:00Z,21>12@2030-01-01T06:10:00Z,12>1@2030-01-01 lander 1 2030-01-01T00:45:00Z 0 20 22
+4,11,2 31 1 2030-01-01T02:20:00Z
+""".replace("5 12 2 ", "5,12,2 "))
+    # Without node 22, contacts 5 12 2 are the best; at 02:20:00 contact 4 has ended.
+    judged = """\
+line,from,to,at,margin_ppm,max_hops,avoid,rank,delivery,later,contacts,fault
+1,lander,1,2030-01-01 00:45:00,0,,,1,2030-01-01 02:47:22,0,4 11 2,
+2,lander,1,2030-01-01 00:45:00,0,,,2,2030-01-01 06:27:22,13200,5 12 2,
+3,lander,1,2030-01-01 00:45:00,0,20,relay high,1,2030-01-01 06:27:22,0,5 12 2,
+4,lander,1,2030-01-01 02:20:00,0,,,,,,4 11 2,hop 1: TooLate"""
+    asked = ["report --plan examples/relay.txt --csv --choices", [routed], room.names]
+    yield "choices of several requests", judged, room.told, *asked
+    counts = "report: of 4 choices 1 are no routes, and {} deliver more than {} s after the best\nstatus 1"
+    yield ("wrong choices alone, and a status", f"{judged.splitlines()[0]}\n{judged.splitlines()[2]}\n{judged.splitlines()[4]}\n{counts.format(1, 13199)}",
+           room.told, *asked, "--wrong --exit-code --later 13199")
+    yield ("a later one may be right", counts.format(0, 13200), lambda: room.told(*asked, "--exit-code --later 13200").split("\n", 5)[5])
+    yield ("no wrong choice", "report: of 1 choices 0 are no routes, and 0 deliver more than 0 s after the best",
+           lambda: last_of(room.from_lander(morning, "--exit-code --choices -", given="4,11,2\n")))
+    yield "not among the first ones", ">3", lambda: parts_of("^ +1 +(\\S+)", room.from_lander(morning, "--look 3 --choices -", given="5,13,1\n"))
+    yield "numbers that begin with 0", "4 11 2", lambda: parts_of("4 11 2", room.from_lander(
+        morning, "--first-number 0 --choices -", given="3,10,1\n"))
+    for line, why in (("0,1 31 1 2030-01-01", "contacts are counted from 1 without --first-number 0"), ("4,11,2 31 1", "it needs contacts, from, to and at"),
+                      ("4,11,2 31 earth 2030-01-01", "after its contacts, it names no two nodes")):
+        yield (f"a bad choice: {line}", f"report: choices line 1: {why}: {line}\nstatus 1",
+               lambda: room.told("report --plan examples/relay.txt --choices -", given=f"{line}\n"))
+    yield ("words without choices", "report: these words need --choices: --exit-code, --later; see --help\nstatus 2",
+           room.from_lander, morning, "--count 1 --exit-code --later 5")
+
     def column(number, *words):
         rows = room.from_lander(morning, "--csv", *words).splitlines()
         return [row.split(",")[number - 1] for row in rows if row[:1].isdigit()]
@@ -449,6 +520,11 @@ from,to,delivery,last_delivery,contacts,nodes
 2030-01-01 00:01:40,2030-01-01 00:02:00,,,,""", lambda: lines_with("^(?!.*told up)", room.told(
         "timetable --plan examples/a.txt --from 1 --to 3 --between 2030-01-01 2030-01-01T00:02:00Z --csv"))
 
+    table = ["timetable --plan examples/a.txt --from 1 --to 3 --between 2030-01-01 2030-01-01T00:02:00Z"]
+    yield "a timetable as JSON", [
+        {"from": "2030-01-01T00:01:40Z", "to": "2030-01-01T00:02:00Z", **dict.fromkeys(("delivery", "last_delivery", "contacts", "nodes"))}
+    ], lambda: as_json(*table, "--json")["stretches"][3:]
+
     def each_second():
         """How many seconds in turn have the same best route, if each is asked for by itself."""
         seconds = "".join(f"1 3 {DAY}-00:{at // 60:02}:{at % 60:02}\n" for at in range(100))
@@ -459,18 +535,54 @@ from,to,delivery,last_delivery,contacts,nodes
 
 
 def plans_compared(room):
+    """A pass of the lander over the high relay is ten minutes later, that relay's pass to the south is gone, the low relay's have
+    another rate, and a contact came. Without the high relay's pass, routes 2 and 3 come first."""
     relay = read("examples/relay.txt")
-    changed = lines_with(r"^(?!a contact \+23400 \+39600)", relay) + "\na contact +3600 +8400 31 21 9\n"
-    new = room.file("new.txt", re.sub("(?m)62500$", "62501", changed))
+    changed = relay.replace("@ 2030/01/01-01:00:00", "@ 2030/01/01-01:10:00").replace("21 12 125000", "21 12 125001")
+    new = room.file("new.txt", changed.replace("a contact +0 +5400 22 12 62500\n", "") + "a contact +0 +60 1 31 9\n")
+    request = f"--from 31 --to 1 --at {DAY}-00:45:00 --count"
 
-    def compared(plan, *words):
+    def compared(*words, plan=new):
         return room.told("compare", *words, ["examples/relay.txt", plan])
 
-    yield ("two plans", compared(new).partition("\n")[0], lambda: compared(
-        new, f"--from 31 --to 1 --at 2030-01-01T00:45:00Z --count 5").partition("\n")[0])
-    yield "a contact that came", ["came"], lambda: re.findall(r"^ *(\S+) +\S+ +31 +\S+ +21 ", compared(new), re.M)
-    yield "the same plan", "contacts: 20 stay, 0 came, 0 went, 0 changed", compared, "examples/relay.txt"
+    yield "two plans", COMPARED, compared, request, "2"
+    yield "the same plan", "contacts: 20 stay, 0 came, 0 went, 0 moved, 0 changed", lambda: compared("--exit-code", plan="examples/relay.txt")
+    yield "the same routes", "routes: 2 stay, 0 came, 0 went, 0 moved", lambda: last_of(
+        compared(request, "2 --exit-code", plan="examples/relay.txt"))
+    yield "a status", "status 1", lambda: last_of(compared("--exit-code"))
+    more = room.file("more.txt", relay + "a contact +0 +60 1 31 9\n")
+    yield "a status of routes alone", "routes: 2 stay, 0 came, 0 went, 0 moved", lambda: last_of(compared(request, "2 --exit-code", plan=more))
 
+    def as_json(*words):
+        told = json.loads(compared("--json", *words))
+        moved = next(it for it in told["contacts"] if it["change"] == "moved")
+        return told["counts"], moved["later"], moved["old"], told["requests"][0]["routes"][0], told["old_plan"]
+
+    yield "as JSON", (
+        {"stay": 16, "came": 1, "went": 1, "moved": 1, "changed": 2}, 600, {"start": "2030-01-01T01:00:00Z", "end": "2030-01-01T02:20:00Z"},
+        {"change": "moved", "old_rank": 2, "rank": 1, "old_delivery": "2030-01-01T06:27:22Z", "delivery": "2030-01-01T06:27:22Z", "later": 0,
+         "contacts": [5, 11, 2], "nodes": [31, 21, 12, 1]}, RELAY_DIGEST), as_json, request, "2"
+    bad = room.file("bad.txt", "a range +0 +10 1 2 1\n")
+    yield "which plan is refused", f"compare: {bad}: plan line 1: NoReference", lambda: compared(plan=bad).partition("\n")[0]
+    yield "plans from pipes", "contacts: 4 stay, 0 came, 0 went, 0 moved, 0 changed", lambda: room.run(
+        "bash -c", [f"tools/compare --program {room.program} <(cat examples/a.txt) - <examples/a.txt"]).all()
+
+
+COMPARED = """\
+contacts: 16 stay, 1 came, 1 went, 1 moved, 2 changed
+change          number  nodes    start                end                    rate  light  old
+changed             10  21 > 12  2030/01/01-00:30:00  2030/01/01-01:40:00  125001   1039  rate 125000
+moved, +10 min       4  31 > 22  2030/01/01-01:10:00  2030/01/01-02:30:00    4000      1  start 2030/01/01-01:00:00, end 2030/01/01-02:20:00
+went                11  22 > 12  2030/01/01-02:30:00  2030/01/01-04:00:00   62500   1039
+changed             11  21 > 12  2030/01/01-06:10:00  2030/01/01-07:00:00  125001   1039  rate 125000
+came                21  1 > 31   2030/01/01-15:31:00  2030/01/01-15:32:00       9      -
+
+request from 31 to 1 at 2030/01/01-00:45:00
+routes: 0 stay, 0 came, 1 went, 2 moved
+change  old rank  rank  old delivery         delivery             later  contacts  nodes
+moved          2     1  2030/01/01-06:27:22  2030/01/01-06:27:22      0  5 11 2    31 > 21 > 12 > 1
+moved          3     2  2030/01/01-06:27:22  2030/01/01-06:27:22      0  6 11 2    31 > 21 > 12 > 1
+went           1     -  2030/01/01-02:47:22  -                        -  4 11 2    31 > 22 > 12 > 1"""
 
 REQUESTS = f"""\
 # from to at
@@ -504,13 +616,14 @@ request from 1 to relay high at {DAY}-13:00:00
 more
 {hint}""", many
     yield "a line for each", f"""\
-source,destination,at,rank,delivery,hops,entry,until,contacts,nodes,room
-lander,1,2030-01-01 16:00:00,1,2030-01-01 20:37:21,3,21,2030-01-01 17:34:00,9 15 1,lander > 21 > 11 > 1,122880000
-lander,1,2030-01-01 23:00:00,,,,,,,,
-1,relay high,2030-01-01 13:00:00,1,2030-01-01 13:17:21,2,11,2030-01-01 13:30:00,3 18,1 > 11 > relay high,3598000
+source,destination,at,margin_ppm,max_hops,avoid,rank,delivery,hops,entry,until,contacts,nodes,room
+lander,1,2030-01-01 16:00:00,0,,,1,2030-01-01 20:37:21,3,21,2030-01-01 17:34:00,9 15 1,lander > 21 > 11 > 1,122880000
+lander,1,2030-01-01 23:00:00,0,,,,,,,,,,
+1,relay high,2030-01-01 13:00:00,0,,,1,2030-01-01 13:17:21,2,11,2030-01-01 13:30:00,3 18,1 > 11 > relay high,3598000
 {hint}""", many, "--csv --room"
     as_json = ["report --plan examples/relay.txt --count 1 --json --requests", [requests], room.names]
-    yield ("an object for each", ["31 1 2030-01-01T16:00:00Z 1 True", "31 1 2030-01-01T23:00:00Z 0 True", "1 22 2030-01-01T13:00:00Z 1 False"],
+    yield ("an object for each", ["31 1 2030-01-01T16:00:00Z 0 None [] 1 True", "31 1 2030-01-01T23:00:00Z 0 None [] 0 True",
+                                  "1 22 2030-01-01T13:00:00Z 0 None [] 1 False"],
            lambda: [" ".join(map(str, [*it["request"].values(), len(it["routes"]), it["end"]]))
                     for it in map(json.loads, room.ask(*as_json).out.splitlines())])
     yield ("from standard input, each by a time", 2, lambda: room.told(
@@ -538,6 +651,13 @@ lander,1,2030-01-01 23:00:00,,,,,,,,
                                                          "--margin-ppm 224 --max-hops 3 --avoid 12")))
     yield ("a line with limits", f"   1  {DAY}-15:17:21     3  {DAY}-03:19:00  5 13 1    31 > 21 > 11 > 1",
            lambda: lines_with(" 31 > ", room.of_requests(f"31 1 {DAY}-00:45:00 0 3 12\n")))
+    limited = f"31 1 {DAY}-00:45:00 224 3 12,22\n"
+    yield ("limits stand in the table", f"request from 31 to 1 at {DAY}-00:45:00 margin ppm 224 max hops 3 avoid 12,22",
+           lambda: room.of_requests(limited).partition("\n")[0])
+    yield ("limits stand in CSV", ["at,margin_ppm,max_hops,avoid,rank", '2030-01-01 00:45:00,224,3,"12,22",1'],
+           lambda: [re.sub(r"^(?:\w+,){2}|(?<=rank),.*|(?<=,1),.*", "", it) for it in room.of_requests(limited, "--csv").splitlines()])
+    yield ("limits stand in JSON", ({"from": 31, "to": 1, "at": "2030-01-01T00:45:00Z", "margin_ppm": 224, "max_hops": 3, "avoid": [12, 22]}, "1.1.0"),
+           lambda: (lambda it: (it["request"], it["version"]))(json.loads(room.of_requests(limited, "--json"))))
     seconds = "".join(f"31 1 {DAY}-00:{minute}:{second}\n" for minute in range(10, 60) for second in range(10, 60))
     shared = room.of_requests(seconds)
     yield "many requests are shared among processors", (2500, 2500), lambda: (shared.count("request "), shared.count(" 4 11 2 "))
@@ -607,30 +727,170 @@ def hints(room):
 
 
 def programs_of_clones(room):
-    """The clone's script is told to start no trial; what it says is told, and its status kept. If the built program is there
-    and current, it is asked itself."""
+    """If the clone's proved program isn't current, the clone's script makes a trial, which is asked; unless CGRLIST_TRIAL is no.
+    Else the built program is asked itself. CGRLIST names another one."""
     clone = f"{room.path}/clone"
     os.makedirs(f"{clone}/crates/cgrlist/out")
     shutil.copytree(f"{TOP}/tools", f"{clone}/tools")
-    room.stub("clone/cgrlist", """#!/bin/sh
-[ "$CGRLIST_TRIAL" = no ] && [ ! -e "$0.current" ] || exit 2
-echo "cgrlist: the proved program comes first" >&2; exit 125
+    room.stub("clone/cgrlist", f"""#!/bin/sh
+[ ! -e "$0.current" ] || exit 2
+[ "$CGRLIST_TRIAL" != no ] || {{ echo "cgrlist: the proved program comes first" >&2; exit 125; }}
+[ ! -e "$0.fails" ] || {{ echo "cgrlist: the trial fails" >&2; exit 125; }}
+echo "cgrlist: a trial answers" >&2
+ln -sf {room.program} "${{0%/*}}/crates/cgrlist/out/trial"
 """)
 
-    def in_clone():
-        words = "--plan examples/a.txt --from 1 --to 3 --at 2030-01-01 --count 1"
-        shown = room.run([f"{clone}/tools/report"], words).all()
-        return shown if shown.startswith("cgrlist") else last_of(shown)
+    def in_clone(*words, **further):
+        words = words or ["report --from 1 --to 3 --at 2030-01-01 --count 1"]
+        tool, _, words = words[0].partition(" ")
+        ran = room.run([f"{clone}/tools/{tool}"], words, "--plan examples/a.txt", **further)
+        return f"{ran.err}{last_of(ran.out)}"
 
-    first = "cgrlist: the proved program comes first\nstatus 125"
-    yield "no trial is started", first, in_clone
+    first = "cgrlist: the proved program comes first\n"
+    drawn = "cgrlist did not check this plan: there is no program"
+    yield "no trial is started", first, lambda: in_clone(CGRLIST_TRIAL="no")
+    yield "a plan is drawn, and the picture says that it wasn't checked", drawn, in_clone, "timeline --text"
+    yield "and a page says so", 1, lambda: room.run(
+        [f"{clone}/tools/timeline"], "--plan examples/a.txt --html /dev/stdout").out.count(drawn)
+    yield "a named program has to be there", "timeline: there is no program: looked for /nowhere\n", in_clone, \
+        "timeline --text --program /nowhere"
+    room.file("clone/cgrlist.fails")
+    yield "a trial that fails", "cgrlist: the trial fails\n", in_clone
+    os.remove(f"{clone}/cgrlist.fails")
+    yield "a trial answers, and one note says so", "cgrlist: a trial answers\nmore", in_clone
+    yield "CGRLIST names the program", "more", lambda: in_clone(CGRLIST=room.program)
     os.symlink(room.program, f"{clone}/crates/cgrlist/out/cgrlist")
-    yield "nor an old program", first, in_clone
+    yield "no old program answers", first, lambda: in_clone(CGRLIST_TRIAL="no")
     room.file("clone/cgrlist.current")
     yield "the built program", "more", in_clone
+    yield "the plan is checked", "= contact, with its number", in_clone, "timeline --text"
+
+
+# ---- Plans without a program ------------------------------------------------------------------------------------
+
+# What words of the lines of a plan become, so that some of them are bad.
+WORDS = ["", "+0", "+5", "+000000000007", "+9999999999999", "-1", "2030/01/01-00:00:10", "2030/1/1-00:00:00", "9999/01/01-00:00:00",
+         "9998/12/31-23:59:59", "1969/12/31-23:59:59", "0", "1", "2", "3", "02", "18446744073709551615", "18446744073709551616", "1000000",
+         "1000001", "a", "d", "@", "#", "contact", "range", "x" * 255, "é", "\t", "\r", "\x0b", "\x7f", "*", "ipn:1"]
+EMPTY = f"digest {hashlib.sha256(b'cgr-plan 1' + bytes([10]) + b'end' + bytes([10])).hexdigest()}"
+JUDGES = """import sys
+sys.path.insert(0, "tools")
+from cgrlist import Plan, Refused
+for path in sys.argv[1:]:
+    try:
+        print("digest", Plan.from_file(path).digest)
+    except Refused as refused:
+        print(refused.message)
+"""
+
+
+def drawn_plans(count):
+    """Plans of a few lines, in which words are exchanged at random."""
+    draw = random.Random(1)
+    for _ in range(count):
+        lines = ["@ 2030/01/01-00:00:00", "a contact +0 +10 1 2 5", "a range +0 +10 1 2 5", "a contact +5 +20 1 2 7",
+                 "a range +10 +20 1 2 0", "a range +3 +7 2 1 1", "d contact +0 1 2", "d range +0 1 2", "# two words", ""]
+        draw.shuffle(lines)
+        lines = lines[: draw.randint(1, 9)] + lines[: draw.randint(0, 3)]
+        lines.insert(0 if draw.random() < 0.8 else 2, "@ 2030/01/01-00:00:00")
+        place = draw.randrange(len(lines))
+        words = lines[place].split(" ")
+        words[draw.randrange(len(words))] = draw.choice(WORDS)
+        lines[place] = " ".join(words)
+        yield draw.choice(["", "\n"]).join(["\n".join(lines), ""])
+
+
+def plans_judged_alike(room):
+    """What reads plans for the tools accepts what `cgrlist check` accepts, and refuses the rest for the same line and reason."""
+    edges = ["", "\n", "#", "#" * 255, "#" * 256, f"a contact +0 +1 1 1{'x' * 250}",
+             "@ 9998/12/31-23:59:58\na contact +0 +1 1 2 3\na contact +0 +2 1 2 3",
+             "@ 2030/01/01-00:00:00\n" + "".join(f"a range +{at} +{at + 1} 1 2 5\n" for at in range(20001))]
+    paths = [room.file(f"drawn-{place}", text) for place, text in enumerate([*edges, *drawn_plans(300)])]
+
+    def by_the_program():
+        told = (room.run([room.program, "check", "--plan", path]) for path in paths)
+        return [last_of(it.out) if it.status == 0 else it.err.strip().partition(": ")[2] for it in told]
+
+    def judged(*paths):
+        return room.run("python3 -B -c", [JUDGES], paths).out.splitlines()
+
+    yield "plans are judged alike", True, lambda: judged(*paths) == by_the_program()
+    yield "they are of all kinds", 14, lambda: len({re.sub(r"digest \w+|line \d+", "", it) for it in judged(*paths)})
+    yield ("a plan of too many lines", ["plan line 1000001: TooMany", EMPTY],
+           lambda: judged(room.file("lines", "#\n" * 1000000 + "\n"), room.file("fewer", "#\n" * 1000000)))
+
+
+def refused_plans(room):
+    bad = room.file("bad2.txt", f"@ {DAY}-00:00:00\na range +0 +100 1 2 5\na range +0 +50 1 2 9\na contact +0 +10 3 3 5\n")
+    yield "a refused plan isn't drawn, and the other line is named", """\
+timeline: plan line 3: RangeOverlap
+timeline: hint: plan line 3 is: a range +0 +50 1 2 9
+timeline: hint: plan line 2 is: a range +0 +100 1 2 5
+timeline: hint: a range of these nodes shares a second with it: let one end where the next starts
+status 3""", lambda: room.run("tools/timeline --plan", [bad], CGRLIST_TRIAL="no", CGRLIST="").all().replace("cgrlist: plan", "timeline: plan")
+    a = read("examples/a.txt")
+    for title, text, told in (
+        ("JSON", '{"contacts": []}\n', "JSON: if it is HDTN's, from_ionrc --form hdtn {} makes a plan of it"),
+        ("UTF-16", a.encode("utf-16"), "text in UTF-16: iconv -f UTF-16 -t UTF-8 {} | .. --plan -"),
+        ("gzip", gzip.compress(a.encode()), "compressed: gzip -dc {} | .. --plan -"),
+        ("xz", lzma.compress(a.encode()), "compressed: xz -dc {} | .. --plan -"),
+    ):
+        plan = room.file(f"plan.{title}", text)
+        yield f"what a plan is: {title}", f"the plan is {told.format(plan)}", room.hinted, plan, "--from 1 --to 3 --at 2030-01-01"
+    from_a = "report --from 1 --to 3 --at 2030-01-01 --count 1 --plan"
+    yield "a plan from standard input", "more", lambda: last_of(room.told(from_a, "-", given=a))
+    yield "a plan from a pipe", "more", lambda: last_of(room.run(
+        "bash -c", [f"tools/{from_a} <(cat examples/a.txt) --without 3 --program {room.program}"]).all())
+
+
+def plans_checked(room):
+    bad = room.file("bad3.txt", f"""\
+@ {DAY}-00:00:00
+a range +0 +100 1 2 5
+a contact +0 +10 1 2 5
+a range +0 +50 1 2 9
+a contact +0 +20 1 2 7
+a contact +0 +10 3 3 5
+""")
+    yield "all bad lines", """\
+line  reason            other  text
+   4  RangeOverlap          2  a range +0 +50 1 2 9
+   5  DuplicateContact      3  a contact +0 +20 1 2 7
+   6  SelfPair                 a contact +0 +10 3 3 5
+RangeOverlap: a range of these nodes shares a second with it: let one end where the next starts
+DuplicateContact: a contact with that start, sender and receiver stands above: take one out
+SelfPair: a loopback, as in ION's examples: take it out
+check: 3 lines are bad
+status 3""", room.told, "check --plan", [bad]
+    yield "bad lines as JSON", [(4, "RangeOverlap", 2), (5, "DuplicateContact", 3), (6, "SelfPair", None)], lambda: [
+        (it["line"], it["reason"], it["other"]) for it in json.loads(room.ask("check --json --plan", [bad]).out)["bad_lines"]]
+    facts = f"""\
+contacts 20
+ranges 14
+nodes 6: 1, 11, 12, 21, 22 relay high, 31 lander
+without light 0
+first start {DAY}-00:00:00
+last end 2030/01/02-00:00:00
+digest {RELAY_DIGEST}"""
+    yield "a good plan", facts, room.told, "check --plan examples/relay.txt", room.names
+    yield "it counts as the program does", room.run([room.program], "check --plan examples/relay.txt").out, lambda: re.sub(
+        "(?<=nodes 6):.*|first.*\n|last.*\n", "", room.ask("check --plan examples/relay.txt").out)
+    session = f"{room.path}/session"
+    room.run([room.program], f"first --plan examples/relay.txt --from 31 --to 1 --at {DAY}-00:45:00 --count 2 --session-out", [session])
+    text = room.read("session")
+    yield "a session", "session yes", lambda: last_of(room.told("check --plan examples/relay.txt --session", [session]))
+    for title, changed, why in (
+        ("it is cut", text.replace("end\n", ""), r"session line \d+: BadLine"), ("its count", text.replace("emitted 2", "emitted 3"), "session: BadCount"),
+        ("another plan", text.replace("plan 1", "plan 2"), "session: OtherPlan"),
+        ("a route is missing", text.replace("part - / 4 5 / 6 12 2", "part - / 4 5 / -"), "its text is sound, but its routes aren't the best ones.*"),
+    ):
+        other = room.file(f"session-{len(title)}", changed)
+        yield f"why a session is none: {title}", True, lambda: bool(re.fullmatch(
+            f"session no\ncheck: {re.escape(other)}: {why}\nstatus 1",
+            room.told("check --plan examples/relay.txt --session", [other]).partition("\nsession ")[2].join(["session ", ""])))
 
 
 def checks(asked):
     return checks_of("answers", Tools(asked.program("cgrlist")), [
-        latest_seconds, refusals, reports, reports_that_are_read, times_and_names, hops_and_room, many_routes,
-        a_planners_questions, plans_compared, many_requests, hints, programs_of_clones])
+        latest_seconds, versions_and_environments, refusals, reports, reports_that_are_read, times_and_names, hops_and_room, many_routes,
+        a_planners_questions, plans_compared, many_requests, hints, programs_of_clones, plans_judged_alike, refused_plans, plans_checked])

@@ -206,7 +206,7 @@ def whole_files(room):
     for title, text, told in (
         ("an empty file", "", nothing),
         ("a file without a contact", "# nothing\ns\n", nothing),
-        ("JSON", '{ "contacts": [ { "contact": 0, "source": 1, "dest": 2 } ] }\n', "it is JSON or XML, which ionadmin doesn't read"),
+        ("JSON", '{ "contacts": [ { "contact": 0, "source": 1, "dest": 2 } ] }\n', "it is JSON or XML, which ionadmin doesn't read; --form hdtn reads a plan of HDTN"),
         ("UTF-16 with a byte order mark", b"\xff\xfe" + f"{CONTACT}\n".encode("utf-16-le"), utf16),
         ("UTF-16", f"{CONTACT}\n".encode("utf-16-be"), utf16),
     ):
@@ -265,5 +265,71 @@ moment at which ION reads the file)"), lambda: (ran.status, ran.err.replace(f"{r
            lambda: re.sub(" 2030.*;", ";", room.filter(f"--refer {DAY}-00:00:00", [commands]).all()))
 
 
+# As HDTN's documentation shows a contact plan, and with a second band of the first link.
+HDTN = """{
+    "contacts": [
+        {"contact": 0, "source": 102, "dest": 10, "startTime": 0, "endTime": 2000, "rateBitsPerSec": 10000000, "owlt": 1},
+        {"contact": 1, "source": 10, "dest": 1, "startTime": 0, "endTime": 2000, "rateBitsPerSec": 10000000, "owlt": 2},
+        {"contact": 2, "source": 102, "dest": 10, "startTime": 1000, "endTime": 3000, "rateBitsPerSec": 80, "owlt": 1}
+    ]
+}
+"""
+# As DtnSim's documentation shows one, with a range for one link alone.
+DTNSIM = """\
+# contacts
+a contact +0000010 +0000020 1 2 100
+a contact +0000030 +0000040 2 1 100
+a contact +0000030 +0000040 2 3 100
+a range +0000000 +0001000 2 3 5
+"""
+
+
+def other_forms(room):
+    hdtn = f"""\
+a contact {DAY}-00:00:00 {DAY}-00:33:20 102 10 1250000
+a range {DAY}-00:00:00 {DAY}-00:33:20 102 10 1
+a contact {DAY}-00:00:00 {DAY}-00:33:20 10 1 1250000
+a range {DAY}-00:00:00 {DAY}-00:33:20 10 1 2
+a contact {DAY}-00:16:40 {DAY}-00:50:00 102 10 10
+# cut, another range of this pair has some of its seconds already:
+a range {DAY}-00:33:20 {DAY}-00:50:00 102 10 1
+status 0"""
+    yield "a plan of HDTN, whose contacts of a pair overlap", hdtn, room.filtered, HDTN, REFERENCE, "--form hdtn"
+    for title, old, new, why in (
+        ("a loopback", '"dest": 1,', '"dest": 10,', "loopback, so contacts after it have other numbers: a contact +0 +2000 10 10 1250000"),
+        ("no rate", '"rateBitsPerSec": 80', '"rate": 80', "rateBitsPerSec: no whole number"),
+        ("another number", '"contact": 2', '"contact": 5', "it has the number 5"),
+        ("no JSON", "{", "", "no contact plan of HDTN: "),
+        ("no contacts", '"contacts"', '"others"', "no contact plan of HDTN: it has no list of contacts"),
+    ):
+        yield f"a plan of HDTN: {title}", (1, True), lambda: (
+            lambda ran: (ran.status, why in ran.err))(room.filter(REFERENCE, "--form hdtn", [room.file("plan.json", HDTN.replace(old, new, 1))]))
+    yield "a plan of DtnSim", f"""\
+# contacts
+a contact {DAY}-00:00:10 {DAY}-00:00:20 1 2 100
+a contact {DAY}-00:00:30 {DAY}-00:00:40 2 1 100
+a contact {DAY}-00:00:30 {DAY}-00:00:40 2 3 100
+a range {DAY}-00:00:00 {DAY}-00:16:40 2 3 5
+a range {DAY}-00:00:10 {DAY}-00:00:40 1 2 0
+status 0""", room.filtered, DTNSIM, REFERENCE, "--form dtnsim"
+    yield ("a form needs a reference", "from_ionrc: --form dtnsim needs --reference, from when all times count; see --help\nstatus 2",
+           lambda: room.filter("--form dtnsim -").all())
+
+
+def changes_and_lenience(room):
+    yield "a changed rate", f"""\
+{CONTACT}
+d contact {DAY}-00:00:00 1 2
+a contact {WINDOW} 1 2 7
+status 0""", room.filtered, f"{CONTACT}\nc contact +0 1 2 7 0.5\n", REFERENCE
+    yield "it is counted", "contacts 1, ranges 0, deletions 0, changes 1", lambda: parts_of(
+        "contacts 1.*(?=; left)", room.counts(f"{CONTACT}\nchange contact +0 1 2 7\n", REFERENCE))
+    yield ("a changed rate of nothing", "status 1; line 2: nothing of the kind stands",
+           room.ending, f"{CONTACT}\nc contact +1 1 2 7\n", REFERENCE)
+    yield "lenient", "status 0; line 1: no node: x", room.ending, f"a contact {WINDOW} 1 x 5\n{CONTACT}\n", "--lenient"
+    yield "standard input", f"# from -, no reference given\n{CONTACT}", lambda: room.run(
+        "tools/from_ionrc -", given=f"{CONTACT}\n").out.rstrip()
+
+
 def checks(_):
-    return checks_of("filter", Filter(), [whole_plans, contacts_and_ranges, nothing_is_lost, whole_files, what_is_said])
+    return checks_of("filter", Filter(), [whole_plans, contacts_and_ranges, nothing_is_lost, whole_files, other_forms, changes_and_lenience, what_is_said])

@@ -8,26 +8,33 @@ import time
 
 from checking import TOP, Room, checks_of, last_of, lines_with, parts_of
 
-TOOLS = ("compare", "from_ionrc", "latest", "report", "timeline", "timetable")
+TOOLS = ("check", "compare", "from_ionrc", "latest", "report", "timeline", "timetable")
 COMMANDS = "check explain first follow help many next verify".split()
 # What each shell runs to tell what it offers after some words, the last of which is to be completed. In zsh, the commands of
 # the line editor have stubs.
 SHELLS = {
     "bash": ["bash", "-c", r'source "$0"; COMP_WORDS=("$@") COMP_CWORD=$(($# - 1)); _cgrlist; printf "%s\n" "${COMPREPLY[@]}"',
              f"{TOP}/completions/cgrlist.bash"],
-    "zsh": ["zsh", "-f", "-c", 'compadd() { shift; print -l -- "$@"; }; compset() { :; }; _files() { print -l -- *; }; words=("$@") \
+    "zsh": ["zsh", "-f", "-c", 'compadd() { shift; print -l -- "$@"; }; compset() { :; }; _files() { print -l -- *; }; _describe() { \
+print -l -- "${(@)${(@P)2}%%:*}"; }; words=("$@") \
 CURRENT=$#; source "$0"', f"{TOP}/completions/_cgrlist"],
     "fish": ["fish", "--no-config", "-c", 'source $argv[1]; complete -C "$argv[2..]"', f"{TOP}/completions/cgrlist.fish"],
 }
-FILES = "--plan --names --program --report --requests --choices --explained --html".split()
-CHOICES = {**dict.fromkeys(FILES, ["a plan.txt"]), "--distinct": ["contacts", "entry", "nodes"], "--order": ["link", "route"]}
+FILES = "--plan --session --names --program --report --requests --choices --explained --html".split()
+CHOICES = {**dict.fromkeys(FILES, ["a plan.txt"]), "--distinct": ["contacts", "entry", "nodes"], "--order": ["link", "route"],
+           "--form": ["dtnsim", "hdtn", "ion"], "--first-number": ["0", "1"]}
 
 
 def words_in_table(shell, command):
-    """The words of a command in a shell's table of words, if it has one. A line of the table goes on after a backslash."""
+    """The words of a command in the file of completions of zsh or fish."""
     with open(SHELLS[shell][-1], encoding="utf-8") as file:
-        table = re.sub(r" *\\\n *", " ", file.read())
-    return sorted(re.search(rf"^ *(?:set -l )?{command} (.*)", table, re.M)[1].replace('"', "").split())
+        text = file.read()
+    if shell == "zsh":
+        return sorted(re.findall(r"^ +'(-*[a-z-]+):", re.search(rf"^    {command}\)\n((?: {{8}}.*\n)*)", text, re.M)[1], re.M))
+    where = {"cgrlist": "cgrlist -n __fish_use_subcommand", "help": "cgrlist -n '__fish_seen_subcommand_from help'"}.get(
+        command, command if command.startswith("cgrlist-") else f"cgrlist -n '__fish_seen_subcommand_from {command}'")
+    found = re.findall(rf"^complete -c {where} -(l|a) (?:'([^']*)'|(\S+))", text, re.M)
+    return sorted(f"{'--' * (kind == 'l')}{word}" for kind, words, one in found for word in (words or one).split())
 
 
 def listed(text, pattern):
@@ -105,6 +112,13 @@ def completions_of_the_program(room):
             yield f"{shell}: nothing after {option}", [], room.offered, shell, "cgrlist", "first", option, ""
 
 
+def completions_made(room):
+    room.run("tools/completions", [room.path])
+    for name in ("cgrlist.bash", "_cgrlist", "cgrlist.fish"):
+        with open(f"{TOP}/completions/{name}", encoding="utf-8") as file:
+            yield f"{name} is what tools/completions makes", file.read(), room.read, name
+
+
 def completions_of_the_tools(room):
     help_of = {tool: room.run(f"tools/{tool} --help", COLUMNS="1000").out for tool in TOOLS}
     for shell in SHELLS:
@@ -117,14 +131,16 @@ def completions_of_the_tools(room):
 
             words = sorted(set(options(".*")) - {"-h, "})
             if shell != "bash":
-                yield f"{shell}: the words of {command}, in its table", words, words_in_table, shell, f"(?:{tool}|{command})"
+                yield f"{shell}: the words of {command}, in its table", words, words_in_table, shell, command
             if not shutil.which(shell):
                 continue
             yield f"{shell}: the words of {command}", words, room.offered, shell, command, "--"
             for option in options(r" (?:[A-Z]+|\{.*\}).*"):
                 yield f"{shell}: after {command} {option}", CHOICES.get(option, []), room.offered, shell, command, option, ""
             for option in sorted(set(options("(?: |$)(?: .*)?")) - {"-h, "}):
-                yield f"{shell}: {option} of {command} takes nothing", words, room.offered, shell, command, option, "--"
+                again = [] if shell == "bash" else [option]  # bash offers no option that is given
+                yield (f"{shell}: {option} of {command} takes nothing", sorted({*words} - {option} | {*again}),
+                       room.offered, shell, command, option, "--")
         if shutil.which(shell):
             yield f"{shell}: files after cgrlist-from-ionrc", ["a plan.txt"], room.offered, shell, "cgrlist-from-ionrc", ""
 
@@ -230,4 +246,4 @@ def what_fails(room):
 
 def checks(asked):
     return checks_of("install", Installing(asked.program("cgrlist")), [
-        completions_of_the_program, completions_of_the_tools, the_installation, what_fails])
+        completions_of_the_program, completions_made, completions_of_the_tools, the_installation, what_fails])

@@ -6,7 +6,7 @@ import shutil
 
 from checking import TOP, Room, checks_of, lines_with, parts_of
 
-TOOLS = [f"cgrlist-{name}.1" for name in ("compare", "from-ionrc", "latest", "report", "timeline", "timetable")]
+TOOLS = [f"cgrlist-{name}.1" for name in ("check", "compare", "from-ionrc", "latest", "report", "timeline", "timetable")]
 # Pages that aren't installed aren't found, and the version stands in .Os, where mandoc wants none in a system's own.
 NO_FAULT = " referenced manual not found: | explicitly specified: Os "
 

@@ -29,6 +29,15 @@ def labels(text):
 
 
 class Pictures(Room):
+    """Where no program is asked for routes, a stub checks each plan."""
+
+    def __init__(self):
+        super().__init__()
+        self.checker = self.stub("checker", "#!/bin/sh\n[ $1 = check ]\n")
+
+    def run(self, *words, **further):
+        return super().run(*words, **{"CGRLIST": self.checker, **further})
+
     def draw(self, *words):
         return self.run("tools/timeline", *words).out
 
@@ -300,7 +309,7 @@ list 1 1 2 2030/01/01-00:00:00 5 20000
     os.symlink(ends, f"{room.path}/bin/cgrlist")
     for title, wanted in (("the program in the path", "no route"), ("the program of the clone", ROUTE_1)):
         yield title, wanted, lambda: last_of(room.run(
-            "env cgrlist-timeline --plan", [plan], request, "--count 1 --text", PATH=f"{room.path}/bin:{os.environ['PATH']}").out)
+            "env cgrlist-timeline --plan", [plan], request, "--count 1 --text", CGRLIST="", PATH=f"{room.path}/bin:{os.environ['PATH']}").out)
         os.path.exists(f"{room.path}/share/cgrlist") or os.symlink(program, f"{room.path}/share/cgrlist")
     yield ("no compiled module is left", [], lambda: [
         it for _, _, names in os.walk(f"{room.path}/share/tools") for it in names if it.endswith(".pyc")])
@@ -375,7 +384,9 @@ def what_is_refused(room):
     request = "--from 1 --to 2 --at 2030/01/01-00:00:00 --margin-ppm 5"
     times = "a time is 2031/03/03-01:00:00, 2031-03-03T01:00:00Z, 2031-03-03 01:00, 2031-062, now or now+2h"
     for status, message, *words in (
-        (3, "plan line 3 can't be read: does cgrlist check accept this plan?", "--plan", [unread]),
+        (3, """plan line 3: UnknownCommand
+timeline: hint: plan line 3 is: no plan
+timeline: hint: an ionrc: from_ionrc makes a plan of it; 'A' or 'add': write 'a'; a blank before '#'""", "--plan", [unread]),
         (5, "/nowhere: No such file or directory", "--plan /nowhere"),
         (2, "the following arguments are required: --plan; see --help"),
         (2, f"argument --between: no time of the years 1970 to 9998: 2030; {times}; see --help", plan, "--between 2030 2031"),
@@ -404,8 +415,6 @@ routes; --all draws it so", many),
         (1, "names line 1: it doesn't begin with a node's number: lander 31", plan, ["--names", lander]),
         (1, "names line 2: the node or the name stands in a line above: 2 a", plan, ["--names", twice]),
         (125, "there is no program: looked for /nowhere", plan, request, "--count 1 --program /nowhere"),
-        (1, "the plan is a pipe: the program has to read it again, so give it as a file",
-         "--plan /dev/stdin", request, "--count 1 --program", [program]),
     ):
         wanted = (status, "", f"timeline: {message}\n")
         yield f"refused: {message}, {len(words)}", wanted, lambda: room.run("tools/timeline", *words, given=PLAN)

@@ -1,10 +1,12 @@
 """Hints on standard error, for what a planner may have mistyped. They change no answer and no status."""
 
+import os
 import re
 import shlex
 
 from .errors import FILE_STATUS, Refused
-from .tool import tell
+from .reading import Bad, Reader, lines_in
+from .tool import bytes_of, tell
 
 MOST = 10  # so many hints are told
 SHOWN = 80  # so much of a line
@@ -37,7 +39,9 @@ def tell_all(texts):
 
 
 def check_file(path):
-    """Says why a plan's file can't be read: the program says only that it can't."""
+    """Says why a plan's file can't be read: the program says only that it can't. What isn't a file is left unread."""
+    if os.path.exists(path) and not (os.path.isfile(path) or os.path.isdir(path)) or path == "-":
+        return
     try:
         with open(path, "rb") as file:
             file.read(1)
@@ -46,27 +50,56 @@ def check_file(path):
 
 
 def of_refusal(path, message):
-    """Hints about a plan that the program refuses with a message: the line and its repair, and what other programs leave
-    in a text.
+    """Hints about a plan that the program refuses with a message: the line and its repair, the line with which it doesn't
+    go, and what other programs leave in a text.
     """
-    with open(path, "rb") as file:
-        lines = file.read().split(b"\n")
-    found, of_bytes = re.search(r"plan line (\d+): (\w+)", message), list(_of_bytes(path, lines))
-    if found and int(found[1]) <= len(lines) and not of_bytes:
-        line = lines[int(found[1]) - 1].decode("utf-8", "replace").strip()
-        yield f"plan line {found[1]} is: {line[:SHOWN]}{' ..' if line[SHOWN:] else ''}"
-        yield from filter(None, [REPAIRS.get(found[2])])
-    yield from of_bytes
+    lines, found = lines_in(bytes_of(path)), re.search(r"plan line (\d+): (\w+)", message)
+    if not found or int(found[1]) > len(lines):
+        return [*of_text(lines, path)]
+    bad = Bad(int(found[1]), found[2], lines[int(found[1]) - 1])
+    return of_bad_line(next((it for it in Reader().bad_lines(lines) if it[:2] == bad[:2]), bad), path, lines)
 
 
-def _of_bytes(path, lines):
-    if lines[0].startswith(b"\xef\xbb\xbf"):
-        take_off = rf"sed -i '1s/^\xEF\xBB\xBF//' {shlex.quote(path)}"
-        yield f"plan line 1 begins with a byte order mark; {take_off} takes it off"
-    ends = [place for place, line in enumerate(lines, 1) if line.endswith(b"\r") and not line.startswith(b"#")]
+def of_bad_line(bad, path, lines):
+    """Hints about a bad line, one of some lines of a file, which is None if there is none."""
+    of_all = [*of_text(lines, path or "the plan")]
+    other = [f"plan line {bad.other} is: {shown(lines[bad.other - 1])}"] if bad.other else []
+    return of_all or [f"plan line {bad.place} is: {shown(bad.line)}", *other, REPAIRS[bad.reason]]
+
+
+def shown(line):
+    """The beginning of a line whose characters are bytes."""
+    text = line.encode("latin-1").decode("utf-8", "replace").strip()
+    return f"{text[:SHOWN]}{' ..' if text[SHOWN:] else ''}"
+
+
+FORMS = {  # how files begin that are no plan's text, what they are, and what makes a text of them
+    "\x1f\x8b": "compressed: gzip -dc {} | .. --plan -",
+    "\xfd7zXZ\0": "compressed: xz -dc {} | .. --plan -",
+    "\x28\xb5\x2f\xfd": "compressed: zstd -dc {} | .. --plan -",
+    "BZh": "compressed: bzip2 -dc {} | .. --plan -",
+    "PK\3\4": "a zip archive: unzip -p {} | .. --plan -",
+    "\xff\xfe": "text in UTF-16: iconv -f UTF-16 -t UTF-8 {} | .. --plan -",
+    "\xfe\xff": "text in UTF-16: iconv -f UTF-16 -t UTF-8 {} | .. --plan -",
+    "{": "JSON: if it is HDTN's, from_ionrc --form hdtn {} makes a plan of it",
+    "[": "JSON, which has no plan's lines",
+    "<": "XML, which has no plan's lines",
+}
+
+
+def of_text(lines, path):
+    """Hints about what a plan's text is, if it isn't one."""
+    first, quoted = (lines or [""])[0].lstrip(" \t\r"), shlex.quote(path)
+    form = next((form for begin, form in FORMS.items() if first.startswith(begin)), None)
+    if form:
+        yield f"the plan is {form.format(quoted)}"
+        return
+    if first.startswith("\xef\xbb\xbf"):
+        yield rf"plan line 1 begins with a byte order mark; sed -i '1s/^\xEF\xBB\xBF//' {quoted} takes it off"
+    ends = [place for place, line in enumerate(lines, 1) if line.endswith("\r") and not line.startswith("#")]
     if ends:
         more = f" and {len(ends) - 1} more lines end" if ends[1:] else " ends"
-        yield rf"plan line {ends[0]}{more} with CR and LF; sed -i 's/\r$//' {shlex.quote(path)} takes the CR off"
+        yield rf"plan line {ends[0]}{more} with CR and LF; sed -i 's/\r$//' {quoted} takes the CR off"
 
 
 class Hints:

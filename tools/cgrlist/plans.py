@@ -1,14 +1,16 @@
 """Contact plans as they stand after their last line, and the files that hold them."""
 
-import bisect
 import copy
+import hashlib
 from collections import defaultdict
 from typing import NamedTuple
 
+from . import hints
 from .errors import PLAN_STATUS, Refused
 from .names import Names
-from .times import seconds_of, time_text
-from .tool import lines_of, scratch
+from .reading import Reader, lines_in
+from .times import time_text
+from .tool import bytes_of, scratch
 
 
 class Contact(NamedTuple):
@@ -40,44 +42,8 @@ def links_of(contacts):
     return dict(links)
 
 
-class Ranges:
-    """The ranges that stand, by ordered pair of nodes."""
-
-    def __init__(self):
-        self._windows = defaultdict(dict)  # of each pair, end and light time under the start
-        self._starts = {}
-
-    def add(self, pair, start, end, light):
-        """Adds a range of a pair."""
-        self._windows[pair][start] = end, light
-
-    def delete(self, pair, start):
-        """Takes out the range of a pair with a start."""
-        del self._windows[pair][start]
-
-    def sort(self):
-        """Makes the ranges ready to be asked."""
-        self._starts = {pair: sorted(windows) for pair, windows in self._windows.items()}
-
-    def in_force(self, pair, second):
-        """The light time of a pair's own range at a second, or None."""
-        starts = self._starts.get(pair, [])
-        at = bisect.bisect_right(starts, second) - 1
-        if at < 0:
-            return None
-        end, light = self._windows[pair][starts[at]]
-        return light if second < end else None
-
-    def light(self, sender, receiver, second):
-        """The light time from one node to another at a second, or None: a range for one way alone comes first."""
-        own = self.in_force((sender, receiver), second)
-        if own is None and sender > receiver:
-            return self.in_force((receiver, sender), second)
-        return own
-
-
 class Plan:
-    """What stands after the last line of a plan that `cgrlist check` accepts.
+    """What stands after the last line of a plan's text, its bytes or its lines, which is judged as `cgrlist check` does.
 
     `file` is the path of the plan's text, which the program reads again, and None for a plan made of lines. `names` may
     say names of its nodes. In a notebook the plan shows itself as a table of its contacts and as a picture.
@@ -85,30 +51,37 @@ class Plan:
 
     def __init__(self, lines, file=None, names=None):
         self.file, self.names = file, names or Names()
-        self._given, self._reference = 0, None
-        self._standing, self._ranges = {}, Ranges()
-        for place, line in enumerate(lines, 1):
-            try:
-                self._take(line.split())
-            except (ValueError, KeyError, TypeError, IndexError) as error:
-                message = f"plan line {place} can't be read: does cgrlist check accept this plan?"
-                raise Refused(message, PLAN_STATUS) from error
-        self._ranges.sort()
+        lines, reader = _lines(lines), Reader()
+        for bad in reader.bad_lines(lines):
+            raise Refused(bad.message, PLAN_STATUS, hints=hints.of_bad_line(bad, file, lines))
+        self._ranges = reader.ranges
         self._numbered = {
-            number: Contact(number, start, end, sender, receiver, rate, self._ranges.light(sender, receiver, start))
-            for (start, sender, receiver), (number, end, rate) in self._standing.items()
+            it.number: Contact(it.number, start, it.end, *link, it.rate, self._ranges.light(*link, start))
+            for (start, *link), it in reader.contacts.items()
         }
-        del self._standing, self._ranges
 
     @classmethod
     def from_file(cls, path, names=None):
         """Reads the plan of a file; the names may be a file's path, too."""
-        return cls(lines_of(path), path, names if isinstance(names, Names) else Names.from_file(names))
+        return cls(bytes_of(path), path, names if isinstance(names, Names) else Names.from_file(names))
 
     @property
     def contacts(self):
         """The contacts that stand, by number."""
         return [self._numbered[number] for number in sorted(self._numbered)]
+
+    @property
+    def range_count(self):
+        """How many ranges stand."""
+        return self._ranges.count
+
+    @property
+    def digest(self):
+        """The digest of what stands, as `cgrlist check` prints it."""
+        lines = ["cgr-plan 1"]
+        lines += (f"c {it.number} {it.start} {it.end} {it.sender} {it.receiver} {it.rate}" for it in self.contacts)
+        lines += (f"r {one} {other} {it.start} {it.end} {it.light}" for (one, other), it in self._ranges)
+        return hashlib.sha256("".join(f"{line}\n" for line in [*lines, "end"]).encode()).hexdigest()
 
     def links(self):
         """The contacts of each link by start; the links by sender and receiver."""
@@ -164,39 +137,12 @@ class Plan:
 
         return showing.plan_svg(self)
 
-    def _time(self, word):
-        return self._reference + int(word) if word.startswith("+") else seconds_of(word)
 
-    def _take(self, words):
-        if not words or words[0].startswith("#"):
-            return
-        if words[0] == "@":
-            self._reference = seconds_of(words[1])
-        else:
-            _TAKES[words[0], words[1]](self, self._time(words[2]), words[3:])
-
-    def _add_contact(self, start, words):
-        self._given += 1
-        end, (sender, receiver, rate) = self._time(words[0]), map(int, words[1:])
-        self._standing[start, sender, receiver] = self._given, end, rate
-
-    def _add_range(self, start, words):
-        one, other, light = map(int, words[1:])
-        self._ranges.add((one, other), start, self._time(words[0]), light)
-
-    def _delete_contact(self, start, words):
-        del self._standing[start, int(words[0]), int(words[1])]
-
-    def _delete_range(self, start, words):
-        self._ranges.delete((int(words[0]), int(words[1])), start)
-
-
-_TAKES = {  # what takes a line, by its first words
-    ("a", "contact"): Plan._add_contact,
-    ("a", "range"): Plan._add_range,
-    ("d", "contact"): Plan._delete_contact,
-    ("d", "range"): Plan._delete_range,
-}
+def _lines(lines):
+    """The lines of a plan's text, in which each character is a byte."""
+    if isinstance(lines, bytes):
+        return lines_in(lines)
+    return [it if it.isascii() else it.encode("utf-8", "replace").decode("latin-1") for it in lines]
 
 
 def with_lines(file, lines):

@@ -9,43 +9,33 @@ import sys
 import threading
 from dataclasses import dataclass, replace
 
-from . import hints
+from . import clone, hints
 from .errors import PLAN_STATUS, REQUESTS_STATUS, START_STATUS, Refused
 from .plans import with_lines
 from .routes import Fault, followed, parts_of, whole_report_of
 from .tool import Tool, in_order, processors, scratch
 
-CLONE = os.path.dirname(os.path.dirname(os.path.dirname(os.path.realpath(__file__))))  # if the package stands in one
-SCRIPT = os.path.join(CLONE, "cgrlist")
-BUILT = os.path.join(CLONE, "crates/cgrlist/out/cgrlist")  # what the script runs if it is current
 MOST = 10000  # routes that the program gives at a time
 LISTS = 2500  # of contacts that a run follows, so that several processors share many
 
 _PROCESSES = threading.BoundedSemaphore(processors())  # no more of them run at a time
-_WITHOUT_TRIAL = {**os.environ, "CGRLIST_TRIAL": "no"}  # the clone's script then runs the proved program or none
 
 
 # ---- Runs -------------------------------------------------------------------------------------------------------
 
 
 @functools.lru_cache(maxsize=None)
-def program_path(given=None):
-    """The program that is given, or that of the clone in which the package stands, or the one in the path."""
-    places = [SCRIPT, "cgrlist"] if given is None else [given]
+def program_path(given=None, with_trial=True):
+    """The program that is given, or that of the clone in which the package stands, or the one in the path. Where the clone's
+    isn't built, a trial answers if that is wanted.
+    """
+    places = [clone.SCRIPT, "cgrlist"] if given is None else [given]
     path = next(filter(None, map(shutil.which, places)), None)
     if not path:
-        elsewhere = f"{SCRIPT} and for cgrlist in the path; --program names another place"
+        elsewhere = f"{clone.SCRIPT} and for cgrlist in the path; --program or CGRLIST names another place"
         looked = elsewhere if given is None else given or "''"
         raise Refused(f"there is no program: looked for {looked}", START_STATUS)
-    return _built(path) if path == SCRIPT and os.access(BUILT, os.X_OK) else path
-
-
-def _built(script):
-    """The program that a clone's script runs, which takes a while to find that it is current."""
-    status, _, told = _ran([script, "--version"])
-    if status == START_STATUS:
-        raise Refused(told, START_STATUS, is_told=True)
-    return BUILT
+    return clone.program(with_trial) if path == clone.SCRIPT else path
 
 
 def _ran(words, files=()):
@@ -53,7 +43,7 @@ def _ran(words, files=()):
     how = {"stdout": subprocess.PIPE, "stderr": subprocess.PIPE, "text": True, "errors": "replace"}
     with _PROCESSES:
         try:
-            process = subprocess.Popen(words, env=_WITHOUT_TRIAL, pass_fds=files, **how)
+            process = subprocess.Popen(words, pass_fds=files, **how)
         except OSError as error:
             raise Refused(f"cannot start {words[0]}: {error.strerror}", START_STATUS) from error
         Tool.children.add(process)

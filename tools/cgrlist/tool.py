@@ -36,10 +36,25 @@ def scratch():
     return os.path.join(Tool.folder.name, f"{os.getpid()}-{next(Tool.counted)}")  # a worker may have its parent's folder
 
 
+def bytes_of(path):
+    """The bytes of a file, or of standard input for `-`."""
+    with open("/dev/stdin" if path == "-" else path, "rb") as file:
+        return file.read()
+
+
 def lines_of(path):
     """The lines of a file, without their line feeds."""
-    with open(path, encoding="utf-8", errors="replace", newline="\n") as file:
-        return file.read().split("\n")
+    return bytes_of(path).decode("utf-8", "replace").split("\n")
+
+
+def kept_file(path):
+    """The path of a file that can be read more than once: of a copy, if it is a pipe or standard input."""
+    if path != "-" and (os.path.isfile(path) or os.path.isdir(path) or not os.path.exists(path)):
+        return path
+    data, copy = bytes_of(path), scratch()
+    with open(copy, "wb") as file:
+        file.write(data)
+    return copy
 
 
 def tell(message):
@@ -185,7 +200,7 @@ def _keep_what_was_found():
 def _give_up(refused):
     """Ends a tool, with one line that says why, unless it was printed already."""
     if refused.is_told:
-        sys.stderr.write(refused.message)
+        sys.stderr.write(refused.message.rstrip("\n") + "\n")
     elif refused.message is not None:
         tell(refused.message)
     for hint in refused.hints:

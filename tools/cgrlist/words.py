@@ -10,18 +10,20 @@ A tool reads its words and what they ask for as follows; a bad word is refused i
 
 import argparse
 import functools
+import os
 import re
 from concurrent.futures import ThreadPoolExecutor
-from pathlib import Path
 
 from . import hints
-from .errors import WORDS_STATUS, Refused
+from .errors import START_STATUS, WORDS_STATUS, Refused
 from .names import Names
 from .plans import Plan
 from .program import Program, program_path
 from .routes import Request
-from .times import TIMES, iso_text, time_of, time_text
-from .tool import Tool
+from .tables import CSV, JSON, TEXT, Spelling
+from .times import TIMES, iso_text, sheet_text, time_of, time_text
+from .tool import Tool, kept_file
+from .version import VERSION
 
 # ---- The parser -------------------------------------------------------------------------------------------------
 
@@ -55,6 +57,7 @@ class Words(argparse.ArgumentParser):
         self.register("action", None, Once)
         self.register("action", "store_true", Flag)
         self.register("action", "store_const", Flag)
+        self.add_argument("--version", action="version", version=f"{Tool.name} {VERSION}", help="print the version")
 
     def error(self, message):
         """Refuses the words."""
@@ -86,14 +89,35 @@ def numbers_word(text):
     return sorted(set(map(int, text.split(","))))
 
 
+def add_plan_word(parser):
+    """Adds the plan to a parser of the command line."""
+    plan = os.environ.get("CGRLIST_PLAN") or None
+    parser.add_argument("--plan", default=plan, required=not plan, metavar="F", help="the plan's file, or - for standard input")
+
+
 def add_plan_words(parser):
     """Adds the words about the plan, the program and the way to print to a parser of the command line."""
-    places = "if not given, the clone's script cgrlist, or else the one in the path"
-    parser.add_argument("--plan", required=True, metavar="F", help="the plan's file")
+    add_plan_word(parser)
     parser.add_argument("--without", type=numbers_word, metavar="LIST", help="contacts that are lost, by number")
-    parser.add_argument("--names", metavar="FILE", help="names of nodes: lines as '31 lander'; '#' begins a comment")
+    add_further_words(parser)
+
+
+def add_further_words(parser):
+    """Adds the words about names, times and the program."""
+    names = {"default": os.environ.get("CGRLIST_NAMES") or None, "metavar": "FILE"}
+    parser.add_argument("--names", **names, help="names of nodes: lines as '31 lander'; '#' begins a comment")
     parser.add_argument("--iso", action="store_true", help="print times as 2031-03-03T01:00:00Z")
+    places = "if not given, the clone's script cgrlist, or else the one in the path"
     parser.add_argument("--program", metavar="P", help=f"the program; {places}")
+
+
+def add_form_words(parser):
+    """Adds the words that choose the form of a table."""
+    form = parser.add_mutually_exclusive_group()
+    form.add_argument("--csv", dest="form", action="store_const", const=CSV, help="comma-separated values")
+    form.add_argument("--json", dest="form", action="store_const", const=JSON, help="JSON")
+    parser.set_defaults(form=TEXT)
+    return form
 
 
 def add_request_words(parser, required=(), without=()):
@@ -114,6 +138,11 @@ def node_word(parser, names, word, text):
         return names.node(text)
     except ValueError as error:
         return parser.error(f"argument --{word}: {error}")
+
+
+def named_program(words):
+    """The program that the words or the environment name; None if they don't."""
+    return words.program if words.program is not None else os.environ.get("CGRLIST") or None
 
 
 class Asked:
@@ -139,6 +168,16 @@ class Asked:
         words = vars(self.words)
         return Request(words["from"], words["to"], words["at"] if at is None else at, **self.limits)
 
+    def request_or_none(self):
+        """The request, if the words have a whole one."""
+        return self.request() if None not in map(vars(self.words).get, ("from", "to", "at")) else None
+
+    @functools.cached_property
+    def spelling(self):
+        """How values are spelled in the form that the words ask for."""
+        is_sheet = getattr(self.words, "form", TEXT) == CSV and not self.words.iso
+        return Spelling(self.names, sheet_text if is_sheet else self.time_text, lambda: self.plan.contacts)
+
     @property
     def limits(self):
         """The limits of the request."""
@@ -146,22 +185,37 @@ class Asked:
         return {"margin_ppm": words.margin_ppm, "max_hops": words.max_hops, "avoid": tuple(words.avoid)}
 
     @functools.cached_property
+    def plan_file(self):
+        """The path of the plan's text, which can be read more than once."""
+        hints.check_file(self.words.plan)
+        return kept_file(self.words.plan)
+
+    @functools.cached_property
     def program(self):
         """The program over the plan without the contacts that are lost."""
-        if Path(self.words.plan).is_fifo():
-            raise Refused("the plan is a pipe: the program has to read it again, so give it as a file")
-        hints.check_file(self.words.plan)
         self._reading  # begins now, beside the program's first run
-        program = Program(program_path(self.words.program), self.words.plan)
-        if not self.words.without:
+        program = Program(program_path(named_program(self.words)), self.plan_file)
+        if not getattr(self.words, "without", None):
             return program
         program.check()
         return Program(program.path, self.plan.file)
 
+    def is_plan_checked(self):
+        """Whether there is a program, not a trial, which then accepts the plan. One that is named has to be there."""
+        named = named_program(self.words)
+        try:
+            path = program_path(named, with_trial=False)
+        except Refused as refused:
+            if refused.status != START_STATUS or named is not None:
+                raise
+            return False
+        Program(path, self.plan_file).check()
+        return True
+
     @functools.cached_property
     def plan(self):
         """The plan without the contacts that are lost. Ask the program first: it says more if it refuses the plan."""
-        return self._whole_plan.without(self.words.without) if self.words.without else self._whole_plan
+        return self._whole_plan.without(self.words.without) if getattr(self.words, "without", None) else self._whole_plan
 
     @property
     def lost(self):
@@ -174,7 +228,7 @@ class Asked:
 
     @functools.cached_property
     def _reading(self):
-        return ThreadPoolExecutor(1).submit(Plan.from_file, self.words.plan, self.names)
+        return ThreadPoolExecutor(1).submit(Plan.from_file, self.plan_file, self.names)
 
     @property
     def plan_after_check(self):

@@ -1,16 +1,21 @@
-"""Makes a plan that `cgrlist check` accepts from files that ION's ionadmin reads.
+"""Makes a plan that `cgrlist check` accepts from files that ION's ionadmin reads, or of HDTN or DtnSim.
 
     tools/from_ionrc [--reference T] FILE.. > plan.txt
+    tools/from_ionrc --form hdtn --reference T FILE.. > plan.txt
+    tools/from_ionrc --form dtnsim --reference T FILE.. > plan.txt
 
 All contacts and ranges go into the one plan, in the order of the files and of their lines, with absolute times.
 T is the time from which each file counts relative times until its first line `@`: 2031/03/03-01:00:00 or now, as other
 tools take it. ION takes the moment at which it reads the file. What is left out stands in the plan as a comment that
 says why. Standard error has a line for each file: what was taken, and what was left out, regions and confidences too if
-there are any.
+there are any. `c contact` changes the rate of a contact, which gets a new number. FILE may be - for standard input.
+
+A plan of HDTN is JSON. Each contact has a light time of its own, and contact 0 there is contact 1 here. In a plan of
+DtnSim, which has ION's lines, light takes no time over a link that has no range.
 
 Status 0: done. 1: a line was left out that may be about a contact or a range, or names a file of them that isn't given,
-or a file adds nothing to the plan; a message names each such line. 2: the words can't be used. 5: a file can't be read,
-and no plan is written, or writing failed.
+or a file adds nothing to the plan; a message names each such line; with --lenient the status is 0. 2: the words can't
+be used. 5: a file can't be read, and no plan is written, or writing failed.
 """
 
 import os
@@ -22,16 +27,15 @@ from dataclasses import dataclass
 from itertools import groupby
 
 from ..errors import Refused
+from ..hdtn import lines_of_hdtn
+from ..reading import GREATEST, LIGHT, LINE, LINES, MOST
 from ..times import LAST, seconds_of, time_text
-from ..tool import run_tool, tell
+from ..tool import bytes_of, run_tool, tell
 from ..words import Words, time_word
 
-NODES = range(1, 2**64)
-RATES = range(2**64)
-LIGHTS = range(1000001)
-MOST = 20000  # contacts that a plan can give, and ranges that can stand in it at a time
-LINES = 1000000  # of a plan
-LINE = 255  # bytes of a plan's line
+NODES = range(1, GREATEST + 1)
+RATES = range(GREATEST + 1)
+LIGHTS = range(LIGHT + 1)
 
 
 # ---- Lines that are left out ------------------------------------------------------------------------------------
@@ -242,6 +246,22 @@ class Plan:
             self._add("range", pair, piece, piece.light)
         return len(pieces)
 
+    def change_rate(self, pair, start, rate):
+        """Gives a contact another rate, and so another number."""
+        window = Window(start, self.contacts[pair][start][0])
+        self.delete("contact", pair, start)
+        self.add_contact(pair, window, rate)
+
+    def add_missing_ranges(self):
+        """Adds a range without light time for each pair of nodes that has contacts and no range."""
+        spans = {}
+        for pair, standing in self.contacts.items():
+            if standing and not any(self.ranges[key].standing for key in (pair, pair[::-1]) if key in self.ranges):
+                spans.setdefault(tuple(sorted(pair)), []).extend((start, end) for start, (end, _) in standing.items())
+        for pair, windows in spans.items():
+            starts, ends = zip(*windows)
+            self.add_range(pair, Window(min(starts), max(ends)))
+
     def starts(self, kind, pair):
         """The starts of the lines of a pair that can be deleted."""
         return self.contacts[pair].keys() if kind == "contact" else self.ranges[pair].pieces.keys()
@@ -290,6 +310,7 @@ class Reader:
             ("a", "range"): self._add_range,
             ("d", "contact"): self._delete_contact,
             ("d", "range"): self._delete_range,
+            ("c", "contact"): self._change_contact,
         }
 
     def read(self, line):
@@ -312,7 +333,7 @@ class Reader:
         if words[0] == "@":
             self._set_reference(words[1:])
             return
-        name = {"add": "a", "del": "d", "delete": "d"}.get(words[0], words[0])
+        name = {"add": "a", "del": "d", "delete": "d", "change": "c"}.get(words[0], words[0])
         command = self.commands.get((name, words[1] if len(words) > 1 else ""))
         if not command:
             raise why_no_command(line, self.given)
@@ -366,6 +387,16 @@ class Reader:
         pair, light = pair_of(words[2:4]), number(words[4], LIGHTS, "light time")
         self.counts["ranges"] += self.plan.add_range(pair, self._window(words[:2], light))
 
+    def _change_contact(self, words):
+        if not 4 <= len(words) <= 5:
+            raise Unclear("not four words, or five with a confidence")
+        pair, start = pair_of(words[1:3]), self._time(words[0])
+        if start not in self.plan.starts("contact", pair):
+            raise Unclear("nothing of the kind stands")
+        self.plan.change_rate(pair, start, number(words[3], RATES, "rate"))
+        self.counts["changes"] += 1
+        self.counts["confidences"] += len(words) > 4
+
     def _delete_contact(self, words):
         self._delete("contact", words)
 
@@ -393,7 +424,7 @@ def foreign_form(data):
     if b"\0" in data:
         return "it has NUL bytes, so it is no text, or text in UTF-16, which must be saved in UTF-8"
     if data.lstrip()[:1] in (b"{", b"[", b"<"):
-        return "it is JSON or XML, which ionadmin doesn't read"
+        return "it is JSON or XML, which ionadmin doesn't read; --form hdtn reads a plan of HDTN"
     return None
 
 
@@ -414,6 +445,7 @@ def lines_text(numbers):
 def summary(counts):
     """What was taken of a file and what was left out, by kinds; some kinds are told only if there are any."""
     taken = [f"{kind} {counts[kind]}" for kind in ("contacts", "ranges", "deletions")]
+    taken += [f"changes {counts['changes']}"] * (counts["changes"] > 0)
     left_out = [f"{kind} {counts[kind]}" for kind in ("loopbacks", "repeated", "unclear", "other lines")]
     left_out += [f"{kind} {counts[kind]}" for kind in ("regions", "confidences") if counts[kind]]
     return f"{', '.join(taken)}; left out: {', '.join(left_out)}"
@@ -422,8 +454,8 @@ def summary(counts):
 class Filter:
     """Reads files into one plan, and keeps what is to be said about them."""
 
-    def __init__(self, reference, given):
-        self.reference, self.given = reference, given
+    def __init__(self, reference, given, form="ion"):
+        self.reference, self.given, self.form = reference, given, form
         self.plan = Plan()
         self.reports = defaultdict(lambda: defaultdict(list))  # the lines of each file, by what is reported of them
         self.summaries = []
@@ -433,8 +465,9 @@ class Filter:
         counted = "no reference given" if self.reference is None else f"relative times from {time_text(self.reference)}"
         self.plan.comment(f"# from {os.path.basename(name)}, {counted}")
         reader, data = Reader(self.plan, self.reference, self.given), data.removeprefix(b"\xef\xbb\xbf")
-        foreign = foreign_form(data)
-        if foreign:
+        if self.form == "hdtn":
+            self._read_hdtn(name, data, reader)
+        elif foreign := foreign_form(data):
             self.plan.comment(f"# left out, {foreign}")
             self._report(foreign, name)
         else:
@@ -452,6 +485,26 @@ class Filter:
                 self._report(f"{why}"[:LINE] + why.advice, name, place)
         if not any(reader.counts[kind] for kind in ("contacts", "ranges", "deletions", "repeated", "unclear")):
             self._report("it adds no contact and no range", name)
+
+    def _read_hdtn(self, name, data, reader):
+        """Reads the contacts of HDTN's JSON. What is left out gives those after it other numbers, so it is reported."""
+        try:
+            lines = list(lines_of_hdtn(data))
+        except ValueError as error:
+            self._report(f"no contact plan of HDTN: {error}", name)
+            return
+        for line in lines:
+            why = reader.read(line)
+            if why and not isinstance(why, Repeated):
+                self._report(f"{why}, so contacts after it have other numbers: {line}"[:LINE], name)
+            elif why and line.startswith("a contact"):
+                self._report(f"the contact stands twice, so contacts after it have other numbers: {line}", name)
+
+    def end(self):
+        """Ends the plan, after the last file."""
+        if self.form == "dtnsim":
+            self.plan.add_missing_ranges()
+        self.check_length()
 
     def check_length(self):
         """Reports a plan that has too many lines."""
@@ -473,28 +526,27 @@ def read_words():
     """The words of the command line."""
     words = Words(__doc__)
     words.add_argument("--reference", type=time_word, metavar="T", help="from when relative times count")
-    words.add_argument("files", nargs="+", metavar="FILE", help="what ionadmin reads")
-    return words.parse_args()
-
-
-def bytes_of(path):
-    """The bytes of a file."""
-    with open(path, "rb") as file:
-        return file.read()
+    words.add_argument("--form", choices=("ion", "hdtn", "dtnsim"), default="ion", help="whose files these are; ION's if not given")
+    words.add_argument("--lenient", action="store_true", help="status 0 though lines are left out")
+    words.add_argument("files", nargs="+", metavar="FILE", help="what ionadmin reads, or a plan of that form")
+    given = words.parse_args()
+    if given.form != "ion" and given.reference is None:
+        words.error(f"--form {given.form} needs --reference, from when all times count")
+    return given
 
 
 def tool():
     words = read_words()
     files = [(name, bytes_of(name)) for name in words.files]
-    made = Filter(words.reference, words.files)
+    made = Filter(words.reference, words.files, words.form)
     for name, data in files:
         made.read(name, data)
-    made.check_length()
+    made.end()
     for message in made.messages():
         tell(message)
     sys.stdout.writelines(f"{line}\n" for line in made.plan.lines)
     sys.stdout.flush()
-    if made.reports:
+    if made.reports and not words.lenient:
         raise Refused(None)
     return ""
 

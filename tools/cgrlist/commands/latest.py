@@ -4,6 +4,7 @@
     tools/latest .. --without LIST  as if these contacts were lost; the others keep their numbers
     tools/latest .. --names FILE    the route's nodes by their names, which can be given in place of numbers, too
     tools/latest .. --iso           times as 2030-01-01T02:47:22Z
+    tools/latest .. --json          JSON, with the route's nodes and the question
 
 It prints that second, and the best route from then on, as `cgrlist first` prints it. A delivery at T is in time. The
 `until` of a report isn't that second: it is the earliest end among a route's contacts, which is often later.
@@ -20,12 +21,16 @@ Status 0: there is such a second. 1: there is none, and one line names the best 
 can't be used. 125: there is no program. Any other status is the program's, as its message is.
 """
 
+import json
 import sys
 from dataclasses import dataclass, replace
 
 from ..errors import WORDS_STATUS, Refused
+from ..forms import ROUTE, route_row
 from ..program import Program
 from ..routes import Request, Route
+from ..tables import JSON, TEXT, about, json_of
+from ..times import iso_text
 from ..tool import run_tool
 from ..words import Asked, Words, add_plan_words, add_request_words, time_word
 
@@ -94,7 +99,18 @@ def read_words():
     parser.add_argument("--after", default=0, **time, help="no second before T; 1970 if not given")
     add_plan_words(parser)
     add_request_words(parser, required=("from", "to"), without=("at",))
+    json_word = {"dest": "form", "action": "store_const", "const": JSON, "default": TEXT}
+    parser.add_argument("--json", **json_word, help="JSON: the second, its route and the question")
     return Asked(parser)
+
+
+def answer_json(asked, question, start, is_found):
+    """The answer as JSON. Without a second that is in time, the route is the best one from the first second on."""
+    how, route = asked.spelling, start.route and asked.plan.with_nodes(start.route)
+    columns = {field: kind for field, kind in ROUTE.items() if field not in ("room", "send_by")}
+    row = route and json_of(columns, route_row(route), how)
+    told = {"latest": iso_text(start.second) if is_found else None, "by": iso_text(question.deadline), "route": row}
+    return json.dumps({**told, **about(how, asked.plan, question.request)}) + "\n"
 
 
 def answer(asked):
@@ -102,9 +118,12 @@ def answer(asked):
     question = Question(asked.program, asked.request(asked.words.after), asked.words.by)
     earliest = question.start_at(asked.words.after)
     asked.tell_hints([question.request])
-    if not question.is_in_time(earliest):
+    is_found = question.is_in_time(earliest)
+    latest = question.latest_start(earliest) if is_found else earliest
+    if asked.words.form == JSON:
+        return answer_json(asked, question, latest, is_found), is_found
+    if not is_found:
         return none_text(earliest, asked.time_text), False
-    latest = question.latest_start(earliest)
     text = start_text(latest, asked.time_text)
     if asked.words.names:
         text += nodes_text(latest.route, asked.plan, asked.names)

@@ -57,19 +57,16 @@ import shutil
 import sys
 import tempfile
 
-from .. import forms
+from ..choosing import JUDGING, add_judging_words, choices_text
 from ..errors import WORDS_STATUS, Refused
 from ..forms import Form
 from ..listing import add_choice_words, added, check_choice_words, is_counted, listing_of, pages_of, tell_looked
-from ..lost import choices, choices_of, losses
+from ..lost import losses
 from ..requests import parts_of, requests_of
-from ..routes import Fault, whole_report_of
-from ..tables import Table
-from ..times import iso_text, sheet_text, time_text
+from ..routes import whole_report_of
+from ..tables import NUMBER, NUMBERS, PATH, TIME, Table, about
 from ..tool import Progress, Tool, in_order, lines_of, run_tool, tell
-from ..words import Asked, Words, add_plan_words, add_request_words
-
-TABLE, CSV, JSON = forms.table_text, forms.csv_text, forms.json_text
+from ..words import Asked, Words, add_form_words, add_plan_words, add_request_words
 
 
 # ---- Answers ----------------------------------------------------------------------------------------------------
@@ -96,7 +93,7 @@ def only_answer(asked):
 def tell_how_to_go_on(words, pages):
     """Tells how the list of all routes goes on after the last page, and keeps the text of its session."""
     session = getattr(pages, "session", None)
-    if session and not words.without:
+    if session and not words.without and os.path.isfile(words.plan):
         kept, path = tempfile.mkstemp(prefix="cgrlist-", suffix=".session")
         os.close(kept)
         shutil.copyfile(session, path)
@@ -106,10 +103,9 @@ def tell_how_to_go_on(words, pages):
 
 def answers_of(asked):
     """The answers to the requests of a file, each a request and a listing, in their order and as they come."""
-    path = "/dev/stdin" if asked.words.requests == "-" else asked.words.requests
-    lines = requests_of(lines_of(path), asked.names, asked.limits)
+    lines = requests_of(lines_of(asked.words.requests), asked.names, asked.limits)
     if not lines:
-        raise Refused(f"there is no request in {path}", WORDS_STATUS)
+        raise Refused(f"there is no request in {asked.words.requests}", WORDS_STATUS)
     asked.program.check()  # so that a plan is refused once
     listings, progress = [], Progress()
     for answers in in_order(functools.partial(part_answered, asked), parts_of(lines, is_counted(asked.words))):
@@ -138,29 +134,14 @@ def line_answered(asked, line, add):
         return listing_of(asked, pages_of(asked, line.request), add).read()
     except Refused as refused:
         if refused.is_told:
-            sys.stderr.write(refused.message)
+            sys.stderr.write(refused.message.rstrip("\n") + "\n")
         message = "it is refused" if refused.is_told else refused.message
         raise Refused(f"requests line {line.place}: {message}", refused.status) from refused
 
 
 # ---- Lost contacts, and a router's choices ----------------------------------------------------------------------
 
-LOSS_SIDES = {
-    "lost": str.rjust,
-    "link": str.ljust,
-    "delivery": str.ljust,
-    "later": str.rjust,
-    "contacts": str.ljust,
-    "nodes": str.ljust,
-}
-CHOICE_SIDES = {
-    "line": str.rjust,
-    "rank": str.rjust,
-    "delivery": str.ljust,
-    "later": str.rjust,
-    "contacts": str.ljust,
-    "fault": str.ljust,
-}
+LOSS = {"lost": NUMBER, "link": PATH, "delivery": TIME, "later": NUMBER, "contacts": NUMBERS, "nodes": PATH}
 
 
 def losses_table(asked):
@@ -168,29 +149,17 @@ def losses_table(asked):
     request, plan = asked.request(), asked.plan_after_check
     routes = listing_of(asked, pages_of(asked, request)).routes()
     best = next((route for route in routes if route.rank == 1), None) or next(iter(asked.program.first(request, 1)), None)
-    spelled, rows = time_form(asked.words), []
-    for it in losses(asked.program, plan, request, routes):
-        told = [it.contact, plan.path_text(plan.contact(it.contact).link)]
-        if it.route:
-            told += [spelled(it.route.delivery), it.route.delivery - best.delivery, " ".join(map(str, it.route.contacts))]
-        rows.append([*told, plan.path_text(it.route.nodes)] if it.route else [*told, None, None, None, None])
+    rows = [loss_row(it, plan, best) for it in losses(asked.program, plan, request, routes)]
     asked.tell_hints([request])
-    return Table(LOSS_SIDES, rows)
+    return Table(LOSS, [rows], asked.spelling, "lost", lambda: about(asked.spelling, plan, request))
 
 
-def choices_table(asked):
-    """A table of the lists of contacts that a router chose."""
-    request, plan, spelled, rows = asked.request(), asked.plan_after_check, time_form(asked.words), []
-    best = next(iter(asked.program.first(request, 1)), None)
-    for it in choices(asked.program, request, choices_of(lines_of(asked.words.choices), plan)):
-        contacts = " ".join(map(str, it.contacts))
-        if isinstance(it.told, Fault):
-            rows.append([it.place, None, None, None, contacts, it.told.text.removeprefix("refused").strip(" :")])
-        else:
-            delivery = it.told.delivery
-            rows.append([it.place, it.rank, spelled(delivery), delivery - best.delivery, contacts, None])
-    asked.tell_hints([request])
-    return Table(CHOICE_SIDES, rows)
+def loss_row(loss, plan, best):
+    """The values of a lost contact."""
+    told = [loss.contact, plan.contact(loss.contact).link]
+    route = loss.route
+    others = [route.delivery, route.delivery - best.delivery, route.contacts, route.nodes] if route else [None] * 4
+    return dict(zip(LOSS, [*told, *others]))
 
 
 # ---- The command line -------------------------------------------------------------------------------------------
@@ -207,12 +176,10 @@ def read_words():
     parser.add_argument("--hops", action="store_true", help="each hop, too")
     parser.add_argument("--room", action="store_true", help="how many bytes fit, too")
     parser.add_argument("--choices", metavar="G", help="a router's choices, a line each, in place of --count or --by")
+    add_judging_words(parser)
     parser.add_argument("--lost", action="store_true", help="for each contact of the routes, what is best if it is lost")
     parser.add_argument("--send-by", action="store_true", help="the last second at the source for these contacts, too")
-    form = parser.add_mutually_exclusive_group()
-    form.add_argument("--csv", dest="form", action="store_const", const=CSV, help="comma-separated values")
-    form.add_argument("--json", dest="form", action="store_const", const=JSON, help="JSON")
-    parser.set_defaults(form=TABLE)
+    add_form_words(parser)
     asked = Asked(parser)
     check_words(parser, asked.words)
     return asked
@@ -225,6 +192,9 @@ def check_words(parser, words):
     missing = [name for name in request if name not in given]
     if words.requests and (given or words.report):
         parser.error("--requests takes the place of --from, --to, --at and --report")
+    judging = [f"--{name.replace('_', '-')}" for name in JUDGING if vars(words)[name]]
+    if judging and not words.choices:
+        parser.error(f"these words need --choices: {', '.join(judging)}")
     if words.choices or words.lost:
         check_table_words(parser, words, missing)
         return
@@ -245,31 +215,29 @@ def check_words(parser, words):
 def check_table_words(parser, words, missing):
     """Refuses words that don't go with --lost or --choices."""
     if words.requests or words.report or words.hops or words.room or words.send_by or (words.lost and words.choices):
-        parser.error("--lost and --choices are for one request, and don't go with each other, --hops, --room or --send-by")
-    missing = [*missing, *(["--count or --by"] if words.lost and not words.count and words.by is None else [])]
+        parser.error("--lost and --choices don't go with each other, nor with --requests, --report, --hops, --room or --send-by")
+    if words.choices:
+        missing = [] if len(missing) == 3 else missing
+    elif not words.count and words.by is None:
+        missing = [*missing, "--count or --by"]
     if missing:
         parser.error(f"these words are missing: {', '.join(missing)}")
     if words.choices and (words.count or words.by is not None or words.via or words.fits or words.distinct):
         parser.error("--choices takes the place of --count, --by, --via, --fits and --distinct")
-    check_choice_words(parser, words)
-
-
-def time_form(words):
-    """The function that spells times."""
-    if words.iso:
-        return iso_text
-    return sheet_text if words.form == CSV else time_text
+    if not words.choices:
+        check_choice_words(parser, words)
 
 
 def tool():
     """The answers' text, in the form that is asked for, in pieces."""
     asked = read_words()
     words = asked.words
-    if words.lost or words.choices:
-        table = losses_table(asked) if words.lost else choices_table(asked)
-        return {TABLE: table.text, CSV: table.csv, JSON: table.json}[words.form]()
+    if words.choices:
+        return choices_text(asked)
+    if words.lost:
+        return losses_table(asked).pieces(words.form)
     answers = only_answer(asked) if words.requests is None else answers_of(asked)
-    return words.form(answers, Form(asked, time_form(words), words.hops, words.room, words.send_by))
+    return Form(asked, words.hops, words.room, words.send_by).pieces(words.form, answers)
 
 
 def main():

@@ -17,7 +17,8 @@
     tools/timeline .. --text [--columns N]     the same as text
     tools/timeline .. --html H                 a page to touch: the file H, which needs no network and no server; `-`
                                                is standard output
-    tools/timeline --plan F --list             each contact with its number, one a line
+    tools/timeline --plan F --list [--csv|--json]
+                                               each contact with its number, one a line
 
 Each option may go with the others. With routes, only the links that they use are shown, those of the first route first
 and in its order, and so on, as if --used and --order route were given. --links and --nodes choose among all links, and
@@ -49,17 +50,19 @@ from ..drawing.axis import Span
 from ..drawing.page import MOST_ROUTES, Lost, Page, Starts, Told
 from ..drawing.picture import LINE, MOST, Picture
 from ..drawing.scene import Choice, View
-from ..drawing.text import Text, list_text
+from ..drawing.text import Text
 from ..errors import FILE_STATUS, WORDS_STATUS, Refused
 from ..listing import add_choice_words, added, check_choice_words, listing_of, pages_of, tell_looked
 from ..lost import losses
 from ..routes import Answer, explained_routes, report_of
+from ..tables import JSON, NODE, NUMBER, PATH, TEXT, TIME, Table, about
 from ..times import DAY
 from ..tool import Tool, lines_of, run_tool
-from ..words import Asked, Words, add_plan_words, add_request_words, time_word
+from ..words import Asked, Words, add_form_words, add_plan_words, add_request_words, time_word
 
 STARTS = 720  # so many seconds at the source are asked for, at most
 NEEDED = ("from", "to", "at")  # the words that a request has to have
+NOT_CHECKED = "cgrlist did not check this plan: there is no program"
 OTHERS = ("margin-ppm", "max-hops", "avoid", "via", "fits", "distinct", "look")  # words that go with a request
 
 
@@ -92,6 +95,7 @@ def add_view_words(parser):
     shape = parser.add_mutually_exclusive_group()
     shape.add_argument("--text", action="store_true", help="draw with characters")
     shape.add_argument("--list", action="store_true", help="list the contacts by number")
+    add_form_words(parser)
     shape.add_argument("--html", metavar="H", help="write a page to touch into this file")
     parser.add_argument("--columns", type=int, default=100, metavar="N", help="how wide a text is; 100 if not given")
     parser.add_argument("--width", type=int, metavar="PX", help="how wide a picture is")
@@ -109,6 +113,8 @@ def check_words(parser, words):
     missing = [name for name in needed if name not in given]
     if missing and (given or asks):
         parser.error(f"these words are missing: {', '.join(missing)}")
+    if words.form != TEXT and not words.list:
+        parser.error(f"--{words.form} needs --list")
     if (words.used or words.order == "route") and not has_routes(words):
         parser.error("--used and --order route need routes: --count, --by, --report or --explained")
     check_choice_words(parser, words)
@@ -134,7 +140,8 @@ def view_of(asked, parser):
     span = Span(*words.between) if words.between else None
     if span and span.first >= span.last:
         parser.error("--between: the first time isn't before the second")
-    return View(os.path.basename(words.plan), choice, span, asked.names, asked.time_text)
+    remarks = () if asks_for_routes(words) or asked.is_plan_checked() else (NOT_CHECKED,)
+    return View(os.path.basename(words.plan), choice, span, asked.names, asked.time_text, remarks)
 
 
 def nodes_of(asked, word, text, sign=","):
@@ -207,6 +214,26 @@ def picture_text(scene, words):
         smaller = "--links, --nodes and --between choose links, a smaller --count routes; --all draws it so"
         raise Refused(f"the picture would be {picture.height} px high, more than {MOST}: {smaller}", WORDS_STATUS)
     return picture.svg()
+
+
+CONTACT = {"contact": NUMBER, "from": NUMBER, "to": NUMBER, "start": TIME, "end": TIME, "rate": NUMBER, "light": NUMBER}
+
+
+def list_table(asked, scene):
+    """A table of each contact that the rows show, by its number, with its nodes by their names if there are some."""
+    how, is_json = asked.spelling, asked.words.form == JSON
+    nodes = {"nodes": PATH} if asked.words.names and not is_json else {}
+    columns = {**CONTACT, **({"from": NODE, "to": NODE} if is_json else {}), **nodes}
+    shown = sorted((it for row in scene.rows for windows in row.strips for it in windows), key=lambda it: it.number)
+    rows = [{**contact_row(it), "nodes": it.link} for it in shown]
+    dark = "-" if asked.words.form == TEXT else None
+    rows = [{**row, "light": dark} if row["light"] is None else row for row in rows]
+    return Table(columns, [rows], how, "contacts", lambda: about(how, asked.plan))
+
+
+def contact_row(it):
+    """The values of a contact."""
+    return dict(zip(CONTACT, [it.number, *it.link, it.start, it.end, it.rate, it.light]))
 
 
 def write_page(asked, view, routes):
@@ -312,7 +339,7 @@ def timeline():
     second = words.at if asks_for_routes(words) else None
     scene = view.scene(asked.plan, routes and ranked(routes), () if words.list else asked.lost, words.list, second)
     if words.list:
-        return list_text(scene, words.names)
+        return list_table(asked, scene).pieces(words.form)
     return Text(scene, words.columns).text() if words.text else picture_text(scene, words)
 
 

@@ -1,7 +1,7 @@
 """Tells for each second at which a bundle may be at the source when it is delivered at best, and by which route.
 
     tools/timetable --plan F --from N --to N --between T T [--margin-ppm P] [--max-hops H] [--avoid LIST]
-    tools/timetable .. --csv         comma-separated values
+    tools/timetable .. --csv         comma-separated values; --json: JSON
     tools/timetable .. --svg         a plot of delivery by second at the source
     tools/timetable .. --without LIST  as if these contacts were lost; the others keep their numbers
     tools/timetable .. --names FILE  nodes by their names, which can be given in place of numbers, too
@@ -9,8 +9,8 @@
 
 Each line is for the seconds from `from` to `to`, both included, over which one route is the best. A bundle that is at
 the source at the first of them is delivered at `delivery`, and one that is there at the last of them at `last delivery`:
-at the same second, or as many seconds later as it comes later. Where there is no route, a line has no delivery. The lines
-hold for all seconds of the span, though the program isn't asked about each: it is proved that a bundle that is at the
+at the same second, or as many seconds later as it comes later. Where there is no route, a line has no delivery. The lines are
+printed as they are found, and hold for all seconds of the span, though the program isn't asked about each: it is proved that a bundle that is at the
 source later never arrives earlier (ArrivalIsMonotone in docs/proofs.md).
 
 T is 2031/03/03-01:00:00, 2031-03-03T01:00:00Z, 2031-03-03, now, or now+2h with s, m, h or d. All times are UTC.
@@ -25,20 +25,13 @@ from dataclasses import replace
 
 from ..drawing.plot import plot_svg
 from ..errors import WORDS_STATUS, Refused
-from ..tables import Table
-from ..times import iso_text, sheet_text, time_text
+from ..tables import NUMBERS, PATH, TIME, Table, about
+from ..times import time_text
 from ..timetable import stretches
 from ..tool import Progress, run_tool
-from ..words import Asked, Words, add_plan_words, add_request_words, time_word
+from ..words import Asked, Words, add_form_words, add_plan_words, add_request_words, time_word
 
-SIDES = {
-    "from": str.ljust,
-    "to": str.ljust,
-    "delivery": str.ljust,
-    "last_delivery": str.ljust,
-    "contacts": str.ljust,
-    "nodes": str.ljust,
-}
+STRETCH = {"from": TIME, "to": TIME, "delivery": TIME, "last_delivery": TIME, "contacts": NUMBERS, "nodes": PATH}
 
 
 def read_words():
@@ -48,9 +41,7 @@ def read_words():
     add_request_words(parser, required=("from", "to"), without=("at",))
     span = {"nargs": 2, "type": time_word, "metavar": ("T", "T"), "required": True}
     parser.add_argument("--between", **span, help="the first second at the source, and the last")
-    form = parser.add_mutually_exclusive_group()
-    form.add_argument("--csv", action="store_true", help="comma-separated values")
-    form.add_argument("--svg", action="store_true", help="a plot")
+    add_form_words(parser).add_argument("--svg", action="store_true", help="a plot")
     asked = Asked(parser)
     if asked.words.between[0] > asked.words.between[1]:
         raise Refused("--between: the first time is after the second; see --help", WORDS_STATUS)
@@ -58,36 +49,32 @@ def read_words():
 
 
 def found_stretches(asked):
-    """The stretches, with the nodes of their routes."""
+    """The stretches, with the nodes of their routes, as they come."""
     first, last = asked.words.between
-    found, progress = [], Progress()
+    progress = Progress()
     for it in stretches(asked.program, asked.request(first), last):
-        found.append(it.route and replace(it, route=asked.plan.with_nodes(it.route)) or it)
+        yield it.route and replace(it, route=asked.plan.with_nodes(it.route)) or it
         progress.tell(f"told up to {time_text(it.last)}")
     progress.end()
-    return found
+    asked.tell_hints([asked.request(first)])
 
 
-def row_of(it, asked, spelled):
+def row_of(it):
     """The values of a stretch's line."""
-    times = [spelled(it.first), spelled(it.last)]
-    if not it.route:
-        return [*times, None, None, None, None]
-    deliveries = [spelled(it.delivery), spelled(it.last_delivery)]
-    return [*times, *deliveries, " ".join(map(str, it.route.contacts)), asked.plan.path_text(it.route.nodes)]
+    others = [it.delivery, it.last_delivery, it.route.contacts, it.route.nodes] if it.route else [None] * 4
+    return dict(zip(STRETCH, [it.first, it.last, *others]))
 
 
 def tool():
     """The stretches, in the form that is asked for."""
     asked = read_words()
     words, found = asked.words, found_stretches(asked)
-    asked.tell_hints([asked.request(words.between[0])])
     if words.svg:
-        title = f"{asked.names.of(words.__dict__['from'])} to {asked.names.of(words.to)}"
-        return "".join(plot_svg(found, title, asked.time_text, asked.plan.path_text))
-    spelled = sheet_text if words.csv and not words.iso else iso_text if words.iso else time_text
-    table = Table(SIDES, [row_of(it, asked, spelled) for it in found])
-    return table.csv() if words.csv else table.text()
+        title = f"{asked.names.of(vars(words)['from'])} to {asked.names.of(words.to)}"
+        return "".join(plot_svg([*found], title, asked.time_text, asked.plan.path_text))
+    request = asked.request(words.between[0])
+    told = lambda: about(asked.spelling, asked.plan, request)
+    return Table(STRETCH, ([row_of(it)] for it in found), asked.spelling, "stretches", told).pieces(words.form)
 
 
 def main():

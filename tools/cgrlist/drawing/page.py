@@ -147,7 +147,8 @@ class Page:
     def _made(self):
         """From what the answers are."""
         if self._told.request is None:
-            return "The routes are those of an explanation." if self._told.routes else ""
+            told = ["The routes are those of an explanation."] if self._told.routes else []
+            return " ".join([*told, *(f"{it}." for it in self._view.remarks)])
         return f"The answers are those of cgrlist over the plan with this digest: {self._told.digest}"
 
     def _plan_data(self):

@@ -192,6 +192,7 @@ class View:
     span: "Span | None"  # if none is given, that of the routes or of the contacts
     names: Names
     time_text: "Callable[[int], str]"
+    remarks: tuple = ()  # lines of words about the plan
 
     @property
     def date_sign(self):
@@ -207,7 +208,7 @@ class View:
         numbers = {stage.hop.contact for stage in stages}
         shown = [[it for it in windows if span.shows(it) or it.number in numbers] for windows in chosen.values()]
         rows = [row_of(windows) for windows in shown if windows]
-        remarks = list(remarks_of(links, routes, len(chosen) - len(rows)))
+        remarks = [*remarks_of(links, routes, len(chosen) - len(rows)), *self.remarks]
         numbers = frozenset(it.number for it in lost)
         is_shown = routes and source_second is not None and span.first <= source_second <= span.last
         return Scene(self.title, rows, routes or [], stages, numbers, span, self.names, self.time_text, remarks, source_second if is_shown else None)

@@ -1,10 +1,7 @@
-"""What tools/timeline prints as text: the picture with characters, and the list of contacts."""
+"""What tools/timeline prints as text: the picture with characters."""
 
-from ..tables import Table
 from .axis import Axis
 from .scene import columns_of
-
-# ---- The picture as text ----------------------------------------------------------------------------------------
 
 OVER = 7  # columns right of the rows, for the last label
 SIGNS = {"#": "sending to arrival", ".": "wait"}
@@ -86,16 +83,3 @@ class Text:
 def route_label(route):
     """What stands left of a route's line."""
     return f"  route {route.rank}"
-
-
-# ---- The list ---------------------------------------------------------------------------------------------------
-
-
-def list_text(scene, with_names):
-    """Each contact that the rows show, by its number: nodes, start, end, light time, and names if they are wanted."""
-    sides = dict.fromkeys(("contact", "from", "to", "start", "end", "light"), str.rjust)
-    rows = []
-    for it in sorted((it for row in scene.rows for windows in row.strips for it in windows), key=lambda it: it.number):
-        times, light = map(scene.time_text, (it.start, it.end)), "-" if it.light is None else it.light
-        rows.append([it.number, *it.link, *times, light, *([scene.label(it.link, ">")] if with_names else [])])
-    return Table({**sides, **({"nodes": str.ljust} if with_names else {})}, rows).text()

@@ -1,0 +1,143 @@
+"""Checks a plan: names all its bad lines and how to repair them, or tells what stands after its last line.
+
+    tools/check --plan F             the bad lines, or counts, nodes, first start and last end, and the digest
+    tools/check .. --session G       and whether the session text G is one of the plan and has the best routes; if not, why
+    tools/check .. --json            JSON
+    tools/check .. --names FILE      nodes by their numbers and names
+    tools/check .. --iso             times as 2030-01-01T02:47:22Z
+
+A bad line has its number, the reason for which `cgrlist check` refuses it, the number of the other line that it repeats
+or overlaps, and its text. Below them is a repair for each reason. A bad line adds nothing, so another line may be bad
+because of it alone: the first one is the one that `cgrlist check` names. If there is a program, it checks the plan, too;
+else standard error says that there is none. F may be - for standard input, and a pipe.
+
+Status 0: the plan is good. 1: the session isn't. 2: the words or the names can't be used. 3: the plan is bad. 5: a file
+can't be read. 125: --session needs a program. Any other status is the program's.
+"""
+
+import json
+
+from ..errors import PLAN_STATUS, START_STATUS, Refused
+from ..hints import REPAIRS, of_text, shown
+from ..reading import Reader, lines_in
+from ..tables import JSON, NUMBER, TEXT, TIME, WORD, Table, json_of, object_text
+from ..tool import bytes_of, run_tool, tell
+from ..version import VERSION
+from ..words import Asked, Words, add_further_words, add_plan_word
+
+BAD = {"line": NUMBER, "reason": WORD, "other": NUMBER, "text": WORD}
+SHOWN = 1000  # bad lines that a table has
+
+
+def read_words():
+    """What the words of the command line ask for."""
+    parser = Words(__doc__)
+    add_plan_word(parser)
+    parser.add_argument("--session", metavar="G", help="a session text of this plan")
+    parser.add_argument("--json", dest="form", action="store_const", const=JSON, default=TEXT, help="JSON")
+    add_further_words(parser)
+    return Asked(parser)
+
+
+# ---- Bad lines --------------------------------------------------------------------------------------------------
+
+
+def bad_row(bad):
+    """The values of a bad line."""
+    return dict(zip(BAD, [bad.place, bad.reason, bad.other, shown(bad.line)]))
+
+
+def bad_text(bad, how):
+    """The bad lines, and repairs for their reasons, in pieces."""
+    yield from Table(BAD, [map(bad_row, bad[:SHOWN])], how).text()
+    if bad[SHOWN:]:
+        yield f"and {len(bad) - SHOWN} more\n"
+    reasons = list(dict.fromkeys(it.reason for it in bad))
+    yield "".join(f"{reason}: {REPAIRS[reason]}\n" for reason in reasons)
+
+
+def bad_json(bad, how):
+    """The same as JSON, in pieces."""
+    rows = (json.dumps({**json_of(BAD, bad_row(it), how), "repair": REPAIRS[it.reason]}) for it in bad)
+    return object_text("bad_lines", rows, lambda: {"version": VERSION})
+
+
+# ---- Good plans -------------------------------------------------------------------------------------------------
+
+
+def facts_of(plan):
+    """What stands in a plan: counts, nodes, the first start and the last end, None without a contact, and the digest."""
+    contacts = plan.contacts
+    return {
+        "contacts": len(contacts),
+        "ranges": plan.range_count,
+        "nodes": sorted({node for it in contacts for node in it.link}),
+        "without_light": sum(it.light is None for it in contacts),
+        "first_start": min((it.start for it in contacts), default=None),
+        "last_end": max((it.end for it in contacts), default=None),
+    }
+
+
+def facts_text(plan, how):
+    """The facts in lines, as `cgrlist check` prints them."""
+    facts = facts_of(plan)
+    nodes = ", ".join(map(plan.names.full, facts["nodes"]))
+    told = {**facts, "nodes": f"{len(facts['nodes'])}{f': {nodes}' * bool(nodes)}", "digest": plan.digest}
+    told.update({field: how.time_text(facts[field]) for field in ("first_start", "last_end") if facts[field] is not None})
+    return "".join(f"{field.replace('_', ' ')} {value}\n" for field, value in told.items() if value is not None)
+
+
+def facts_json(plan, how, further):
+    """The facts as JSON."""
+    facts = facts_of(plan)
+    times = json_of({"first_start": TIME, "last_end": TIME}, facts, how)
+    told = {"bad_lines": [], **facts, **times, "nodes": [*map(how.node, facts["nodes"])], **further}
+    return json.dumps({**told, "names": how.told_names(), "plan": plan.digest, "version": VERSION}) + "\n"
+
+
+def why_not(asked):
+    """Why a session text isn't one of the plan with the best routes, as `cgrlist next` says; None if it is."""
+    words = ["--session", asked.words.session]
+    if asked.program.run("verify", *words, but=1) is not None:
+        return None
+    try:
+        asked.program.run("next", *words, "--count", "1")
+    except Refused as refused:
+        return refused.message.strip().removeprefix("cgrlist: ")
+    return "its text is sound, but its routes aren't the best ones, or a part has another best route"
+
+
+def is_checked(asked):
+    """Whether the program accepts the plan; what has no program is told."""
+    try:
+        asked.program.check()
+    except Refused as refused:
+        if refused.status != START_STATUS or asked.words.program or asked.words.session:
+            raise
+        tell("cgrlist did not check this plan: there is no program")
+
+
+def tool():
+    """The bad lines of a plan, or what stands in it, in pieces."""
+    asked = read_words()
+    how, lines = asked.spelling, lines_in(bytes_of(asked.plan_file))
+    bad = [*Reader().bad_lines(lines)]
+    for hint in of_text(lines, asked.words.plan) if bad else ():
+        tell(f"hint: {hint}")
+    if bad:
+        yield from (bad_json if asked.words.form == JSON else bad_text)(bad, how)
+        raise Refused(f"{len(bad)} lines are bad" if bad[1:] else "a line is bad", PLAN_STATUS)
+    is_checked(asked)
+    why = why_not(asked) if asked.words.session else None
+    session = {"session": "no" if why else "yes"} if asked.words.session else {}
+    if asked.words.form == JSON:
+        yield facts_json(asked.plan, how, {**session, **({"fault": why} if session else {})})
+    else:
+        yield facts_text(asked.plan, how) + "".join(f"session {it}\n" for it in session.values())
+    if why:
+        raise Refused(f"{asked.words.session}: {why}")
+
+
+def main():
+    """Runs the command."""
+    run_tool(tool)
