@@ -34,7 +34,7 @@ contact of a shown route, or Enter, tells the best route without that contact, a
 made. Further ones, and nodes, can be lost with it; if the page doesn't know the answer, it shows the command that tells.
 The line in the strip below the picture can be dragged: it tells the best route for other seconds at the source, of which
 the program was asked for at most 720. Routes can be saved as CSV, and the picture as SVG. A print has all rows that are
-chosen. The page has at most 1000 routes without --all. Its address keeps what is chosen, as H#lost=11&theme=dark.
+chosen. The page has at most 1000 routes without --all, the first 100 with `send by`, the last second at the source. Its address keeps what is chosen, as H#lost=11&theme=dark.
 
 Status 0: done. 1: the routes or the names can't be used, or the routes are not of this plan. 2: the words can't be
 used, or the picture is too high. 3: the plan can't be read. 5: a file can't be read, or writing failed. 125: there is
@@ -61,6 +61,7 @@ from ..tool import Tool, lines_of, run_tool
 from ..words import Asked, Words, add_form_words, add_plan_words, add_request_words, time_word
 
 STARTS = 720  # so many seconds at the source are asked for, at most
+SEND_BY = 100  # of so many routes the last second at the source is asked for
 NEEDED = ("from", "to", "at")  # the words that a request has to have
 NOT_CHECKED = "cgrlist did not check this plan: there is no program"
 OTHERS = ("margin-ppm", "max-hops", "avoid", "via", "fits", "distinct", "look")  # words that go with a request
@@ -253,9 +254,9 @@ def told_of(asked, routes):
         return Told(ranked(routes or []), command=f"{command('timeline')} --plan {shlex.quote(plan)} {ask}")
     request, digest = asked.request(), asked.program.run("check").split()[-1]
     words = [command("report"), "--plan", plan, *replace(request, avoid=()).words()]
-    (answer,) = asked.program.with_send_by([Answer(tuple(ranked(routes)), None, request)])
+    listed = with_send_by(asked, request, ranked(routes))
     lost, starts = best_without(asked, request, routes), starts_of(asked, request, routes)
-    return Told(list(answer.routes), request, lost, digest, starts, shlex.join(words))
+    return Told(listed, request, lost, digest, starts, shlex.join(words))
 
 
 SECONDS = [1, 2, 5, 10, 15, 30, 60, 120, 300, 600, 900, 1800, 3600, 7200, 21600, 43200, DAY]  # between starts
@@ -313,10 +314,16 @@ def best_without(asked, request, routes):
     requests = [avoiding(request, node) for node in nodes]
     firsts = [answer.routes[:1] for answer in (asked.program.many(requests, 1) if nodes else None) or ()]
     others = tuple(it.route for it in found if it.route) + tuple(route for first in firsts for route in first)
-    answers = asked.program.with_send_by(asked.program.with_hops([Answer(others, None, request)]))
-    with_hops = iter(answers[0].routes)
+    (answer,) = asked.program.with_hops([Answer(others, None, request)])
+    with_hops = iter(with_send_by(asked, request, answer.routes))
     contacts = {it.contact: it.route and next(with_hops) for it in found}
     return Lost(contacts, {node: next(with_hops) if first else None for node, first in zip(nodes, firsts)})
+
+
+def with_send_by(asked, request, routes):
+    """Routes, the first ones with the last second at the source for their contacts: each takes some fifteen questions."""
+    (answer,) = asked.program.with_send_by([Answer(tuple(routes[:SEND_BY]), None, request)])
+    return [*answer.routes, *routes[SEND_BY:]]
 
 
 def avoiding(request, node):

@@ -53,7 +53,8 @@ def shared(turns):
     """Turns with their places among those that are at the same x and have a strip in common, in their order."""
     order, found = sorted(range(len(turns)), key=lambda at: turns[at].x), list(turns)
     while order:
-        size = 1 + next((at for at, (one, other) in enumerate(zip(order, order[1:])) if turns[other].x - turns[one].x >= THIN), len(order) - 1)
+        gaps = (at for at in range(1, len(order)) if turns[order[at]].x - turns[order[at - 1]].x >= THIN)
+        size = next(gaps, len(order))
         near, order = sorted(order[:size]), order[size:]
         places = lanes_of((turns[at].strips[0], turns[at].strips[1]) for at in near)
         for at, place in zip(near, places):

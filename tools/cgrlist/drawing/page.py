@@ -17,7 +17,9 @@ from ..plans import links_of
 from ..routes import Request
 
 FOLDER = Path(__file__).resolve().parent / "html"
-SCRIPTS = ("plan", "times", "view", "svg", "picture", "words", "starts", "hands", "find", "export", "start")  # in the order in which they run
+# In the order in which they run.
+SCRIPTS = ("plan", "times", "view", "svg", "colours", "picture", "traces", "sheets")
+SCRIPTS += ("words", "starts", "hands", "find", "export", "start")
 MOST_ROUTES = 1000  # so many are on a page that isn't asked for twice
 EXACT = 2**53 - 1  # up to here, numbers are exact in JavaScript
 

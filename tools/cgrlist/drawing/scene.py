@@ -211,7 +211,8 @@ class View:
         remarks = [*remarks_of(links, routes, len(chosen) - len(rows)), *self.remarks]
         numbers = frozenset(it.number for it in lost)
         is_shown = routes and source_second is not None and span.first <= source_second <= span.last
-        return Scene(self.title, rows, routes or [], stages, numbers, span, self.names, self.time_text, remarks, source_second if is_shown else None)
+        second = source_second if is_shown else None
+        return Scene(self.title, rows, routes or [], stages, numbers, span, self.names, self.time_text, remarks, second)
 
 
 def date_sign(time_text):

@@ -1,60 +1,13 @@
-// The picture on the canvas: rows and contacts that are in view alone, routes, the axis, and the map of the whole plan.
+// The picture on the canvas: rows and contacts that are in view alone, the axis, and the map of the whole plan.
 
-const DASHES = [[], [6, 3], [2, 3], [8, 3, 2, 3]];
 const FAMILY = "system-ui, sans-serif";
 const SMALL = `11.5px ${FAMILY}`, MIDDLE = `12.5px ${FAMILY}`, BOLD = `bold 12px ${FAMILY}`;
-const COLOURS = [
-  "back", "band", "ink", "soft", "line", "grid", "day", "bar", "edge", "used", "number", "accent", "bad", "calm",
-];
 
 const screen = chart.getContext("2d", { alpha: false });
 let paper = screen; // what is painted on
 const map = byId("map");
-const ink = { routes: [] };
-let traced = []; // the pieces of routes that were drawn, for the mouse
 let digitWidth = 7;
 let isPrinting = false;
-
-// Reads the colours of the page's style.
-function readColours() {
-  const style = getComputedStyle(document.documentElement);
-  const colour = (name) => style.getPropertyValue(`--${name}`).trim();
-  for (const name of COLOURS) ink[name] = colour(name);
-  ink.routes = Array.from({ length: HUES }, (_, place) => colour(`c${place}`));
-  ink.faint = ink.routes.map(faintOf);
-  ink.faintSoft = faintOf(ink.soft);
-}
-
-const FOLLOWED = 3; // the contrast that a line needs so that eyes can follow it
-const partsOf = (colour) => [1, 3, 5].map((at) => parseInt(colour.slice(at, at + 2), 16));
-
-// As WCAG 2 has it.
-function luminance(colour) {
-  const [red, green, blue] = partsOf(colour).map((part) => part / 255)
-    .map((part) => (part <= 0.03928 ? part / 12.92 : ((part + 0.055) / 1.055) ** 2.4));
-  return 0.2126 * red + 0.7152 * green + 0.0722 * blue;
-}
-
-function contrast(one, other) {
-  const [low, high] = [luminance(one), luminance(other)].sort((a, b) => a - b);
-  return (high + 0.05) / (low + 0.05);
-}
-
-// A colour as far towards the ground as it can be followed.
-function faintOf(colour) {
-  const mixed = (part) => `#${partsOf(colour)
-    .map((it, at) => Math.round(it * part + partsOf(ink.back)[at] * (1 - part)).toString(16).padStart(2, "0")).join("")}`;
-  const parts = Array.from({ length: 20 }, (_, step) => (step + 1) / 20);
-  const isClear = (it) => contrast(it, ink.back) >= FOLLOWED && contrast(it, ink.band) >= FOLLOWED;
-  return parts.map(mixed).find(isClear) ?? colour;
-}
-
-function colourOf(route) {
-  const place = route.place % HUES;
-  if (isBroken(route)) return ink.faintSoft;
-  return isFaint(route) ? ink.faint[place] : ink.routes[place];
-}
-
 let due = 0;
 
 // Draws all anew at the next frame.
@@ -303,129 +256,6 @@ function paintOutline(contact, top) {
   paper.stroke();
 }
 
-// ---- Routes ----
-
-// The line of the second at which the bundle is at the source.
-function paintStart(bottom) {
-  if (!request) return;
-  const x = Math.round(xOf(startSecond())) + 0.5;
-  paper.strokeStyle = isStarting() ? ink.accent : ink.soft;
-  paper.lineWidth = 1;
-  paper.setLineDash([2, 3]);
-  paper.beginPath();
-  paper.moveTo(x, AXIS);
-  paper.lineTo(x, bottom);
-  paper.stroke();
-  paper.setLineDash([]);
-}
-
-function paintRoutes(top) {
-  traced = [];
-  const order = (one, other) => isFaint(other) - isFaint(one) || other.place - one.place;
-  const drawn = drawnRoutes().sort(order).map((route) => [route, piecesOf(route, top)]);
-  shareTurns(drawn.flatMap(([, pieces]) => pieces.filter((piece) => piece.from)));
-  for (const [route, pieces] of drawn) paintRoute(route, pieces);
-}
-
-// The hops of a route, each with where it lies, and from where the route comes.
-function piecesOf(route, top) {
-  let from = null; // the end of the last hop
-  return route.hops.map((hop) => {
-    const piece = { route, hop, from, ...hopPlace(route, hop, top) };
-    from = { x: piece.arrive, y: piece.y };
-    return piece;
-  });
-}
-
-const THIN = 1.5; // lines that are less apart hide each other
-const DASH = 5; // of a route where several change rows at one place
-
-// Of routes that change rows at one place, each has a dash of the line in turn.
-function shareTurns(pieces) {
-  const meets = (one, other) => Math.abs(one.from.x - other.from.x) < THIN && lowest(one) < highest(other) && lowest(other) < highest(one);
-  for (const [place, piece] of pieces.entries()) {
-    const taken = new Set(pieces.slice(0, place).filter((other) => meets(other, piece)).map((other) => other.share));
-    piece.share = 0;
-    while (taken.has(piece.share)) piece.share++;
-  }
-  for (const piece of pieces) piece.shares = 1 + Math.max(...pieces.filter((other) => meets(other, piece)).map((it) => it.share));
-  for (const piece of pieces) piece.shares = Math.max(...pieces.filter((other) => meets(other, piece)).map((it) => it.shares));
-}
-
-const lowest = ({ from, y }) => Math.min(from.y, y);
-const highest = ({ from, y }) => Math.max(from.y, y);
-
-// A thick line for each hop, a thin one for the wait before it, and a dot with the rank at the delivery.
-function paintRoute(route, pieces) {
-  const colour = colourOf(route);
-  paper.strokeStyle = paper.fillStyle = colour;
-  paper.lineCap = paper.lineJoin = "round";
-  for (const piece of pieces) {
-    paintWait(piece);
-    paintHop(piece);
-  }
-  const { arrive, y } = pieces.at(-1);
-  paintDelivery(route, { x: arrive, y }, colour);
-}
-
-function hopPlace(route, hop, top) {
-  const row = rows.of.get(linkOf[hop.contact]), lane = rows.lanes.get(row.link).get(route);
-  const y = top + row.top + row.bars + lane * LANE + LANE / 2 - 3, send = xOf(hop.send);
-  return { y, send, arrive: Math.max(xOf(hop.arrive), send + 0.1) };
-}
-
-function paintWait(piece) {
-  const { route, hop, from, y, send } = piece, start = from ? from.x : xOf(startOf(route));
-  if (from) paintTurn(piece);
-  if (!from && !(request && hop.send > startOf(route))) return;
-  paper.lineWidth = isFaint(route) ? 1.2 : 1.6;
-  paper.setLineDash(dashesOf(route));
-  strokeLine(start, y, send, y);
-  paper.setLineDash([]);
-  traced.push(tracedPiece(piece, start, send, true));
-}
-
-const dashesOf = (route) => DASHES[(route.place % HUES) % DASHES.length];
-
-function strokeLine(...[x, y, toX, toY]) {
-  paper.beginPath();
-  paper.moveTo(x, y);
-  paper.lineTo(toX, toY);
-  paper.stroke();
-}
-
-// From the lane of the hop before to that of this one, where the bundle arrives.
-function paintTurn(piece) {
-  const { route, from, y, share, shares } = piece;
-  paper.lineWidth = isFaint(route) ? 1.2 : 1.6;
-  paper.lineCap = shares > 1 ? "butt" : "round";
-  paper.setLineDash(shares > 1 ? [DASH, DASH * (shares - 1)] : dashesOf(route));
-  paper.lineDashOffset = shares > 1 ? lowest(piece) - DASH * share : 0;
-  strokeLine(from.x, lowest(piece), from.x, highest(piece));
-  paper.lineDashOffset = 0;
-  paper.lineCap = "round";
-  traced.push({ ...tracedPiece(piece, from.x, from.x, true), low: lowest(piece), high: highest(piece) });
-}
-
-function paintHop(piece) {
-  paper.lineWidth = isFaint(piece.route) ? 3.5 : 5;
-  paper.beginPath();
-  paper.moveTo(piece.send, piece.y);
-  paper.lineTo(piece.arrive, piece.y);
-  paper.stroke();
-  traced.push(tracedPiece(piece, piece.send, piece.arrive, false));
-}
-
-const tracedPiece = ({ route, hop, y }, left, right, isWait) => ({ route, hop, left, right, low: y, high: y, isWait });
-
-function paintDelivery(route, { x, y }, colour) {
-  paper.beginPath();
-  paper.arc(x, y, isFaint(route) ? 3.5 : 4.5, 0, 7);
-  paper.fill();
-  useFont(BOLD);
-  writeOver(route.label, x + 9, y + 0.5, colour, ink.back);
-}
-
 // ---- Names and axis ----
 
 function paintNames(inView, top) {
@@ -585,36 +415,4 @@ function namesWidth() {
   const long = names.filter((name) => name.length >= longest - 2).slice(0, 50);
   const wide = Math.max(84, ...long.map((name) => paper.measureText(name).width + 26));
   return Math.round(Math.min(wide, size.width * 0.32));
-}
-
-// ---- Pictures of their own ----
-
-// Rows as an SVG: those that lie from a place on, in a height.
-function svgText(scroll, height) {
-  const before = size.height;
-  [paper, size.height] = [new SvgPaper(size.width, height), height];
-  paint(scroll);
-  const text = paper.text(known.title);
-  [paper, size.height] = [screen, before];
-  return text;
-}
-
-const SHEET = { width: 1040, first: 620, height: 690 }; // of a print; the first one has the heading
-
-// The sheets of a print, as SVGs: all rows, and the axis on each.
-function sheets() {
-  fitTo(SHEET.width, SHEET.first);
-  const cuts = [];
-  for (const row of rows.list) {
-    const most = (cuts.length > 1 ? SHEET.height : SHEET.first) - AXIS;
-    if (!cuts.length || row.top + row.height - cuts.at(-1) > most) cuts.push(row.top);
-  }
-  return cuts.map((top, place) => svgText(top, AXIS + (cuts[place + 1] ?? rows.height) - top));
-}
-
-function makeSheets() {
-  const parser = new DOMParser();
-  const made = sheets().map((text) => parser.parseFromString(text, "image/svg+xml").documentElement);
-  const hidden = links.length - rows.list.length;
-  byId("sheets").replaceChildren(...made, hidden ? `${count(hidden, "more link")} of the plan not shown` : "");
 }

@@ -90,11 +90,11 @@ function aboutStart() {
   const back = element("button", { class: "small", onclick: startOver }, "Take back");
   if (!best) return [element("div", { class: "told" }, head), element("div", { class: "told big" }, "No route"), back];
   const later = best.delivery - routes[0].delivery;
-  const than = `${durationText(Math.abs(later))} ${later < 0 ? "earlier" : "later"} than for ${timeBeside(request.at, chosen.start)}`;
+  const side = later < 0 ? "earlier" : "later", asked = timeBeside(request.at, chosen.start);
   return [
     element("div", { class: "told" }, head),
     element("div", { class: "told big" }, `Delivery ${timeBeside(best.delivery, chosen.start)}`),
-    element("div", { class: "told" }, later ? than : `as for ${timeBeside(request.at, chosen.start)}`),
+    element("div", { class: "told" }, later ? `${durationText(Math.abs(later))} ${side} than for ${asked}` : `as for ${asked}`),
     element("div", { class: "told soft" }, pathOf(best)),
     back,
   ];

@@ -11,7 +11,8 @@ class SvgPaper {
   static clips = 0; // that have a name of their own in the document
 
   constructor(width, height) {
-    const start = { globalAlpha: 1, lineWidth: 1, lineDashOffset: 0, lineCap: "butt", lineJoin: "miter", font: SMALL, textAlign: "left" };
+    const lines = { lineWidth: 1, lineDashOffset: 0, lineCap: "butt", lineJoin: "miter" };
+    const start = { globalAlpha: 1, ...lines, font: SMALL, textAlign: "left" };
     Object.assign(this, start, { width, height, parts: [], path: "", dash: "", saved: [], open: 0 });
   }
 
@@ -101,7 +102,8 @@ class SvgPaper {
 
   pen() {
     const ends = { "stroke-linecap": this.lineCap, "stroke-linejoin": this.lineJoin };
-    return { stroke: this.strokeStyle, "stroke-width": this.lineWidth, "stroke-dasharray": this.dash, "stroke-dashoffset": this.lineDashOffset || "", ...ends, ...this.seen() };
+    const dashes = { "stroke-dasharray": this.dash, "stroke-dashoffset": this.lineDashOffset || "" };
+    return { stroke: this.strokeStyle, "stroke-width": this.lineWidth, ...dashes, ...ends, ...this.seen() };
   }
 
   // ---- Text ----
