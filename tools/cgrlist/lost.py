@@ -2,8 +2,9 @@
 
 import functools
 from dataclasses import dataclass
+from typing import Optional
 
-from .routes import Route
+from .routes import Answer, Route
 from .tool import in_order
 
 
@@ -12,7 +13,7 @@ class Loss:
     """A contact that is lost, and the best route then; None if there is none."""
 
     contact: int
-    route: "Route | None"
+    route: Optional[Route]
 
 
 def losses(program, plan, request, routes):
@@ -26,6 +27,14 @@ def losses(program, plan, request, routes):
 def _loss(program, plan, request, listed, number):
     route = next((it for it in listed if number not in it.contacts), None)
     if route is None:
-        with program.with_lines([plan.contact(number).deletion()]) as left:
-            route = next(iter(left.first(request, 1).routes), None)
+        (route,) = program.without({number}).best([request])
     return Loss(number, route and plan.with_nodes(route))
+
+
+def best_without(program, plan, request, routes):
+    """Under the number of each contact of some routes, the best route without it, with its hops, or None."""
+    found = losses(program, plan, request, routes)
+    others = tuple(it.route for it in found if it.route)
+    (answer,) = program.with_hops([Answer(others, None, request)])
+    with_hops = iter(answer.routes)
+    return {it.contact: it.route and next(with_hops) for it in found}

@@ -47,7 +47,7 @@ from ..drawing.scene import Choice, View
 from ..drawing.text import Text
 from ..errors import WORDS_STATUS, Refused
 from ..listing import add_choice_words, added, check_choice_words, listing_of, pages_of, tell_looked
-from ..lost import losses
+from ..lost import best_without
 from ..routes import Answer, explained_routes, report_of
 from ..tables import JSON, NODE, NUMBER, PATH, TEXT, TIME, Table, about
 from ..tool import lines_of, run_tool
@@ -233,20 +233,11 @@ def write_page(asked, view, routes):
     told = Told(ranked(routes or []))
     if asks_for_routes(asked.words):
         request, digest = asked.request(), asked.program.run("check").split()[-1]
-        told = Told(ranked(routes), request, best_without(asked, request, routes), digest)
+        told = Told(ranked(routes), request, best_without(asked.program, asked.plan, request, routes), digest)
     text = Page(view, asked.plan, asked.lost, told).html()
     with open(asked.words.html, "w", encoding="utf-8", newline="\n") as file:
         file.write(text)
     return ""
-
-
-def best_without(asked, request, routes):
-    """Under the number of each contact of some routes, the best route without it, with its hops, or None."""
-    found = losses(asked.program, asked.plan, request, routes)
-    others = tuple(it.route for it in found if it.route)
-    (answer,) = asked.program.with_hops([Answer(others, None, request)])
-    with_hops = iter(answer.routes)
-    return {it.contact: it.route and next(with_hops) for it in found}
 
 
 def timeline():
