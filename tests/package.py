@@ -18,14 +18,15 @@ import subprocess
 import sys
 import time
 import typing
-from concurrent.futures import ThreadPoolExecutor
+from concurrent.futures import ProcessPoolExecutor, ThreadPoolExecutor
 from datetime import date, datetime, timedelta, timezone
+from multiprocessing import get_context
 
 from checking import SECONDS, TOP, Room, checks_of
 
 sys.path.insert(0, f"{TOP}/tools")
 import cgrlist
-from cgrlist.inprocess import library_beside
+from cgrlist.inprocess import library
 from cgrlist.listing import asked_again
 
 AT = "2030-01-01T00:45:00Z"
@@ -167,6 +168,9 @@ def answers_and_plans(room):
         yield f"a plan of {title}, without a contact", [SOUTH], lambda made=made: contacts_of(
             made.without([11]).first(31, 1, at=AT, count=1))
         yield f"a plan of {title}, in words", "<Plan of lines: 20 contacts, 6 nodes>", lambda made=made: repr(made)
+    # The high relay's pass is lost, and a later one begins at 01:10:00, before contact 11, as contact 22.
+    changed = ["d contact 2030/01/01-01:00:00 31 22", "a contact 2030/01/01-01:10:00 2030/01/01-02:00:00 31 22 1000"]
+    yield "a plan with further lines", [(22, 11, 2), SOUTH], lambda: contacts_of(plan.with_lines(changed).first(31, 1, at=AT, count=2))
     yield "a plan that was kept", [SOUTH], lambda: contacts_of(
         pickle.loads(pickle.dumps(cgrlist.Plan(lines).without([11]))).first(31, 1, at=AT, count=1))
     yield "no contacts", (0, True), lambda: (len(cgrlist.Plan([])), bool(cgrlist.Plan([])))
@@ -292,6 +296,9 @@ def environment(**variables):
         os.environ.update({} if value is None else {name: value})
 
 
+KINDS = ("Program", "InProcess")
+
+
 def asking(kind, make, *given):
     """A new plan that asks the program, or the library."""
     with environment(CGRLIST_IN_PROCESS="0" if kind == "Program" else None, CGRLIST_LIBRARY=LIBRARY):
@@ -321,10 +328,15 @@ def answers_over(plan, requests, lists, count):
 
 def compared(title, make, requests, lists, count=10, calls=None):
     """A check for each call: the library answers as the program does."""
-    by_program, by_library = (
-        answers_over(asking(kind, make), requests, lists, count) for kind in ("Program", "InProcess"))
+    by_program, by_library = (answers_over(asking(kind, make), requests, lists, count) for kind in KINDS)
     for call in calls or by_program:
-        yield f"in process: {title}: {call}", by_program[call](), by_library[call]
+        yield f"in process: {title}: {call}", "the same", same, by_program[call], by_library[call]
+
+
+def same(one, other):
+    """Whether two calls have the same result, or else both."""
+    one, other = one(), other()
+    return "the same" if one == other else f"{one}\nand\n{other}"
 
 
 def worked_plans(room):
@@ -337,14 +349,9 @@ def worked_plans(room):
     for title, make in (
         ("relay.txt", lambda: cgrlist.Plan.from_file(path)),
         ("relay.txt without contacts", lambda: cgrlist.Plan.from_file(path).without([11, 5])),
-        ("relay.txt with further lines", lambda: cgrlist.Plan([*lines_of(path), *further])),
+        ("relay.txt with further lines", lambda: cgrlist.Plan.from_file(path).with_lines(further)),
     ):
         yield from compared(title, make, requests, lists)
-
-
-def lines_of(path):
-    with open(path, encoding="utf-8") as file:
-        return file.read().splitlines()
 
 
 def satellites(room):
@@ -354,7 +361,7 @@ def satellites(room):
     path = room.file("iridium.txt", "\n".join(lines))
     requests = [cgrlist.Request(1, 2, 1516579200 + 60 * minute, max_hops=hops) for minute in range(50) for hops in (None, 7)]
     make = functools.partial(cgrlist.Plan.from_file, path)
-    found = [it.contacts for it in asking("InProcess", make).first(requests[0], count=50)]
+    found = contacts_of(asking("InProcess", make).first(requests[0], count=50))
     lists = [*found, *(it[:-1] for it in found[:10]), *(it[1:] for it in found[:10])]
     yield from compared("iridium", make, requests, lists, calls=["many", "lists of contacts", "the list", "a timetable"])
 
@@ -399,7 +406,7 @@ def drawn_request(draw, nodes):
 def refusals_in_process(room):
     """The library's refusals are those of the program."""
     bad = room.file("refused.txt", "@ 2030/01/01-00:00:00\na range +0 +10 1 2 1\na range +5 +10 1 2 1\n")
-    plans = {kind: asking(kind, cgrlist.Plan.from_file, f"{TOP}/examples/relay.txt") for kind in ("Program", "InProcess")}
+    plans = {kind: asking(kind, cgrlist.Plan.from_file, f"{TOP}/examples/relay.txt") for kind in KINDS}
     relay = f"{TOP}/examples/relay.txt"
 
     def first(plan, ends=(31, 1), **further):
@@ -413,13 +420,11 @@ def refusals_in_process(room):
         ("hops", lambda plan: first(plan, max_hops=20001)), ("a node", lambda plan: first(plan, ends=(2**64, 1))),
         ("a list of none", lambda plan: plan.follow([HIGH, ()], room.morning)), ("a contact 0", lambda plan: plan.follow([(0,)], room.morning)),
     ):
-        wanted, found = [functools.partial(refusal_of, act, plans[kind]) for kind in plans]
-        yield f"it is refused in process: {title}", wanted(), found
-    wanted, found = [functools.partial(refusal_of, lambda kind: asking(kind, cgrlist.Plan.from_file, bad).digest, kind) for kind in plans]
-    yield "it is refused in process: a plan", wanted(), found
+        yield f"it is refused in process: {title}", "the same", same, *(functools.partial(refusal_of, act, it) for it in plans.values())
+    digest_of_bad = lambda kind: asking(kind, cgrlist.Plan.from_file, bad).digest
+    yield "it is refused in process: a plan", "the same", same, *(functools.partial(refusal_of, digest_of_bad, it) for it in KINDS)
     texts = [SESSION.replace("DIGEST", digest) for digest in (plans["Program"].digest, "0" * 64)]
-    wanted, found = [lambda plan=plan: [*map(plan.verify, (*texts, "", "x"))] for plan in plans.values()]
-    yield "session texts in process", wanted(), found
+    yield "session texts in process", "the same", same, *(lambda plan=it: [*map(plan.verify, (*texts, "", "x"))] for it in plans.values())
     a = asking("InProcess", cgrlist.Plan.from_file, f"{TOP}/examples/a.txt")
     yield "the text of a place in process", True, lambda: a.verify(SESSION.replace("DIGEST", a.digest))
     yield "no library", "cannot use /none.so: /none.so: cannot open shared object file: No such file or directory [125]", \
@@ -428,7 +433,7 @@ def refusals_in_process(room):
     os.symlink(LIBRARY, f"{room.path}/there/lib/libcgrlist.so.1")
     for title, wanted, off in (("beside the program", True, None), ("it is turned off", False, "0")):
         yield f"the library: {title}", wanted, lambda off=off: in_environment(
-            lambda: library_beside(f"{room.path}/there/bin/cgrlist") is not None, CGRLIST_LIBRARY=None, CGRLIST_IN_PROCESS=off)
+            lambda: library(lambda: f"{room.path}/there/bin/cgrlist") is not None, CGRLIST_LIBRARY=None, CGRLIST_IN_PROCESS=off)
 
 
 def in_environment(act, **variables):
@@ -447,7 +452,7 @@ def at_the_same_time(room):
     plan = asking("InProcess", cgrlist.Plan.from_file, f"{TOP}/examples/relay.txt")
     one, other = room.morning, plan.request(1, 31, AT)
     alone = [[it.contacts for it in plan.routes(asked)] for asked in (one, other)]
-    yield "a list has pages", True, lambda: min(map(len, alone)) > 0 and len(alone[0]) > 3
+    yield "lists with routes", True, lambda: min(map(len, alone)) > 3
     yield "lists in turn", alone, lambda: in_turn(plan, [one, other])
     yield "a list that isn't read to its end", alone[0][:3], lambda: [
         [it.contacts for it in itertools.islice(plan.routes(one), 3)] for _ in range(3)][-1]
@@ -459,6 +464,12 @@ def at_the_same_time(room):
             return [*pool.map(lambda it: contacts_of(plan.first(it, count=5)), requests)]
 
     yield "threads", wanted, by_threads
+
+    def by_processes():
+        with ProcessPoolExecutor(2, get_context("fork")) as pool:
+            return [*map(contacts_of, plan.many(requests * 3, 5, pool))]
+
+    yield "other processes", wanted * 3, by_processes
 
 
 def in_turn(plan, requests):

@@ -6,8 +6,8 @@ from typing import Iterable, Iterator, List, Optional, Sequence, Union
 
 from . import lost, plans
 from .errors import WORDS_STATUS, Refused
-from .inprocess import router_over
-from .program import Counts, program_path
+from .inprocess import InProcess, library
+from .program import Counts, Program, program_path
 from .router import Router
 from .routes import Answer, Fault, Request, Route, listed
 from .times import second_of
@@ -58,11 +58,17 @@ class Plan(plans.Plan):
             plan._text += "".join(f"{self.contact(number).deletion()}\n" for number in numbers).encode()
         return plan
 
+    def with_lines(self, lines: Iterable[str]) -> "Plan":
+        """The plan with further lines at its end, as `d contact 2030/01/01-01:00:00 31 22`. Contacts keep their numbers."""
+        text = self._bytes().decode("utf-8", "replace")
+        return Plan([*_lines_of(text), *_lines_of(lines)], None, self.names)
+
     @property
     def asked(self) -> Router:
         """What answers over the plan."""
         if self._asked is None:
-            self._asked = router_over(_program_path, self._bytes, self.file, self._path)
+            found = library(_program_path)
+            self._asked = InProcess(found, self._bytes(), self.file, self._program) if found else self._program()
         return self._asked
 
     def check(self) -> Counts:
@@ -181,14 +187,14 @@ class Plan(plans.Plan):
         """The plan's text."""
         return self._text if self.file is None else bytes_of(self.file)
 
-    def _path(self):
-        """The path of a file with the plan's text."""
-        if self.file is not None:
-            return self.file
-        path = scratch()
-        with open(path, "wb") as file:
-            file.write(self._text)
-        return path
+    def _program(self):
+        """The program over the plan."""
+        path = self.file
+        if path is None:
+            path = scratch()
+            with open(path, "wb") as file:
+                file.write(self._text)
+        return Program(_program_path(), path)
 
     def _node(self, node):
         try:

@@ -14,7 +14,7 @@ from ctypes import POINTER, byref, c_bool, c_char_p, c_size_t, c_uint8, c_uint32
 
 from . import hints
 from .errors import PLAN_STATUS, REQUESTS_STATUS, START_STATUS, WORDS_STATUS, Refused
-from .program import MOST, Counts, Program
+from .program import MOST, Counts
 from .router import Router
 from .routes import HOPS, MARGIN, Answer, Fault, Hop, Route
 from .times import LAST
@@ -79,18 +79,22 @@ _CALLS = {  # the types of the arguments of each call that is used
 # ---- The library ------------------------------------------------------------------------------------------------
 
 
-def library_beside(program):
-    """The library beside a program, of which the path may be None, or the one that the environment names; None if there is
+def library(program_path):
+    """The library that the environment names, or that lies beside the program, whose path a function gives; None if there is
     none, or if the program is to be asked.
     """
     if os.environ.get("CGRLIST_IN_PROCESS") == "0":
         return None
-    named = os.environ.get("CGRLIST_LIBRARY")
-    if named:
-        return loaded(named)
-    folder = os.path.dirname(os.path.realpath(program)) if program else ""
-    path = next((it for it in (os.path.join(folder, place) for place in PLACES) if os.path.isfile(it)), None)
+    path = os.environ.get("CGRLIST_LIBRARY") or _beside(program_path)
     return path and loaded(path)
+
+
+def _beside(program_path):
+    try:
+        folder = os.path.dirname(os.path.realpath(program_path()))
+    except Refused:  # there is no program
+        return None
+    return next((it for it in (os.path.join(folder, place) for place in PLACES) if os.path.isfile(it)), None)
 
 
 @functools.lru_cache(maxsize=None)
@@ -197,7 +201,8 @@ class _Opened:
 class InProcess(Router):
     """The library over a plan's text, which may be that of a file. It answers as `program.Program` does, and is refused alike.
 
-    The plan is read once, at the first question. Threads may ask together, and wait for each other.
+    The plan is read once, at the first question. Threads may ask together, and wait for each other. A function gives the
+    program over the same plan.
     """
 
     at_once = 1
@@ -275,8 +280,7 @@ class InProcess(Router):
     def pages(self, request):
         """The pages of a request's list, to its end. A listing has a plan of its own while it is open."""
         asked, count, rank = _asked(request), FIRST_PAGE, 1
-        self.check()
-        opened = self._free.pop() if self._free else self._read()
+        opened = self._for_listing()
         try:
             with opened.lock:
                 opened.call("cgrlist_listing_open", *asked)
@@ -291,13 +295,21 @@ class InProcess(Router):
                 self._library.cgrlist_listing_close(byref(opened._plan))
             self._free.append(opened)
 
+    def _for_listing(self):
+        """A plan over which no listing is open."""
+        self.check()
+        try:
+            return self._free.pop()
+        except IndexError:
+            return self._read()
+
     @contextlib.contextmanager
     def over(self, text):
         """The library over another plan's text."""
         yield InProcess(self._library, text)
 
     def apart(self):
-        """What other processes may run."""
+        """What other processes may use: the program."""
         return self._program()
 
     @contextlib.contextmanager
@@ -330,18 +342,3 @@ def _number(value, least, most, option):
 
 def _refuse(option, value):
     raise Refused(f"cgrlist: bad {option}\n", WORDS_STATUS, is_told=True, value=str(value))
-
-
-def router_over(program_path, text, file, path_of):
-    """What answers over a plan's text: the library where there is one, else the program at a path.
-
-    `program_path` gives the program's path, or refuses; `file` is the path of the text, None if it has none, and `path_of`
-    gives one that the program can read.
-    """
-    try:
-        path = program_path()
-    except Refused:
-        path = None
-    library = library_beside(path)
-    ask = lambda: Program(program_path(), path_of())
-    return InProcess(library, text(), file, ask) if library else ask()
