@@ -26,8 +26,10 @@ from checking import SECONDS, TOP, Room, checks_of
 
 sys.path.insert(0, f"{TOP}/tools")
 import cgrlist
-from cgrlist.inprocess import library
+from cgrlist.inprocess import InProcess, library, loaded
 from cgrlist.listing import asked_again
+from cgrlist.program import Program
+from cgrlist.tool import bytes_of
 
 AT = "2030-01-01T00:45:00Z"
 BEGIN = 1893456000  # 2030-01-01T00:00:00Z
@@ -114,8 +116,9 @@ def forms_of_calls(room):
     yield "many with hops", 3, lambda: len(next(plan.many([asked], 1, hops=True))[0].hops)
     yield ("lists of contacts", [BEGIN + 10042, "refused hop 2: NotChained"],
            lambda: [getattr(it, "delivery", None) or it.text for it in plan.follow([HIGH, (4, 5)], asked)])
-    yield ("a router's choices", [(1, 1), (2, 4), (3, None)],
-           lambda: [(it.place, it.rank) for it in plan.choices([HIGH, NORTH, (1, 3)], 31, 1, at=AT)])
+    # Route 4 of the list delivers at 15:17:21, the best one at 02:47:22.
+    yield ("a router's choices", [(1, 0), (4, 44999), (None, None)],
+           lambda: [(it.rank, it.later) for it in plan.choices([HIGH, NORTH, (1, 3)], 31, 1, at=AT)])
     # Without contact 4 or 11 the bundle takes contacts 5 12 2, and without contact 2 it goes by the northern station.
     yield ("losses", [(4, SOUTH), (11, SOUTH), (2, NORTH)],
            lambda: [(it.contact, it.route.contacts) for it in plan.losses(31, 1, at=AT, count=1)])
@@ -275,11 +278,20 @@ def ended_by(room, number, words, pid):
     with open(pid, encoding="utf-8") as file:
         child = int(file.read())
     for _ in range(50):
-        if not os.path.exists(f"/proc/{child}"):
+        if not runs(child):
             return status, False
         time.sleep(0.1)
     os.kill(child, signal.SIGKILL)
     return status, True
+
+
+def runs(process):
+    """Whether a process is there, and hasn't ended with nobody to ask for its status."""
+    try:
+        with open(f"/proc/{process}/stat", encoding="utf-8") as file:
+            return file.read().rpartition(") ")[2][0] != "Z"
+    except OSError:
+        return False
 
 
 # ---- The library in process, beside the program -----------------------------------------------------------------
@@ -421,15 +433,16 @@ def refusals_in_process(room):
         ("a list of none", lambda plan: plan.follow([HIGH, ()], room.morning)), ("a contact 0", lambda plan: plan.follow([(0,)], room.morning)),
     ):
         yield f"it is refused in process: {title}", "the same", same, *(functools.partial(refusal_of, act, it) for it in plans.values())
-    digest_of_bad = lambda kind: asking(kind, cgrlist.Plan.from_file, bad).digest
-    yield "it is refused in process: a plan", "the same", same, *(functools.partial(refusal_of, digest_of_bad, it) for it in KINDS)
+    routers = Program(room.program, bad), InProcess(loaded(LIBRARY), bytes_of(bad), bad)
+    yield "it is refused in process: a plan", "the same", same, *(functools.partial(refusal_of, digest_of, it) for it in routers)
     texts = [SESSION.replace("DIGEST", digest) for digest in (plans["Program"].digest, "0" * 64)]
     yield "session texts in process", "the same", same, *(lambda plan=it: [*map(plan.verify, (*texts, "", "x"))] for it in plans.values())
     a = asking("InProcess", cgrlist.Plan.from_file, f"{TOP}/examples/a.txt")
     yield "the text of a place in process", True, lambda: a.verify(SESSION.replace("DIGEST", a.digest))
     yield "no library", "cannot use /none.so: /none.so: cannot open shared object file: No such file or directory [125]", \
         lambda: in_environment(lambda: refused(cgrlist.Plan.from_file(relay).check), CGRLIST_LIBRARY="/none.so")
-    os.makedirs(f"{room.path}/there/lib")
+    for folder in ("bin", "lib"):
+        os.makedirs(f"{room.path}/there/{folder}")
     os.symlink(LIBRARY, f"{room.path}/there/lib/libcgrlist.so.1")
     for title, wanted, off in (("beside the program", True, None), ("it is turned off", False, "0")):
         yield f"the library: {title}", wanted, lambda off=off: in_environment(
@@ -439,6 +452,10 @@ def refusals_in_process(room):
 def in_environment(act, **variables):
     with environment(**variables):
         return act()
+
+
+def digest_of(router):
+    return router.digest()
 
 
 def refusal_of(act, given):
@@ -452,7 +469,7 @@ def at_the_same_time(room):
     plan = asking("InProcess", cgrlist.Plan.from_file, f"{TOP}/examples/relay.txt")
     one, other = room.morning, plan.request(1, 31, AT)
     alone = [[it.contacts for it in plan.routes(asked)] for asked in (one, other)]
-    yield "lists with routes", True, lambda: min(map(len, alone)) > 3
+    yield "lists with routes", True, lambda: min(map(len, alone)) > 0
     yield "lists in turn", alone, lambda: in_turn(plan, [one, other])
     yield "a list that isn't read to its end", alone[0][:3], lambda: [
         [it.contacts for it in itertools.islice(plan.routes(one), 3)] for _ in range(3)][-1]

@@ -21,20 +21,22 @@ What can't be done is `Refused`, a ValueError with a message and a status: 2 for
 from typing import Iterable, Iterator, List, Optional, Sequence, Union
 
 from .asking import Plan, Time
+from .choosing import Judged
 from .comparing import contact_changes, route_changes
 from .errors import Refused
-from .lost import Chosen, Loss
+from .lost import Loss
 from .names import Names
 from .plans import Contact
 from .program import Counts
 from .routes import Answer, Fault, Hop, Request, Route
 from .times import iso_text, second_of, time_text
 from .timetable import Start, Stretch
+from .version import VERSION
 
-__version__ = "1.1.0"
+__version__ = VERSION
 
 __all__ = [
-    *("Answer", "Chosen", "Contact", "Counts", "Fault", "Hop", "Loss", "Names", "Plan", "Refused", "Request", "Route"),
+    *("Answer", "Contact", "Counts", "Fault", "Hop", "Judged", "Loss", "Names", "Plan", "Refused", "Request", "Route"),
     *("Start", "Stretch", "check", "choices", "contact_changes", "digest", "first", "follow", "iso_text", "latest", "losses"),
     *("many", "request", "route_changes", "routes", "second_of", "time_text", "timetable", "verify"),
 ]
@@ -65,7 +67,7 @@ def follow(plan: Plan, asked: Request, lists: Iterable[Sequence[int]]) -> List[U
     return plan.follow(lists, asked)
 
 
-def choices(plan: Plan, asked: Request, lists: Iterable[Sequence[int]]) -> List[Chosen]:
+def choices(plan: Plan, asked: Request, lists: Iterable[Sequence[int]]) -> List[Judged]:
     """What lists of contact numbers do for a request, with their ranks, as `Plan.choices`."""
     return plan.choices(lists, asked)
 

@@ -4,9 +4,11 @@ import os
 from datetime import date, datetime
 from typing import Iterable, Iterator, List, Optional, Sequence, Union
 
-from . import lost, plans
+from . import plans
+from .choosing import LOOK, Choice, Judged, judged
 from .errors import WORDS_STATUS, Refused
 from .inprocess import InProcess, library
+from .lost import Loss, losses
 from .program import Counts, Program, program_path
 from .router import Router
 from .routes import Answer, Fault, Request, Route, listed
@@ -52,10 +54,11 @@ class Plan(plans.Plan):
 
     def without(self, numbers: Iterable[int]) -> "Plan":
         """The plan without the contacts with some numbers, of which there must be some; the others keep theirs."""
-        plan, numbers = super().without(numbers := [*numbers]), sorted(set(numbers))
+        lost = sorted(set(numbers))
+        plan = super().without(lost)
         plan._asked = None
         if self._text is not None:
-            plan._text += "".join(f"{self.contact(number).deletion()}\n" for number in numbers).encode()
+            plan._text += "".join(f"{self.contact(number).deletion()}\n" for number in lost).encode()
         return plan
 
     def with_lines(self, lines: Iterable[str]) -> "Plan":
@@ -109,7 +112,8 @@ class Plan(plans.Plan):
         for page in self.asked.pages(self.request(source, destination, at, **limits)):
             yield from map(self.with_nodes, page.routes)
 
-    def first(self, source: Source, destination: Optional[Node] = None, at: Optional[Time] = None, *, count: int = 10, **limits) -> Answer:
+    def first(self, source: Source, destination: Optional[Node] = None, at: Optional[Time] = None, *, count: int = 10,
+              **limits) -> Answer:
         """The answer with the first routes of a request, at most 10000, with their nodes and hops."""
         router = self.asked
         (answer,) = router.with_hops([router.first(self.request(source, destination, at, **limits), count)])
@@ -128,26 +132,30 @@ class Plan(plans.Plan):
         for answers in (executor.map if executor else map)(_answered, *zip(*tasks)) if parts else ():
             yield from map(self._shown, answers)
 
-    def follow(self, lists: Iterable[Sequence[int]], source: Source, destination: Optional[Node] = None, at: Optional[Time] = None, **limits) -> List[Union[Route, Fault]]:
+    def follow(self, lists: Iterable[Sequence[int]], source: Source, destination: Optional[Node] = None, at: Optional[Time] = None,
+               **limits) -> List[Union[Route, Fault]]:
         """What lists of contact numbers do for a request, for each a `Route` with its hops or a `Fault`."""
         request = self.request(source, destination, at, **limits)
         found = self.asked.follow((tuple(numbers), request) for numbers in lists)
         return [self.with_nodes(it) if isinstance(it, Route) else it for it in found]
 
-    def choices(self, lists: Iterable[Sequence[int]], source: Source, destination: Optional[Node] = None, at: Optional[Time] = None, **limits) -> List[lost.Chosen]:
-        """What lists of contact numbers that a router chose do for a request, for each a `Chosen`, whose place is that of
-        the list, from 1: a route with its rank in the list of all routes, if that is at most 100000, or a fault.
+    def choices(self, lists: Iterable[Sequence[int]], source: Source, destination: Optional[Node] = None, at: Optional[Time] = None,
+                look: int = LOOK, **limits) -> List[Judged]:
+        """What lists of contact numbers that a router chose do for a request, for each a `Judged`: a route, with its rank if
+        it is among so many that are looked at, and how many seconds later it delivers than the best; or a fault.
         """
-        chosen = [(place, tuple(numbers)) for place, numbers in enumerate(lists, 1)]
-        return lost.choices(self.asked, self.request(source, destination, at, **limits), chosen)
+        request = self.request(source, destination, at, **limits)
+        chosen = [Choice(place, tuple(numbers), request) for place, numbers in enumerate(lists, 1)]
+        return [*judged(self.asked, chosen, look)]
 
-    def losses(self, source: Source, destination: Optional[Node] = None, at: Optional[Time] = None, *, routes: Optional[Iterable[Route]] = None, count: int = 10, **limits) -> List[lost.Loss]:
+    def losses(self, source: Source, destination: Optional[Node] = None, at: Optional[Time] = None, *,
+               routes: Optional[Iterable[Route]] = None, count: int = 10, **limits) -> List[Loss]:
         """For each contact of some routes of a request, of its first ones if none are given, a `Loss`: the best route if
         that contact alone is lost.
         """
         request = self.request(source, destination, at, **limits)
         routes = self.asked.first(request, count) if routes is None else routes
-        return lost.losses(self.asked, self, request, list(routes))
+        return losses(self.asked, self, request, list(routes))
 
     def latest(self, source: Source, destination: Optional[Node] = None, *, by: Time, after: Time = 0,
                **limits) -> Optional[Start]:
@@ -158,7 +166,8 @@ class Plan(plans.Plan):
         start = latest_start(self.asked, request, _second(by))
         return start and Start(start.second, self.with_nodes(start.route))
 
-    def timetable(self, source: Source, destination: Optional[Node] = None, at: Optional[Time] = None, *, last: Time, **limits) -> Iterator[Stretch]:
+    def timetable(self, source: Source, destination: Optional[Node] = None, at: Optional[Time] = None, *, last: Time,
+                  **limits) -> Iterator[Stretch]:
         """The stretches of time, from a request's second to a last one, with the best route of each, as an iterator."""
         request = self.request(source, destination, at, **limits)
         for it in stretches(self.asked, request, _second(last)):

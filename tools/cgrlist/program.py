@@ -15,7 +15,7 @@ from . import clone, hints
 from .errors import NO_STATUS, PLAN_STATUS, REQUESTS_STATUS, START_STATUS, Refused
 from .router import Router
 from .routes import followed, parts_of, whole_report_of
-from .tool import Tool, bytes_of, in_order, processors, scratch
+from .tool import Tool, beginning, bytes_of, in_order, processors, scratch
 
 MOST = 10000  # routes that the program gives at a time
 LISTS = 2500  # of contacts that a run follows, so that several processors share many
@@ -45,10 +45,11 @@ def _ran(words, files=()):
     how = {"stdout": subprocess.PIPE, "stderr": subprocess.PIPE, "text": True, "errors": "replace"}
     with _PROCESSES:
         try:
-            process = subprocess.Popen(words, pass_fds=files, **how)
+            with beginning():
+                process = subprocess.Popen(words, pass_fds=files, **how)
+                Tool.children.add(process)
         except OSError as error:
             raise Refused(f"cannot start {words[0]}: {error.strerror}", START_STATUS) from error
-        Tool.children.add(process)
         try:
             said, told = process.communicate()
         except BaseException:  # a signal ends what waits for it

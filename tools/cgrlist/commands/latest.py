@@ -84,7 +84,7 @@ def answer(asked):
     if asked.words.form == JSON:
         return answer_json(asked, request, latest, is_found), is_found
     if not is_found:
-        return none_text(earliest, asked.time_text), False
+        return none_text(latest, asked.time_text), False
     text = start_text(latest, asked.time_text)
     if asked.words.names:
         text += nodes_text(latest.route, asked.plan, asked.names)
