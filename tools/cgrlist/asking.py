@@ -1,5 +1,6 @@
 """A plan that can be asked: each call has a method, and a function of the package with the same name and words."""
 
+import functools
 import os
 from datetime import date, datetime
 from typing import Iterable, Iterator, List, Optional, Sequence, Union
@@ -14,7 +15,7 @@ from .router import Router
 from .routes import Answer, Fault, Request, Route, listed
 from .times import second_of
 from .timetable import Start, Stretch, latest_start, stretches
-from .tool import bytes_of, scratch
+from .tool import scratch
 
 PART = 200  # requests that a worker answers at a time
 
@@ -32,10 +33,8 @@ class Plan(plans.Plan):
     """
 
     def __init__(self, lines, file=None, names=None):
-        lines = lines if file else _lines_of(lines)
-        super().__init__(lines, file, names)
-        self._text = None if file else b"".join(b"%b\n" % line.encode() for line in lines)
-        self._asked = None
+        self._text, self._asked = _text_of(lines), None
+        super().__init__(self._text, file, names)
 
     def __len__(self) -> int:
         return len(self._numbered)
@@ -56,22 +55,19 @@ class Plan(plans.Plan):
         """The plan without the contacts with some numbers, of which there must be some; the others keep theirs."""
         lost = sorted(set(numbers))
         plan = super().without(lost)
-        plan._asked = None
-        if self._text is not None:
-            plan._text += "".join(f"{self.contact(number).deletion()}\n" for number in lost).encode()
+        plan._text, plan._asked = _joined(self._text, [self.contact(number).deletion() for number in lost]), None
         return plan
 
     def with_lines(self, lines: Iterable[str]) -> "Plan":
         """The plan with further lines at its end, as `d contact 2030/01/01-01:00:00 31 22`. Contacts keep their numbers."""
-        text = self._bytes().decode("utf-8", "replace")
-        return Plan([*_lines_of(text), *_lines_of(lines)], None, self.names)
+        return Plan(_joined(self._text, lines), None, self.names)
 
     @property
     def asked(self) -> Router:
         """What answers over the plan."""
         if self._asked is None:
-            found = library(_program_path)
-            self._asked = InProcess(found, self._bytes(), self.file, self._program) if found else self._program()
+            found, program = library(_program_path), functools.partial(_program, self.file, self._text)
+            self._asked = InProcess(found, self._text, self.file, program) if found else program()
         return self._asked
 
     def check(self) -> Counts:
@@ -192,19 +188,6 @@ class Plan(plans.Plan):
 
         return showing.plan_html(self)
 
-    def _bytes(self):
-        """The plan's text."""
-        return self._text if self.file is None else bytes_of(self.file)
-
-    def _program(self):
-        """The program over the plan."""
-        path = self.file
-        if path is None:
-            path = scratch()
-            with open(path, "wb") as file:
-                file.write(self._text)
-        return Program(_program_path(), path)
-
     def _node(self, node):
         try:
             return self.names.node(str(node))
@@ -216,14 +199,29 @@ class Plan(plans.Plan):
         return Answer(tuple(map(self.with_nodes, answer.routes)), answer.is_whole, answer.request, self)
 
 
-def _lines_of(lines):
-    """The lines of a plan that is made of them, which may be one text."""
-    text = lines.decode("utf-8", "replace") if isinstance(lines, bytes) else lines
-    return text.split("\n") if isinstance(text, str) else [line.rstrip("\n") for line in text]
+def _text_of(lines):
+    """The bytes of a plan's text, which may be lines, with or without line feeds."""
+    if isinstance(lines, bytes):
+        return lines
+    return (lines if isinstance(lines, str) else "\n".join(line.rstrip("\n") for line in lines)).encode()
+
+
+def _joined(text, lines):
+    """A plan's text with further lines."""
+    return b"\n".join([text, _text_of(lines), b""])
 
 
 def _program_path():
     return program_path(os.environ.get("CGRLIST"))
+
+
+def _program(file, text):
+    """The program over a plan's text, which is that of a file if it has one."""
+    if file is None:
+        file = scratch()
+        with open(file, "wb") as made:
+            made.write(text)
+    return Program(_program_path(), file)
 
 
 def _second(time):
