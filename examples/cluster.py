@@ -14,8 +14,8 @@ from dask.distributed import Client
 if __name__ == "__main__":  # the workers read this file, too
     plan = cgrlist.Plan.from_file(os.path.abspath("examples/relay.txt"))
     day = cgrlist.second_of("2030-01-01")
-    minutes = [cgrlist.request(plan, 31, 1, day + 60 * minute) for minute in range(1440)]
+    minutes = [plan.request(31, 1, day + 60 * minute) for minute in range(1440)]
     with Client(n_workers=2, threads_per_worker=1, dashboard_address=None) as client:
-        answers = list(cgrlist.many(plan, minutes, 1, client.get_executor()))
-    assert answers == list(cgrlist.many(plan, minutes, 1))
+        answers = list(plan.many(minutes, 1, client.get_executor()))
+    assert answers == list(plan.many(minutes, 1))
     print(sum(1 for it in answers if it.routes), "of", len(answers), "have a route")

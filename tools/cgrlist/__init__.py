@@ -3,115 +3,102 @@
     import cgrlist
 
     plan = cgrlist.Plan.from_file("examples/relay.txt")
-    for route in cgrlist.routes(plan, 31, 1, "2030-01-01T00:45:00Z"):
+    for route in plan.routes(31, 1, at="2030-01-01T00:45:00Z"):
         print(route.rank, route.text(), route.nodes)
 
-Times are whole seconds since 1970 in UTC; where one is asked for, a `datetime` and the spellings of the command line are
-taken, too. Nodes are numbers, and where one is asked for, the plan's names for them are taken. Light times are seconds,
-rates and rooms bytes, the latter in all, the former in a second. What can't be done is `Refused`, with a message and a
-status: 2 for what is asked, 3 for the plan, 5 for a file, 125 if there is no program. The program is the clone's or that
-in the path; `CGRLIST` in the environment names another one.
+A request is written so in each call, with `margin_ppm`, `max_hops` and `avoid` by name, or is a `Request`, as that of
+`plan.request(31, 1, at=..)`; the functions of the package have the methods' names, and take a plan and a `Request`.
+
+Times are whole seconds since 1970 in UTC; where one is asked for, a `datetime` with a zone, a `date` and the spellings of
+the command line are taken, too, and what has a time has it as a `datetime` in UTC, too, as `route.delivery_time`. Nodes are
+numbers, and where one is asked for, the plan's names for them are taken. Light times are seconds, rates and rooms bytes,
+the former in a second, the latter in all.
+
+What can't be done is `Refused`, a ValueError with a message and a status: 2 for what is asked, 3 for the plan, 5 for a file,
+125 if there is no program. The program is the clone's or that in the path; `CGRLIST` in the environment names another one.
+Where the library `libcgrlist.so.1` lies beside it, or `CGRLIST_LIBRARY` names one, that answers in this process, many times
+as fast, and the same; `CGRLIST_IN_PROCESS=0` turns that off.
 """
 
-import os
+from typing import Iterable, Iterator, List, Optional, Sequence, Union
 
+from .asking import Plan, Time
+from .choosing import Judged
 from .comparing import contact_changes, route_changes
 from .errors import Refused
-from .lost import losses as _losses
+from .lost import Loss
 from .names import Names
-from .plans import Contact, Plan
-from .program import Program, program_path
+from .plans import Contact
+from .program import Counts
 from .routes import Answer, Fault, Hop, Request, Route
 from .times import iso_text, second_of, time_text
-from .timetable import Stretch, stretches
+from .timetable import Start, Stretch
+from .version import VERSION
+
+__version__ = VERSION
 
 __all__ = [
-    *("Answer", "Contact", "Fault", "Hop", "Names", "Plan", "Refused", "Request", "Route", "Stretch"),
-    *("contact_changes", "first", "follow", "iso_text", "losses", "many", "request", "route_changes", "routes"),
-    *("second_of", "time_text", "timetable"),
+    *("Answer", "Contact", "Counts", "Fault", "Hop", "Judged", "Loss", "Names", "Plan", "Refused", "Request", "Route"),
+    *("Start", "Stretch", "check", "choices", "contact_changes", "digest", "first", "follow", "iso_text", "latest", "losses"),
+    *("many", "request", "route_changes", "routes", "second_of", "time_text", "timetable", "verify"),
 ]
 
-PART = 200  # requests that a worker answers at a time
+
+def request(plan: Plan, source, destination, at: Time, margin_ppm=None, max_hops=None, avoid=()) -> Request:
+    """A request over a plan, as `Plan.request`."""
+    return plan.request(source, destination, at, margin_ppm=margin_ppm, max_hops=max_hops, avoid=avoid)
 
 
-def program_over(plan):
-    """The program over a plan's file."""
-    return Program(program_path(os.environ.get("CGRLIST")), plan.file)
+def routes(plan: Plan, source, destination=None, at: Optional[Time] = None, **limits) -> Iterator[Route]:
+    """All routes of a request, best first, as `Plan.routes`."""
+    return plan.routes(source, destination, at, **limits)
 
 
-def request(plan, source, destination, at, margin_ppm=None, max_hops=None, avoid=()):
-    """A request over a plan. Nodes may be numbers or names, as texts too. ValueError if there is no such node or time."""
-    nodes = [plan.names.node(str(node)) for node in (source, destination)]
-    avoided = tuple(sorted(plan.names.node(str(node)) for node in avoid))
-    return Request(*nodes, second_of(at), margin_ppm, max_hops, avoided)
+def first(plan: Plan, asked: Request, count: int = 10) -> Answer:
+    """The first routes of a request with their hops, as `Plan.first`."""
+    return plan.first(asked, count=count)
 
 
-def routes(plan, source, destination, at, **limits):
-    """All routes of a request, best first, with their nodes and without their hops, as an iterator.
-
-    The program is asked for a page of 100 routes, and for more once they are taken, by way of a session. So the first
-    routes cost as much as 100 do, and the memory doesn't grow with the list.
-    """
-    for page in program_over(plan).pages(request(plan, source, destination, at, **limits)):
-        yield from map(plan.with_nodes, page.routes)
+def many(plan: Plan, requests: Iterable[Request], count: int = 10, executor=None, hops: bool = False) -> Iterator[Answer]:
+    """The first routes of each of some requests, as `Plan.many`."""
+    return plan.many(requests, count, executor, hops)
 
 
-def first(plan, asked, count=10):
-    """The answer with the first routes of a request, at most 10000, with their nodes and hops. It takes two runs of the
-    program.
-    """
-    (answer,) = _told(program_over(plan), plan, [asked], count)
-    return answer
+def follow(plan: Plan, asked: Request, lists: Iterable[Sequence[int]]) -> List[Union[Route, Fault]]:
+    """What lists of contact numbers do for a request, as `Plan.follow`."""
+    return plan.follow(lists, asked)
 
 
-def follow(plan, asked, lists):
-    """What lists of contact numbers do for a request, for each a `Route` with its hops or a `Fault`, by one run of the
-    program for many.
-    """
-    found = program_over(plan).follow((tuple(numbers), asked) for numbers in lists)
-    return [plan.with_nodes(it) if isinstance(it, Route) else it for it in found]
+def choices(plan: Plan, asked: Request, lists: Iterable[Sequence[int]]) -> List[Judged]:
+    """What lists of contact numbers do for a request, with their ranks, as `Plan.choices`."""
+    return plan.choices(lists, asked)
 
 
-def many(plan, requests, count=10, executor=None, hops=False):
-    """The answers to requests, in their order, each with its first routes, as an iterator.
-
-    With an executor, as of `concurrent.futures` or of a cluster, parts of 200 requests are answered by its workers, which
-    need the plan's file and the program at the same places. Without one, they are answered here, one part at a time.
-    Each part reads the plan once. `Refused` if the program refuses a request.
-    """
-    requests = list(requests)
-    parts = [requests[start : start + PART] for start in range(0, len(requests), PART)]
-    program = program_over(plan)
-    told = (executor.map if executor else map)(_part, *zip(*((program, part, count, hops) for part in parts))) if parts else ()
-    for answers in told:
-        yield from (_shown(answer, plan) for answer in answers)
+def losses(plan: Plan, asked: Request, routes: Iterable[Route]) -> List[Loss]:
+    """What is best if a contact of some routes of a request is lost, as `Plan.losses`."""
+    return plan.losses(asked, routes=routes)
 
 
-def losses(plan, asked, routes):
-    """For each contact of some routes of a request, a `Loss`: the best route if that contact alone is lost. It takes a run
-    of the program for each contact that all these routes have.
-    """
-    return _losses(program_over(plan), plan, asked, list(routes))
+def latest(plan: Plan, asked: Request, by: Time) -> Optional[Start]:
+    """The last second at the source that is in time, as `Plan.latest`."""
+    return plan.latest(asked, by=by)
 
 
-def timetable(plan, asked, last):
-    """The stretches of time, from a request's second to a last one, with the best route of each, as an iterator. Each takes
-    some 40 runs of the program if the span is a day, and two more whenever the span is twice as long.
-    """
-    return stretches(program_over(plan), asked, second_of(last))
+def timetable(plan: Plan, asked: Request, last: Time) -> Iterator[Stretch]:
+    """The best route by the second at the source, as `Plan.timetable`."""
+    return plan.timetable(asked, last=last)
 
 
-def _part(program, requests, count, hops):
-    answers = program.many(requests, count)
-    if answers is None:  # asked one by one, it says which limit or node it refuses
-        answers = [program.first(request, count) for request in requests]
-    return program.with_hops(answers) if hops else answers
+def check(plan: Plan) -> Counts:
+    """What a plan has, as `Plan.check`."""
+    return plan.check()
 
 
-def _told(program, plan, requests, count):
-    return [_shown(answer, plan) for answer in _part(program, requests, count, True)]
+def digest(plan: Plan) -> str:
+    """The digest of a plan, as `Plan.digest`."""
+    return plan.digest
 
 
-def _shown(answer, plan):
-    """An answer with its plan, and with the nodes of its routes."""
-    return Answer(tuple(map(plan.with_nodes, answer.routes)), answer.is_whole, answer.request, plan)
+def verify(plan: Plan, session: Union[str, bytes]) -> bool:
+    """Whether a text is the session text of a place in a list over a plan, as `Plan.verify`."""
+    return plan.verify(session)

@@ -5,6 +5,7 @@ import json
 import re
 from collections import defaultdict
 from dataclasses import dataclass
+from typing import Optional, Tuple, Union
 
 from .errors import Refused
 from .listing import LOOK, number_word
@@ -32,7 +33,7 @@ class Choice:
     """A list of contacts that a router chose for a request, and the number of its line."""
 
     place: int
-    contacts: "tuple[int, ...]"
+    contacts: Tuple[int, ...]
     request: Request
 
 
@@ -96,9 +97,9 @@ class Judged:
     """
 
     choice: Choice
-    told: "Route | Fault"
-    rank: "int | None"
-    best: "int | None"
+    told: Union[Route, Fault]
+    rank: Optional[int]
+    best: Optional[int]
 
     @property
     def later(self):

@@ -1,15 +1,22 @@
 """What is refused, and the statuses with which the program and its tools end."""
 
 # As the program and its script use them.
-WORDS_STATUS, PLAN_STATUS, REQUESTS_STATUS, FILE_STATUS, START_STATUS = 2, 3, 4, 5, 125
+NO_STATUS, WORDS_STATUS, PLAN_STATUS, REQUESTS_STATUS, FILE_STATUS, START_STATUS = 1, 2, 3, 4, 5, 125
 
 
-class Refused(Exception):
-    """What was asked can't be done. `message` says why, None if that was printed already; `status` is a tool's.
+class Refused(ValueError):
+    """What was asked can't be done. As a text it says why, with the value that is refused.
 
-    If `is_told` is set, the message is what the program printed, with its name before it. `hints` may help to repair it.
+    `message` is what a tool prints, None if that was printed already, `status` a tool's, and `value` what is refused, None
+    if that isn't one value. If `is_told` is set, the message is what the program printed, with its name before it. `hints`
+    may help to repair it.
     """
 
-    def __init__(self, message, status=1, is_told=False, hints=()):
+    def __init__(self, message, status=1, is_told=False, hints=(), value=None):
         super().__init__(message)
         self.message, self.status, self.is_told, self.hints = message, status, is_told, tuple(hints)
+        self.value = value
+
+    def __str__(self):
+        text = (self.message or "").rstrip("\n")
+        return text if self.value is None else f"{text}: {self.value}"

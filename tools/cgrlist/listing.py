@@ -2,7 +2,9 @@
 
 import argparse
 import re
+from collections import defaultdict
 from dataclasses import dataclass, replace
+from typing import Optional
 
 from .errors import Refused
 from .routes import Answer
@@ -28,12 +30,12 @@ class Choice:
     at most, and so many at most are looked at.
     """
 
-    by: "int | None" = None
-    via: "int | None" = None
-    fits: "int | None" = None
-    distinct: "str | None" = None
-    count: "int | None" = None
-    look: "int | None" = None
+    by: Optional[int] = None
+    via: Optional[int] = None
+    fits: Optional[int] = None
+    distinct: Optional[str] = None
+    count: Optional[int] = None
+    look: Optional[int] = None
 
 
 class Listing:
@@ -114,30 +116,36 @@ def asked_again(program, plan, request, distinct):
     """The best route of a request, and then each time the best one over the plan without what is distinct of those
     before, a page for each. What their places are in the list of all routes isn't known.
     """
-    lost, taken = set(), set()
+    passing, lost, taken = {}, set(), set()
     while True:
-        lines = [plan.contact(number).deletion() for number in sorted(lost)]
-        with program.with_lines(lines) as left:
-            page = left.first(request, 1)
-        if not page.routes:
+        (route,) = program.without(lost).best([request])
+        if route is None:
             yield Answer((), True, request)
             return
-        route = plan.with_nodes(page.routes[0])
+        passing = passing or _passing(plan.contacts, request, distinct)  # once the program has accepted the plan
+        route = plan.with_nodes(route)
         yield Answer((route.having(rank=None),), False, request)
-        if not taken.isdisjoint(DISTINCT[distinct](route)):
+        values = DISTINCT[distinct](route)
+        if not taken.isdisjoint(values):
             raise Refused("the program lists a route over what was taken out of the plan")
-        taken.update(DISTINCT[distinct](route))
-        lost.update(it.number for it in plan.contacts if _is_taken(it, taken, distinct, route))
+        taken.update(values)
+        lost.update(number for value in values for number in passing[value])
 
 
-def _is_taken(contact, taken, distinct, route):
-    """Whether no further route may pass a contact. A route with this entry begins with a contact from the source."""
-    if distinct == "contacts":
-        return contact.number in taken
-    source, destination = route.nodes[0], route.nodes[-1]
-    if distinct == "entry":
-        return contact.sender == source and contact.receiver in taken
-    return not taken.isdisjoint(contact.link) or (None in taken and contact.link == (source, destination))
+def _passing(contacts, request, distinct):
+    """Under each value that distinct routes don't share: the contacts that only routes with that value pass, by number. A
+    route with an entry node begins with a contact from the source to it.
+    """
+    found = defaultdict(list)
+    for it in contacts:
+        if distinct == "contacts":
+            found[it.number].append(it.number)
+        elif distinct == "nodes":
+            for node in it.link if it.link != (request.source, request.destination) else [None]:
+                found[node].append(it.number)
+        elif it.sender == request.source:
+            found[it.receiver].append(it.number)
+    return found
 
 
 # ---- The words that choose routes -------------------------------------------------------------------------------

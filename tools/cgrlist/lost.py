@@ -1,9 +1,10 @@
-"""What if a contact of a route is lost."""
+"""What if a contact of a route is lost, or a node."""
 
 import functools
-from dataclasses import dataclass
+from dataclasses import dataclass, field, replace
+from typing import Dict, Optional
 
-from .routes import Route
+from .routes import Answer, Route
 from .tool import in_order
 
 
@@ -12,7 +13,19 @@ class Loss:
     """A contact that is lost, and the best route then; None if there is none."""
 
     contact: int
-    route: "Route | None"
+    route: Optional[Route]
+
+
+@dataclass(frozen=True)
+class Lost:
+    """The best route of a request, or None, under the number of each contact that is lost, and under each node."""
+
+    contacts: Dict[int, Optional[Route]] = field(default_factory=dict)
+    nodes: Dict[int, Optional[Route]] = field(default_factory=dict)
+
+    def routes(self):
+        """All these routes."""
+        return [route for route in (*self.contacts.values(), *self.nodes.values()) if route]
 
 
 def losses(program, plan, request, routes):
@@ -26,6 +39,18 @@ def losses(program, plan, request, routes):
 def _loss(program, plan, request, listed, number):
     route = next((it for it in listed if number not in it.contacts), None)
     if route is None:
-        with program.with_lines([plan.contact(number).deletion()]) as left:
-            route = next(iter(left.first(request, 1).routes), None)
+        (route,) = program.without({number}).best([request])
     return Loss(number, route and plan.with_nodes(route))
+
+
+def best_without(program, plan, request, routes):
+    """What is best without each contact of some routes, and without each node between their ends, with hops."""
+    contacts = {it.contact: it.route for it in losses(program, plan, request, routes)}
+    nodes = sorted({hop.receiver for route in routes for hop in route.hops[:-1]})
+    without = [replace(request, avoid=tuple(sorted({*request.avoid, node}))) for node in nodes]
+    answers = (program.many(without, 1) if nodes else None) or ()  # more nodes may be avoided than the program takes
+    of_nodes = {node: next(iter(answer), None) for node, answer in zip(nodes, answers)}
+    found = Lost(contacts, of_nodes)
+    (answer,) = program.with_hops([Answer(tuple(found.routes()), None, request)])
+    with_hops = iter(answer.routes)
+    return Lost(*({of: route and next(with_hops) for of, route in it.items()} for it in (contacts, of_nodes)))

@@ -3,7 +3,7 @@
 import copy
 import hashlib
 from collections import defaultdict
-from typing import NamedTuple
+from typing import NamedTuple, Optional
 
 from . import hints
 from .errors import PLAN_STATUS, Refused
@@ -22,7 +22,7 @@ class Contact(NamedTuple):
     sender: int
     receiver: int
     rate: int  # bytes in a second
-    light: "int | None" = None
+    light: Optional[int] = None
 
     @property
     def link(self):
@@ -46,7 +46,7 @@ class Plan:
     """What stands after the last line of a plan's text, its bytes or its lines, which is judged as `cgrlist check` does.
 
     `file` is the path of the plan's text, which the program reads again, and None for a plan made of lines. `names` may
-    say names of its nodes. In a notebook the plan shows itself as a table of its contacts and as a picture.
+    say names of its nodes.
     """
 
     def __init__(self, lines, file=None, names=None):
@@ -126,16 +126,6 @@ class Plan:
     def path_text(self, nodes):
         """Nodes by their names, with arrows between them."""
         return " > ".join(map(self.names.of, nodes))
-
-    def _repr_html_(self):
-        from . import showing
-
-        return showing.plan_html(self)
-
-    def _repr_svg_(self):
-        from . import showing
-
-        return showing.plan_svg(self)
 
 
 def _lines(lines):

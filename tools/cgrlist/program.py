@@ -3,17 +3,19 @@
 import contextlib
 import functools
 import os
+import re
 import shutil
 import subprocess
 import sys
 import threading
 from dataclasses import dataclass, replace
+from typing import NamedTuple
 
 from . import clone, hints
-from .errors import PLAN_STATUS, REQUESTS_STATUS, START_STATUS, Refused
-from .plans import with_lines
-from .routes import Fault, followed, parts_of, whole_report_of
-from .tool import Tool, in_order, processors, scratch
+from .errors import NO_STATUS, PLAN_STATUS, REQUESTS_STATUS, START_STATUS, Refused
+from .router import Router
+from .routes import followed, parts_of, whole_report_of
+from .tool import Tool, beginning, bytes_of, in_order, processors, scratch
 
 MOST = 10000  # routes that the program gives at a time
 LISTS = 2500  # of contacts that a run follows, so that several processors share many
@@ -43,30 +45,68 @@ def _ran(words, files=()):
     how = {"stdout": subprocess.PIPE, "stderr": subprocess.PIPE, "text": True, "errors": "replace"}
     with _PROCESSES:
         try:
-            process = subprocess.Popen(words, pass_fds=files, **how)
+            with beginning():
+                process = subprocess.Popen(words, pass_fds=files, **how)
+                Tool.children.add(process)
         except OSError as error:
             raise Refused(f"cannot start {words[0]}: {error.strerror}", START_STATUS) from error
-        Tool.children.add(process)
         try:
             said, told = process.communicate()
+        except BaseException:  # a signal ends what waits for it
+            process.kill()
+            process.wait()
+            raise
         finally:
             Tool.children.discard(process)
     return process.returncode, said, told
 
 
+def _value_of(told, words):
+    """The value among the words of a command that a message refuses by its option's name; None if it names none."""
+    found = re.fullmatch(r"cgrlist: bad (--[a-z-]+)\n", told)
+    return words[words.index(found[1]) + 1] if found and found[1] in words else None
+
+
 # ---- The program over a plan ------------------------------------------------------------------------------------
 
 
+class Counts(NamedTuple):
+    """What a plan has: contacts and ranges that stand, their nodes, and contacts without a light time."""
+
+    contacts: int
+    ranges: int
+    nodes: int
+    without_light: int
+
+
 @dataclass(frozen=True)
-class Program:
+class Program(Router):
     """The program at a path, over the plan of a file. What it refuses is `Refused`, with its message and its status."""
 
     path: str
     plan_file: str
+    at_once = 256  # requests that one run answers in the time of a few
 
     def check(self):
         """Refuses a plan that the program refuses."""
         self.run("check")
+
+    def counts(self):
+        """What the plan has."""
+        return Counts(*(int(line.split()[-1]) for line in self.run("check").splitlines()[:4]))
+
+    def digest(self):
+        """The plan's digest."""
+        return self.run("check").split()[-1]
+
+    def verify(self, text):
+        """Whether a text, as bytes, is the session text of a place in the list of its request over the plan."""
+        path = scratch()
+        with open(path, "wb") as file:
+            file.write(text)
+        is_one = self.run("verify", "--session", path, but=NO_STATUS) is not None
+        os.unlink(path)
+        return is_one
 
     def first(self, request, count):
         """The answer with the first routes of a request, at most 10000."""
@@ -90,39 +130,23 @@ class Program:
         parts = (lists[start : start + LISTS] for start in range(0, len(lists), LISTS))
         return [told for part in in_order(self._followed, parts) for told in part]
 
-    def with_hops(self, answers):
-        """Answers with the hops of their routes; refused if a request makes another one of a route's contacts."""
-        told = iter(self.follow((route.contacts, it.request) for it in answers for route in it.routes))
-        return [replace(it, routes=tuple(_as_listed(route, next(told)) for route in it.routes)) for it in answers]
+    def apart(self):
+        """The program as other processes may run it."""
+        return self
 
-    def with_send_by(self, answers):
-        """Answers with the last second at the source for each route's contacts. None is after the first of their ends."""
-        lists = [(route.contacts, it.request) for it in answers for route in it.routes]
-        untils = [route.until for it in answers for route in it.routes]
-        seconds = iter(self.latest(lists, untils, lambda place, at, told: not isinstance(told, Fault)))
-        return [replace(it, routes=tuple(route.having(send_by=next(seconds)) for route in it.routes)) for it in answers]
-
-    def latest(self, lists, lasts, holds):
-        """For each of some lists of contacts with its request: the last second, of those from the request's on and up to
-        that in `lasts`, at which something holds. It is a binary search for all of them at once.
-
-        `holds` is asked with the list's place, a second, and what the list does then. It must hold at the request's time,
-        and at no second after one at which it doesn't.
-        """
-        seconds, lates = [request.at for _, request in lists], [last + 1 for last in lasts]
-        while left := [place for place in range(len(lists)) if lates[place] - seconds[place] > 1]:
-            middles = [(seconds[place] + lates[place]) // 2 for place in left]
-            asked = [(lists[place][0], replace(lists[place][1], at=at)) for place, at in zip(left, middles)]
-            for place, at, told in zip(left, middles, self.follow(asked)):
-                (seconds if holds(place, at, told) else lates)[place] = at
-        return seconds
+    @property
+    def text(self):
+        """The bytes of the plan's text."""
+        return bytes_of(self.plan_file)
 
     @contextlib.contextmanager
-    def with_lines(self, lines):
-        """The program over a copy of the plan with further lines, as those that delete contacts, while it is needed."""
-        file = with_lines(self.plan_file, lines)
-        yield replace(self, plan_file=file)
-        os.unlink(file)
+    def over(self, text):
+        """The program over another plan's text, while it is needed."""
+        path = scratch()
+        with open(path, "wb") as file:
+            file.write(text)
+        yield replace(self, plan_file=path)
+        os.unlink(path)
 
     def _followed(self, lists):
         lines = [f"{','.join(map(str, contacts))} {request.line()}" for contacts, request in lists]
@@ -152,7 +176,7 @@ class Program:
             raise Refused(f"cgrlist {command} answers: {[*said.splitlines(), 'no'][-1]}")
         if status:
             found = hints.of_refusal(self.plan_file, told) if status == PLAN_STATUS else ()
-            raise Refused(told, status, is_told=True, hints=found)
+            raise Refused(told, status, is_told=True, hints=found, value=_value_of(told, words))
         sys.stderr.write(told)
         return said
 
@@ -178,11 +202,3 @@ class Pages:
             if page.is_whole:
                 return
             asked, count = ["next", "--session", session], min(count * 4, MOST)
-
-
-def _as_listed(route, told):
-    """A listed route with the hops that were told of its contacts."""
-    if isinstance(told, Fault) or told.told != route.told:
-        found = told.text if isinstance(told, Fault) else told.text()
-        raise Refused(f"route {route.rank} isn't one of this request: cgrlist explain says {found}")
-    return route.having(hops=told.hops)

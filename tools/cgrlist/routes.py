@@ -5,10 +5,13 @@ Times are seconds since 1970 in UTC, nodes and contacts their numbers. Text that
 
 import re
 from dataclasses import dataclass, field
-from typing import NamedTuple
+from datetime import datetime
+from numbers import Integral
+from typing import Iterator, NamedTuple, Optional, Tuple, Union
 
 from .errors import Refused
-from .times import kept, seconds_of, time_text
+from .plans import Plan
+from .times import date_of, kept, seconds_of, time_text
 
 MARGIN, HOPS = "0", "20000"  # of a request without limits
 
@@ -18,23 +21,29 @@ class Request:
     """What the program is asked: two nodes, when the bundle is at the first, and limits.
 
     `margin_ppm` is a margin on each light time in parts in a million of it, `max_hops` the most contacts of a route,
-    and `avoid` has the nodes that no route passes, rising. The program judges them: a limit may be any text.
+    and `avoid` has the nodes that no route passes, rising; one number alone and numbers joined by commas are taken, too.
+    The program judges them: a limit may be any text.
     """
 
     source: int
     destination: int
     at: int
-    margin_ppm: "int | str | None" = None
-    max_hops: "int | str | None" = None
-    avoid: "tuple[int, ..] | str" = ()
+    margin_ppm: Union[int, str, None] = None
+    max_hops: Union[int, str, None] = None
+    avoid: Tuple[int, ...] = ()
 
     def __post_init__(self):
-        if not isinstance(self.avoid, str):
-            object.__setattr__(self, "avoid", ",".join(map(str, self.avoid)))
+        if not isinstance(self.avoid, tuple):
+            object.__setattr__(self, "avoid", tuple(map(int, listed(self.avoid))))
+
+    @property
+    def at_time(self) -> datetime:
+        """When the bundle is at the source, in UTC."""
+        return date_of(self.at)
 
     def words(self):
         """The request as the program takes it on the command line."""
-        limits = {"--margin-ppm": self.margin_ppm, "--max-hops": self.max_hops, "--avoid": self.avoid or None}
+        limits = {"--margin-ppm": self.margin_ppm, "--max-hops": self.max_hops, "--avoid": self.avoided_text or None}
         given = [word for name, value in limits.items() if value is not None for word in (name, str(value))]
         return ["--from", str(self.source), "--to", str(self.destination), "--at", time_text(self.at), *given]
 
@@ -43,8 +52,20 @@ class Request:
         """The request as a line of many; None if a limit isn't one word."""
         limits = [MARGIN if self.margin_ppm is None else str(self.margin_ppm)]
         limits.append(HOPS if self.max_hops is None else str(self.max_hops))
-        words = [str(self.source), str(self.destination), time_text(self.at), *limits, *([self.avoid] * bool(self.avoid))]
+        words = [str(self.source), str(self.destination), time_text(self.at), *limits, *filter(None, [self.avoided_text])]
         return " ".join(words) if all(len(word.split()) == 1 for word in words) else None
+
+    @property
+    def avoided_text(self):
+        """The nodes to avoid, joined by commas."""
+        return ",".join(map(str, self.avoid))
+
+
+def listed(nodes):
+    """Nodes in a list: one number alone, a text of nodes that commas join, or any number of them."""
+    if isinstance(nodes, str):
+        return nodes.split(",") if nodes else []
+    return [nodes] if isinstance(nodes, Integral) else list(nodes)
 
 
 # ---- Routes -----------------------------------------------------------------------------------------------------
@@ -64,6 +85,16 @@ class Hop(NamedTuple):
         """The sender and the receiver."""
         return self.sender, self.receiver
 
+    @property
+    def send_time(self) -> datetime:
+        """The time of sending, in UTC."""
+        return date_of(self.send)
+
+    @property
+    def arrive_time(self) -> datetime:
+        """The time of arrival, in UTC."""
+        return date_of(self.arrive)
+
 
 @dataclass(frozen=True)
 class Route:
@@ -74,14 +105,29 @@ class Route:
     source for these contacts, only if that was asked for.
     """
 
-    rank: "int | None"
+    rank: Optional[int]
     delivery: int
     entry: int
     until: int
-    contacts: "tuple[int, ..]"
-    hops: "tuple[Hop, ..]" = ()
-    nodes: "tuple[int, ..]" = ()
-    send_by: "int | None" = None
+    contacts: Tuple[int, ...]
+    hops: Tuple[Hop, ...] = ()
+    nodes: Tuple[int, ...] = ()
+    send_by: Optional[int] = None
+
+    @property
+    def delivery_time(self) -> datetime:
+        """The time of delivery, in UTC."""
+        return date_of(self.delivery)
+
+    @property
+    def until_time(self) -> datetime:
+        """The earliest end of a contact of the route, in UTC."""
+        return date_of(self.until)
+
+    @property
+    def send_by_time(self) -> Optional[datetime]:
+        """The last time at the source for these contacts, in UTC; None if that wasn't asked for."""
+        return None if self.send_by is None else date_of(self.send_by)
 
     @property
     def told(self):
@@ -106,36 +152,47 @@ class Fault:
     """Why a list of contacts makes no route, in the program's words; and the hops before that."""
 
     text: str
-    hops: "tuple[Hop, ..]" = ()
+    hops: Tuple[Hop, ...] = ()
 
 
 @dataclass(frozen=True)
 class Answer:
     """Routes of a request, best first; `is_whole` says whether the list ends with them, None if that isn't known.
 
-    In a notebook it shows itself as a table and, if the plan and the hops are known, as a picture.
+    It is a sequence of its routes. In a notebook it shows itself as a table and, if the plan and the hops are known, as a
+    picture, too.
     """
 
-    routes: "tuple[Route, ..]"
-    is_whole: "bool | None"
-    request: "Request | None" = None
-    plan: "Plan | None" = field(default=None, repr=False, compare=False)
+    routes: Tuple[Route, ...]
+    is_whole: Optional[bool]
+    request: Optional[Request] = None
+    plan: Optional[Plan] = field(default=None, repr=False, compare=False)
 
-    def __iter__(self):
+    def __iter__(self) -> Iterator[Route]:
         return iter(self.routes)
 
-    def __len__(self):
+    def __len__(self) -> int:
         return len(self.routes)
+
+    def __getitem__(self, place):
+        return self.routes[place]
+
+    def svg(self) -> str:
+        """A picture of the routes in time, as an SVG. It needs the plan and the hops."""
+        from . import showing
+
+        return showing.answer_svg(self)
+
+    def page(self) -> str:
+        """A page to touch with the plan and the routes, as HTML. It needs the plan, the request and the hops."""
+        from . import showing
+
+        return showing.answer_page(self)
 
     def _repr_html_(self):
         from . import showing
 
         return showing.answer_html(self)
-
-    def _repr_svg_(self):
-        from . import showing
-
-        return showing.answer_svg(self)
 
 
 # ---- What the program prints ------------------------------------------------------------------------------------

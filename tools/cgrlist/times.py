@@ -1,6 +1,7 @@
 """Times: a time is a whole number of seconds since 1970 in UTC, without leap seconds, as the program has it."""
 
 import functools
+import numbers
 import re
 import time
 from datetime import date, datetime, timedelta, timezone
@@ -15,6 +16,7 @@ _TIME = re.compile(r"(\d{4}/\d\d/\d\d)-(\d\d):(\d\d):(\d\d)", re.ASCII)
 _DATE = r"(\d{4})([-/])(?:(\d\d)\2(\d\d)|(\d{3}))"  # with the day of the month or of the year
 _CLOCK = r"(\d\d):(\d\d)(?::(\d\d))?(?:Z|([+-])(\d\d):?(\d\d))?"
 _ISO = re.compile(rf"{_DATE}(?:(?:T|-| ){_CLOCK})?", re.ASCII)
+_FRACTION = re.compile(r"[-/\d]+[T -]\d\d:\d\d:\d\d[.,]\d.*", re.ASCII)
 _NOW = re.compile(r"now(?:([+-]\d{1,12})([smhd]))?", re.ASCII)
 _UNITS = {"s": 1, "m": 60, "h": 3600, "d": DAY, None: 1}
 _ORIGIN = date(1970, 1, 1).toordinal()
@@ -48,6 +50,8 @@ def seconds_of(text):
 def time_of(text):
     """The second that a time of the command line says; ValueError if it says none that a plan can have."""
     second = _second_of(text)
+    if _FRACTION.fullmatch(text):
+        raise ValueError(f"a time is whole seconds: {text}")
     if not 0 <= second <= LAST:
         raise ValueError(f"no time of the years 1970 to 9998: {text}")
     return second
@@ -72,10 +76,26 @@ def _second_of(text):
 
 
 def second_of(time):
-    """The second of a number of seconds, a `datetime` with a time zone, or a text as the command line takes it."""
+    """The second of a number of seconds, a `datetime` with a time zone, a `date`, whose first second it is, or a text as the
+    command line takes it. ValueError if that is none of the years 1970 to 9998, or not a whole second.
+    """
+    if isinstance(time, str):
+        return time_of(time)
     if isinstance(time, datetime):
-        return (time - EPOCH) // timedelta(seconds=1)
-    return time_of(time) if isinstance(time, str) else int(time)
+        if time.utcoffset() is None:
+            raise ValueError(f"a time without a zone: {time}; .replace(tzinfo=timezone.utc) gives it one")
+        second, rest = divmod(time - EPOCH, timedelta(seconds=1))
+    elif isinstance(time, date):
+        second, rest = (time.toordinal() - _ORIGIN) * DAY, 0
+    elif isinstance(time, numbers.Real):
+        second, rest = divmod(time, 1)
+    else:
+        raise ValueError(f"no time: {time!r}")
+    if rest:
+        raise ValueError(f"a time is whole seconds: {time}")
+    if not 0 <= second <= LAST:
+        raise ValueError(f"no time of the years 1970 to 9998: {time}")
+    return int(second)
 
 
 # ---- Spelling ---------------------------------------------------------------------------------------------------

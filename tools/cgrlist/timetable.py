@@ -1,11 +1,17 @@
-"""The best route by the second at which the bundle is at the source, over a span of time, and exactly."""
+"""The best route by the second at which the bundle is at the source: over a span of time, and exactly; and the last second
+that is in time.
+"""
 
 from dataclasses import dataclass, replace
+from datetime import datetime
+from typing import Iterator, List, Optional
 
-from .program import MOST
-from .routes import Fault, Route
+from .router import Router
+from .routes import Request, Route
+from .times import date_of
 
-LISTED = 64  # rivals that are listed at first
+PART = 16384  # seconds of a span after which its stretches are told
+STEPS = (512, 32, 1)  # of a part, the seconds between those that are asked for, until all between are known
 
 
 @dataclass(frozen=True)
@@ -17,84 +23,139 @@ class Stretch:
 
     first: int
     last: int
-    route: "Route | None"
+    route: Optional[Route]
     rises: bool = False
 
     @property
-    def delivery(self):
+    def delivery(self) -> int:
         """The delivery from the first second."""
         return self.route.delivery
 
     @property
-    def last_delivery(self):
+    def last_delivery(self) -> int:
         """The delivery from the last second."""
         return self.route.delivery + (self.last - self.first) * self.rises
 
+    @property
+    def first_time(self) -> datetime:
+        """The first second, in UTC."""
+        return date_of(self.first)
 
-def stretches(program, request, last):
-    """The stretches from the request's second to a last one, in their order.
+    @property
+    def last_time(self) -> datetime:
+        """The last second, in UTC."""
+        return date_of(self.last)
 
-    A bundle that is at the source later arrives no earlier over the same contacts, and at most as much later. So a best
-    route stays the best while its delivery does. While that rises, only a route that is listed later there, and that
-    ends before it, can become better: each of those is followed.
+
+@dataclass(frozen=True)
+class Start:
+    """A second at which a bundle is at the source, and its best route from then on; None if there is none."""
+
+    second: int
+    route: Optional[Route]
+
+    @property
+    def time(self) -> datetime:
+        """The second, in UTC."""
+        return date_of(self.second)
+
+
+# ---- A timetable ------------------------------------------------------------------------------------------------
+
+
+def stretches(router: Router, request: Request, last: int) -> Iterator[Stretch]:
+    """The stretches from the request's second to a last one, in their order, each once it has ended."""
+    begun = None
+    for second, route in _known(router, request, last):
+        following = Stretch(second, second, route) if begun is None else _joined(begun, second, route)
+        if begun and following.first != begun.first:
+            yield begun
+        begun = following
+    if begun:
+        yield begun if begun.route else replace(begun, last=last)
+
+
+def _joined(begun, second, route):
+    """A stretch with a further second, or the one that begins there."""
+    if not (begun.route and route) or begun.route.contacts != route.contacts:
+        return Stretch(second, second, route)
+    if route.delivery == begun.delivery:
+        return replace(begun, last=second)
+    if begun.rises or begun.first == begun.last:
+        return replace(begun, last=second, rises=True)
+    return Stretch(second, second, route, rises=True)
+
+
+def _known(router, request, last):
+    """The best route, None if there is none, at seconds from the request's to a last one. Of those between two of them there
+    is either none, or all have the same best route and delivery.
     """
-    at = request.at
-    while at <= last:
-        asked = replace(request, at=at)
-        found = program.first(asked, 1).routes
-        if not found:
-            yield Stretch(at, last, None)
-            return
-        (route,) = found
-        (end,) = program.latest([(route.contacts, asked)], [min(last, route.until)], _is_route)
-        same = lambda place, second, told: _is_route(place, second, told) and told.delivery == route.delivery
-        (flat,) = program.latest([(route.contacts, asked)], [end], same)
-        beaten = _first_beaten(program, replace(request, at=flat), route, end) if flat < end else flat + 1
-        if at == flat:
-            yield Stretch(at, beaten - 1, route, rises=flat + 1 < beaten)
-        else:
-            yield Stretch(at, flat, route)
-            if flat + 1 < beaten:
-                yield Stretch(flat + 1, beaten - 1, route.having(delivery=route.delivery + 1), rises=True)
-        at = beaten
+    for first in range(request.at, last + 1, PART):
+        found = _of_part(router, request, first, min(first + PART - 1, last))
+        for second in sorted(found):
+            yield second, found[second]
+            if found[second] is None:  # and none later
+                return
 
 
-def _is_route(_, second, told):
-    return not isinstance(told, Fault)
+def _of_part(router, request, first, last):
+    """The best routes at seconds of a part, by second.
 
-
-def _first_beaten(program, request, route, end):
-    """The first second after the request's, up to an end, at which another route is better than one that is the best, and
-    that arrives later by each second; the second after the end if there is none.
+    A bundle that is at the source later arrives no earlier, over the same contacts, too. So where two seconds have the same
+    best route and delivery, all between have: another one that is better between would be better at the first of them.
     """
-    trip, count = route.delivery - request.at, LISTED
-    while request.at < end:
-        page = program.first(request, count)
-        known = end if page.is_whole else min(end, page.routes[-1].delivery - trip - 1)
-        if known > request.at:
-            rivals = [it for it in page.routes if it.contacts != route.contacts and it.delivery <= known + trip]
-            beaten = _beaten(program, request, (trip, len(route.contacts), route.contacts), rivals, known)
-        elif count < MOST:
-            count = min(count * 4, MOST)
-            continue
-        else:  # so many arrive together that the next second is asked for by itself
-            known = request.at + 1
-            best = program.first(replace(request, at=known), 1).routes[0]
-            beaten = None if best.contacts == route.contacts else known
-        if beaten is not None:
-            return beaten
-        request = replace(request, at=known)
-    return end + 1
+    found = {}
+    for step in STEPS:
+        asked = sorted({*range(first, last + 1, step), last} - found.keys() - _settled(found))
+        routes = _best_at(router, request, asked)
+        found.update(zip(asked, routes))
+    return found
 
 
-def _beaten(program, request, best, rivals, last):
-    """The first second after the request's, up to a last one, at which one of some rivals is better; None if there is none.
+def _settled(found):
+    """The seconds that need not be asked for: those between two with the same answer, and those after one without a route."""
+    settled, known = set(), sorted(found)
+    for one, other in zip(known, known[1:]):
+        if found[one] is None or (found[other] and _told(found[one]) == _told(found[other])):
+            settled.update(range(one + 1, other))
+    return settled
 
-    `best` is how long the best route takes, its number of hops, and its contacts. A rival is less and less behind it.
+
+def _told(route):
+    return route.delivery, route.contacts
+
+
+def _best_at(router, request, seconds):
+    return router.best([replace(request, at=second) for second in seconds])
+
+
+# ---- The last second --------------------------------------------------------------------------------------------
+
+
+def latest_start(router: Router, request: Request, deadline: int) -> Optional[Start]:
+    """The latest start of a request, at its second or later, that is delivered by a deadline; None if there is none.
+
+    It is a search for the first second that is too late, among as many at a time as are best asked together. A bundle that
+    is at the source later never arrives earlier, so no start after that is in time.
     """
-    lists = [(it.contacts, request) for it in rivals]
-    ends = program.latest(lists, [last] * len(lists), _is_route)
-    worse = program.latest(
-        lists, ends, lambda place, second, told: (told.delivery - second, len(told.contacts), told.contacts) > best
-    )
-    return min((second + 1 for second, end in zip(worse, ends) if second < end), default=None)
+    start = _in_time(request.at, router.best([request])[0], deadline)
+    too_late = deadline + 1
+    while start and too_late - start.second > 1:
+        seconds = _between(start.second, too_late, router.at_once)
+        for second, route in zip(seconds, _best_at(router, request, seconds)):
+            found = _in_time(second, route, deadline)
+            if not found:
+                too_late = second
+                break
+            start = found
+    return start
+
+
+def _in_time(second: int, route: Optional[Route], deadline: int) -> Optional[Start]:
+    return Start(second, route) if route and route.delivery <= deadline else None
+
+
+def _between(first: int, last: int, count: int) -> List[int]:
+    """Up to so many seconds between two, as far from each other as can be."""
+    count = min(count, last - first - 1)
+    return [first + (last - first) * place // (count + 1) for place in range(1, count + 1)]

@@ -17,13 +17,15 @@ from .errors import FILE_STATUS, Refused
 
 class Tool:
     """The tool that runs: its name, a folder of its own if it needed one, what tells how far it is, the processes that it
-    waits for, and what is to be told if a signal ends it.
+    waits for, how many are about to begin, the signal that waits for these, and what is to be told if a signal ends it.
     """
 
     name = os.path.basename(sys.argv[0])
     progress = None
     folder = None
     children = set()
+    beginning = 0
+    signal_later = None
     when_ended = None
     lock = threading.Lock()
     counted = itertools.count(1)
@@ -134,6 +136,21 @@ def in_order(work, parts):
             yield begun.popleft().result()
 
 
+@contextlib.contextmanager
+def beginning():
+    """What begins a process and puts it among the children. A signal waits until that is done, and then ends the tool."""
+    with Tool.lock:
+        Tool.beginning += 1
+    try:
+        yield
+    finally:
+        with Tool.lock:
+            Tool.beginning -= 1
+        number, Tool.signal_later = Tool.signal_later, None
+        if number:
+            os.kill(os.getpid(), number)
+
+
 def stop_children():
     """Ends the processes that the tool waits for."""
     for process in list(Tool.children):
@@ -148,7 +165,9 @@ class Ended(BaseException):
 
 
 def _end(number, _):
-    raise Ended(number)
+    if not Tool.beginning:
+        raise Ended(number)
+    Tool.signal_later = number
 
 
 def run_tool(tool):

@@ -11,9 +11,9 @@ It prints that second, and the best route from then on, as `cgrlist first` print
 
 T is 2031/03/03-01:00:00, 2031-03-03T01:00:00Z, 2031-03-03, now, or now+2h with s, m, h or d. All times are UTC.
 
-The program is asked for the best route at some 30 seconds, each halfway between one that is in time and one that is too
-late. This misses none: it is proved that a bundle that is at the source later never arrives earlier (EveryWayIsListed in
-docs/proofs.md).
+The program is asked for the best route at hundreds of seconds, four or five times, each time between the last one that is
+in time and the first one that is too late. This misses none: it is proved that a bundle that is at the source later never
+arrives earlier (EveryWayIsListed in docs/proofs.md).
 
 Hints on standard error name what may be mistyped. They change neither the answer nor the status.
 
@@ -23,55 +23,16 @@ can't be used. 125: there is no program. Any other status is the program's, as i
 
 import json
 import sys
-from dataclasses import dataclass, replace
 
 from ..errors import WORDS_STATUS, Refused
 from ..forms import ROUTE, route_row
-from ..program import Program
-from ..routes import Request, Route
 from ..tables import JSON, TEXT, about, json_of
 from ..times import iso_text
+from ..timetable import Start, latest_start
 from ..tool import run_tool
 from ..words import Asked, Words, add_plan_words, add_request_words, time_word
 
 NONE_STATUS = 1
-
-
-@dataclass(frozen=True)
-class Start:
-    """A second at which a bundle is at the source, and its best route from then on; None if there is none."""
-
-    second: int
-    route: "Route | None"
-
-
-@dataclass(frozen=True)
-class Question:
-    """A request, which the program answers for any second in place of its own; and a deadline."""
-
-    program: Program
-    request: Request
-    deadline: int
-
-    def start_at(self, second):
-        """The start at a second, with the route that the program prints first."""
-        routes = self.program.first(replace(self.request, at=second), 1).routes
-        return Start(second, routes[0] if routes else None)
-
-    def is_in_time(self, start):
-        """Whether a start has a route that delivers by the deadline."""
-        return start.route is not None and start.route.delivery <= self.deadline
-
-    def latest_start(self, start):
-        """The latest start that is in time, from one that is, by binary search."""
-        too_late = self.deadline + 1
-        while too_late - start.second > 1:
-            middle = self.start_at((start.second + too_late) // 2)
-            if self.is_in_time(middle):
-                start = middle
-            else:
-                too_late = middle.second
-        return start
 
 
 def none_text(start, time_text):
@@ -104,26 +65,26 @@ def read_words():
     return Asked(parser)
 
 
-def answer_json(asked, question, start, is_found):
+def answer_json(asked, request, start, is_found):
     """The answer as JSON. Without a second that is in time, the route is the best one from the first second on."""
     how, route = asked.spelling, start.route and asked.plan.with_nodes(start.route)
     columns = {field: kind for field, kind in ROUTE.items() if field not in ("room", "send_by")}
     row = route and json_of(columns, route_row(route), how)
-    told = {"latest": iso_text(start.second) if is_found else None, "by": iso_text(question.deadline), "route": row}
-    return json.dumps({**told, **about(how, asked.plan, question.request)}) + "\n"
+    told = {"latest": iso_text(start.second) if is_found else None, "by": iso_text(asked.words.by), "route": row}
+    return json.dumps({**told, **about(how, asked.plan, request)}) + "\n"
 
 
 def answer(asked):
     """The text of the answer, and whether there is a start that is in time."""
-    question = Question(asked.program, asked.request(asked.words.after), asked.words.by)
-    earliest = question.start_at(asked.words.after)
-    asked.tell_hints([question.request])
-    is_found = question.is_in_time(earliest)
-    latest = question.latest_start(earliest) if is_found else earliest
+    request = asked.request(asked.words.after)
+    (best,) = asked.program.best([request])
+    asked.tell_hints([request])
+    found = latest_start(asked.program, request, asked.words.by)
+    latest, is_found = found or Start(request.at, best), found is not None
     if asked.words.form == JSON:
-        return answer_json(asked, question, latest, is_found), is_found
+        return answer_json(asked, request, latest, is_found), is_found
     if not is_found:
-        return none_text(earliest, asked.time_text), False
+        return none_text(latest, asked.time_text), False
     text = start_text(latest, asked.time_text)
     if asked.words.names:
         text += nodes_text(latest.route, asked.plan, asked.names)

@@ -34,7 +34,8 @@ contact of a shown route, or Enter, tells the best route without that contact, a
 made. Further ones, and nodes, can be lost with it; if the page doesn't know the answer, it shows the command that tells.
 The line in the strip below the picture can be dragged: it tells the best route for other seconds at the source, of which
 the program was asked for at most 720. Routes can be saved as CSV, and the picture as SVG. A print has all rows that are
-chosen. The page has at most 1000 routes without --all, the first 100 with `send by`, the last second at the source. Its address keeps what is chosen, as H#lost=11&theme=dark.
+chosen. The page has at most 1000 routes without --all, the first 100 with `send by`, the last second at the source. Its
+address keeps what is chosen, as H#lost=11&theme=dark.
 
 Status 0: done. 1: the routes or the names can't be used, or the routes are not of this plan. 2: the words can't be
 used, or the picture is too high. 3: the plan can't be read. 5: a file can't be read, or writing failed. 125: there is
@@ -42,26 +43,22 @@ no program. Any other status is the program's.
 """
 
 import os
-import re
 import shlex
 from dataclasses import replace
 
 from ..drawing.axis import Span
-from ..drawing.page import MOST_ROUTES, Lost, Page, Starts, Told
+from ..drawing.page import MOST_ROUTES, Page
 from ..drawing.picture import LINE, MOST, Picture
 from ..drawing.scene import Choice, View
 from ..drawing.text import Text
+from ..drawing.told import Told, answers_of, first_start
 from ..errors import FILE_STATUS, WORDS_STATUS, Refused
 from ..listing import add_choice_words, added, check_choice_words, listing_of, pages_of, tell_looked
-from ..lost import losses
 from ..routes import Answer, explained_routes, report_of
 from ..tables import JSON, NODE, NUMBER, PATH, TEXT, TIME, Table, about
-from ..times import DAY
 from ..tool import Tool, lines_of, run_tool
 from ..words import Asked, Words, add_form_words, add_plan_words, add_request_words, time_word
 
-STARTS = 720  # so many seconds at the source are asked for, at most
-SEND_BY = 100  # of so many routes the last second at the source is asked for
 NEEDED = ("from", "to", "at")  # the words that a request has to have
 NOT_CHECKED = "cgrlist did not check this plan: there is no program"
 OTHERS = ("margin-ppm", "max-hops", "avoid", "via", "fits", "distinct", "look")  # words that go with a request
@@ -252,43 +249,12 @@ def told_of(asked, routes):
     if not asks_for_routes(asked.words):
         ask = f"--from A --to B --at {asked.time_text(first_start(asked.plan))} --count 3 --html {plan}.html"
         return Told(ranked(routes or []), command=f"{command('timeline')} --plan {shlex.quote(plan)} {ask}")
-    request, digest = asked.request(), asked.program.run("check").split()[-1]
-    words = [command("report"), "--plan", plan, *replace(request, avoid=()).words()]
-    listed = with_send_by(asked, request, ranked(routes))
-    lost, starts = best_without(asked, request, routes), starts_of(asked, request, routes)
-    return Told(listed, request, lost, digest, starts, shlex.join(words))
-
-
-SECONDS = [1, 2, 5, 10, 15, 30, 60, 120, 300, 600, 900, 1800, 3600, 7200, 21600, 43200, DAY]  # between starts
-
-
-def starts_of(asked, request, routes):
-    """The best routes of bundles that are at the source at some seconds: a day about the request's, or if the routes take
-    longer four times as long, as far as the plan has contacts. None if that can't be asked."""
-    contacts = asked.plan.contacts
-    if not routes or not contacts:
-        return None
-    wide = max(DAY, 4 * (max(route.delivery for route in routes) - request.at))
-    step = next((step for step in SECONDS if step * STARTS >= wide), wide // STARTS)
-    before = min(wide // 4, max(request.at - first_start(asked.plan), 0)) // step
-    after = min(wide - wide // 4, max(max(it.end for it in contacts) - request.at, 0)) // step
-    first = request.at - before * step
-    answers = asked.program.many([replace(request, at=first + place * step) for place in range(before + after + 1)], 1)
-    if answers is None:
-        return None
-    with_hops = asked.program.with_hops(answers)
-    bests = [it.routes[0].having(rank=None, until=0) if it.routes else None for it in with_hops]
-    return Starts(first, step, bests)
+    return answers_of(asked.program, asked.plan, asked.request(), ranked(routes), [command("report"), "--plan", plan])
 
 
 def command(tool):
     """How a tool of this package is run: by its path in a clone, or else by its name when installed."""
     return f"cgrlist-{tool}" if Tool.name.startswith("cgrlist-") else f"tools/{tool}"
-
-
-def first_start(plan):
-    """When the first contact starts."""
-    return min((it.start for it in plan.contacts), default=0)
 
 
 def write_whole(path, text):
@@ -305,31 +271,6 @@ def write_whole(path, text):
     finally:
         if beside != path and os.path.exists(beside):
             os.unlink(beside)
-
-
-def best_without(asked, request, routes):
-    """The best routes without each contact of some routes, and without each node between their ends, with their hops."""
-    found = losses(asked.program, asked.plan, request, routes)
-    nodes = sorted({hop.receiver for route in routes for hop in route.hops[:-1]})
-    requests = [avoiding(request, node) for node in nodes]
-    firsts = [answer.routes[:1] for answer in (asked.program.many(requests, 1) if nodes else None) or ()]
-    others = tuple(it.route for it in found if it.route) + tuple(route for first in firsts for route in first)
-    (answer,) = asked.program.with_hops([Answer(others, None, request)])
-    with_hops = iter(with_send_by(asked, request, answer.routes))
-    contacts = {it.contact: it.route and next(with_hops) for it in found}
-    return Lost(contacts, {node: next(with_hops) if first else None for node, first in zip(nodes, firsts)})
-
-
-def with_send_by(asked, request, routes):
-    """Routes, the first ones with the last second at the source for their contacts: each takes some fifteen questions."""
-    (answer,) = asked.program.with_send_by([Answer(tuple(routes[:SEND_BY]), None, request)])
-    return [*answer.routes, *routes[SEND_BY:]]
-
-
-def avoiding(request, node):
-    """A request for routes that don't pass a node, either."""
-    avoided = {int(it) for it in re.findall(r"\d+", str(request.avoid))}
-    return replace(request, avoid=tuple(sorted({*avoided, node})))
 
 
 def timeline():

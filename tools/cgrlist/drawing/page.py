@@ -9,12 +9,9 @@ import hashlib
 import html
 import itertools
 import json
-import re
-from dataclasses import dataclass, field
 from pathlib import Path
 
 from ..plans import links_of
-from ..routes import Request
 
 FOLDER = Path(__file__).resolve().parent / "html"
 # In the order in which they run.
@@ -22,46 +19,6 @@ SCRIPTS = ("plan", "times", "view", "svg", "colours", "picture", "traces", "shee
 SCRIPTS += ("words", "starts", "hands", "find", "export", "start")
 MOST_ROUTES = 1000  # so many are on a page that isn't asked for twice
 EXACT = 2**53 - 1  # up to here, numbers are exact in JavaScript
-
-
-@dataclass(frozen=True)
-class Lost:
-    """What becomes of a request: the best route or None under each lost contact's number, and under each lost node."""
-
-    contacts: dict = field(default_factory=dict)
-    nodes: dict = field(default_factory=dict)
-
-    def routes(self):
-        """All these routes."""
-        return [route for route in (*self.contacts.values(), *self.nodes.values()) if route]
-
-
-@dataclass(frozen=True)
-class Starts:
-    """The best routes, or None, of bundles that are at the source at other seconds: the first one, and in steps of so many."""
-
-    first: int
-    step: int
-    routes: list
-
-
-@dataclass(frozen=True)
-class Told:
-    """What a page tells, besides the plan: a request with its routes, and the best routes without parts of them.
-
-    Without a request, the routes are some that were explained before.
-    """
-
-    routes: list
-    request: "Request | None" = None
-    lost: Lost = Lost()
-    digest: "str | None" = None  # the plan's, as the program tells it
-    starts: "Starts | None" = None
-    command: str = ""  # what asks for more, or without a request for the page with routes
-
-    def all_others(self):
-        """All routes besides those that are listed."""
-        return [*self.lost.routes(), *filter(None, self.starts.routes if self.starts else ())]
 
 
 class Page:
@@ -130,8 +87,7 @@ class Page:
         it = self._told.request
         if it is None:
             return {"asks": None, "how": self._told.command}
-        avoided = re.findall(r"\d+", str(it.avoid))
-        return {"asks": {"words": self._told.command, "avoid": avoided}, "how": ""}
+        return {"asks": {"words": self._told.command, "avoid": list(map(str, it.avoid))}, "how": ""}
 
     def _chosen(self, links):
         """The links that are chosen by name, and those of the routes and the answers."""
