@@ -159,19 +159,19 @@ def plans(room):
     plan, routes = ["--plan", room.file("plan.txt", PLAN)], ["--explained", room.file("routes.txt", ROUTES)]
     names = ["--names", room.file("names.txt", "# the nodes\n1 A & B\n\n2\tbasse station\n")]
     yield "a list", """\
-contact  from  to                start                  end  light
-      1     1   2  2030/01/01-00:00:00  2030/01/01-00:01:00      7
-      3     2   1  2030/01/01-00:00:10  2030/01/01-00:01:00      9
-      4     1   2  2030/01/01-00:00:50  2030/01/01-00:01:40      -
+contact  from  to  start                end                  rate  light
+      1     1   2  2030/01/01-00:00:00  2030/01/01-00:01:00  1000      7
+      3     2   1  2030/01/01-00:00:10  2030/01/01-00:01:00  1000      9
+      4     1   2  2030/01/01-00:00:50  2030/01/01-00:01:40  1000      -
 """, room.draw, plan, "--list"
     yield "a list with names, of a span", """\
-contact  from  to                start                  end  light  nodes
-      4     1   2  2030/01/01-00:00:50  2030/01/01-00:01:40      -  A & B > basse station
+contact  from  to  start                end                  rate  light  nodes
+      4     1   2  2030/01/01-00:00:50  2030/01/01-00:01:40  1000      -  A & B > basse station
 """, room.between, ("2030/01/01-00:01:00", "2030/01/02-00:00:00"), plan, "--list", names
     yield "a list without a lost contact, with times of ISO 8601", """\
-contact  from  to                 start                   end  light
-      1     1   2  2030-01-01T00:00:00Z  2030-01-01T00:01:00Z      7
-      4     1   2  2030-01-01T00:00:50Z  2030-01-01T00:01:40Z      -
+contact  from  to  start                 end                   rate  light
+      1     1   2  2030-01-01T00:00:00Z  2030-01-01T00:01:00Z  1000      7
+      4     1   2  2030-01-01T00:00:50Z  2030-01-01T00:01:40Z  1000      -
 """, room.draw, plan, "--list --iso --without 3"
     # 60 columns for 100 seconds; contacts 1 and 4 overlap. With a route, the links that it doesn't use are left out, and
     # those that it uses come in its order.
