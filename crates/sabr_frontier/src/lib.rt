@@ -12,6 +12,7 @@ mod session;
 mod tree;
 mod views;
 
+pub use giving::asker::Rest;
 pub use laws::{law4, law5, law6, pages_give_new_routes};
 pub use loader::Loader;
 pub use loader::load_fault::LoadFault;

@@ -3,12 +3,13 @@
 ghost use Rattle.std.specs.Prelude.{◌≡◌, ◌+◌, IfOk, IsTrue};
 ghost use Rattle.std.specs.List.Sorted.{IsStrictlyIncreasing};
 ghost use Rattle.sabr_model.specs.routes.Route.{is_prefix};
+ghost use Rattle.sabr_index.specs.Index.{IsIndex};
 ghost use Rattle.sabr_search.specs.questions.Bounded.{IsFloor};
 ghost use Rattle.sabr_frontier.specs.tree.Asking.{asked_of, asked_over, best_for};
 ghost use Rattle.sabr_frontier.specs.tree.Best.{bound_in, found_by};
 
 use crate::plan_request::PlanRequest;
-use sabr_index::Index;
+use sabr_index::{Index, PlanLinks};
 use sabr_model::{NoMemory, Plan, Request, Route};
 use sabr_search::{BestOf, Bound, BoundedPart, Excluded, Kept, Sought};
 use std::alloc::{Allocator, Global};
@@ -69,6 +70,40 @@ impl<'p, B: BestOf<A>, A: Allocator + Copy> Model for Asker<'p, B, A> {
     ghost invariant = { λ a. IsKept a.index a.request a.kept };
 }
 
+/// What stays of a listing that is gone, without its plan: the plan's links, and the finder. Whoever owns it beside the
+/// plan can begin the next listing without an index of its own.
+#[derive(Drop)]
+pub struct Rest<B: BestOf<A>, A: Allocator + Copy = Global> {
+    /// The allocator of all that is made.
+    pub alloc: A,
+    /// The plan's links.
+    pub links: PlanLinks<A>,
+    /// The finder.
+    pub finder: B,
+}
+
+impl<B: BestOf<A>, A: Allocator + Copy> Rest<B, A> {
+    /// An asker over the plan that has these links.
+    pub fn over<'p>(self, plan: &'p Plan<A>, request: Request) -> Asker<'p, B, A>
+        requires { IsIndex plan.now self.links.linked self.links.incoming.starts.items self.links.incoming.named.items }
+        ensures { result ≡ record { asked = asked_over plan.now request; calls = B.calls_of self.finder } }
+    {
+        let Rest {
+            alloc,
+            links,
+            finder,
+        } = self;
+        Asker {
+            alloc,
+            index: Index::from_links(plan, links),
+            request,
+            finder,
+            kept: Kept::new(alloc),
+            bound: None,
+        }
+    }
+}
+
 impl<'p, B: BestOf<A>, A: Allocator + Copy> Asker<'p, B, A> {
     /// Makes the plan's index, and an asker that keeps nothing yet.
     ///
@@ -110,6 +145,25 @@ impl<'p, B: BestOf<A>, A: Allocator + Copy> Asker<'p, B, A> {
             finder,
             kept: Kept::new(alloc),
             bound: None,
+        }
+    }
+
+    /// What stays without the plan and the request.
+    pub fn rest(self) -> Rest<B, A>
+        ensures { IsIndex self.entry.asked.plan result.links.linked result.links.incoming.starts.items result.links.incoming.named.items }
+    {
+        let Asker {
+            alloc,
+            index,
+            request: _,
+            finder,
+            kept: _,
+            bound: _,
+        } = self;
+        Rest {
+            alloc,
+            links: index.into_links(),
+            finder,
         }
     }
 

@@ -3,6 +3,7 @@
 ghost use Rattle.std.specs.Prelude.{◌≡◌, ◌+◌, ◌<◌, ◌≤◌, ◌++◌, None, drop, is_some, length, IfOk, IsTrue, OnOk};
 ghost use Rattle.sabr_model.specs.plan.Plan.{IsPlan};
 ghost use Rattle.sabr_model.specs.routes.Asking.{IsRequest};
+ghost use Rattle.sabr_index.specs.Index.{IsIndex};
 ghost use Rattle.sabr_frontier.specs.listing.Listing.{most_routes, next_route, searches_in};
 ghost use Rattle.sabr_frontier.specs.session.LastPage.{IsLastPage};
 ghost use Rattle.sabr_frontier.specs.session.Session.{IsSound, started};
@@ -14,11 +15,11 @@ ghost use Rattle.sabr_frontier.specs.tree.Taking.{OfNode};
 ghost use Rattle.sabr_frontier.specs.tree.Undo.{IsRoomy};
 ghost use Rattle.sabr_frontier.specs.giving.LeastKeys.{AreNoted, CarryKeys, carried_keys, keys_of};
 
-use crate::giving::asker::Asker;
+use crate::giving::asker::{Asker, Rest};
 use crate::giving::least_keys::LeastKeys;
 use crate::session::Session;
 use crate::tree::{Entry, Tree};
-use sabr_model::{NoMemory, Request, Route};
+use sabr_model::{NoMemory, Plan, Request, Route};
 use sabr_search::BestOf;
 use std::alloc::{Allocator, Global};
 use std::marker::Model;
@@ -70,6 +71,26 @@ impl<'p, B: BestOf<A>, A: Allocator + Copy> Session<'p, B, A> {
             routes,
             more,
         })
+    }
+}
+
+impl<B: BestOf<A>, A: Allocator + Copy> Rest<B, A> {
+    /// Starts a session over the plan that it is of, as [`start`](Session::start) does, with its links and its finder.
+    ///
+    /// # Errors
+    ///
+    /// [`NoMemory`] if a growth was refused. The finder is dropped.
+    pub fn start<'p>(
+        self,
+        plan: &'p Plan<A>,
+        request: Request,
+    ) -> Result<Session<'p, B, A>, NoMemory>
+        requires { IsIndex plan.now self.links.linked self.links.incoming.starts.items self.links.incoming.named.items }
+        ensures { IfOk result (λ s. s ≡ started plan.now request (B.calls_of self.finder + 1)) }
+    {
+        plan.tell_rules();
+        request.tell_limits();
+        Session::begin(self.over(plan, request))
     }
 }
 
@@ -178,6 +199,18 @@ impl<'p, B: BestOf<A>, A: Allocator + Copy> LastPage<'p, B, A> {
         ensures { result ≡ self.now.more }
     {
         self.more
+    }
+
+    /// What stays without the plan.
+    pub fn rest(self) -> Rest<B, A>
+        ensures { IsIndex self.entry.plan result.links.linked result.links.incoming.starts.items result.links.incoming.named.items }
+    {
+        let LastPage {
+            asker,
+            routes: _,
+            more: _,
+        } = self;
+        asker.rest()
     }
 
     /// Starts a session over the same plan for another request, as [`start`](Session::start) does, with this one's index

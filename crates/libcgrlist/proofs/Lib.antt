@@ -1,0 +1,3 @@
+mod BestLemmas
+mod Values
+mod PlaceValues

@@ -1,0 +1,5 @@
+pub mod First
+pub mod Open
+pub mod Owned
+pub mod Rests
+pub mod Rows
