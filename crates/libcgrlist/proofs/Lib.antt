@@ -1,3 +1,2 @@
-mod BestLemmas
-mod Values
 mod PlaceValues
+mod Values

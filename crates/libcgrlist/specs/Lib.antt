@@ -1,5 +1,7 @@
-pub mod First
+pub mod Changes
 pub mod Open
+pub mod Opened
 pub mod Owned
+pub mod Request
 pub mod Rests
-pub mod Rows
+pub mod Status

@@ -34,10 +34,10 @@ use Rattle.std.proofs.raw_atomic.Walks.{proved_at, leaves}
 use Rattle.libcgrlist.proofs.Values.{both, Loose, loose_good, loose_out}
 use Rattle.std.specs.contracts.boxed.Box.from_raw as callee
 use Rattle.std.proofs.boxed.Box.from_raw.Met.{met}
-use Rattle.libcgrlist.specs.contracts.loose.Loose.into_box.{ended, clauses}
-use Rattle.libcgrlist.specs.contracts.loose.Loose.into_box.Key.{name as #self}
-use Rattle.libcgrlist.proofs.loose.Loose.into_box.Statement.{statement}
-use Rattle.libcgrlist.proofs.loose.Loose.into_box.Code as code
+use Rattle.libcgrlist.specs.contracts.handle.loose.Loose.into_box.{ended, clauses}
+use Rattle.libcgrlist.specs.contracts.handle.loose.Loose.into_box.Key.{name as #self}
+use Rattle.libcgrlist.proofs.handle.loose.Loose.into_box.Statement.{statement}
+use Rattle.libcgrlist.proofs.handle.loose.Loose.into_box.Code as code
 
 pub into_box_spec : {M : Type 1} → statement M
 into_box_spec 𝓤 𝓛 𝓜 𝓡 wired T A L LA g d dx dd allocator glue glued =
