@@ -5,6 +5,7 @@ mod changes;
 mod handle;
 mod opened;
 mod request;
+mod rows;
 mod status;
 
 pub use changes::{
@@ -13,3 +14,4 @@ pub use changes::{
 };
 pub use handle::{Loose, Place, PlanHandle};
 pub use opened::Opened;
+pub use rows::{Page, RouteRow};
