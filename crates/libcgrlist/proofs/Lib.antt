@@ -1,2 +1,5 @@
+mod BufferLemmas
+mod FollowLemmas
+mod HopLemmas
 mod PlaceValues
 mod Values

@@ -1,7 +1,12 @@
+pub mod Buffers
 pub mod Changes
+pub mod Following
 pub mod Open
 pub mod Opened
 pub mod Owned
+pub mod Reading
 pub mod Request
 pub mod Rests
 pub mod Status
+pub mod Texts
+pub mod Views

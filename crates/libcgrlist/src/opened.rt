@@ -21,6 +21,8 @@ pub type Kept = Rest<Settled<Global>, Global>;
 pub struct Opened {
     /// The plan.
     plan: Plan<Global>,
+    /// Whether a listing is open.
+    is_listing: bool,
     /// What stays of the last listing.
     rest: Option<Kept>,
     /// The plan's digest.
@@ -28,7 +30,7 @@ pub struct Opened {
 }
 
 impl Model for Opened {
-    ghost use Rattle.std.specs.Prelude.{◌≡◌, IfSome, None};
+    ghost use Rattle.std.specs.Prelude.{◌≡◌, IfSome, None, false};
     ghost use Rattle.sabr_plan.specs.Canonical.{digest_of};
     ghost use Rattle.libcgrlist.specs.Opened.{OpenPlan};
     ghost use Rattle.libcgrlist.specs.Rests.{IsRestOf};
@@ -37,7 +39,7 @@ impl Model for Opened {
 
     ghost view = { λ o. record { plan = o.plan; listing = None } };
 
-    ghost invariant = { λ o. IfSome o.rest (IsRestOf o.plan) × IfSome o.digest (λ d. d ≡ digest_of o.plan.plan) };
+    ghost invariant = { λ o. (o.is_listing ≡ false) × IfSome o.rest (IsRestOf o.plan) × IfSome o.digest (λ d. d ≡ digest_of o.plan.plan) };
 }
 
 impl Opened {
@@ -47,6 +49,7 @@ impl Opened {
     {
         Opened {
             plan,
+            is_listing: false,
             rest: None,
             digest: None,
         }
@@ -63,7 +66,7 @@ impl Opened {
     pub fn has_listing(&self) -> bool
         ensures { result ≡ is_some self.now.listing }
     {
-        false
+        self.is_listing
     }
 
     /// Takes out what stays of the last listing.
@@ -134,10 +137,12 @@ impl Opened {
         ensures ok { OnOk result (Becomes self.old (with_contact self.old.plan.plan (next_contact self.old.plan.plan new.now.from new.now.to new.now.start new.now.end new.now.rate)) self.new) }
         ensures err { OnErr result (self.new ≡ self.old) }
     {
+        let number = self
+            .plan
+            .add_contact(new.from, new.to, new.start, new.end, new.rate)?;
         self.rest = None;
         self.digest = None;
-        self.plan
-            .add_contact(new.from, new.to, new.start, new.end, new.rate)
+        Ok(number)
     }
 
     /// Adds a range.
@@ -156,10 +161,11 @@ impl Opened {
         ensures ok { OnOk result (Becomes self.old (with_range self.old.plan.plan new.now) self.new) }
         ensures err { OnErr result (self.new ≡ self.old) }
     {
+        self.plan
+            .add_range(new.one, new.other, new.start, new.end, new.light)?;
         self.rest = None;
         self.digest = None;
-        self.plan
-            .add_range(new.one, new.other, new.start, new.end, new.light)
+        Ok(())
     }
 
     /// Deletes the contact with this sender, receiver and start, and returns its number.
@@ -173,9 +179,10 @@ impl Opened {
         ensures ok { OnOk result (Becomes self.old (without_contact self.old.plan.plan from to start) self.new) }
         ensures err { OnErr result (self.new ≡ self.old) }
     {
+        let number = self.plan.delete_contact(from, to, start)?;
         self.rest = None;
         self.digest = None;
-        self.plan.delete_contact(from, to, start)
+        Ok(number)
     }
 
     /// Deletes the range of this ordered pair with this start.
@@ -190,8 +197,9 @@ impl Opened {
         ensures ok { OnOk result (Becomes self.old (without_range self.old.plan.plan one other start) self.new) }
         ensures err { OnErr result (self.new ≡ self.old) }
     {
+        self.plan.delete_range(one, other, start)?;
         self.rest = None;
         self.digest = None;
-        self.plan.delete_range(one, other, start)
+        Ok(())
     }
 }
