@@ -1,43 +1,52 @@
 //! What stands behind an open handle.
 
-ghost use Rattle.std.specs.Prelude.{◌≡◌, None, IfOk, IfSome, OnOk, OnErr, is_some};
+ghost use Rattle.std.specs.Prelude.{◌≡◌, None, Some, IfOk, IfSome, OnOk, OnErr, is_some};
+ghost use Rattle.std.specs.Option.{option_map};
 ghost use Rattle.sabr_model.specs.plan.Plan.{TabledPlan};
 ghost use Rattle.sabr_plan.specs.Canonical.{digest_of};
+ghost use Rattle.sabr_frontier.specs.session.Paused.{IsPausedOver};
 ghost use Rattle.libcgrlist.specs.Opened.{OpenPlan};
-ghost use Rattle.libcgrlist.specs.Rests.{IsRestOf};
+ghost use Rattle.libcgrlist.specs.Listings.{AreLinksOf, listing_over};
 
-use sabr_frontier::Rest;
+use sabr_frontier::PausedSession;
+use sabr_index::PlanLinks;
 use sabr_model::{AddFault, Plan, Range};
 use sabr_plan::digest;
 use sabr_search::Settled;
 use std::alloc::Global;
 use std::marker::Model;
 
-/// What stays of a listing that is gone.
-pub type Kept = Rest<Settled<Global>, Global>;
+/// A listing that waits for its next call.
+pub type Paused = PausedSession<Settled<Global>, Global>;
 
 /// A plan, the listing over it if one is open, and what was made for the plan and serves until it changes.
 #[derive(Drop)]
 pub struct Opened {
     /// The plan.
     plan: Plan<Global>,
-    /// What stays of the last listing.
-    rest: Option<Kept>,
+    /// The plan's links.
+    links: Option<PlanLinks<Global>>,
+    /// A finder. It keeps its memory from question to question.
+    finder: Option<Settled<Global>>,
+    /// The listing.
+    listing: Option<Paused>,
     /// The plan's digest.
     digest: Option<[u8; 32]>,
 }
 
 impl Model for Opened {
-    ghost use Rattle.std.specs.Prelude.{◌≡◌, IfSome, None};
+    ghost use Rattle.std.specs.Prelude.{◌≡◌, IfSome};
+    ghost use Rattle.std.specs.Option.{option_map};
     ghost use Rattle.sabr_plan.specs.Canonical.{digest_of};
+    ghost use Rattle.sabr_frontier.specs.session.Paused.{IsPausedOver};
     ghost use Rattle.libcgrlist.specs.Opened.{OpenPlan};
-    ghost use Rattle.libcgrlist.specs.Rests.{IsRestOf};
+    ghost use Rattle.libcgrlist.specs.Listings.{AreLinksOf, listing_over};
 
     ghost Value = { OpenPlan };
 
-    ghost view = { λ o. record { plan = o.plan; listing = None } };
+    ghost view = { λ o. record { plan = o.plan; listing = option_map (listing_over o.plan) o.listing } };
 
-    ghost invariant = { λ o. IfSome o.rest (IsRestOf o.plan) × IfSome o.digest (λ d. d ≡ digest_of o.plan.plan) };
+    ghost invariant = { λ o. IfSome o.links (AreLinksOf o.plan) × IfSome o.listing (IsPausedOver o.plan) × IfSome o.digest (λ d. d ≡ digest_of o.plan.plan) };
 }
 
 impl Opened {
@@ -47,7 +56,9 @@ impl Opened {
     {
         Opened {
             plan,
-            rest: None,
+            links: None,
+            finder: None,
+            listing: None,
             digest: None,
         }
     }
@@ -63,23 +74,57 @@ impl Opened {
     pub fn has_listing(&self) -> bool
         ensures { result ≡ is_some self.now.listing }
     {
-        false
+        self.listing.is_some()
     }
 
-    /// Takes out what stays of the last listing.
-    pub fn take_rest(&mut self) -> Option<Kept>
-        ensures rest { IfSome result (IsRestOf self.old.plan) }
+    /// Takes out the plan's links, if they were made.
+    pub fn take_links(&mut self) -> Option<PlanLinks<Global>>
+        ensures links { IfSome result (AreLinksOf self.old.plan) }
         ensures same { self.new ≡ self.old }
     {
-        self.rest.take()
+        self.links.take()
     }
 
-    /// Keeps what stays of a listing.
-    pub fn keep(&mut self, rest: Option<Kept>)
-        requires { IfSome rest (IsRestOf self.old.plan) }
+    /// Keeps the plan's links.
+    pub fn keep_links(&mut self, links: PlanLinks<Global>)
+        requires { AreLinksOf self.old.plan links }
         ensures { self.new ≡ self.old }
     {
-        self.rest = rest;
+        self.links = Some(links);
+    }
+
+    /// Takes out the finder, or makes one.
+    pub fn take_finder(&mut self, alloc: Global) -> Settled<Global>
+        ensures { self.new ≡ self.old }
+    {
+        match self.finder.take() {
+            Some(finder) => finder,
+            None => Settled::new(alloc),
+        }
+    }
+
+    /// Keeps a finder.
+    pub fn keep_finder(&mut self, finder: Settled<Global>)
+        ensures { self.new ≡ self.old }
+    {
+        self.finder = Some(finder);
+    }
+
+    /// Takes out the listing: none is open then.
+    pub fn take_listing(&mut self) -> Option<Paused>
+        ensures paused { IfSome result (IsPausedOver self.old.plan) }
+        ensures taken { option_map (listing_over self.old.plan) result ≡ self.old.listing }
+        ensures left { self.new ≡ record self.old { listing = None } }
+    {
+        self.listing.take()
+    }
+
+    /// Opens a listing, in place of any other.
+    pub fn keep_listing(&mut self, listing: Paused)
+        requires { IsPausedOver self.old.plan listing }
+        ensures { self.new ≡ record self.old { listing = Some (listing_over self.old.plan listing) } }
+    {
+        self.listing = Some(listing);
     }
 
     /// The plan's digest, which is made once.
@@ -134,10 +179,12 @@ impl Opened {
         ensures ok { OnOk result (Becomes self.old (with_contact self.old.plan.plan (next_contact self.old.plan.plan new.now.from new.now.to new.now.start new.now.end new.now.rate)) self.new) }
         ensures err { OnErr result (self.new ≡ self.old) }
     {
-        self.rest = None;
+        let number = self
+            .plan
+            .add_contact(new.from, new.to, new.start, new.end, new.rate)?;
+        self.links = None;
         self.digest = None;
-        self.plan
-            .add_contact(new.from, new.to, new.start, new.end, new.rate)
+        Ok(number)
     }
 
     /// Adds a range.
@@ -156,10 +203,11 @@ impl Opened {
         ensures ok { OnOk result (Becomes self.old (with_range self.old.plan.plan new.now) self.new) }
         ensures err { OnErr result (self.new ≡ self.old) }
     {
-        self.rest = None;
-        self.digest = None;
         self.plan
-            .add_range(new.one, new.other, new.start, new.end, new.light)
+            .add_range(new.one, new.other, new.start, new.end, new.light)?;
+        self.links = None;
+        self.digest = None;
+        Ok(())
     }
 
     /// Deletes the contact with this sender, receiver and start, and returns its number.
@@ -173,9 +221,10 @@ impl Opened {
         ensures ok { OnOk result (Becomes self.old (without_contact self.old.plan.plan from to start) self.new) }
         ensures err { OnErr result (self.new ≡ self.old) }
     {
-        self.rest = None;
+        let number = self.plan.delete_contact(from, to, start)?;
+        self.links = None;
         self.digest = None;
-        self.plan.delete_contact(from, to, start)
+        Ok(number)
     }
 
     /// Deletes the range of this ordered pair with this start.
@@ -190,8 +239,9 @@ impl Opened {
         ensures ok { OnOk result (Becomes self.old (without_range self.old.plan.plan one other start) self.new) }
         ensures err { OnErr result (self.new ≡ self.old) }
     {
-        self.rest = None;
+        self.plan.delete_range(one, other, start)?;
+        self.links = None;
         self.digest = None;
-        self.plan.delete_range(one, other, start)
+        Ok(())
     }
 }
