@@ -19,8 +19,7 @@ use Rattle.sabr_frontier.specs.listing.Listing.{next_route, state_at, steps}
 use Rattle.sabr_frontier.specs.listing.State.{State}
 use Rattle.sabr_frontier.specs.session.LastPage.{LastSeen}
 use Rattle.libcgrlist.specs.Answers.{WritesBest}
-use Rattle.libcgrlist.specs.First.{IsFirst}
-use Rattle.libcgrlist.specs.Listings.{IsLastOf}
+use Rattle.libcgrlist.specs.First.{IsFirst, IsLastOf}
 use Rattle.libcgrlist.specs.declared.rows.RouteRow.{RouteRow}
 
 -- a list goes on after its first k members exactly if it has more

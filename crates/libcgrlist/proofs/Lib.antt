@@ -1,7 +1,9 @@
 mod FirstLemmas
+mod ListingLemmas
 mod PageLemmas
 mod BufferLemmas
 mod FollowLemmas
 mod HopLemmas
 mod PlaceValues
 mod Values
+mod VerifyLemmas

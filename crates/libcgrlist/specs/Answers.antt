@@ -36,10 +36,14 @@ count_refusal count = if nat_lt most_routes count then Some value_count else Non
 abbrev pub WritesPage : List RouteRecord → Bool → ℕ → List RouteRow → List ℕ → Page → Type 0
 WritesPage given goes_on status rows numbers page = IsPage given goes_on rows numbers page × (status ≡ page_status page)
 
--- the request of a page of so many routes, or the status of its refusal
+-- the request, or the status of its refusal
+abbrev pub asked_status : Result RouteRequest RequestError → Result RouteRequest ℕ
+asked_status (Err e) = Err (request_status e)
+asked_status (Ok r) = Ok r
+
+-- the request of a page of so many routes, or the status of the refusal of its count or its request
 abbrev pub asked_page : ℕ → Result RouteRequest RequestError → Result RouteRequest ℕ
-asked_page count (Err e) = refused_or (count_refusal count) (Err (request_status e))
-asked_page count (Ok r) = refused_or (count_refusal count) (Ok r)
+asked_page count asked = refused_or (count_refusal count) (asked_status asked)
 
 -- it is refused; or the first routes are written, or memory is refused
 abbrev pub AnswersFirst : ContactPlan → ℕ → Result RouteRequest ℕ → ℕ → List RouteRow → List ℕ → Page → Type 0

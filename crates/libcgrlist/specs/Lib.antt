@@ -8,8 +8,10 @@ pub mod Open
 pub mod Opened
 pub mod Owned
 pub mod Pages
+pub mod Paused
 pub mod Reading
 pub mod Request
 pub mod Status
 pub mod Texts
+pub mod Verified
 pub mod Views

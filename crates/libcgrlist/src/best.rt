@@ -8,11 +8,12 @@ ghost use Rattle.libcgrlist.specs.Open.{Calls, IsWhole};
 ghost use Rattle.libcgrlist.specs.Request.{asked_request};
 
 use crate::handle::PlanHandle;
-use crate::listed::{index_over, listed};
+use crate::listed::listed;
 use crate::opened::Opened;
 use crate::request::Asked;
 use crate::rows::RouteRow;
 use crate::status::{CLOSED, DONE, MEMORY, NO, ROOM, of_request};
+use sabr_index::Index;
 use sabr_model::{NoMemory, Request, Route};
 use std::alloc::Global;
 
@@ -49,9 +50,9 @@ fn find_best(
     ensures same { opened.new ≡ opened.old }
     ensures best { IfOk result (λ status. WritesBest (map (record_of opened.old.plan.plan request) (routes opened.old.plan.plan request)) status row.new contacts.new) }
 {
-    let links = opened.take_links();
+    let links = opened.take_links(alloc)?;
     let finder = opened.take_finder(alloc);
-    let index = index_over(alloc, opened.plan(), links)?;
+    let index = Index::from_links(opened.plan(), links);
     let last = listed(alloc, index, finder, request, 1)?;
     let status = write_first(last.routes(), row, contacts);
     let (index, finder) = last.into_index_and_finder();

@@ -9,11 +9,12 @@ ghost use Rattle.libcgrlist.specs.Pages.{IsPage};
 ghost use Rattle.libcgrlist.specs.Request.{asked_request};
 
 use crate::handle::PlanHandle;
-use crate::listed::{index_over, listed};
+use crate::listed::listed;
 use crate::opened::Opened;
 use crate::request::Asked;
 use crate::rows::{Page, RouteRow, write_routes};
 use crate::status::{CLOSED, DONE, MEMORY, ROOM, VALUE_COUNT, of_request};
+use sabr_index::Index;
 use sabr_model::{NoMemory, Request};
 use std::alloc::Global;
 
@@ -51,9 +52,9 @@ fn find_first(
     ensures page { IfOk result (IsPage (first_routes opened.old.plan.plan wanted.request wanted.count) (goes_on_after opened.old.plan.plan wanted.request wanted.count) rows.new contacts.new) }
 {
     let FirstRoutes { request, count } = wanted;
-    let links = opened.take_links();
+    let links = opened.take_links(alloc)?;
     let finder = opened.take_finder(alloc);
-    let index = index_over(alloc, opened.plan(), links)?;
+    let index = Index::from_links(opened.plan(), links);
     let last = listed(alloc, index, finder, request, count)?;
     let page = write_routes(last.routes(), last.more(), rows, contacts);
     let (index, finder) = last.into_index_and_finder();

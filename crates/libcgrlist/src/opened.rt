@@ -6,11 +6,11 @@ ghost use Rattle.sabr_model.specs.plan.Plan.{TabledPlan};
 ghost use Rattle.sabr_plan.specs.Canonical.{digest_of};
 ghost use Rattle.sabr_frontier.specs.session.Paused.{IsPausedOver};
 ghost use Rattle.libcgrlist.specs.Opened.{OpenPlan};
-ghost use Rattle.libcgrlist.specs.Listings.{AreLinksOf, listing_over};
+ghost use Rattle.libcgrlist.specs.Paused.{AreLinksOf, listing_over};
 
 use sabr_frontier::PausedSession;
-use sabr_index::PlanLinks;
-use sabr_model::{AddFault, Plan, Range};
+use sabr_index::{Index, PlanLinks};
+use sabr_model::{AddFault, NoMemory, Plan, Range};
 use sabr_plan::digest;
 use sabr_search::Settled;
 use std::alloc::Global;
@@ -40,7 +40,7 @@ impl Model for Opened {
     ghost use Rattle.sabr_plan.specs.Canonical.{digest_of};
     ghost use Rattle.sabr_frontier.specs.session.Paused.{IsPausedOver};
     ghost use Rattle.libcgrlist.specs.Opened.{OpenPlan};
-    ghost use Rattle.libcgrlist.specs.Listings.{AreLinksOf, listing_over};
+    ghost use Rattle.libcgrlist.specs.Paused.{AreLinksOf, listing_over};
 
     ghost Value = { OpenPlan };
 
@@ -77,12 +77,19 @@ impl Opened {
         self.listing.is_some()
     }
 
-    /// Takes out the plan's links, if they were made.
-    pub fn take_links(&mut self) -> Option<PlanLinks<Global>>
-        ensures links { IfSome result (AreLinksOf self.old.plan) }
+    /// Takes out the plan's links, or makes them.
+    ///
+    /// # Errors
+    ///
+    /// [`NoMemory`] if a growth was refused.
+    pub fn take_links(&mut self, alloc: Global) -> Result<PlanLinks<Global>, NoMemory>
+        ensures links { IfOk result (AreLinksOf self.old.plan) }
         ensures same { self.new ≡ self.old }
     {
-        self.links.take()
+        match self.links.take() {
+            Some(links) => Ok(links),
+            None => Ok(Index::new(alloc, &self.plan)?.into_links()),
+        }
     }
 
     /// Keeps the plan's links.
