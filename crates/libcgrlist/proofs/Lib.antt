@@ -2,4 +2,5 @@ mod BufferLemmas
 mod FollowLemmas
 mod HopLemmas
 mod PlaceValues
+mod TextLemmas
 mod Values

@@ -161,11 +161,17 @@ impl Opened {
         ensures ok { OnOk result (Becomes self.old (with_range self.old.plan.plan new.now) self.new) }
         ensures err { OnErr result (self.new ≡ self.old) }
     {
-        self.plan
-            .add_range(new.one, new.other, new.start, new.end, new.light)?;
-        self.rest = None;
-        self.digest = None;
-        Ok(())
+        match self
+            .plan
+            .add_range(new.one, new.other, new.start, new.end, new.light)
+        {
+            Ok(()) => {
+                self.rest = None;
+                self.digest = None;
+                Ok(())
+            }
+            Err(fault) => Err(fault),
+        }
     }
 
     /// Deletes the contact with this sender, receiver and start, and returns its number.
