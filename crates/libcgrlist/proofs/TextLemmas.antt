@@ -30,7 +30,7 @@ plan_of_bytes text rest before after b e answer reads = told answer reads.told
     told : (a : Result TabledPlan PlanFault)
         → EndsText (bytes_at text before b) reads.given a (bytes_at rest after e) ⊎ (BreaksText (bytes_at text before b) reads.given a (bytes_at rest after e) ⊎ RefusesText (bytes_at text before b) reads.given a (bytes_at rest after e))
         → Answers (plan_of text true) a
-    told a (inl (ended, (same, h))) = ends a ended.1 h
+    told a (inl (ended, same, h)) = ends a ended.1 h
     told (Ok p) (inr (inl h)) = absurd h
     told (Err f) (inr (inl h)) = absurd (omega (arith, h.0))
     told (Ok p) (inr (inr h)) = absurd h
