@@ -1,6 +1,6 @@
 -- The plan of a text that lies in memory.
 use Rattle.std.proofs.Common.{◌≡◌, ℕ, ◌+◌, ◌⊎◌, inl, inr, Bool, true, List, [], ◌++◌, append-nil, sym, ap, subst, ◌∙◌, arith, Result, Ok, Err, Some}
-use Rattle.sabr_model.specs.Devices.{Input, HasEnded}
+use Rattle.sabr_model.specs.Devices.{Input}
 use Rattle.sabr_model.specs.plan.Plan.{TabledPlan}
 use Rattle.sabr_plan.specs.Feeding.{Answers}
 use Rattle.sabr_plan.specs.PlanRead.{BreaksText, EndsText, ReadsPlan, RefusesText}

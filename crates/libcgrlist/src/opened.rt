@@ -1,7 +1,6 @@
 //! What stands behind an open handle.
 
 ghost use Rattle.std.specs.Prelude.{◌≡◌, None, IfOk, IfSome, OnOk, OnErr, is_some};
-ghost use Rattle.sabr_model.specs.plan.Plan.{TabledPlan};
 ghost use Rattle.sabr_plan.specs.Canonical.{digest_of};
 ghost use Rattle.libcgrlist.specs.Opened.{OpenPlan};
 ghost use Rattle.libcgrlist.specs.Rests.{IsRestOf};

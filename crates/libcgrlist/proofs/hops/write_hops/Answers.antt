@@ -1,4 +1,4 @@
-use Rattle.std.proofs.Common.{◌≡◌, ℕ, ◌+◌, List, [], ◌∷◌, ◌++◌, Some, IsTrue, get_or, length, length-append, take, suc, add-one, refl, sym, ap, subst, ◌∙◌, arith}
+use Rattle.std.proofs.Common.{◌≡◌, ℕ, ◌+◌, List, [], ◌∷◌, ◌++◌, Some, IsTrue, length, length-append, take, add-one, refl, sym, ap, subst, ◌∙◌}
 use Rattle.std.proofs.lemmas.List.{take_more}
 use Rattle.sabr_model.specs.routes.Following.{IsReachedBy}
 use Rattle.sabr_model.specs.routes.Route.{is_path}
