@@ -1,5 +1,5 @@
 -- Lists written to the front of buffers.
-use Rattle.std.proofs.Common.{◌≡◌, ℕ, zero, suc, min, ◌<◌, ◌≤◌, List, [], ◌∷◌, ◌++◌, length, take, drop, refl, ap, arith}
+use Rattle.std.proofs.Common.{◌≡◌, ℕ, zero, suc, min, ◌<◌, ◌≤◌, List, [], ◌∷◌, ◌++◌, length, take, drop, refl, sym, ap, ◌∙◌, arith}
 use Rattle.std.specs.Prelude.{set}
 use Rattle.libcgrlist.specs.Buffers.{put_over}
 
@@ -41,3 +41,20 @@ put_over-at [] xs k e = let none : k ≡ 0 = omega (arith, e) in rw none refl
 put_over-at (b ∷ bs) [] k e = let none : k ≡ 0 = omega (arith, e) in rw none refl
 put_over-at (b ∷ bs) (x ∷ xs) zero e = absurd (omega (arith, e))
 put_over-at (b ∷ bs) (x ∷ xs) (suc k) e = ap (λ zs. x ∷ zs) (put_over-at bs xs k (omega (arith, e)))
+
+-- nothing written
+pub put_over-nothing : {X : Type 0} (bs : List X) → put_over bs [] ≡ bs
+put_over-nothing [] = refl
+put_over-nothing (b ∷ bs) = refl
+
+-- a step of a loop that has written `xs`, where there is room
+pub put_over-set : {X : Type 0} (bs xs now : List X) (x : X) (i : ℕ) → now ≡ put_over bs xs → length xs ≡ i → i < length now → set now i x ≡ put_over bs (xs ++ x ∷ [])
+put_over-set bs xs now x i is count room =
+    let fits : length xs < length bs = (let e = ap length is ∙ length-put_over bs xs in omega (arith, count, room, e)) in
+    ap (λ zs. set zs i x) is ∙ ap (λ j. set (put_over bs xs) j x) (sym count) ∙ put_over-one bs xs x fits
+
+-- and where there is none
+pub put_over-same : {X : Type 0} (bs xs now : List X) (x : X) (i : ℕ) → now ≡ put_over bs xs → length xs ≡ i → length now ≤ i → now ≡ put_over bs (xs ++ x ∷ [])
+put_over-same bs xs now x i is count full =
+    let past : length bs ≤ length xs = (let e = ap length is ∙ length-put_over bs xs in omega (arith, count, full, e)) in
+    is ∙ sym (put_over-full bs xs x past)

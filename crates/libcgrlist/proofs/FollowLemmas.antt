@@ -11,7 +11,6 @@ use Rattle.sabr_model.specs.routes.Record.{record_of}
 use Rattle.sabr_model.specs.routes.Route.{entry_of, is_route, until_of}
 use Rattle.sabr_model.proofs.RouteLemmas.Faults.{fault_is_no_route, route_has_no_fault}
 use Rattle.libcgrlist.specs.Following.{outcome_of, outcome_of_fault, outcome_of_route, route_status}
-use Rattle.libcgrlist.specs.declared.follow.Outcome.{Outcome}
 
 -- a route gives its record
 pub route_gives : (p : ContactPlan) (r : RouteRequest) (s : List ℕ) (d : ℕ) → IsTrue (is_route p r s) → arrival_after p r r.at s ≡ Some d

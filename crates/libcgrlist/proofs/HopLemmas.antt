@@ -1,6 +1,6 @@
 -- The hops of a list of contacts up to the first fault.
-use Rattle.std.proofs.Common.{◌≡◌, ℕ, suc, ◌<◌, Bool, true, false, cond, List, [], ◌∷◌, ◌++◌, length, get_or, take, drop, refl, sym, ap, subst, ◌∙◌, append_assoc, append-nil, drop-cons, length-append, arith}
-use Rattle.std.specs.Prelude.{is_none, is_some, unwrap_or, max, IsTrue}
+use Rattle.std.proofs.Common.{◌≡◌, ℕ, suc, ◌<◌, cond, List, [], ◌∷◌, ◌++◌, length, get_or, take, drop, refl, sym, ap, ◌∙◌, append_assoc, append-nil, drop-cons}
+use Rattle.std.specs.Prelude.{is_none, is_some, IsTrue}
 use Rattle.std.specs.Option.{option_map, option_map_or}
 use Rattle.std.specs.declared.option.Option.{Option}
 use Rattle.std.specs.declared.option.Option.TheVariants.{Some, None}
@@ -8,11 +8,10 @@ use Rattle.std.proofs.Math.Seq.{take-suc}
 use Rattle.std.proofs.lemmas.List.{take-append-drop}
 use Rattle.sabr_model.specs.declared.contact.Contact.{Contact}
 use Rattle.sabr_model.specs.declared.fault.HopFault.{HopFault}
-use Rattle.sabr_model.specs.declared.fault.HopFault.TheVariants.{NoSuchContact}
 use Rattle.sabr_model.specs.plan.Plan.{ContactPlan, contact_named}
-use Rattle.sabr_model.specs.routes.Arrival.{RouteRequest, arrival_after}
-use Rattle.sabr_model.specs.routes.Route.{delivery_of, is_path}
-use Rattle.sabr_model.specs.routes.Fault.{contact_fault, fault_at, fault_or, first_fault}
+use Rattle.sabr_model.specs.routes.Arrival.{RouteRequest}
+use Rattle.sabr_model.specs.routes.Route.{is_path}
+use Rattle.sabr_model.specs.routes.Fault.{fault_at, fault_or, first_fault}
 use Rattle.sabr_model.proofs.RouteLemmas.Faults.{path_is_good}
 use Rattle.sabr_model.proofs.RouteLemmas.Follows.{path_behind}
 use Rattle.libcgrlist.specs.Following.{hop_after, hops_after, hops_of}

@@ -5,5 +5,6 @@ mod BufferLemmas
 mod FollowLemmas
 mod HopLemmas
 mod PlaceValues
+mod TextLemmas
 mod Values
 mod VerifyLemmas

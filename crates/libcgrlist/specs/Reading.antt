@@ -1,7 +1,6 @@
 -- What reading a plan's text comes to.
-use Rattle.std.specs.Prelude.{◌≡◌, ℕ, List, true, Bool, false, Result, Ok, Err, Option, None, Some, ◌⊎◌}
+use Rattle.std.specs.Prelude.{◌≡◌, ℕ, true, Bool, false, Result, Ok, Err, Option, None, Some}
 use Rattle.sabr_model.specs.plan.Plan.{ContactPlan}
-use Rattle.sabr_plan.specs.Reading.{plan_of}
 use Rattle.sabr_plan.specs.declared.fault.PlanFault.{PlanFault}
 use Rattle.libcgrlist.specs.Opened.{OpenPlan}
 use Rattle.libcgrlist.specs.Status.{already_open, done, line_status, no_memory}

@@ -1,5 +1,5 @@
 -- What C sees of a plan and of a contact.
-use Rattle.std.specs.Prelude.{◌≡◌, ℕ, true, false, is_none, is_some, length, unwrap_or, Option, None, Some}
+use Rattle.std.specs.Prelude.{◌≡◌, ℕ, is_none, is_some, length, unwrap_or, Option, None, Some}
 use Rattle.std.specs.List.{filter}
 use Rattle.sabr_model.specs.declared.contact.Contact.{Contact}
 use Rattle.sabr_model.specs.plan.Light.{light_of}

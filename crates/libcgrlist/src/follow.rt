@@ -1,7 +1,6 @@
 //! Following lists of contacts.
 
-ghost use Rattle.std.specs.Prelude.{◌≡◌, ◌≢◌, IfErr, IfOk};
-ghost use Rattle.sabr_model.specs.plan.Plan.{IsPlan};
+ghost use Rattle.std.specs.Prelude.{◌≡◌, IsFalse};
 ghost use Rattle.libcgrlist.specs.Following.{Follows, outcome_of, outcome_of_fault, route_status};
 ghost use Rattle.sabr_model.specs.routes.Route.{is_route};
 ghost use Rattle.libcgrlist.specs.Open.{Calls, IsWhole};
@@ -113,6 +112,7 @@ pub extern "C" fn cgrlist_follow(
     ensures open { handle.new.is_open ≡ handle.old.is_open }
     ensures whole { IsWhole handle.new.is_open handle.new.place.held }
     ensures follow { Calls handle.old.is_open handle.old.place.held result handle.new.place.held (λ o n. (n ≡ o) × Follows o.plan.plan (asked_request asked.now avoid.now) contacts.now result outcome.old outcome.new) }
+    ensures closed { IsFalse handle.old.is_open → outcome.new ≡ outcome.old }
 {
     if !handle.is_open {
         return CLOSED;

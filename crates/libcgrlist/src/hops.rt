@@ -1,6 +1,6 @@
 //! The hops of lists of contacts.
 
-ghost use Rattle.std.specs.Prelude.{◌≡◌, ◌++◌, ◌∷◌, [], IfNone, IfSome, IsTrue, None, Some, is_some, length};
+ghost use Rattle.std.specs.Prelude.{◌≡◌, ◌++◌, ◌∷◌, [], IfNone, IfSome, IsFalse, IsTrue, None, Some, is_some, length};
 ghost use Rattle.std.specs.Option.{option_map};
 ghost use Rattle.sabr_model.specs.plan.Plan.{contact_named};
 ghost use Rattle.sabr_model.specs.routes.Fault.{fault_at};
@@ -136,6 +136,7 @@ pub extern "C" fn cgrlist_hops(
     ensures open { handle.new.is_open ≡ handle.old.is_open }
     ensures whole { IsWhole handle.new.is_open handle.new.place.held }
     ensures hops { Calls handle.old.is_open handle.old.place.held result handle.new.place.held (λ o n. (n ≡ o) × GivesHops o.plan.plan (asked_request asked.now avoid.now) contacts.now result hops.old hops.new count.new) }
+    ensures closed { IsFalse handle.old.is_open → (hops.new ≡ hops.old) × (count.new ≡ 0) }
 {
     *count = 0;
     if !handle.is_open {

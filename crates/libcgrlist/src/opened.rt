@@ -2,7 +2,6 @@
 
 ghost use Rattle.std.specs.Prelude.{◌≡◌, None, Some, IfOk, IfSome, OnOk, OnErr, is_some};
 ghost use Rattle.std.specs.Option.{option_map};
-ghost use Rattle.sabr_model.specs.plan.Plan.{TabledPlan};
 ghost use Rattle.sabr_plan.specs.Canonical.{digest_of};
 ghost use Rattle.sabr_frontier.specs.session.Paused.{IsPausedOver};
 ghost use Rattle.libcgrlist.specs.Opened.{OpenPlan};
@@ -210,11 +209,17 @@ impl Opened {
         ensures ok { OnOk result (Becomes self.old (with_range self.old.plan.plan new.now) self.new) }
         ensures err { OnErr result (self.new ≡ self.old) }
     {
-        self.plan
-            .add_range(new.one, new.other, new.start, new.end, new.light)?;
-        self.links = None;
-        self.digest = None;
-        Ok(())
+        match self
+            .plan
+            .add_range(new.one, new.other, new.start, new.end, new.light)
+        {
+            Ok(()) => {
+                self.links = None;
+                self.digest = None;
+                Ok(())
+            }
+            Err(fault) => Err(fault),
+        }
     }
 
     /// Deletes the contact with this sender, receiver and start, and returns its number.

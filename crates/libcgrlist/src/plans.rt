@@ -1,6 +1,6 @@
 //! Opening plans, and closing them.
 
-ghost use Rattle.std.specs.Prelude.{◌≡◌, ◌⊎◌, [], false, true};
+ghost use Rattle.std.specs.Prelude.{◌≡◌, ◌⊎◌, [], false, true, IsTrue};
 ghost use Rattle.sabr_plan.specs.Feeding.{Answers};
 ghost use Rattle.sabr_plan.specs.Reading.{plan_of};
 ghost use Rattle.libcgrlist.specs.Open.{IsWhole};
@@ -61,6 +61,7 @@ pub extern "C" fn cgrlist_plan_read(
     requires { IsWhole handle.old.is_open handle.old.place.held }
     ensures whole { IsWhole handle.new.is_open handle.new.place.held }
     ensures opens { Opens handle.old.is_open handle.old.place.held result handle.new.is_open handle.new.place.held (Reads (plan_of text.now true) result line.new handle.new.is_open handle.new.place.held ⊎ Refused result line.new handle.new.is_open) }
+    ensures no_line { IsTrue handle.old.is_open → line.new ≡ 0 }
 {
     *line = 0;
     if handle.is_open {
