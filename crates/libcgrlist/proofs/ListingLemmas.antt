@@ -22,11 +22,11 @@ use Rattle.libcgrlist.specs.declared.rows.Page.{Page}
 few_steps : (p : ContactPlan) (r : RouteRequest) (k : ℕ) (s : State) → length (steps p r k s).0 ≤ k
 unfolding steps
 few_steps p r zero s = omega arith
-few_steps p r (suc k) s = at (one_step p r s)
+few_steps p r (suc k) s = at (one_step p r s) (λ t. few_steps p r k t)
   where
-    at : (o : Option (List ℕ × State)) → length (elim o [ None ↦ ([], s) | Some w ↦ given_first w.0 (steps p r k w.1) ]).0 ≤ suc k
-    at None = omega arith
-    at (Some w) = omega (arith, few_steps p r k w.1)
+    at : (o : Option (List ℕ × State)) → ((t : State) → length (steps p r k t).0 ≤ k) → length (elim o [ None ↦ ([], s) | Some w ↦ given_first w.0 (steps p r k w.1) ]).0 ≤ suc k
+    at None few = omega arith
+    at (Some w) few = omega (arith, few w.1)
 
 -- an element by its place
 member_at : {X : Type 0} (xs : List X) (k : ℕ) (d : X) → k < length xs → Member (get_or xs k d) xs
