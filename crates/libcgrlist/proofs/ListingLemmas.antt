@@ -18,15 +18,19 @@ use Rattle.libcgrlist.specs.Listings.{listing_after, listing_then, next_records}
 use Rattle.libcgrlist.specs.Paused.{listing_of}
 use Rattle.libcgrlist.specs.declared.rows.Page.{Page}
 
+-- what one step and k after it give
+abbrev one_and : (p : ContactPlan) (r : RouteRequest) (k : ℕ) (s : State) → Option (List ℕ × State) → List (List ℕ) × State
+one_and p r k s o = elim o [ None ↦ ([], s) | Some w ↦ given_first w.0 (steps p r k w.1) ]
+
+one_more : (p : ContactPlan) (r : RouteRequest) (k : ℕ) (s : State) (o : Option (List ℕ × State)) → ((t : State) → length (steps p r k t).0 ≤ k) → length (one_and p r k s o).0 ≤ suc k
+one_more p r k s None few = omega arith
+one_more p r k s (Some w) few = omega (arith, few w.1)
+
 -- k steps give at most k routes
 few_steps : (p : ContactPlan) (r : RouteRequest) (k : ℕ) (s : State) → length (steps p r k s).0 ≤ k
 unfolding steps
 few_steps p r zero s = omega arith
-few_steps p r (suc k) s = at (one_step p r s) (λ t. few_steps p r k t)
-  where
-    at : (o : Option (List ℕ × State)) → ((t : State) → length (steps p r k t).0 ≤ k) → length (elim o [ None ↦ ([], s) | Some w ↦ given_first w.0 (steps p r k w.1) ]).0 ≤ suc k
-    at None few = omega arith
-    at (Some w) few = omega (arith, few w.1)
+few_steps p r (suc k) s = one_more p r k s (one_step p r s) (λ t. few_steps p r k t)
 
 -- an element by its place
 member_at : {X : Type 0} (xs : List X) (k : ℕ) (d : X) → k < length xs → Member (get_or xs k d) xs
