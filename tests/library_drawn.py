@@ -3,8 +3,8 @@
 from drawn import Draws, crowded_case, draw_pair, drawn_case, with_another_digit
 from oracle import NO_LIMIT, Listing, time_text
 
-DRAWN = 120
-CROWDED = 10
+DRAWN = 40
+CROWDED = 3
 
 
 class Script:
@@ -17,8 +17,11 @@ class Script:
         self.calls.append(call)
         self.wanted.append("".join(f"{it}\n" for it in (f"> {call}", *wanted)))
 
-    def file(self, name, text):
-        return self.room.file(name, text)
+    def file(self, text):
+        """The name of a new file with this text."""
+        name = f"text{len(self.calls)}"
+        self.room.file(name, text)
+        return name
 
 
 def words_of(request):
@@ -37,8 +40,7 @@ def page_told(listing, start, count):
 
 def make_plan(script, case, from_text):
     if from_text:
-        script.file("plan", case.drawing.text())
-        script.say("plan_read plan", "OK")
+        script.say(f"plan_read {script.file(case.drawing.text())}", "OK")
         return
     refused = {"EmptyWindow": "EMPTY_WINDOW", "SelfPair": "SELF_PAIR", "DuplicateContact": "DUPLICATE_CONTACT", "RangeOverlap": "RANGE_OVERLAP"}
     for step, answer in case.drawing.steps:
@@ -94,8 +96,7 @@ def say_listing(script, draws, listing):
         if turn == 2:
             script.say("listing_close", "OK")
             version = 1 if not listing.request.is_limited and draws.once_in(2) else 2
-            script.file("text", listing.text(place, version))
-            script.say("listing_load text", "OK")
+            script.say(f"listing_load {script.file(listing.text(place, version))}", "OK")
             before = []
     script.say("listing_close", "OK")
 
@@ -104,9 +105,8 @@ def say_texts(script, draws, listing):
     """Whether texts are those of a place."""
     text = listing.text(draws.below(len(listing.routes) + 1))
     other = with_another_digit(draws, text)
-    for name, one in (("own", text), ("other", other)):
-        script.file(name, one)
-        script.say(f"verify {name}", "OK" if one in listing.texts() else "NO")
+    for one in (text, other):
+        script.say(f"verify {script.file(one)}", "OK" if one in listing.texts() else "NO")
 
 
 def say_change(script, case):
