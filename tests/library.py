@@ -25,7 +25,7 @@ from library_drawn import drawn_texts
 from oracle import time_text
 from trial import Broken
 
-SEEDS = range(1, 5)  # of drawn requests over larger plans
+SEEDS = range(1, 3)  # of drawn requests over larger plans
 FUZZED = {"plain": 2000, "valgrind": 30, "sanitizers": 1000}  # plans of each run
 WARNINGS = "-Wall -Wextra -Wpedantic -Wshadow -Wconversion -Werror"
 AT = "2030/01/01-00:45:00"
@@ -120,7 +120,7 @@ def the_libraries(room):
     yield "the static library, too", names, lambda: sorted(
         re.findall(r" [A-Z] (\w+)$", room.run("nm -g --defined-only", [f"{room.folder}/libcgrlist.a"]).out, re.M))
     yield "the shared library has its name", "libcgrlist.so.1", lambda: re.findall(
-        r"SONAME\W+\[(.*)\]|$", room.run("readelf -d", [shared]).out)[0]
+        r"soname: \[(.*)\]|$", room.run("readelf -d", [shared]).out)[0]
     yield "it is one with the link's", True, lambda: os.path.samefile(shared, f"{room.folder}/libcgrlist.so")
     room.file("v.c", '#include "cgrlist.h"\n#include <stdio.h>\nint main(void) { char t[9]; '
               'printf("%.*s %d\\n", (int)cgrlist_version(t, sizeof t), t, cgrlist_abi() == CGRLIST_ABI); return 0; }\n')
@@ -228,7 +228,8 @@ def beside_pages(room, path, text, request):
     shown = room.asked(f"next --session {room.path}/mine --count 3", plan=text)
     os.remove(f"{room.path}/nine")
     ranked = [re.sub(r"^\d+ |^(more|end|OK)\n", "", it, flags=re.M) for it in (report, pages[2] + pages[3], shown, after)]
-    return ((ranked[0], pages[3], "OK\n", "OK\n", ranked[2], "yes\n"),
+    again = pages[2] if pages[3] == "OK\nend\n" else pages[3]  # an empty page isn't one to take back
+    return ((ranked[0], again, "OK\n", "OK\n", ranked[2], "yes\n"),
             (ranked[1], pages[6], pages[7], pages[8], ranked[3], room.asked(f"verify --session {room.path}/mine", plan=text)))
 
 
@@ -270,7 +271,8 @@ def larger_plans(room):
     for name, path, nodes, contacts in plans_at(room):
         with open(path, encoding="ascii") as file:
             text = file.read().rstrip("\n")
-        yield f"{name}: the counts and the digest", f"OK\n{room.asked('check', plan=text)}greatest {len(contacts)}\n", lambda: (
+        greatest = len(re.findall("^a contact", text, re.M))
+        yield f"{name}: the counts and the digest", f"OK\n{room.asked('check', plan=text)}greatest {greatest}\n", lambda: (
             room.answers([f"plan_read {path}", "plan_counts"])[1])
         for seed in SEEDS:
             draws = random.Random(f"{name} {seed}")
@@ -280,7 +282,7 @@ def larger_plans(room):
                 beside_follow(room, path, text, requests, random.Random(seed), contacts))
             yield f"{name}: after changes, seed {seed}", "", lambda: is_alike(
                 beside_changes(room, path, text, requests, random.Random(seed), contacts))
-            for request in requests[:3]:
+            for request in requests[:2]:
                 yield f"{name}: by pages, {request}", "", lambda: is_alike(beside_pages(room, path, text, request))
 
 
@@ -605,31 +607,36 @@ def ended(ran):
 
 # ---- Examples ---------------------------------------------------------------------------------------------------
 
+# The first two routes of examples/README.md, the second of which takes another first contact: 02:47:22 and 06:27:22.
+ASKED = "31 1 1893458700"
 ROUTER = """\
-best route of 31 to 1: entry 21, delivered at 1893460064 over 5 13 1
-contact 5 is lost
-"""
+to node 22 first, there at 1893466042, over 4 11 2
+contact 4 is lost
+to node 21 first, there at 1893479242, over 5 12 2"""
 
 
 def examples(room):
     """The programs of examples/, by pkg-config and by rustc alone."""
-    plan = f"{TOP}/examples/relay.txt"
-    package = f"prefix={room.path}\nName: cgrlist\nDescription: a test\nVersion: 1\nCflags: -I{TOP}/library\nLibs: -L{room.folder} -lcgrlist\n"
     os.makedirs(f"{room.path}/pkgconfig", exist_ok=True)
-    room.file("pkgconfig/cgrlist.pc", package)
-    lib = {"LD_LIBRARY_PATH": room.folder}
+    room.file("pkgconfig/cgrlist.pc", f"""Name: cgrlist
+Description: a test
+Version: 1
+Cflags: -I{TOP}/library
+Libs: -L{room.folder} -lcgrlist
+""")
+    words = [f"{TOP}/examples/relay.txt", *ASKED.split()]
+    further = {"LD_LIBRARY_PATH": room.folder, "PKG_CONFIG_PATH": f"{room.path}/pkgconfig"}
     if has("pkg-config"):
-        made = f"cc {TOP}/examples/router.c $(pkg-config --cflags --libs cgrlist) -o router"
-        ran = room.run("sh -c", [made], at=room.path, PKG_CONFIG_PATH=f"{room.path}/pkgconfig")
-        yield "examples/router.c is compiled", "", ran.all
-        yield "examples/router.c answers", router_wanted(room), lambda: room.run(["./router", plan, "31", "1", "1893458700"], at=room.path, **lib).all()
+        made = f"cc -Wall -Wextra {TOP}/examples/router.c $(pkg-config --cflags --libs cgrlist) -o router"
+        yield "examples/router.c is compiled", "", lambda: room.run("sh -c", [made], at=room.path, **further).all()
+        yield "examples/router.c answers", ROUTER, lambda: room.run(["./router", *words], at=room.path, **further).all()
         if has("valgrind"):
             yield "examples/router.c leaks nothing", "", lambda: room.run(
-                "valgrind -q --leak-check=full --error-exitcode=7 ./router", [plan, "31", "1", "1893458700"], at=room.path, **lib).err
+                "valgrind -q --leak-check=full --error-exitcode=7 ./router", words, at=room.path, **further).err
     if has("rustc"):
-        ran = room.run("rustc --edition 2021 -O", [f"{TOP}/examples/router.rs", "-L", room.folder, "-o", "router-rs"], at=room.path)
-        yield "examples/router.rs is compiled", "", ran.all
-        yield "examples/router.rs answers", router_wanted(room), lambda: room.run(["./router-rs", plan, "31", "1", "1893458700"], at=room.path, **lib).all()
+        yield "examples/router.rs is compiled", "", lambda: room.run(
+            "rustc -O", [f"{TOP}/examples/router.rs", "-L", room.folder, "-o", "router-rs"], at=room.path).all()
+        yield "examples/router.rs answers", ROUTER, lambda: room.run(["./router-rs", *words], at=room.path, **further).all()
 
 
 def checks(asked):
@@ -640,4 +647,4 @@ def checks(asked):
         print("note: library is left out, since a trial compiles no library; --library names the folder of one")
         return ()
     return checks_of("library", Calling(asked), [
-        the_header, the_libraries, larger_plans, drawn_plans, refusals, texts, names, refused_memory, fuzzed, examples])
+        the_header, the_libraries, refusals, texts, names, drawn_plans, refused_memory, fuzzed, examples, larger_plans])

@@ -1,10 +1,9 @@
 """Calls of the C library over small drawn plans, and what follows for them from the listing of all routes."""
 
-from drawn import Draws, crowded_case, draw_pair, drawn_case, with_another_digit
+from drawn import Draws, draw_pair, drawn_case, with_another_digit
 from oracle import NO_LIMIT, Listing, time_text
 
-DRAWN = 40
-CROWDED = 3
+DRAWN = 120
 
 
 class Script:
@@ -118,9 +117,9 @@ def say_change(script, case):
         script.say(f"plan_delete_contact {it.sender} {it.receiver} {it.start}", "OK", f"number {number}")
 
 
-def script_of(room, case, place):
+def script_of(room, case, from_text):
     script, draws, plan = Script(room), Draws(f"library, {case.title}"), case.drawing.plan
-    make_plan(script, case, place % 2 == 0)
+    make_plan(script, case, from_text)
     nodes = max(plan.nodes() | {2})
     for turn in range(2):
         say_counts(script, plan)
@@ -137,7 +136,7 @@ def script_of(room, case, place):
 
 def drawn_texts(room):
     """The title of each drawn plan, the calls over it, and the transcript that they must give."""
-    cases = [*map(drawn_case, range(DRAWN)), *map(crowded_case, range(CROWDED))]
-    for place, case in enumerate(cases):
-        script = script_of(room, case, place)
+    for seed in range(DRAWN):
+        case = drawn_case(seed)
+        script = script_of(room, case, seed % 2 == 0)
         yield f"drawn plan, {case.title}", "".join(f"{it}\n" for it in script.calls), "".join(script.wanted)
