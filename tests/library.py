@@ -633,6 +633,12 @@ Libs: -L{room.folder} -lcgrlist
         if has("valgrind"):
             yield "examples/router.c leaks nothing", "", lambda: room.run(
                 "valgrind -q --leak-check=full --error-exitcode=7 ./router", words, at=room.path, **further).err
+    with open(f"{TOP}/docs/cgrlist.3", encoding="ascii") as file:
+        page = file.read()
+    shown = re.search(r"^\.Bd -literal.*\n((?:.*\n)*?)\.Ed$", page, re.M)[1].replace(r"\e", "\\")
+    ran = room.run(f"cc -Wall -Wextra -I{TOP}/library", [room.file("page.c", shown), f"{room.folder}/libcgrlist.a"], "-o page", at=room.path)
+    yield "the manual page's program is compiled", "", ran.all
+    yield "it prints what the page says", re.search(r"^\.Ql (.*) \.$", page, re.M)[1], lambda: room.run(["./page"], at=room.path).all()
     if has("rustc"):
         yield "examples/router.rs is compiled", "", lambda: room.run(
             "rustc -O", [f"{TOP}/examples/router.rs", "-L", room.folder, "-o", "router-rs"], at=room.path).all()
