@@ -26,7 +26,7 @@ from oracle import time_text
 from trial import Broken
 
 SEEDS = range(1, 3)  # of drawn requests over larger plans
-FUZZED = {"plain": 2000, "valgrind": 30, "sanitizers": 1000}  # plans of each run
+FUZZED = {"plain": 1000, "valgrind": 15, "sanitizers": 200}  # plans of each run
 WARNINGS = "-Wall -Wextra -Wpedantic -Wshadow -Wconversion -Werror"
 AT = "2030/01/01-00:45:00"
 LATEST = 253370764799

@@ -45,7 +45,13 @@ static uint64_t draw_node(void) { return draw(40) ? draw(6) : UINT64_MAX; }
 static uint64_t draw_time(void) { return draw(40) ? draw(60) : CGRLIST_LAST_TIME - 1 + draw(3); }
 
 static asked draw_asked(void) {
-    asked a = {{draw_node(), draw_node(), draw_time(), draw(2) ? 0 : draw(1100000), draw(5)}, NULL, draw(3)};
+    asked a; /* one statement a draw, so that each compiler draws in the same order */
+    a.request.from = draw_node();
+    a.request.to = draw_node();
+    a.request.at = draw_time();
+    a.request.margin_ppm = draw(2) ? 0 : draw(1100000);
+    a.request.max_hops = draw(5);
+    a.avoids = draw(3);
     a.avoid = block(a.avoids, sizeof *a.avoid);
     for (size_t i = 0; i < a.avoids; i++) a.avoid[i] = 1 + i + draw(4);
     return a;
@@ -87,12 +93,12 @@ static void open_plan(cgrlist_plan *plan) {
 static void change(cgrlist_plan *plan) {
     uint64_t from = draw_node(), to = draw_node(), start = draw_time(), end = start + draw(40);
     uint8_t before[32], after[32];
-    uint32_t number, status;
+    uint32_t light = draw(40) ? draw(5) : 999999 + draw(3), number, status;
     cgrlist_plan_digest(plan, before);
     switch (draw(8)) {
     case 0: status = cgrlist_plan_delete_contact(plan, from, to, start, &number); break;
     case 1: status = cgrlist_plan_delete_range(plan, from, to, 0); break;
-    case 2: status = cgrlist_plan_add_range(plan, from, to, 0, 1000 + draw(9), draw(40) ? draw(5) : 999999 + draw(3)); break;
+    case 2: status = cgrlist_plan_add_range(plan, from, to, 0, 1000 + draw(9), light); break;
     default: status = cgrlist_plan_add_contact(plan, from, to, start, end, draw(9), &number);
     }
     cgrlist_plan_digest(plan, after);

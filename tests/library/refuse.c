@@ -6,8 +6,8 @@
 #include <string.h>
 
 #define ROUTES 64
-#define CONTACTS 4096
-#define BYTES (1 << 20)
+#define CONTACTS 1024
+#define BYTES (1 << 14)
 
 void *__real_malloc(size_t size);
 void *__real_realloc(void *at, size_t size);
