@@ -98,9 +98,9 @@ def the_header(room):
         f"{rust}: {', '.join(sorted(c))}" for rust, c in pairs.items() if len(c) != 1)
     yield "the exports are what the header declares", declared, header.named_as_in_c, stated, pairs
     yield "the statuses are the header's", header.declared_statuses(text), header.stated_statuses, source
-    limits = header.stated_limits()
-    yield "the limits are the header's", {"MOST_ROUTES": 10000}, lambda: {
-        name: value for name, value in header.declared_limits(text).items() if limits.get(name) != value}
+    limits = header.stated_limits(source)
+    yield "the limits are the header's", header.declared_limits(text), lambda: {
+        name: limits.get(name) for name in header.declared_limits(text)}
     structs = {next(iter(c)): header.stated_structs(source).get(rust) for rust, c in pairs.items()}
     handle = structs.pop(header.HANDLE, None)
     wanted = {name: members for name, members in header.declared_structs(text).items() if name != header.HANDLE}

@@ -76,13 +76,14 @@ def with_buffers(text):
 
 
 def stated_statuses(text):
-    found = {name: int(value) for name, value in re.findall(r"^pub const (\w+): u32 = (\d+);", text, re.M)}
+    found = {name: int(value) for name, value in re.findall(r"^pub const (?!MOST_)(\w+): u32 = (\d+);", text, re.M)}
     return {DONE if name == "DONE" else name: value for name, value in found.items()}
 
 
-def stated_limits():
+def stated_limits(text):
+    """The limits of the crate, and those of plans and requests."""
     with open(f"{TOP}/crates/sabr_model/src/limits.rt", encoding="utf-8") as file:
-        found = re.findall(r"^pub const (\w+): u\w+ = ([\d_]+);", file.read(), re.M)
+        found = re.findall(r"^pub const ((?:MOST|LAST)_\w+): u\w+ = ([\d_]+);", text + file.read(), re.M)
     return {name: int(value.replace("_", "")) for name, value in found}
 
 
