@@ -17,12 +17,10 @@ import os
 import random
 import re
 import shutil
-import subprocess
 
 import library_header as header
 from checking import TOP, Room, checks_of
 from library_drawn import drawn_texts
-from oracle import time_text
 from trial import Broken
 
 SEEDS = range(1, 3)  # of drawn requests over larger plans
