@@ -17,12 +17,10 @@ import os
 import random
 import re
 import shutil
-import subprocess
 
 import library_header as header
 from checking import TOP, Room, checks_of
 from library_drawn import drawn_texts
-from oracle import time_text
 from trial import Broken
 
 SEEDS = range(1, 3)  # of drawn requests over larger plans
@@ -341,7 +339,7 @@ plan_add_range 1 2 10 10 1 | EMPTY_WINDOW
 plan_add_range 2 2 0 10 1 | SELF_PAIR
 plan_add_range 1 2 1893456999 {LATEST} 1 | RANGE_OVERLAP
 plan_delete_contact 1 2 1893456001 | NOTHING_TO_DELETE
-plan_delete_contact 0 2 1893456000 | NOTHING_TO_DELETE
+plan_delete_contact 0 2 1893456000 | VALUE_NODE
 plan_delete_range 1 2 1893456001 | NOTHING_TO_DELETE
 plan_delete_range 2 1 1893456000 | NOTHING_TO_DELETE
 follow - 1 3 1893456000 | NO | refused: Empty
@@ -368,7 +366,7 @@ ROUTE_1, ROUTE_2 = ("delivery 2030/01/01-00:00:15 hops 2 entry 2 until 2030/01/0
                     "delivery 2030/01/01-00:00:25 hops 2 entry 2 until 2030/01/01-00:01:00 contacts 1 2")
 HOP_1 = "hop 1 contact 1 from 1 to 2 send 2030/01/01-00:00:00 arrive 2030/01/01-00:00:10"
 CRAMPED = f"""
-0 | best 1 3 1893456000 | ROOM | needs 2 contacts
+0 | best 1 3 1893456000 | ROOM | needs 2 contacts | {ROUTE_1.replace('hops 2', 'hops 0')[:-4]}
 2 | best 1 3 1893456000 | OK | {ROUTE_1}
 0 0 | first 9 1 3 1893456000 | ROOM | needs 3 routes, 5 contacts; written 0 | end
 3 4 | first 9 1 3 1893456000 | ROOM | needs 3 routes, 5 contacts; written 2 | 1 {ROUTE_1} | 2 {ROUTE_2} | end
@@ -388,8 +386,8 @@ CRAMPED = f"""
 1 1 | listing_next 1 | ROOM | needs 1 routes, 2 contacts; written 0 | more
 0 | listing_place | OK | given 1 more back
 0 | listing_back | OK
-0 | listing_text | ROOM | needs 168 bytes
-167 | listing_text | ROOM | needs 168 bytes
+0 | listing_text | ROOM | needs 174 bytes
+173 | listing_text | ROOM | needs 174 bytes
 """
 
 # What is refused while a listing is open, and what isn't.
@@ -460,7 +458,7 @@ GOOD = "@ 2030/01/01-00:00:00\na contact +0 +20 1 2 5\na range +0 +10 1 2 1\n"
 DAMAGED = """
 cgr-session 2 | cgr-session 3 | SESSION_BAD_HEADER | 0
 emitted 1 | emitted 01 | SESSION_BAD_LINE | 4
-end\\n | end\\nmore | SESSION_BAD_LINE | 9
+end\\n | end\\nmore | SESSION_BAD_LINE | 10
 end\\n | end | SESSION_BAD_LINE | 9
 plan 1 | plan 2 | SESSION_OTHER_PLAN | 0
 request 1 3 | request 3 3 | SESSION_BAD_REQUEST | 0
