@@ -4,6 +4,7 @@ Looked at are the status and the columns that don't depend on the machine. The c
 count instructions need valgrind, and those that build the yardstick need cargo: without them these are left out.
 """
 
+import os
 import shutil
 import tempfile
 
@@ -32,6 +33,9 @@ COUNTED = [
     ("`many` answers as `first`", "many.py",
      [*OVER_A, "--requests", "6", "--sample", "6", "--counts", "1", "--memory", "6"], [0, 1], ["a 1"]),
 ]
+# This needs the C library, too.
+OF_THE_LIBRARY = ("calls of the C library", "library.py", ["--only", "relay-moon-500", "--out", "plans", "--times", "2"], [0],
+                  ["relay-moon-500"])
 SMALL = ["--only", "relay-moon-500", "--out", "plans"]
 # These build the yardstick, too.
 BESIDE = [
@@ -65,6 +69,8 @@ class Benches(Room):
 
 def scripts(room):
     rows = ROWS + (COUNTED if shutil.which("valgrind") else [])
+    if shutil.which("valgrind") and os.path.exists(f"{TOP}/library/out/libcgrlist.a"):
+        rows = [*rows, OF_THE_LIBRARY]
     for about, script, words, columns, wanted in rows + (BESIDE if shutil.which("valgrind") and shutil.which("cargo") else []):
         yield about, (0, wanted, ""), room.made, script, words, columns
 
