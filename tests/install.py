@@ -34,6 +34,12 @@ def listed(text, pattern):
     return sorted(filter(None, sum(re.findall(pattern, text, re.M), ())))
 
 
+LIBRARY = [
+    "f 644 usr/include/cgrlist.h", "f 644 usr/lib/libcgrlist.a", "f 755 usr/lib/libcgrlist.so.1", "l 777 usr/lib/libcgrlist.so",
+    "f 644 usr/lib/pkgconfig/cgrlist.pc", "f 644 usr/share/man/man3/cgrlist.3",
+]
+
+
 class Installing(Room):
     def __init__(self, program):
         super().__init__()
@@ -141,7 +147,11 @@ def installed_files():
     for folder, _, names in os.walk(f"{TOP}/tools/cgrlist"):
         if not folder.endswith("__pycache__"):
             lines += [f"f 644 usr/share/cgrlist/{os.path.relpath(f'{folder}/{it}', f'{TOP}/tools')}" for it in names]
-    return by_place(lines)
+    return by_place([*lines, *LIBRARY] if has_library() else lines)
+
+
+def has_library():
+    return os.path.exists(f"{TOP}/library/out/libcgrlist.a")
 
 
 def the_installation(room):
@@ -180,6 +190,8 @@ def the_installation(room):
     if shutil.which("man"):
         page = f"{room.path}/at/usr/share/man/man1/cgrlist.1\n"
         yield "the manual page is found", page, lambda: room.run("man -w cgrlist", MANPATH=f"{room.path}/at/usr/share/man").out
+    if has_library() and shutil.which("cc") and shutil.which("pkg-config"):
+        yield from with_the_library(room)
     yield "running leaves nothing there", files, room.installed
 
     room.file("at/usr/share/other")
@@ -196,6 +208,21 @@ install: the path lacks {home}/bin. Put this line at the end of ~/.profile, and 
 export PATH="{home}/bin:$PATH"
 """, lambda: room.install(home, into="").err
     yield "the path has them", "", lambda: room.install(home, into="", PATH=f"{home}/bin:{os.environ['PATH']}").err
+
+
+def with_the_library(room):
+    """A program is made by pkg-config alone, and finds the library where it was installed."""
+    at = f"{room.path}/at"
+    further = {"PKG_CONFIG_SYSROOT_DIR": at, "PKG_CONFIG_PATH": f"{at}/usr/lib/pkgconfig", "PKG_CONFIG_ALLOW_SYSTEM_CFLAGS": "1",
+               "PKG_CONFIG_ALLOW_SYSTEM_LIBS": "1", "LD_LIBRARY_PATH": f"{at}/usr/lib"}
+    made = f"cc {TOP}/examples/router.c $(pkg-config --cflags --libs cgrlist) -o router"
+    yield "the prefix stands in cgrlist.pc", "/usr", lambda: room.run("pkg-config --variable=prefix cgrlist", **further).out.strip()
+    yield "a program is compiled", "", lambda: room.run("sh -c", [made], at=room.path, **further).all()
+    yield "it asks", "to node 2 first, there at 1893456015, over 1 4", lambda: (
+        room.run("./router a.txt 1 3 1893456000", at=room.path, **further).out.partition("\n")[0])
+    if shutil.which("man"):
+        yield "its manual page is found", f"{at}/usr/share/man/man3/cgrlist.3\n", lambda: (
+            room.run("man -w 3 cgrlist", MANPATH=f"{at}/usr/share/man").out)
 
 
 def what_fails(room):

@@ -1,10 +1,12 @@
 """Holds the manual pages to what mandoc asks of them, if mandoc is there. That of the program has each fault and each message
-of the tables in docs/formats.md. Those of the tools are what tools/manual_pages makes of their help."""
+of the tables in docs/formats.md. That of the library has the functions and the statuses of its header. Those of the tools are
+what tools/manual_pages makes of their help."""
 
 import re
 import shutil
 
 from checking import TOP, Room, checks_of, lines_with, parts_of
+from library_header import declared_functions, declared_statuses, read_header, type_of
 
 TOOLS = [f"cgrlist-{name}.1" for name in ("compare", "from-ionrc", "latest", "report", "timeline", "timetable")]
 # Pages that aren't installed aren't found, and the version stands in .Os, where mandoc wants none in a system's own.
@@ -19,7 +21,7 @@ def read(name):
 def of_the_program(room):
     if shutil.which("mandoc"):
         yield "mandoc has nothing to say", "", lambda: lines_with(
-            f"^(?!.*({NO_FAULT}))", room.run("mandoc -T lint", [f"docs/{name}" for name in ["cgrlist.1", *TOOLS]]).out)
+            f"^(?!.*({NO_FAULT}))", room.run("mandoc -T lint", [f"docs/{name}" for name in ["cgrlist.1", "cgrlist.3", *TOOLS]]).out)
     else:
         print("manual: mandoc is left out, it is not here")
     page, formats = read("cgrlist.1"), read("formats.md")
@@ -31,6 +33,20 @@ def of_the_program(room):
     ):
         yield f"there are {what}s", True, lambda: len(names) >= least
         yield f"each {what} has its place", [], lambda: [it for it in sorted(names) if not re.search(rf"\b{re.escape(it)}\b", page)]
+
+
+def of_the_library(room):
+    """Its page has the functions and the statuses of the header."""
+    page, functions = read("cgrlist.3"), declared_functions(read_header())
+    shown = re.sub(r"\.Fo (\w+)\n((?:\.Fa .*\n)+)\.Fc", lambda it: ".Fn " + it[1] + it[2].replace("\n.Fa", "")[3:].rstrip(), page)
+    synopsis = shown.partition(".Sh DESCRIPTION")[0]
+    for name, (taken, kind) in functions.items():
+        macros = re.search(rf"^\.Ft (.*)\n\.Fn {name} (.*)$", synopsis, re.M)
+        given = [] if not macros or macros[2] == "void" else re.findall('"([^"]*)"', macros[2])
+        yield f"the synopsis has {name}", (kind, taken), lambda: (macros and macros[1], [type_of(it) for it in given])
+    statuses = [f"CGRLIST_{it}" for it in declared_statuses(read_header())]
+    yield "each status has its place", [], lambda: [
+        it for it in statuses if not re.search(rf"\b{it}\b|^\.It Dv CGRLIST_{it.split('_')[1]}_\.\.\.$", page, re.M)]
 
 
 def of_the_tools(room):
@@ -45,4 +61,4 @@ def of_the_tools(room):
 
 
 def checks(_):
-    return checks_of("manual", Room(), [of_the_program, of_the_tools])
+    return checks_of("manual", Room(), [of_the_program, of_the_library, of_the_tools])

@@ -6,8 +6,9 @@ import shutil
 
 from checking import TOP, Room, checks_of
 
-# A function is proved unless its body has `wrong`, or it is the first one and the law before it is wrong. The crate doesn't
-# compile if it has `unknown`, or both `one` and `other`. Each run is noted with the functions that it is asked for, and the
+# A function is proved unless its body has `wrong`, `gone` or `untried`, or it is the first one and the law before it is wrong.
+# With `gone` its proof file names what isn't there, with `untried` its goals weren't tried, and with `false` beside these values
+# are known at which a goal is false. The crate doesn't compile if it has `unknown`, or both `one` and `other`. Each run is noted with the functions that it is asked for, and the
 # number of those that are changed in all.
 PROVER = """\
 #!/usr/bin/env python3
@@ -24,9 +25,19 @@ with open("NOTES", "a") as notes:
 os.makedirs(sys.argv[sys.argv.index("--incremental") + 1], exist_ok=True)
 if "unknown" in words or {"one", "other"} <= {*words}:
     sys.exit("src/lib.rt:1:1: error[unknown-name]: cannot find value `unknown` in this scope")
-told = {name: "not proved" if "wrong" in body else "proved" for name, body in functions if name in only}
-for name, it in told.items():
-    print(f"fn low::{name}: {it}")
+told = {}
+for name, body in functions:
+    if name in only:
+        if "gone" in body:
+            print(f"./proofs/{name}/Answers.antt:3:1: error: `goal`: module `Goals` has no `old` that can be named\\n  from here")
+            print(f"./proofs/{name}/Answers.antt:9:1: error: `low`, which was not admitted, was not checked")
+        if "false" in body:
+            print("note: src/lib.rt:1:1: the facts known there allow values at which this goal is false")
+        lacks = {"wrong": "not proved", "gone": "not proved", "untried": "no proof: it calls low::other"}
+        told[name] = next((it for word, it in lacks.items() if word in body), "proved")
+        if "untried" in body:
+            print("note: src/lib.rt:1:1: `search` has not tried the goals")
+        print(f"fn low::{name}: {told[name]}")
 print(f"only={len(told)} proved={[*told.values()].count('proved')}")
 """
 LIBRARY = "clone/crates/base/out/rlib/base.rlib"
@@ -40,7 +51,8 @@ class Tried(Room):
         super().__init__()
         for folder in ("bin", "clone/tools", "clone/crates/low/src", "clone/crates/low/mutations", "clone/docs", LIBRARY):
             os.makedirs(f"{self.path}/{folder}")
-        shutil.copy(f"{TOP}/tools/mutations", f"{self.path}/clone/tools")
+        for tool in ("mutations", "refusals.py"):
+            shutil.copy(f"{TOP}/tools/{tool}", f"{self.path}/clone/tools")
         self.file("clone/crates.txt", "low: base\nbase:\n")
         self.stub("bin/rt", "#!/bin/sh\n")
         self.stub("bin/rattle", PROVER.replace("NOTES", f"{self.path}/notes"))
@@ -55,10 +67,14 @@ class Tried(Room):
         self.file("clone/crates/low/src/lib.rt", "law right\n" + "".join(f"fn f{it}() {{ right {it} }}\n" for it in places))
         shutil.rmtree(f"{self.path}/{folder}")
         os.mkdir(f"{self.path}/{folder}")
-        shutil.rmtree(f"{self.path}/cache", ignore_errors=True)
+        self.forget()
         for it, text in zip(places, texts):
             self.file(f"{folder}/m{it}.edit", f"file: src/lib.rt\n{text}")
         return self.tried()
+
+    def forget(self):
+        """Forgets what this machine noted."""
+        shutil.rmtree(f"{self.path}/cache", ignore_errors=True)
 
     def tried(self, *words):
         """What is said of the mutations, and what the prover ran."""
@@ -96,6 +112,12 @@ compiles 2, {asked(7, 1, 2, 3, 4, 5, 7, 8)}", [*wrong * 5, *unknown, *wrong * 2]
         ("one alone that doesn't compile", [alone, "0 passed, 1 failed", "status 1"], "f1 0, f1 1", unknown),
         ("those that compile only apart are tried apart", [*refused(1, 2), "2 passed, 0 failed"],
          f"{two}, compiles 1, compiles 1, f1 1, f2 1", ["one wrong", "other wrong"]),
+        ("one that is refused by a name alone",
+         ["FAILED: m1: REFUSED BY A NAME ALONE; `goal`: module `Goals` has no `old` that can be named from here",
+          *refused(2), "1 passed, 1 failed", "status 1"], f"{two}, f1 1", ["gone", "wrong"]),
+        ("and one that has a false goal, too", [*refused(1), "1 passed, 0 failed"], "f1 0, f1 1", ["gone false"]),
+        ("one whose goals weren't tried", ["FAILED: m1: UNDECIDED; its goals weren't tried", "0 passed, 1 failed", "status 1"],
+         "f1 0, f1 1", ["untried"]),
     ):
         yield title, ("\n".join(told), ran), room.try_them, *bodies
     law = "old: law right\nnew: law wrong\n"
@@ -134,23 +156,38 @@ def what_was_refused_before(room):
 
 def what_the_gate_tries(room):
     """Which of four mutations are tried."""
-    room.try_them(*["wrong"] * 4)
-    room.file("clone/docs/proofs.md", """
-### Tried by the gate
-
-`crates/low/mutations/{m1,m3}.edit`, `crates/low/mutations/m4.edit`
-
-### Tried by whoever changes a crate
-
-`crates/low/mutations/m2.edit`
-""")
+    room.try_edits(*(f"about: {about}\n{gate}old: {{ right {it} }}\nnew: {{ wrong }}\n" for it, about, gate in (
+        (1, "low::B::last", "gate: yes\n"), (2, "low::x", ""), (3, "a promise", "gate: yes\n"), (4, "low::B::first", "gate: yes\n"))))
     for title, ran, *words in (
-        ("those that the document names for it", "f1 f3 f4 0, f1 f3 f4 3", "--gate"),
+        ("those that say so", "f1 f3 f4 0, f1 f3 f4 3", "--gate"),
         ("and have a word in their names", "f3 0, f3 1", "--gate", "--only", "3"),
         ("another, if it isn't asked for those of the gate", "f2 0, f2 1", "--only", "2"),
     ):
         yield title, ran, lambda: room.tried("--anew", *words)[1]
+    head, low = "| About | Mutations |\n|---|---|\n", "crates/low/mutations"
+    tables = (f"{head}| a promise | `{low}/m3.edit` |\n\n{head}| `low::B`: `first`, `last` | `{low}/{{m4,m1}}.edit` |\n\n"
+              f"{head}| `low`: `x` | `{low}/m2.edit` |")
+    yield "the tables of what they are about", tables, lambda: room.run(f"{room.path}/clone/tools/mutations --tables").all()
+    with open(f"{TOP}/docs/proofs.md", encoding="utf-8") as file:
+        document = file.read()
+    for it, table in enumerate(room.run(f"{TOP}/tools/mutations", ["--tables"]).out.rstrip("\n").split("\n\n"), 1):
+        yield f"docs/proofs.md has table {it}", True, lambda: table in document
+
+
+def what_is_recorded(room):
+    """Two of three mutations are refused, and the repository's record has them."""
+    bodies = {1: "wrong", 2: "fine", 3: "wrong"}
+    room.try_edits(*(f"about: it\ngate: yes\nold: {{ right {it} }}\nnew: {{ {body} }}\n" for it, body in bodies.items()))
+    record = "clone/crates/low/mutations/refused"
+    room.tried("--record")
+    yield "their names", ["m1", "m3"], lambda: [it.split()[1] for it in room.read(record).splitlines()]
+    room.forget()
+    yield "they aren't tried again", "f2 0, f2 1", lambda: room.tried()[1]
+    yield "but by the gate, where it is the crate's turn", "f1 f2 f3 0, f1 f2 f3 3, f2 1", lambda: room.tried("--gate")[1]
+    room.forget()
+    room.file("clone/crates/low/src/lib.rt", f"// a comment\n{room.read('clone/crates/low/src/lib.rt')}")
+    yield "over another source all are", "f1 f2 f3 0, f1 f2 f3 3, f2 1", lambda: room.tried()[1]
 
 
 def checks(_):
-    return checks_of("mutations", Tried(), [trials, what_was_refused_before, what_the_gate_tries])
+    return checks_of("mutations", Tried(), [trials, what_was_refused_before, what_the_gate_tries, what_is_recorded])

@@ -18,4 +18,5 @@ pub use loader::load_fault::LoadFault;
 pub use rows::{states_of_plan_a, states_of_plan_c, steps_of_plan_a};
 pub use session::Session;
 pub use session::last_page::LastPage;
+pub use session::paused::PausedSession;
 pub use views::{PartView, Parts};

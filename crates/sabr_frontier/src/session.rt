@@ -13,11 +13,12 @@ ghost use Rattle.sabr_frontier.specs.tree.Undo.{IsRoomy};
 ghost use Rattle.sabr_frontier.specs.session.Views.{seen_left};
 
 pub mod last_page;
+pub mod paused;
 
 use crate::giving::asker::Asker;
-use crate::plan_request::PlanRequest;
 use crate::tree::Tree;
 use crate::views::Parts;
+use sabr_index::Index;
 use sabr_model::{NoMemory, Plan, Request, Route};
 use sabr_search::BestOf;
 use std::alloc::{Allocator, Global};
@@ -66,14 +67,26 @@ impl<'p, B: BestOf<A>, A: Allocator + Copy> Session<'p, B, A> {
     ) -> Result<Session<'p, B, A>, NoMemory>
         ensures { IfOk result (λ s. s ≡ started plan.now request (B.calls_of finder + 1)) }
     {
-        plan.tell_rules();
+        let index = Index::new(alloc, plan)?;
+        Session::start_with_index(alloc, index, request, finder)
+    }
+
+    /// Starts a session as [`start`](Session::start) does, over an index that is there. It takes one search.
+    ///
+    /// # Errors
+    ///
+    /// [`NoMemory`] if a growth was refused. The index and the finder are dropped.
+    pub fn start_with_index(
+        alloc: A,
+        index: Index<'p, A>,
+        request: Request,
+        finder: B,
+    ) -> Result<Session<'p, B, A>, NoMemory>
+        ensures { IfOk result (λ s. s ≡ started index.entry request (B.calls_of finder + 1)) }
+    {
+        index.plan().tell_rules();
         request.tell_limits();
-        let question = PlanRequest {
-            alloc,
-            plan,
-            request,
-        };
-        Session::begin(Asker::new(question, finder)?)
+        Session::begin(Asker::over(alloc, index, request, finder))
     }
 
     /// Starts a session of what the asker asks for.

@@ -16,7 +16,7 @@ use clap::{Arg, ArgAction, ArgMatches, Command, Error};
 use std::alloc::{AllocError, Global};
 
 /// The version of the program, as `--version` shows it.
-const VERSION: &str = "1.1.0";
+const VERSION: &str = "1.2.0";
 
 /// A word with a value: what its value looks like, and what it is.
 fn option<'a>(alloc: Global, name: &'a str, form: &'a str, help: &'a str) -> Arg<'a>

@@ -3,6 +3,7 @@ use Rattle.std.specs.Prelude.{ℕ, List, map, Option, None}
 use Rattle.sabr_model.specs.plan.Plan.{TabledPlan}
 use Rattle.sabr_model.specs.routes.Arrival.{RouteRequest}
 use Rattle.sabr_model.specs.routes.Record.{RouteRecord, record_of}
+use Rattle.sabr_frontier.specs.declared.giving.asker.PausedAsker.{PausedAsker}
 use Rattle.sabr_frontier.specs.declared.plan_request.PlanRequest.{PlanRequest}
 use Rattle.sabr_search.specs.declared.bound.Bound.{Bound}
 use Rattle.sabr_frontier.specs.tree.Best.{best_up_to}
@@ -25,6 +26,14 @@ asked_over p r = record { plan = p; request = r; bound = None }
 
 abbrev pub asked_of : {A : Type 0} → PlanRequest A → Asked
 asked_of q = asked_over q.plan.now q.request
+
+-- what a paused asker asks for over a plan
+abbrev pub asked_again : {B A : Type 0} → TabledPlan → PausedAsker B A → Asked
+asked_again p a = record { plan = p; request = a.request; bound = a.bound }
+
+-- what it shows there, if its finder's calls are counted so
+abbrev pub asking_over : {B A : Type 0} → (B → ℕ) → TabledPlan → PausedAsker B A → Asking
+asking_over calls_of p a = record { asked = asked_again p a; calls = calls_of a.finder }
 
 -- at most k steps from a state
 abbrev pub steps_for : Asked → ℕ → State → List (List ℕ) × State

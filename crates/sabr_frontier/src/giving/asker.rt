@@ -3,8 +3,9 @@
 ghost use Rattle.std.specs.Prelude.{◌≡◌, ◌+◌, IfOk, IsTrue};
 ghost use Rattle.std.specs.List.Sorted.{IsStrictlyIncreasing};
 ghost use Rattle.sabr_model.specs.routes.Route.{is_prefix};
+ghost use Rattle.sabr_search.specs.answers.Kept.{IsKept};
 ghost use Rattle.sabr_search.specs.questions.Bounded.{IsFloor};
-ghost use Rattle.sabr_frontier.specs.tree.Asking.{asked_of, asked_over, best_for};
+ghost use Rattle.sabr_frontier.specs.tree.Asking.{asked_of, asked_over, asking_over, best_for};
 ghost use Rattle.sabr_frontier.specs.tree.Best.{bound_in, found_by};
 
 use crate::plan_request::PlanRequest;
@@ -44,10 +45,17 @@ fn up_to<A: Allocator + Copy>(sought: Sought<A>, bound: Option<Bound>) -> Option
 /// often the finder was called.
 #[derive(Drop)]
 pub struct Asker<'p, B: BestOf<A>, A: Allocator + Copy = Global> {
-    /// The allocator of all that is made.
-    alloc: A,
     /// The index of the plan.
     index: Index<'p, A>,
+    /// All else.
+    rest: PausedAsker<B, A>,
+}
+
+/// An asker without the index of its plan, which it doesn't borrow.
+#[derive(Drop)]
+pub struct PausedAsker<B: BestOf<A>, A: Allocator + Copy = Global> {
+    /// The allocator of all that is made.
+    alloc: A,
     /// The request.
     request: Request,
     /// The finder of a part's least route.
@@ -60,13 +68,13 @@ pub struct Asker<'p, B: BestOf<A>, A: Allocator + Copy = Global> {
 
 impl<'p, B: BestOf<A>, A: Allocator + Copy> Model for Asker<'p, B, A> {
     ghost use Rattle.sabr_search.specs.answers.Kept.{IsKept};
-    ghost use Rattle.sabr_frontier.specs.tree.Asking.{Asking, asked_over};
+    ghost use Rattle.sabr_frontier.specs.tree.Asking.{Asking, asking_over};
 
     ghost Value = { Asking };
 
-    ghost view = { λ a. record { asked = record (asked_over a.index a.request) { bound = a.bound }; calls = B.calls_of a.finder } };
+    ghost view = { λ a. asking_over B.calls_of a.index a.rest };
 
-    ghost invariant = { λ a. IsKept a.index a.request a.kept };
+    ghost invariant = { λ a. IsKept a.index a.rest.request a.rest.kept };
 }
 
 impl<'p, B: BestOf<A>, A: Allocator + Copy> Asker<'p, B, A> {
@@ -80,37 +88,33 @@ impl<'p, B: BestOf<A>, A: Allocator + Copy> Asker<'p, B, A> {
     {
         let alloc = question.alloc();
         let index = Index::new(alloc, question.plan)?;
-        let kept = Kept::new(alloc);
-        Ok(Asker {
-            alloc,
-            index,
-            request: question.request,
-            finder,
-            kept,
-            bound: None,
-        })
+        Ok(Asker::over(alloc, index, question.request, finder))
     }
 
-    /// Returns an asker over the same index, with the same finder, for another request. It keeps nothing yet.
-    pub fn with_request(self, request: Request) -> Asker<'p, B, A>
-        ensures { result ≡ record { asked = asked_over self.entry.asked.plan request; calls = self.entry.calls } }
+    /// Makes an asker over an index. It keeps nothing yet.
+    pub fn over(alloc: A, index: Index<'p, A>, request: Request, finder: B) -> Asker<'p, B, A>
+        ensures { result ≡ record { asked = asked_over index.entry request; calls = B.calls_of finder } }
     {
-        let Asker {
-            alloc,
-            index,
-            request: _,
-            finder,
-            kept: _,
-            bound: _,
-        } = self;
         Asker {
-            alloc,
             index,
-            request,
-            finder,
-            kept: Kept::new(alloc),
-            bound: None,
+            rest: PausedAsker {
+                alloc,
+                request,
+                finder,
+                kept: Kept::new(alloc),
+                bound: None,
+            },
         }
+    }
+
+    /// Returns the asker without its plan's index, and the index.
+    pub fn pause(self) -> (PausedAsker<B, A>, Index<'p, A>)
+        ensures asking { asking_over B.calls_of self.entry.asked.plan result.0 ≡ self.entry }
+        ensures kept { IsKept self.entry.asked.plan result.0.request result.0.kept }
+        ensures index { result.1 ≡ self.entry.asked.plan }
+    {
+        let Asker { index, rest } = self;
+        (rest, index)
     }
 
     /// Asks only for routes up to a bound from now on; for all if there is none.
@@ -118,12 +122,12 @@ impl<'p, B: BestOf<A>, A: Allocator + Copy> Asker<'p, B, A> {
         ensures bound { self.new.asked ≡ record self.old.asked { bound = bound } }
         ensures calls { self.new.calls ≡ self.old.calls }
     {
-        self.bound = bound;
+        self.rest.bound = bound;
     }
 
     /// The allocator of what is made.
     pub fn alloc(&self) -> A {
-        self.alloc
+        self.rest.alloc
     }
 
     /// The plan.
@@ -144,7 +148,7 @@ impl<'p, B: BestOf<A>, A: Allocator + Copy> Asker<'p, B, A> {
     pub fn request(&self) -> &Request
         ensures { result.now ≡ self.now.asked.request }
     {
-        &self.request
+        &self.rest.request
     }
 
     /// Asks for the least route of a part whose excluded numbers rise, and none of whose routes delivers before the second
@@ -171,12 +175,37 @@ impl<'p, B: BestOf<A>, A: Allocator + Copy> Asker<'p, B, A> {
         let part = BoundedPart {
             prefix,
             excluded,
-            bound: bound_in(self.bound),
+            bound: bound_in(self.rest.bound),
             floor,
         };
-        let sought = self
+        let rest = &mut self.rest;
+        let sought = rest
             .finder
-            .best_up_to(&mut self.kept, &self.index, &self.request, part)?;
-        Ok(up_to(sought, self.bound))
+            .best_up_to(&mut rest.kept, &self.index, &rest.request, part)?;
+        Ok(up_to(sought, self.rest.bound))
+    }
+}
+
+impl<B: BestOf<A>, A: Allocator + Copy> PausedAsker<B, A> {
+    /// Returns the asker over an index of the plan that it was paused over.
+    pub fn resume<'p>(self, index: Index<'p, A>) -> Asker<'p, B, A>
+        requires { IsKept index self.request self.kept }
+        ensures { result ≡ asking_over B.calls_of index.entry self }
+    {
+        Asker { index, rest: self }
+    }
+
+    /// Returns the finder alone.
+    pub fn into_finder(self) -> B
+        ensures { result ≡ self.finder }
+    {
+        let PausedAsker {
+            alloc: _,
+            request: _,
+            finder,
+            kept: _,
+            bound: _,
+        } = self;
+        finder
     }
 }

@@ -18,6 +18,7 @@ use crate::giving::asker::Asker;
 use crate::giving::least_keys::LeastKeys;
 use crate::session::Session;
 use crate::tree::{Entry, Tree};
+use sabr_index::Index;
 use sabr_model::{NoMemory, Request, Route};
 use sabr_search::BestOf;
 use std::alloc::{Allocator, Global};
@@ -189,13 +190,22 @@ impl<'p, B: BestOf<A>, A: Allocator + Copy> LastPage<'p, B, A> {
     pub fn start_again(self, request: Request) -> Result<Session<'p, B, A>, NoMemory>
         ensures { IfOk result (λ s. s ≡ started self.entry.plan request (self.entry.calls + 1)) }
     {
+        let alloc = self.asker.alloc();
+        let (index, finder) = self.into_index_and_finder();
+        Session::start_with_index(alloc, index, request, finder)
+    }
+
+    /// Returns the plan's index and the finder, for another session, without the routes.
+    pub fn into_index_and_finder(self) -> (Index<'p, A>, B)
+        ensures index { result.0 ≡ self.entry.plan }
+        ensures calls { B.calls_of result.1 ≡ self.entry.calls }
+    {
         let LastPage {
             asker,
             routes: _,
             more: _,
         } = self;
-        asker.plan().tell_rules();
-        request.tell_limits();
-        Session::begin(asker.with_request(request))
+        let (asker, index) = asker.pause();
+        (index, asker.into_finder())
     }
 }

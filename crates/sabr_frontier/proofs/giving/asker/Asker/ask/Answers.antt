@@ -8,11 +8,11 @@ use Rattle.sabr_frontier.proofs.giving.asker.Asker.ask.Goals as goal
 pub returns-clause-best : goal.returns-clause-best
 returns-clause-best g c =
     let p = c.self.inside.index.plan in
-    let r = c.self.inside.request in
+    let r = c.self.inside.rest.request in
     let q = c.args.prefix.now in
     let X = c.args.excluded.now in
     let sought = c.in_ok-sought.sought in
     let good : IsPlan p = subst (λ (t : TabledPlan). IsPlan t.plan) c.plan.ensures c.tell_rules.ensures in
     c.up_to.ensures
-    ∙ found_by_best p r good c.self.inside.bound q X sought (subst (λ b. IsSought p r q X b sought) c.bound_in.ensures c.in_ok-sought.ensures.sought) (subst (λ b. IsWhole b sought) c.bound_in.ensures c.in_ok-sought.ensures.whole)
+    ∙ found_by_best p r good c.self.inside.rest.bound q X sought (subst (λ b. IsSought p r q X b sought) c.bound_in.ensures c.in_ok-sought.ensures.sought) (subst (λ b. IsWhole b sought) c.bound_in.ensures c.in_ok-sought.ensures.whole)
     ∙ ap (λ (a : Asking). best_for a.asked q X) c.self.view_is

@@ -1,0 +1,10 @@
+mod FirstLemmas
+mod ListingLemmas
+mod PageLemmas
+mod BufferLemmas
+mod FollowLemmas
+mod HopLemmas
+mod PlaceValues
+mod TextLemmas
+mod Values
+mod VerifyLemmas

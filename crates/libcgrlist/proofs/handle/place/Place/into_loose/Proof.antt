@@ -1,0 +1,49 @@
+-- `into_loose` takes an open place apart, and the loose value owns what it owned.
+use Rattle.std.proofs.Common.{◌≡◌, List, [], ◌∷◌, ◌++◌, refl, sym, subst}
+use mir.Val.{Val, vptr}
+use base.Logic.{SProp, ent, emp, id⊢}
+use base.Fml.{ftrue}
+use prog.Wp.{WpFn}
+use types.Kit.{‵, raw, ◌⊛◌, ◌$◌, ◌∵◌, !, qed, by, move, keep, split, fsplit, fjoin, suffices, use0}
+use types.Part.{agg, sub, whole}
+use types.Run.{stop, fld, of_opd, no_more, and_then, returns, enter}
+use types.ByLocal.{alloc_all, pass_all, free_all, look_at, get, get_in, sets}
+use contract.Monad.{fact, fact_i}
+use contract.Running.{tables}
+use denote.Exit.{yes}
+use denote.RattleType.{RattleType, owns}
+use denote.RawPtr.{block_ptr}
+use denote.Signature.{types_at, plain}
+use denote.Steps.{nothing, heard}
+use denote.Triple.Walked.{Stays, stay_dropped, walk_of, Goes-dropped}
+use Rattle.std.specs.Prelude.{Some, IsTrue, is_some}
+use Rattle.std.specs.contracts.alloc.Global as heap
+use Rattle.std.proofs.alloc.Global.TheLaws as heap_laws
+use Rattle.std.specs.contracts.impls.GlobalAllocator.TheImpl.{ghosts}
+use Rattle.std.proofs.raw_atomic.Walks.{proved_at, leaves}
+use Rattle.libcgrlist.specs.contracts.opened.Opened as opened
+use Rattle.libcgrlist.proofs.Values.{both, loose_good, loose_in}
+use Rattle.libcgrlist.specs.contracts.handle.place.Place as place
+use Rattle.libcgrlist.proofs.PlaceValues.{place_out, some_of}
+use Rattle.libcgrlist.specs.contracts.handle.place.Place.into_loose.{ended, clauses}
+use Rattle.libcgrlist.specs.contracts.handle.place.Place.into_loose.Key.{name as #self}
+use Rattle.libcgrlist.proofs.handle.place.Place.into_loose.Statement.{statement}
+use Rattle.libcgrlist.proofs.handle.place.Place.into_loose.Code as code
+
+pub into_loose_spec : {M : Type 1} → statement M
+into_loose_spec 𝓤 𝓛 𝓜 𝓡 wired =
+    let H = 𝓛.H in let 𝓣 = tables 𝓤 H 𝓜 𝓡 𝓡.env in let R : RattleType = opened.the_row in let Z : RattleType = heap.the_row in let LZ = heap_laws.the_row_laws in
+    let c = clauses 𝓛 𝓜.mem 𝓡.returns in let fn = code.function in
+    let hs : Stays ended.signature.params ended.kept = (stay_dropped (plain (λ _. place.the_row)) yes, tt) in
+    proved_at 𝓛 ended hs c 𝓜 𝓡 (Goes-dropped 𝓛 0 (plain (λ _. place.the_row)) yes (λ κs x f. refl), tt) #self fn (code.unfolded 𝓤 H 𝓜 𝓡 wired) (λ z are.
+    let κs = z.0.0 in let v = z.0.3.0 in let Post : Val → SProp 𝓤 = (walk_of 𝓛 ended hs c).post z in let Run : List Val → SProp 𝓤 = λ ws. WpFn 𝓤 H 𝓣.C 𝓣.Λ fn ws Post in
+    qed 𝓛 ((‵ ftrue ⊛ ‵ (owns (types_at ended.signature.params κs) z.0.3 z.0.4)) ∷ raw (fact 𝓤 (IsTrue (is_some v.held))) ∷ []) ∵ move ! (1 ∷ []) $ heard ! (IsTrue (is_some v.held)) (λ is_open.
+    let x : R.Denot = (some_of v.held is_open).0 in let is : v.held ≡ Some x = (some_of v.held is_open).1 in
+    split ! $ move ! (1 ∷ []) $ fsplit ! $ place_out ! v x is z.0.4.0 (λ b o h e ws fits.
+    let w : Val = both (vptr b o) h in let typed = loose_good R Z LZ ghosts b o h fits in
+    suffices ! (Run (w ∷ [])) (subst (λ (us : List Val). ent 𝓤 (Run (w ∷ [])) (Run us)) (sym (λ i. ws i ++ [])) (id⊢ 𝓤 (Run (w ∷ [])))) $
+    enter ! 𝓣.C 𝓣.Λ fn (w ∷ []) Post $ alloc_all ! (λ l. pass_all ! refl (typed, tt) $
+    sets ! (of_opd ! (get_in ! (fld ! refl (stop !)) (sub ! 0 refl (whole !)))) refl (tt, tt) $ sets ! (of_opd ! (get_in ! (fld ! refl (stop !)) (sub ! 1 refl (whole !)))) refl fits $
+    sets ! (of_opd ! (get ! refl)) refl (tt, tt) $ sets ! (agg ! (and_then ! (get ! refl) (and_then ! (get ! refl) (no_more !)))) refl typed $
+    loose_in R Z LZ ghosts ! b o h v.alloc x $ use0 𝓛 (raw (fact 𝓤 (v.held ≡ Some x))) (fact_i 𝓤 (v.held ≡ Some x) (emp 𝓤) is) $ nothing ! $ nothing ! $ fjoin ! $
+    returns ! (look_at ! 0 refl) $ free_all ! refl $ keep ! (4 ∷ 0 ∷ 2 ∷ 1 ∷ []) $ by ! (leaves 𝓛 ended hs c z w (record { at = block_ptr b o; alloc = v.alloc; value = x }) (tt, tt) (tt, tt))))))

@@ -1,0 +1,17 @@
+pub mod Answers
+pub mod Buffers
+pub mod Changes
+pub mod First
+pub mod Following
+pub mod Listings
+pub mod Open
+pub mod Opened
+pub mod Owned
+pub mod Pages
+pub mod Paused
+pub mod Reading
+pub mod Request
+pub mod Status
+pub mod Texts
+pub mod Verified
+pub mod Views

@@ -1,0 +1,20 @@
+-- What stays behind a handle between calls.
+use Rattle.std.specs.Prelude.{ℕ}
+use Rattle.sabr_model.specs.plan.Plan.{TabledPlan}
+use Rattle.sabr_index.specs.Index.{IsIndex}
+use Rattle.sabr_index.specs.declared.counted_plan.PlanLinks.{PlanLinks}
+use Rattle.sabr_frontier.specs.declared.session.paused.PausedSession.{PausedSession}
+use Rattle.sabr_frontier.specs.session.Paused.{seen_over}
+use Rattle.sabr_frontier.specs.session.Session.{Seen}
+
+-- links are those of a plan
+abbrev pub AreLinksOf : {A : Type 0} → TabledPlan → PlanLinks A → Type 0
+AreLinksOf p l = IsIndex p l.linked l.incoming.starts.items l.incoming.named.items
+
+-- what callers see of a listing: searches and calls of the finder aren't counted
+abbrev pub listing_of : Seen → Seen
+listing_of s = record s { searches = 0; calls = 0 }
+
+-- the listing of a paused session over a plan
+abbrev pub listing_over : {B A : Type 0} → TabledPlan → PausedSession B A → Seen
+listing_over p s = listing_of (seen_over (λ _. 0) p s)

@@ -1,0 +1,39 @@
+-- What C sees of a plan and of a contact.
+use Rattle.std.specs.Prelude.{◌≡◌, ℕ, is_none, is_some, length, unwrap_or, Option, None, Some}
+use Rattle.std.specs.List.{filter}
+use Rattle.sabr_model.specs.declared.contact.Contact.{Contact}
+use Rattle.sabr_model.specs.plan.Light.{light_of}
+use Rattle.sabr_model.specs.plan.Plan.{ContactPlan}
+use Rattle.sabr_model.specs.plan.Table.{node_count}
+use Rattle.libcgrlist.specs.Status.{done, no}
+use Rattle.libcgrlist.specs.declared.views.Counts.{Counts}
+use Rattle.libcgrlist.specs.declared.views.ContactRow.{ContactRow}
+
+-- how many contacts and ranges stand, how many nodes send or receive a standing contact, how many standing contacts have
+-- no light time at their start, and the greatest number ever assigned
+abbrev pub counts_of : ContactPlan → Counts
+counts_of p = record {
+  contacts = length p.contacts;
+  ranges = length p.ranges;
+  nodes = node_count p.contacts;
+  without_light = length (filter (λ c. is_none (light_of p c)) p.contacts);
+  greatest = p.greatest;
+}
+
+-- a contact with its light time, 0 if it has none
+abbrev pub contact_row : Contact → Option ℕ → ContactRow
+contact_row c light = record {
+  from = c.from;
+  to = c.to;
+  start = c.start;
+  end = c.end;
+  rate = c.rate;
+  number = c.number;
+  light = unwrap_or light 0;
+  has_light = is_some light;
+}
+
+-- the contact is there and given, or there is none and nothing is given
+abbrev pub Gives : ContactPlan → Option Contact → ℕ → ContactRow → ContactRow → Type 0
+Gives p (Some c) status old new = (status ≡ done) × (new ≡ contact_row c (light_of p c))
+Gives p None status old new = (status ≡ no) × (new ≡ old)

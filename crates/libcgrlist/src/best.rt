@@ -1,0 +1,94 @@
+//! The best route of a request.
+
+ghost use Rattle.std.specs.Prelude.{◌≡◌, IfOk, map};
+ghost use Rattle.sabr_model.specs.routes.Listing.{routes};
+ghost use Rattle.sabr_model.specs.routes.Record.{record_of};
+ghost use Rattle.libcgrlist.specs.Answers.{AnswersBest, WritesBest};
+ghost use Rattle.libcgrlist.specs.Open.{Calls, IsWhole};
+ghost use Rattle.libcgrlist.specs.Request.{asked_request};
+
+use crate::handle::PlanHandle;
+use crate::listed::listed;
+use crate::opened::Opened;
+use crate::request::Asked;
+use crate::rows::RouteRow;
+use crate::status::{CLOSED, DONE, MEMORY, NO, ROOM, of_request};
+use sabr_index::Index;
+use sabr_model::{NoMemory, Request, Route};
+use std::alloc::Global;
+
+/// Writes the first of some routes, if there is one, and returns the status.
+fn write_first(routes: &[Route<Global>], row: &mut RouteRow, contacts: &mut [u32]) -> u32
+    ensures { WritesBest routes.now result row.new contacts.new }
+{
+    let Some(route) = routes.first() else {
+        return NO;
+    };
+    let numbers = route.contacts.as_slice();
+    *row = RouteRow {
+        delivery: route.delivery,
+        until: route.until,
+        entry: route.entry,
+        first: 0,
+        hops: numbers.len(),
+    };
+    if contacts.len() < numbers.len() {
+        return ROOM;
+    }
+    contacts[..numbers.len()].copy_from_slice(numbers);
+    DONE
+}
+
+/// Finds the best route of a request, writes it if there is one, and returns the status.
+fn find_best(
+    alloc: Global,
+    opened: &mut Opened,
+    request: Request,
+    row: &mut RouteRow,
+    contacts: &mut [u32],
+) -> Result<u32, NoMemory>
+    ensures same { opened.new ≡ opened.old }
+    ensures best { IfOk result (λ status. WritesBest (map (record_of opened.old.plan.plan request) (routes opened.old.plan.plan request)) status row.new contacts.new) }
+{
+    let links = opened.take_links(alloc)?;
+    let finder = opened.take_finder(alloc);
+    let index = Index::from_links(opened.plan(), links);
+    let last = listed(alloc, index, finder, request, 1)?;
+    let status = write_first(last.routes(), row, contacts);
+    let (index, finder) = last.into_index_and_finder();
+    let links = index.into_links();
+    opened.keep_links(links);
+    opened.keep_finder(finder);
+    Ok(status)
+}
+
+/// Gives the best route of a request.
+#[unsafe(no_mangle)]
+pub extern "C" fn cgrlist_best(
+    alloc: Global,
+    handle: &mut PlanHandle,
+    asked: &Asked,
+    avoid: &[u64],
+    row: &mut RouteRow,
+    contacts: &mut [u32],
+) -> u32
+    requires { IsWhole handle.old.is_open handle.old.place.held }
+    ensures open { handle.new.is_open ≡ handle.old.is_open }
+    ensures whole { IsWhole handle.new.is_open handle.new.place.held }
+    ensures best { Calls handle.old.is_open handle.old.place.held result handle.new.place.held (λ o n. (n ≡ o) × AnswersBest o.plan.plan (asked_request asked.now avoid.now) result row.new contacts.new) }
+{
+    if !handle.is_open {
+        return CLOSED;
+    }
+    let request = match asked.request(avoid) {
+        Ok(request) => request,
+        Err(error) => return of_request(error),
+    };
+    let mut opened = handle.take(alloc);
+    let status = match find_best(alloc, &mut opened, request, row, contacts) {
+        Ok(status) => status,
+        Err(_refused) => MEMORY,
+    };
+    handle.give(opened);
+    status
+}

@@ -1,0 +1,214 @@
+//! Changing plans.
+
+ghost use Rattle.std.specs.Prelude.{◌≡◌, ◌≢◌, ◌+◌, ◌<◌, ◌≤◌, IfNone, IsFalse, Some, is_some};
+ghost use Rattle.sabr_model.specs.plan.Plan.{last_time};
+ghost use Rattle.sabr_model.specs.plan.Adding.{new_range, number_of_opening};
+ghost use Rattle.libcgrlist.specs.Changes.{Changes, ChangesInMemory, contact_added, contact_deleted, range_added, range_deleted, value_refusal};
+ghost use Rattle.libcgrlist.specs.Open.{Calls, IsWhole};
+
+use crate::handle::PlanHandle;
+use crate::opened::{NewContact, Opened};
+use crate::status::{CLOSED, DONE, LISTING, VALUE_LIGHT, VALUE_NODE, VALUE_TIME, of_change};
+use sabr_model::{LAST_TIME, MOST_LIGHT, Range};
+use std::alloc::Global;
+
+/// Returns the status of the first reason to refuse any change: a listing is open, a node is 0, or a time is above the
+/// greatest.
+fn value_refusal(opened: &Opened, one: u64, other: u64, start: u64, end: u64) -> Option<u32>
+    ensures value { result ≡ value_refusal opened.now one other start end }
+    ensures listing { IfNone result (IsFalse (is_some opened.now.listing)) }
+    ensures nodes { IfNone result ((0 < one) × (0 < other)) }
+    ensures end { IfNone result (end ≤ last_time) }
+{
+    if opened.has_listing() {
+        return Some(LISTING);
+    }
+    if one == 0 || other == 0 {
+        return Some(VALUE_NODE);
+    }
+    if start > LAST_TIME || end > LAST_TIME {
+        return Some(VALUE_TIME);
+    }
+    None
+}
+
+/// Adds a contact, and gives its number.
+fn add_contact(opened: &mut Opened, new: &NewContact, number: &mut u32) -> u32
+    ensures change { ChangesInMemory opened.old (contact_added opened.old new.now) result opened.new }
+    ensures given { result ≡ 0 → number.new ≡ opened.old.plan.plan.greatest + 1 }
+    ensures kept { result ≢ 0 → number.new ≡ number.old }
+{
+    if let Some(status) = value_refusal(opened, new.from, new.to, new.start, new.end) {
+        return status;
+    }
+    match opened.add_contact(new) {
+        Ok(given) => {
+            *number = given;
+            DONE
+        }
+        Err(fault) => of_change(fault),
+    }
+}
+
+/// Adds a range.
+fn add_range(opened: &mut Opened, new: &Range) -> u32
+    ensures { ChangesInMemory opened.old (range_added opened.old new.now) result opened.new }
+{
+    if let Some(status) = value_refusal(opened, new.one, new.other, new.start, new.end) {
+        return status;
+    }
+    if new.light > MOST_LIGHT {
+        return VALUE_LIGHT;
+    }
+    match opened.add_range(new) {
+        Ok(()) => DONE,
+        Err(fault) => of_change(fault),
+    }
+}
+
+/// Deletes a contact, and gives the number that it had.
+fn delete_contact(opened: &mut Opened, from: u64, to: u64, start: u64, number: &mut u32) -> u32
+    ensures change { Changes opened.old (contact_deleted opened.old from to start) result opened.new }
+    ensures given { result ≡ 0 → number_of_opening opened.old.plan.plan from to start ≡ Some number.new }
+    ensures kept { result ≢ 0 → number.new ≡ number.old }
+{
+    if let Some(status) = value_refusal(opened, from, to, start, start) {
+        return status;
+    }
+    match opened.delete_contact(from, to, start) {
+        Ok(had) => {
+            *number = had;
+            DONE
+        }
+        Err(fault) => of_change(fault),
+    }
+}
+
+/// Deletes a range.
+fn delete_range(opened: &mut Opened, one: u64, other: u64, start: u64) -> u32
+    ensures { Changes opened.old (range_deleted opened.old one other start) result opened.new }
+{
+    if let Some(status) = value_refusal(opened, one, other, start, start) {
+        return status;
+    }
+    match opened.delete_range(one, other, start) {
+        Ok(()) => DONE,
+        Err(fault) => of_change(fault),
+    }
+}
+
+/// Adds a contact, and gives its number.
+#[unsafe(no_mangle)]
+pub extern "C" fn cgrlist_plan_add_contact(
+    alloc: Global,
+    handle: &mut PlanHandle,
+    from: u64,
+    to: u64,
+    start: u64,
+    end: u64,
+    rate: u64,
+    number: &mut u32,
+) -> u32
+    requires { IsWhole handle.old.is_open handle.old.place.held }
+    ensures open { handle.new.is_open ≡ handle.old.is_open }
+    ensures whole { IsWhole handle.new.is_open handle.new.place.held }
+    ensures change { Calls handle.old.is_open handle.old.place.held result handle.new.place.held (λ o n. ChangesInMemory o (contact_added o (record { from = from; to = to; start = start; end = end; rate = rate })) result n) }
+    ensures given { Calls handle.old.is_open handle.old.place.held result handle.new.place.held (λ o n. result ≡ 0 → number.new ≡ o.plan.plan.greatest + 1) }
+    ensures kept { result ≢ 0 → number.new ≡ number.old }
+{
+    if !handle.is_open {
+        return CLOSED;
+    }
+    let new = NewContact {
+        from,
+        to,
+        start,
+        end,
+        rate,
+    };
+    let mut opened = handle.take(alloc);
+    let status = add_contact(&mut opened, &new, number);
+    handle.give(opened);
+    status
+}
+
+/// Adds a range.
+#[unsafe(no_mangle)]
+pub extern "C" fn cgrlist_plan_add_range(
+    alloc: Global,
+    handle: &mut PlanHandle,
+    one: u64,
+    other: u64,
+    start: u64,
+    end: u64,
+    light: u32,
+) -> u32
+    requires { IsWhole handle.old.is_open handle.old.place.held }
+    ensures open { handle.new.is_open ≡ handle.old.is_open }
+    ensures whole { IsWhole handle.new.is_open handle.new.place.held }
+    ensures change { Calls handle.old.is_open handle.old.place.held result handle.new.place.held (λ o n. ChangesInMemory o (range_added o (new_range one other start end light)) result n) }
+{
+    if !handle.is_open {
+        return CLOSED;
+    }
+    let new = Range {
+        one,
+        other,
+        start,
+        end,
+        light,
+    };
+    let mut opened = handle.take(alloc);
+    let status = add_range(&mut opened, &new);
+    handle.give(opened);
+    status
+}
+
+/// Deletes a contact, and gives the number that it had.
+#[unsafe(no_mangle)]
+pub extern "C" fn cgrlist_plan_delete_contact(
+    alloc: Global,
+    handle: &mut PlanHandle,
+    from: u64,
+    to: u64,
+    start: u64,
+    number: &mut u32,
+) -> u32
+    requires { IsWhole handle.old.is_open handle.old.place.held }
+    ensures open { handle.new.is_open ≡ handle.old.is_open }
+    ensures whole { IsWhole handle.new.is_open handle.new.place.held }
+    ensures change { Calls handle.old.is_open handle.old.place.held result handle.new.place.held (λ o n. Changes o (contact_deleted o from to start) result n) }
+    ensures given { Calls handle.old.is_open handle.old.place.held result handle.new.place.held (λ o n. result ≡ 0 → number_of_opening o.plan.plan from to start ≡ Some number.new) }
+    ensures kept { result ≢ 0 → number.new ≡ number.old }
+{
+    if !handle.is_open {
+        return CLOSED;
+    }
+    let mut opened = handle.take(alloc);
+    let status = delete_contact(&mut opened, from, to, start, number);
+    handle.give(opened);
+    status
+}
+
+/// Deletes a range.
+#[unsafe(no_mangle)]
+pub extern "C" fn cgrlist_plan_delete_range(
+    alloc: Global,
+    handle: &mut PlanHandle,
+    one: u64,
+    other: u64,
+    start: u64,
+) -> u32
+    requires { IsWhole handle.old.is_open handle.old.place.held }
+    ensures open { handle.new.is_open ≡ handle.old.is_open }
+    ensures whole { IsWhole handle.new.is_open handle.new.place.held }
+    ensures change { Calls handle.old.is_open handle.old.place.held result handle.new.place.held (λ o n. Changes o (range_deleted o one other start) result n) }
+{
+    if !handle.is_open {
+        return CLOSED;
+    }
+    let mut opened = handle.take(alloc);
+    let status = delete_range(&mut opened, one, other, start);
+    handle.give(opened);
+    status
+}

@@ -1,0 +1,105 @@
+//! The first routes of a request.
+
+ghost use Rattle.std.specs.Prelude.{◌≡◌, ◌≤◌, IfOk};
+ghost use Rattle.sabr_frontier.specs.listing.Listing.{most_routes};
+ghost use Rattle.libcgrlist.specs.Answers.{AnswersFirst, asked_page, page_status};
+ghost use Rattle.libcgrlist.specs.First.{first_routes, goes_on_after};
+ghost use Rattle.libcgrlist.specs.Open.{Calls, IsWhole};
+ghost use Rattle.libcgrlist.specs.Pages.{IsPage};
+ghost use Rattle.libcgrlist.specs.Request.{asked_request};
+
+use crate::handle::PlanHandle;
+use crate::listed::listed;
+use crate::opened::Opened;
+use crate::request::Asked;
+use crate::rows::{Page, RouteRow, write_routes};
+use crate::status::{CLOSED, DONE, MEMORY, ROOM, VALUE_COUNT, of_request};
+use sabr_index::Index;
+use sabr_model::{NoMemory, Request};
+use std::alloc::Global;
+
+/// The most routes of a page.
+pub const MOST_ROUTES: u32 = 10000;
+
+/// How many of the first routes of a request are wanted.
+#[derive(Drop)]
+pub struct FirstRoutes {
+    pub request: Request,
+    pub count: u32,
+}
+
+/// The status of a page that was written as far as there was room.
+pub fn page_status(page: &Page) -> u32
+    ensures { result ≡ page_status page.now }
+{
+    if page.written < page.routes {
+        ROOM
+    } else {
+        DONE
+    }
+}
+
+/// Finds the first routes of a request, and writes them.
+fn find_first(
+    alloc: Global,
+    opened: &mut Opened,
+    wanted: FirstRoutes,
+    rows: &mut [RouteRow],
+    contacts: &mut [u32],
+) -> Result<Page, NoMemory>
+    requires { wanted.count ≤ most_routes }
+    ensures same { opened.new ≡ opened.old }
+    ensures page { IfOk result (IsPage (first_routes opened.old.plan.plan wanted.request wanted.count) (goes_on_after opened.old.plan.plan wanted.request wanted.count) rows.new contacts.new) }
+{
+    let FirstRoutes { request, count } = wanted;
+    let links = opened.take_links(alloc)?;
+    let finder = opened.take_finder(alloc);
+    let index = Index::from_links(opened.plan(), links);
+    let last = listed(alloc, index, finder, request, count)?;
+    let page = write_routes(last.routes(), last.more(), rows, contacts);
+    let (index, finder) = last.into_index_and_finder();
+    let links = index.into_links();
+    opened.keep_links(links);
+    opened.keep_finder(finder);
+    Ok(page)
+}
+
+/// Gives the first routes of a request, best first.
+#[unsafe(no_mangle)]
+pub extern "C" fn cgrlist_first(
+    alloc: Global,
+    handle: &mut PlanHandle,
+    asked: &Asked,
+    avoid: &[u64],
+    count: u32,
+    rows: &mut [RouteRow],
+    contacts: &mut [u32],
+    page: &mut Page,
+) -> u32
+    requires { IsWhole handle.old.is_open handle.old.place.held }
+    ensures open { handle.new.is_open ≡ handle.old.is_open }
+    ensures whole { IsWhole handle.new.is_open handle.new.place.held }
+    ensures first { Calls handle.old.is_open handle.old.place.held result handle.new.place.held (λ o n. (n ≡ o) × AnswersFirst o.plan.plan count (asked_page count (asked_request asked.now avoid.now)) result rows.new contacts.new page.new) }
+{
+    if !handle.is_open {
+        return CLOSED;
+    }
+    if MOST_ROUTES < count {
+        return VALUE_COUNT;
+    }
+    let request = match asked.request(avoid) {
+        Ok(request) => request,
+        Err(error) => return of_request(error),
+    };
+    let wanted = FirstRoutes { request, count };
+    let mut opened = handle.take(alloc);
+    let found = find_first(alloc, &mut opened, wanted, rows, contacts);
+    handle.give(opened);
+    match found {
+        Ok(found) => {
+            *page = found;
+            page_status(&found)
+        }
+        Err(_refused) => MEMORY,
+    }
+}

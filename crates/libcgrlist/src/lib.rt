@@ -1,0 +1,40 @@
+//! The functions of the C library: plans behind handles, and the answers over them. `cgrlist.h` declares them.
+#![tactic(auto)]
+
+mod best;
+mod bytes;
+mod changes;
+mod first;
+mod follow;
+mod handle;
+mod hops;
+mod listed;
+mod listing;
+mod opened;
+mod plans;
+mod request;
+mod rows;
+mod status;
+mod texts;
+mod verify;
+mod views;
+
+pub use best::cgrlist_best;
+pub use changes::{
+    cgrlist_plan_add_contact, cgrlist_plan_add_range, cgrlist_plan_delete_contact,
+    cgrlist_plan_delete_range,
+};
+pub use first::cgrlist_first;
+pub use follow::cgrlist_follow;
+pub use handle::{Loose, Place, PlanHandle};
+pub use hops::cgrlist_hops;
+pub use listing::{
+    ListingPlace, cgrlist_listing_back, cgrlist_listing_close, cgrlist_listing_next,
+    cgrlist_listing_open, cgrlist_listing_place,
+};
+pub use opened::Opened;
+pub use plans::{cgrlist_plan_close, cgrlist_plan_new, cgrlist_plan_read};
+pub use rows::{Page, RouteRow};
+pub use texts::{cgrlist_abi, cgrlist_fault_text, cgrlist_status_text, cgrlist_version};
+pub use verify::cgrlist_verify;
+pub use views::{cgrlist_plan_contact, cgrlist_plan_counts, cgrlist_plan_digest};

@@ -1,0 +1,297 @@
+//! A listing: the list of all routes of a request, page after page.
+
+ghost use Rattle.std.specs.Prelude.{◌≡◌, ◌≤◌, IfErr, IfOk, None, OnErr, OnOk, Some, is_some};
+ghost use Rattle.sabr_frontier.specs.listing.Listing.{most_routes};
+ghost use Rattle.sabr_frontier.specs.session.Session.{started};
+ghost use Rattle.libcgrlist.specs.Answers.{asked_status, page_status};
+ghost use Rattle.libcgrlist.specs.Listings.{AnswersBack, AnswersNext, AnswersPlace, ClosesListing, GivesNext, GivesPlace, GoesBack, OpensListing, TakesUp, goes_on, listing_then, next_records, second_refusal};
+ghost use Rattle.libcgrlist.specs.Open.{Calls, IsWhole};
+ghost use Rattle.libcgrlist.specs.Pages.{IsPage};
+ghost use Rattle.libcgrlist.specs.Paused.{listing_of};
+ghost use Rattle.libcgrlist.specs.Request.{asked_request, refused_or};
+
+use crate::first::{MOST_ROUTES, page_status};
+use crate::handle::PlanHandle;
+use crate::opened::{Opened, Paused};
+use crate::request::Asked;
+use crate::rows::{Page, RouteRow, write_routes};
+use crate::status::{CLOSED, DONE, LISTING, MEMORY, NO, NO_LISTING, VALUE_COUNT, of_request};
+use sabr_frontier::Session;
+use sabr_index::{Index, PlanLinks};
+use sabr_model::{NoMemory, Request, RequestError};
+use sabr_search::Settled;
+use std::alloc::Global;
+
+/// `cgrlist_place`: where a listing stands.
+#[repr(C)]
+#[derive(Clone, Copy)]
+pub struct ListingPlace {
+    /// How many routes were given and not taken back.
+    pub given: u64,
+    /// Whether the list goes on.
+    pub more: bool,
+    /// Whether a page can be taken back.
+    pub can_back: bool,
+}
+
+/// Opens the listing of a request, before its first route. It takes one search.
+fn open_listing(alloc: Global, opened: &mut Opened, request: Request) -> Result<(), NoMemory>
+    requires { opened.old.listing ≡ None }
+    ensures ok { OnOk result (opened.new ≡ record opened.old { listing = Some (listing_of (started opened.old.plan request 0)) }) }
+    ensures err { OnErr result (opened.new ≡ opened.old) }
+{
+    let links = opened.take_links(alloc)?;
+    let index = Index::from_links(opened.plan(), links);
+    let session = Session::start_with_index(alloc, index, request, Settled::new(alloc))?;
+    let (paused, index) = session.pause();
+    let links = index.into_links();
+    opened.keep_links(links);
+    opened.keep_listing(paused);
+    Ok(())
+}
+
+/// Opens the listing of a request, if it is one and no listing is open, and returns the status.
+fn open_asked(alloc: Global, opened: &mut Opened, request: Result<Request, RequestError>) -> u32
+    ensures { OpensListing opened.old (refused_or (second_refusal opened.old.listing) (asked_status request)) result opened.new }
+{
+    if opened.has_listing() {
+        return LISTING;
+    }
+    match request {
+        Ok(request) => match open_listing(alloc, opened, request) {
+            Ok(()) => DONE,
+            Err(_refused) => MEMORY,
+        },
+        Err(error) => of_request(error),
+    }
+}
+
+/// Takes the listing and the plan's links out of what is behind a handle.
+fn take_up(alloc: Global, opened: &mut Opened) -> Result<(PlanLinks<Global>, Paused), u32>
+    ensures { TakesUp opened.old result opened.new }
+{
+    if !opened.has_listing() {
+        return Err(NO_LISTING);
+    }
+    let Ok(links) = opened.take_links(alloc) else {
+        return Err(MEMORY);
+    };
+    let Some(paused) = opened.take_listing() else {
+        return Err(NO_LISTING);
+    };
+    Ok((links, paused))
+}
+
+/// Writes the next page of a session, and takes it back if there is no room for all of it.
+fn give_page(
+    session: &mut Session<'_, Settled<Global>, Global>,
+    count: u32,
+    rows: &mut [RouteRow],
+    contacts: &mut [u32],
+) -> Result<Page, NoMemory>
+    requires { count ≤ most_routes }
+    ensures plan { session.new.plan ≡ session.old.plan }
+    ensures page { IfOk result (IsPage (next_records session.old count) (goes_on session.old count) rows.new contacts.new) }
+    ensures listing { IfOk result (λ page. listing_of session.new ≡ listing_then (listing_of session.old) count page) }
+    ensures err { OnErr result (listing_of session.new ≡ listing_of session.old) }
+{
+    session.request().tell_limits();
+    let routes = session.page(count)?;
+    let page = write_routes(routes.as_slice(), session.more(), rows, contacts);
+    if page.written < page.routes {
+        session.back();
+    }
+    Ok(page)
+}
+
+/// Gives the next page of the listing.
+fn next_page(
+    alloc: Global,
+    opened: &mut Opened,
+    count: u32,
+    rows: &mut [RouteRow],
+    contacts: &mut [u32],
+) -> Result<Page, u32>
+    requires { count ≤ most_routes }
+    ensures { GivesNext opened.old count result rows.new contacts.new opened.new }
+{
+    let (links, paused) = take_up(alloc, opened)?;
+    let mut session = paused.resume(Index::from_links(opened.plan(), links));
+    let given = give_page(&mut session, count, rows, contacts);
+    let (paused, index) = session.pause();
+    let links = index.into_links();
+    opened.keep_links(links);
+    opened.keep_listing(paused);
+    match given {
+        Ok(page) => Ok(page),
+        Err(_refused) => Err(MEMORY),
+    }
+}
+
+/// Takes back the last page of the listing that gave routes, if there is one.
+fn go_back(alloc: Global, opened: &mut Opened) -> Result<bool, u32>
+    ensures { GoesBack opened.old result opened.new }
+{
+    let (links, paused) = take_up(alloc, opened)?;
+    let mut session = paused.resume(Index::from_links(opened.plan(), links));
+    let gone = session.back();
+    let (paused, index) = session.pause();
+    let links = index.into_links();
+    opened.keep_links(links);
+    opened.keep_listing(paused);
+    Ok(gone)
+}
+
+/// Tells where the listing stands.
+fn place_of(alloc: Global, opened: &mut Opened) -> Result<ListingPlace, u32>
+    ensures { GivesPlace opened.old result opened.new }
+{
+    let (links, paused) = take_up(alloc, opened)?;
+    let session = paused.resume(Index::from_links(opened.plan(), links));
+    let place = ListingPlace {
+        given: session.emitted() as u64,
+        more: session.more(),
+        can_back: session.can_back(),
+    };
+    let (paused, index) = session.pause();
+    let links = index.into_links();
+    opened.keep_links(links);
+    opened.keep_listing(paused);
+    Ok(place)
+}
+
+/// Closes the listing, and returns the status.
+fn close_listing(opened: &mut Opened) -> u32
+    ensures { ClosesListing opened.old result opened.new }
+{
+    match opened.take_listing() {
+        Some(_closed) => DONE,
+        None => NO_LISTING,
+    }
+}
+
+/// Opens the listing of a request.
+#[unsafe(no_mangle)]
+pub extern "C" fn cgrlist_listing_open(
+    alloc: Global,
+    handle: &mut PlanHandle,
+    asked: &Asked,
+    avoid: &[u64],
+) -> u32
+    requires { IsWhole handle.old.is_open handle.old.place.held }
+    ensures open { handle.new.is_open ≡ handle.old.is_open }
+    ensures whole { IsWhole handle.new.is_open handle.new.place.held }
+    ensures listing { Calls handle.old.is_open handle.old.place.held result handle.new.place.held (λ o n. OpensListing o (refused_or (second_refusal o.listing) (asked_status (asked_request asked.now avoid.now))) result n) }
+{
+    if !handle.is_open {
+        return CLOSED;
+    }
+    let request = asked.request(avoid);
+    let mut opened = handle.take(alloc);
+    let status = open_asked(alloc, &mut opened, request);
+    handle.give(opened);
+    status
+}
+
+/// Gives the next page of the listing. If there is no room for all of it, the listing stays where it was.
+#[unsafe(no_mangle)]
+pub extern "C" fn cgrlist_listing_next(
+    alloc: Global,
+    handle: &mut PlanHandle,
+    count: u32,
+    rows: &mut [RouteRow],
+    contacts: &mut [u32],
+    page: &mut Page,
+) -> u32
+    requires { IsWhole handle.old.is_open handle.old.place.held }
+    ensures open { handle.new.is_open ≡ handle.old.is_open }
+    ensures whole { IsWhole handle.new.is_open handle.new.place.held }
+    ensures next { Calls handle.old.is_open handle.old.place.held result handle.new.place.held (λ o n. AnswersNext o o.listing count result rows.new contacts.new page.new n) }
+{
+    if !handle.is_open {
+        return CLOSED;
+    }
+    let mut opened = handle.take(alloc);
+    if !opened.has_listing() {
+        handle.give(opened);
+        return NO_LISTING;
+    }
+    if MOST_ROUTES < count {
+        handle.give(opened);
+        return VALUE_COUNT;
+    }
+    let given = next_page(alloc, &mut opened, count, rows, contacts);
+    handle.give(opened);
+    match given {
+        Ok(given) => {
+            *page = given;
+            page_status(&given)
+        }
+        Err(status) => status,
+    }
+}
+
+/// Takes back the last page of the listing that gave routes.
+#[unsafe(no_mangle)]
+pub extern "C" fn cgrlist_listing_back(alloc: Global, handle: &mut PlanHandle) -> u32
+    requires { IsWhole handle.old.is_open handle.old.place.held }
+    ensures open { handle.new.is_open ≡ handle.old.is_open }
+    ensures whole { IsWhole handle.new.is_open handle.new.place.held }
+    ensures back { Calls handle.old.is_open handle.old.place.held result handle.new.place.held (λ o n. AnswersBack o result n) }
+{
+    if !handle.is_open {
+        return CLOSED;
+    }
+    let mut opened = handle.take(alloc);
+    let gone = go_back(alloc, &mut opened);
+    handle.give(opened);
+    match gone {
+        Ok(true) => DONE,
+        Ok(false) => NO,
+        Err(status) => status,
+    }
+}
+
+/// Gives the place of the listing.
+#[unsafe(no_mangle)]
+pub extern "C" fn cgrlist_listing_place(
+    alloc: Global,
+    handle: &mut PlanHandle,
+    place: &mut ListingPlace,
+) -> u32
+    requires { IsWhole handle.old.is_open handle.old.place.held }
+    ensures open { handle.new.is_open ≡ handle.old.is_open }
+    ensures whole { IsWhole handle.new.is_open handle.new.place.held }
+    ensures place { Calls handle.old.is_open handle.old.place.held result handle.new.place.held (λ o n. AnswersPlace o o.listing result place.new n) }
+{
+    if !handle.is_open {
+        return CLOSED;
+    }
+    let mut opened = handle.take(alloc);
+    let found = place_of(alloc, &mut opened);
+    handle.give(opened);
+    match found {
+        Ok(found) => {
+            *place = found;
+            DONE
+        }
+        Err(status) => status,
+    }
+}
+
+/// Closes the listing. The plan stays open.
+#[unsafe(no_mangle)]
+pub extern "C" fn cgrlist_listing_close(alloc: Global, handle: &mut PlanHandle) -> u32
+    requires { IsWhole handle.old.is_open handle.old.place.held }
+    ensures open { handle.new.is_open ≡ handle.old.is_open }
+    ensures whole { IsWhole handle.new.is_open handle.new.place.held }
+    ensures close { Calls handle.old.is_open handle.old.place.held result handle.new.place.held (λ o n. ClosesListing o result n) }
+{
+    if !handle.is_open {
+        return CLOSED;
+    }
+    let mut opened = handle.take(alloc);
+    let status = close_listing(&mut opened);
+    handle.give(opened);
+    status
+}

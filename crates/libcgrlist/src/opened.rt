@@ -1,0 +1,259 @@
+//! What stands behind an open handle.
+
+ghost use Rattle.std.specs.Prelude.{◌≡◌, None, Some, IfOk, IfSome, OnOk, OnErr, is_some};
+ghost use Rattle.std.specs.Option.{option_map};
+ghost use Rattle.sabr_plan.specs.Canonical.{digest_of};
+ghost use Rattle.sabr_frontier.specs.session.Paused.{IsPausedOver};
+ghost use Rattle.libcgrlist.specs.Opened.{OpenPlan};
+ghost use Rattle.libcgrlist.specs.Paused.{AreLinksOf, listing_over};
+
+use sabr_frontier::PausedSession;
+use sabr_index::{Index, PlanLinks};
+use sabr_model::{AddFault, NoMemory, Plan, Range};
+use sabr_plan::digest;
+use sabr_search::Settled;
+use std::alloc::Global;
+use std::marker::Model;
+
+/// A listing that waits for its next call.
+pub type Paused = PausedSession<Settled<Global>, Global>;
+
+/// A plan, the listing over it if one is open, and what was made for the plan and serves until it changes.
+#[derive(Drop)]
+pub struct Opened {
+    /// The plan.
+    plan: Plan<Global>,
+    /// The plan's links.
+    links: Option<PlanLinks<Global>>,
+    /// A finder. It keeps its memory from question to question.
+    finder: Option<Settled<Global>>,
+    /// The listing.
+    listing: Option<Paused>,
+    /// The plan's digest.
+    digest: Option<[u8; 32]>,
+}
+
+impl Model for Opened {
+    ghost use Rattle.std.specs.Prelude.{◌≡◌, IfSome};
+    ghost use Rattle.std.specs.Option.{option_map};
+    ghost use Rattle.sabr_plan.specs.Canonical.{digest_of};
+    ghost use Rattle.sabr_frontier.specs.session.Paused.{IsPausedOver};
+    ghost use Rattle.libcgrlist.specs.Opened.{OpenPlan};
+    ghost use Rattle.libcgrlist.specs.Paused.{AreLinksOf, listing_over};
+
+    ghost Value = { OpenPlan };
+
+    ghost view = { λ o. record { plan = o.plan; listing = option_map (listing_over o.plan) o.listing } };
+
+    ghost invariant = { λ o. IfSome o.links (AreLinksOf o.plan) × IfSome o.listing (IsPausedOver o.plan) × IfSome o.digest (λ d. d ≡ digest_of o.plan.plan) };
+}
+
+impl Opened {
+    /// Opens a plan, with no listing.
+    pub fn of(plan: Plan<Global>) -> Opened
+        ensures { result ≡ record { plan = plan; listing = None } }
+    {
+        Opened {
+            plan,
+            links: None,
+            finder: None,
+            listing: None,
+            digest: None,
+        }
+    }
+
+    /// The plan.
+    pub fn plan(&self) -> &Plan<Global>
+        ensures { result.now ≡ self.now.plan }
+    {
+        &self.plan
+    }
+
+    /// Returns true if a listing is open.
+    pub fn has_listing(&self) -> bool
+        ensures { result ≡ is_some self.now.listing }
+    {
+        self.listing.is_some()
+    }
+
+    /// Takes out the plan's links, or makes them.
+    ///
+    /// # Errors
+    ///
+    /// [`NoMemory`] if a growth was refused.
+    pub fn take_links(&mut self, alloc: Global) -> Result<PlanLinks<Global>, NoMemory>
+        ensures links { IfOk result (AreLinksOf self.old.plan) }
+        ensures same { self.new ≡ self.old }
+    {
+        match self.links.take() {
+            Some(links) => Ok(links),
+            None => Ok(Index::new(alloc, &self.plan)?.into_links()),
+        }
+    }
+
+    /// Keeps the plan's links.
+    pub fn keep_links(&mut self, links: PlanLinks<Global>)
+        requires { AreLinksOf self.old.plan links }
+        ensures { self.new ≡ self.old }
+    {
+        self.links = Some(links);
+    }
+
+    /// Takes out the finder, or makes one.
+    pub fn take_finder(&mut self, alloc: Global) -> Settled<Global>
+        ensures { self.new ≡ self.old }
+    {
+        match self.finder.take() {
+            Some(finder) => finder,
+            None => Settled::new(alloc),
+        }
+    }
+
+    /// Keeps a finder.
+    pub fn keep_finder(&mut self, finder: Settled<Global>)
+        ensures { self.new ≡ self.old }
+    {
+        self.finder = Some(finder);
+    }
+
+    /// Takes out the listing: none is open then.
+    pub fn take_listing(&mut self) -> Option<Paused>
+        ensures paused { IfSome result (IsPausedOver self.old.plan) }
+        ensures taken { option_map (listing_over self.old.plan) result ≡ self.old.listing }
+        ensures left { self.new ≡ record self.old { listing = None } }
+    {
+        self.listing.take()
+    }
+
+    /// Opens a listing, in place of any other.
+    pub fn keep_listing(&mut self, listing: Paused)
+        requires { IsPausedOver self.old.plan listing }
+        ensures { self.new ≡ record self.old { listing = Some (listing_over self.old.plan listing) } }
+    {
+        self.listing = Some(listing);
+    }
+
+    /// The plan's digest, which is made once.
+    pub fn digest(&mut self) -> [u8; 32]
+        ensures digest { result ≡ digest_of self.old.plan.plan }
+        ensures same { self.new ≡ self.old }
+    {
+        if let Some(made) = self.digest {
+            return made;
+        }
+        let made = digest(&self.plan);
+        self.digest = Some(made);
+        made
+    }
+}
+
+/// A contact to add: its sender and receiver, its window in seconds since 1970-01-01T00:00:00Z, and its rate in bytes a
+/// second.
+#[derive(Clone, Copy)]
+pub struct NewContact {
+    pub from: u64,
+    pub to: u64,
+    pub start: u64,
+    pub end: u64,
+    pub rate: u64,
+}
+
+/// The changes of the plan, while no listing is open. Each forgets what was made for the plan before. After an error the
+/// plan is as it was.
+impl Opened {
+    ghost use Rattle.std.specs.Prelude.{◌≡◌, ◌+◌, ◌<◌, ◌≤◌, ◌↔◌, None, Some, Err, IfOk, IfErr, IsOk, OnOk, OnErr, IsFalse, IsOkUnless, IsTrue, is_some, ok_or};
+    ghost use Rattle.std.specs.List.{list_any};
+    ghost use Rattle.sabr_model.specs.plan.Plan.{last_time, most_light};
+    ghost use Rattle.sabr_model.specs.declared.fault.AddFault.{AddFault};
+    ghost use Rattle.sabr_model.specs.declared.fault.AddFault.TheVariants.{NoMemory, NothingToDelete};
+    ghost use Rattle.sabr_model.specs.plan.Adding.{begins, next_contact, contact_refusal, with_contact, range_refusal, with_range, number_of_opening, without_contact, without_range};
+    ghost use Rattle.libcgrlist.specs.Changes.{Becomes};
+
+    /// Adds a contact, and returns its number.
+    ///
+    /// # Errors
+    ///
+    /// Those of [`Plan::add_contact`].
+    pub fn add_contact(&mut self, new: &NewContact) -> Result<u32, AddFault>
+        requires listing { IsFalse (is_some self.old.listing) }
+        requires from { 0 < new.now.from }
+        requires to { 0 < new.now.to }
+        requires end { new.now.end ≤ last_time }
+        ensures refused { (f : AddFault) → contact_refusal self.old.plan.plan new.now.from new.now.to new.now.start new.now.end ≡ Some f → result ≡ Err f }
+        ensures accepted { contact_refusal self.old.plan.plan new.now.from new.now.to new.now.start new.now.end ≡ None → IsOkUnless result NoMemory }
+        ensures number { IfOk result (λ n. n ≡ self.old.plan.plan.greatest + 1) }
+        ensures ok { OnOk result (Becomes self.old (with_contact self.old.plan.plan (next_contact self.old.plan.plan new.now.from new.now.to new.now.start new.now.end new.now.rate)) self.new) }
+        ensures err { OnErr result (self.new ≡ self.old) }
+    {
+        let number = self
+            .plan
+            .add_contact(new.from, new.to, new.start, new.end, new.rate)?;
+        self.links = None;
+        self.digest = None;
+        Ok(number)
+    }
+
+    /// Adds a range.
+    ///
+    /// # Errors
+    ///
+    /// Those of [`Plan::add_range`].
+    pub fn add_range(&mut self, new: &Range) -> Result<(), AddFault>
+        requires listing { IsFalse (is_some self.old.listing) }
+        requires one { 0 < new.now.one }
+        requires other { 0 < new.now.other }
+        requires end { new.now.end ≤ last_time }
+        requires light { new.now.light ≤ most_light }
+        ensures refused { (f : AddFault) → range_refusal self.old.plan.plan new.now ≡ Some f → result ≡ Err f }
+        ensures accepted { range_refusal self.old.plan.plan new.now ≡ None → IsOkUnless result NoMemory }
+        ensures ok { OnOk result (Becomes self.old (with_range self.old.plan.plan new.now) self.new) }
+        ensures err { OnErr result (self.new ≡ self.old) }
+    {
+        match self
+            .plan
+            .add_range(new.one, new.other, new.start, new.end, new.light)
+        {
+            Ok(()) => {
+                self.links = None;
+                self.digest = None;
+                Ok(())
+            }
+            Err(fault) => Err(fault),
+        }
+    }
+
+    /// Deletes the contact with this sender, receiver and start, and returns its number.
+    ///
+    /// # Errors
+    ///
+    /// Those of [`Plan::delete_contact`].
+    pub fn delete_contact(&mut self, from: u64, to: u64, start: u64) -> Result<u32, AddFault>
+        requires listing { IsFalse (is_some self.old.listing) }
+        ensures value { result ≡ ok_or (number_of_opening self.old.plan.plan from to start) NothingToDelete }
+        ensures ok { OnOk result (Becomes self.old (without_contact self.old.plan.plan from to start) self.new) }
+        ensures err { OnErr result (self.new ≡ self.old) }
+    {
+        let number = self.plan.delete_contact(from, to, start)?;
+        self.links = None;
+        self.digest = None;
+        Ok(number)
+    }
+
+    /// Deletes the range of this ordered pair with this start.
+    ///
+    /// # Errors
+    ///
+    /// Those of [`Plan::delete_range`].
+    pub fn delete_range(&mut self, one: u64, other: u64, start: u64) -> Result<(), AddFault>
+        requires listing { IsFalse (is_some self.old.listing) }
+        ensures deleted { IsOk result ↔ IsTrue (list_any (begins one other start) self.old.plan.plan.ranges) }
+        ensures fault { IfErr result (λ f. f ≡ NothingToDelete) }
+        ensures ok { OnOk result (Becomes self.old (without_range self.old.plan.plan one other start) self.new) }
+        ensures err { OnErr result (self.new ≡ self.old) }
+    {
+        self.plan.delete_range(one, other, start)?;
+        self.links = None;
+        self.digest = None;
+        Ok(())
+    }
+}

@@ -1,0 +1,157 @@
+//! Looking at plans.
+
+ghost use Rattle.std.specs.Prelude.{◌≡◌, ◌≢◌, is_none, length};
+ghost use Rattle.std.specs.List.{filter};
+ghost use Rattle.sabr_model.specs.plan.Light.{light_of};
+ghost use Rattle.sabr_model.specs.plan.Plan.{contact_named};
+ghost use Rattle.sabr_plan.specs.Canonical.{digest_of};
+ghost use Rattle.libcgrlist.specs.Open.{Calls, IsWhole};
+ghost use Rattle.libcgrlist.specs.Status.{done};
+ghost use Rattle.libcgrlist.specs.Views.{Gives, counts_of};
+
+use crate::handle::PlanHandle;
+use crate::status::{CLOSED, DONE, NO};
+use sabr_model::Plan;
+use std::alloc::Global;
+
+/// `cgrlist_counts`: what a plan has.
+#[repr(C)]
+#[derive(Clone, Copy)]
+pub struct Counts {
+    /// The contacts that stand.
+    pub contacts: u64,
+    /// The ranges that stand.
+    pub ranges: u64,
+    /// The nodes that send or receive a standing contact.
+    pub nodes: u64,
+    /// The standing contacts that have no light time at their start.
+    pub without_light: u64,
+    /// The greatest number ever given to a contact, 0 at first.
+    pub greatest: u64,
+}
+
+/// `cgrlist_contact`: a contact, its window in seconds since 1970-01-01T00:00:00Z, its rate in bytes a second, and its
+/// one-way light time in seconds if it has one.
+#[repr(C)]
+#[derive(Clone, Copy)]
+pub struct ContactRow {
+    pub from: u64,
+    pub to: u64,
+    pub start: u64,
+    pub end: u64,
+    pub rate: u64,
+    pub number: u32,
+    pub light: u32,
+    pub has_light: bool,
+}
+
+/// Counts the standing contacts that have no light time at their start.
+fn without_light(plan: &Plan<Global>) -> usize
+    ensures { result ≡ length (filter (λ c. is_none (light_of plan.now.plan c)) plan.now.plan.contacts) }
+{
+    plan.contacts()
+        .iter()
+        .filter(|contact| plan.light(contact).is_none())
+        .count()
+}
+
+/// Counts what a plan has.
+fn counted(plan: &Plan<Global>) -> Counts
+    ensures { result ≡ counts_of plan.now.plan }
+{
+    Counts {
+        contacts: plan.contacts().len() as u64,
+        ranges: plan.ranges().len() as u64,
+        nodes: plan.nodes() as u64,
+        without_light: without_light(plan) as u64,
+        greatest: plan.greatest() as u64,
+    }
+}
+
+/// Gives the contact with this number, if it stands.
+fn give_contact(plan: &Plan<Global>, number: u32, row: &mut ContactRow) -> u32
+    ensures { Gives plan.now.plan (contact_named plan.now.plan number) result row.old row.new }
+{
+    let Some(contact) = plan.contact(number) else {
+        return NO;
+    };
+    let light = plan.light(contact);
+    *row = ContactRow {
+        from: contact.from,
+        to: contact.to,
+        start: contact.start,
+        end: contact.end,
+        rate: contact.rate,
+        number: contact.number,
+        light: light.unwrap_or(0),
+        has_light: light.is_some(),
+    };
+    DONE
+}
+
+/// Gives what a plan has, as `check` counts it.
+#[unsafe(no_mangle)]
+pub extern "C" fn cgrlist_plan_counts(
+    alloc: Global,
+    handle: &mut PlanHandle,
+    counts: &mut Counts,
+) -> u32
+    requires { IsWhole handle.old.is_open handle.old.place.held }
+    ensures open { handle.new.is_open ≡ handle.old.is_open }
+    ensures whole { IsWhole handle.new.is_open handle.new.place.held }
+    ensures counts { Calls handle.old.is_open handle.old.place.held result handle.new.place.held (λ o n. (n ≡ o) × (result ≡ done) × (counts.new ≡ counts_of o.plan.plan)) }
+    ensures kept { result ≢ 0 → counts.new ≡ counts.old }
+{
+    if !handle.is_open {
+        return CLOSED;
+    }
+    let opened = handle.take(alloc);
+    *counts = counted(opened.plan());
+    handle.give(opened);
+    DONE
+}
+
+/// Gives the digest of a plan's canonical text.
+#[unsafe(no_mangle)]
+pub extern "C" fn cgrlist_plan_digest(
+    alloc: Global,
+    handle: &mut PlanHandle,
+    digest: &mut [u8; 32],
+) -> u32
+    requires { IsWhole handle.old.is_open handle.old.place.held }
+    ensures open { handle.new.is_open ≡ handle.old.is_open }
+    ensures whole { IsWhole handle.new.is_open handle.new.place.held }
+    ensures digest { Calls handle.old.is_open handle.old.place.held result handle.new.place.held (λ o n. (n ≡ o) × (result ≡ done) × (digest.new ≡ digest_of o.plan.plan)) }
+    ensures kept { result ≢ 0 → digest.new ≡ digest.old }
+{
+    if !handle.is_open {
+        return CLOSED;
+    }
+    let mut opened = handle.take(alloc);
+    *digest = opened.digest();
+    handle.give(opened);
+    DONE
+}
+
+/// Gives the standing contact with this number.
+#[unsafe(no_mangle)]
+pub extern "C" fn cgrlist_plan_contact(
+    alloc: Global,
+    handle: &mut PlanHandle,
+    number: u32,
+    contact: &mut ContactRow,
+) -> u32
+    requires { IsWhole handle.old.is_open handle.old.place.held }
+    ensures open { handle.new.is_open ≡ handle.old.is_open }
+    ensures whole { IsWhole handle.new.is_open handle.new.place.held }
+    ensures contact { Calls handle.old.is_open handle.old.place.held result handle.new.place.held (λ o n. (n ≡ o) × Gives o.plan.plan (contact_named o.plan.plan number) result contact.old contact.new) }
+    ensures kept { result ≢ 0 → contact.new ≡ contact.old }
+{
+    if !handle.is_open {
+        return CLOSED;
+    }
+    let opened = handle.take(alloc);
+    let status = give_contact(opened.plan(), number, contact);
+    handle.give(opened);
+    status
+}

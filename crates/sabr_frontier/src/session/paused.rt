@@ -1,0 +1,81 @@
+//! A session without the index that borrows its plan.
+
+ghost use Rattle.std.specs.Prelude.{◌≡◌};
+ghost use Rattle.sabr_frontier.specs.session.Paused.{IsPausedOver, seen_over};
+
+use crate::giving::asker::PausedAsker;
+use crate::session::Session;
+use crate::tree::Tree;
+use sabr_index::Index;
+use sabr_search::BestOf;
+use std::alloc::{Allocator, Global};
+
+/// A paused session: a [`Session`] without the index of its plan. So it borrows no plan, and an owner of the plan can keep
+/// it. It has the parts that are left, the routes given, the pages that can be taken back, the finder, and the answers
+/// that are kept for its searches: a session that was paused goes on at the cost of one that wasn't.
+#[derive(Drop)]
+pub struct PausedSession<B: BestOf<A>, A: Allocator + Copy = Global> {
+    /// What finds the parts' least routes.
+    asker: PausedAsker<B, A>,
+    /// The parts and the routes given.
+    tree: Tree<A>,
+    /// How long the journal was before each page that can be taken back.
+    pages: Vec<usize, A>,
+    /// The searches of the last call that counts them.
+    searches: u64,
+    /// Whether a search began it.
+    is_sure: bool,
+}
+
+impl<'p, B: BestOf<A>, A: Allocator + Copy> Session<'p, B, A> {
+    /// Pauses the session: returns it without its plan's index, and the index. Its cost is constant.
+    pub fn pause(self) -> (PausedSession<B, A>, Index<'p, A>)
+
+        // Over the plan it shows what it showed, and it can go on.
+        ensures seen { seen_over B.calls_of self.entry.plan result.0 ≡ self.entry }
+        ensures paused { IsPausedOver self.entry.plan result.0 }
+        ensures index { result.1 ≡ self.entry.plan }
+    {
+        let Session {
+            asker,
+            tree,
+            pages,
+            searches,
+            is_sure,
+        } = self;
+        let (asker, index) = asker.pause();
+        let paused = PausedSession {
+            asker,
+            tree,
+            pages,
+            searches,
+            is_sure,
+        };
+        (paused, index)
+    }
+}
+
+impl<B: BestOf<A>, A: Allocator + Copy> PausedSession<B, A> {
+    /// Goes on with the session over an index of the plan that it was paused over: all is shown as before. Its cost is
+    /// constant.
+    pub fn resume<'p>(self, index: Index<'p, A>) -> Session<'p, B, A>
+        requires { IsPausedOver index self }
+        ensures { result ≡ seen_over B.calls_of index.entry self }
+    {
+        let PausedSession {
+            asker,
+            tree,
+            pages,
+            searches,
+            is_sure,
+        } = self;
+        let asker = asker.resume(index);
+        Session {
+            asker,
+            tree,
+            pages,
+            searches,
+            is_sure,
+        }
+    }
+}

@@ -1,0 +1,3 @@
+pub mod Fewer
+pub mod OneText
+pub mod CutTexts

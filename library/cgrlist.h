@@ -1,0 +1,297 @@
+/* cgrlist: the routes of a contact plan, best first, in process.
+ *
+ * A plan stands behind a `cgrlist_plan`, which the caller keeps and begins with CGRLIST_PLAN_CLOSED (zeros). Between
+ * calls the caller changes nothing in it and copies it nowhere. The library has no global state: different plans may be
+ * used by different threads at the same time, one plan by one call at a time.
+ *
+ * No call aborts, prints, blocks, or calls back. Each call but cgrlist_plan_close, cgrlist_abi and the texts returns a
+ * `cgrlist_status`. With any other status than CGRLIST_OK and CGRLIST_NO, the plan and its listing are as they were.
+ * Buffers belong to the caller and may not overlap. An empty buffer may be NULL. Times are whole seconds since
+ * 1970-01-01T00:00:00Z. Memory comes from malloc, realloc and free.
+ *
+ * See cgrlist(3).
+ */
+#ifndef CGRLIST_H
+#define CGRLIST_H
+
+#include <stdbool.h>
+#include <stddef.h>
+#include <stdint.h>
+
+#ifdef __cplusplus
+extern "C" {
+#endif
+
+/* The version of this interface: cgrlist_abi() returns that of the library. */
+#define CGRLIST_ABI 1
+
+enum cgrlist_status {
+    CGRLIST_OK = 0,
+    CGRLIST_NO = 1,         /* no route; the contacts make none; no such contact; no session text of a place; no page
+                             * to take back */
+    CGRLIST_ROOM = 2,       /* a buffer is too small: what fits was written, and how much is needed */
+    CGRLIST_MEMORY = 3,     /* malloc or realloc refused */
+    CGRLIST_CLOSED = 4,     /* the plan isn't open */
+    CGRLIST_OPEN = 5,       /* the plan is open already */
+    CGRLIST_LISTING = 6,    /* a listing is open: the plan can't be changed, and no second listing opened */
+    CGRLIST_NO_LISTING = 7, /* no listing is open */
+    /* The request is refused. */
+    CGRLIST_SAME_NODE = 16,
+    CGRLIST_BAD_NODE = 17,
+    CGRLIST_BAD_TIME = 18,
+    CGRLIST_BAD_MARGIN = 19,
+    CGRLIST_BAD_HOPS = 20,
+    CGRLIST_BAD_AVOID = 21,
+    /* A line of the plan's text is refused; its number is given. */
+    CGRLIST_LINE_TOO_LONG = 32,
+    CGRLIST_LINE_BAD_BYTE = 33,
+    CGRLIST_LINE_UNKNOWN_COMMAND = 34,
+    CGRLIST_LINE_WRONG_OPERANDS = 35,
+    CGRLIST_LINE_BAD_TIME = 36,
+    CGRLIST_LINE_NO_REFERENCE = 37,
+    CGRLIST_LINE_BAD_NODE = 38,
+    CGRLIST_LINE_BAD_NUMBER = 39,
+    CGRLIST_LINE_EMPTY_WINDOW = 40,
+    CGRLIST_LINE_SELF_PAIR = 41,
+    CGRLIST_LINE_DUPLICATE_CONTACT = 42,
+    CGRLIST_LINE_RANGE_OVERLAP = 43,
+    CGRLIST_LINE_TOO_MANY = 44,
+    CGRLIST_LINE_NOTHING_TO_DELETE = 45,
+    /* The change is refused. */
+    CGRLIST_EMPTY_WINDOW = 48,
+    CGRLIST_SELF_PAIR = 49,
+    CGRLIST_DUPLICATE_CONTACT = 50,
+    CGRLIST_RANGE_OVERLAP = 51,
+    CGRLIST_TOO_MANY = 52,
+    CGRLIST_NOTHING_TO_DELETE = 53,
+    /* A value of a change or a count is outside its limits. */
+    CGRLIST_VALUE_NODE = 64,  /* a node is 0 */
+    CGRLIST_VALUE_TIME = 65,  /* a time is above CGRLIST_LAST_TIME */
+    CGRLIST_VALUE_LIGHT = 66, /* a light time is above CGRLIST_MOST_LIGHT */
+    CGRLIST_VALUE_COUNT = 67, /* a count of routes is above CGRLIST_MOST_ROUTES */
+    /* The session text is refused; its line is given where one is named. */
+    CGRLIST_SESSION_BAD_HEADER = 80,
+    CGRLIST_SESSION_BAD_LINE = 81,
+    CGRLIST_SESSION_OTHER_PLAN = 82,
+    CGRLIST_SESSION_BAD_REQUEST = 83,
+    CGRLIST_SESSION_NOT_CLOSED = 84,
+    CGRLIST_SESSION_BAD_ROUTE = 85,
+    CGRLIST_SESSION_BAD_COUNT = 86
+};
+
+/* The first fault of a list of contacts. */
+enum cgrlist_fault {
+    CGRLIST_FAULT_NONE = 0, CGRLIST_FAULT_EMPTY = 1, CGRLIST_FAULT_NO_SUCH_CONTACT = 2, CGRLIST_FAULT_NOT_CHAINED = 3,
+    CGRLIST_FAULT_NODE_AGAIN = 4, CGRLIST_FAULT_NO_LIGHT = 5, CGRLIST_FAULT_TOO_LATE = 6, CGRLIST_FAULT_WRONG_END = 7,
+    CGRLIST_FAULT_AVOIDED_NODE = 8, CGRLIST_FAULT_TOO_MANY_HOPS = 9
+};
+
+#define CGRLIST_LAST_TIME 253370764799u
+#define CGRLIST_MOST_LIGHT 1000000u
+#define CGRLIST_MOST_MARGIN 1000000u
+#define CGRLIST_MOST_HOPS 20000u
+#define CGRLIST_MOST_AVOIDED 16u
+#define CGRLIST_MOST_ROUTES 10000u
+
+/* A plan, closed if it is zeros. Its members are the library's. */
+typedef struct cgrlist_plan { bool is_open; void *at; } cgrlist_plan;
+#define CGRLIST_PLAN_CLOSED {false, NULL}
+
+/* A request. `max_hops` 0 is no limit. Nodes to avoid are given beside it, rising, at most 16. */
+typedef struct cgrlist_request { uint64_t from, to, at; uint32_t margin_ppm, max_hops; } cgrlist_request;
+
+/* A route: best-case delivery time, termination time, entry node. Its contact numbers are contacts[first] ..
+ * contacts[first + hops - 1]. */
+typedef struct cgrlist_route { uint64_t delivery, until, entry; size_t first, hops; } cgrlist_route;
+
+/* A page: how many routes and contact numbers it has, how many of the routes were written (all of them, unless there
+ * was no room), and whether the list goes on after it. */
+typedef struct cgrlist_page { size_t routes, contacts, written; bool more; } cgrlist_page;
+
+/* What a list of contacts does: a route's record, or its first fault and the fault's place from 1 (0 for EMPTY and
+ * WRONG_END). */
+typedef struct cgrlist_outcome { uint64_t delivery, until, entry, place; uint32_t fault; } cgrlist_outcome;
+
+/* A hop: who sends to whom, when the bundle is sent and when it arrives, over which contact. */
+typedef struct cgrlist_hop { uint64_t from, to, sent, arrival; uint32_t contact; } cgrlist_hop;
+
+/* What a plan has, as `check` prints it, and the greatest contact number given (deleted ones count). */
+typedef struct cgrlist_counts { uint64_t contacts, ranges, nodes, without_light, greatest; } cgrlist_counts;
+
+/* A contact: window, rate in bytes a second, one-way light time in seconds where it has one. */
+typedef struct cgrlist_contact {
+    uint64_t from, to, start, end, rate;
+    uint32_t number, light;
+    bool has_light;
+} cgrlist_contact;
+
+/* Where a listing stands: how many routes were given, whether the list goes on, whether a page can be taken back. */
+typedef struct cgrlist_place { uint64_t given; bool more, can_back; } cgrlist_place;
+
+/* ---- Plans ---- */
+uint32_t cgrlist_plan_new(cgrlist_plan *plan);
+uint32_t cgrlist_plan_read(cgrlist_plan *plan, const uint8_t *text, size_t bytes, uint32_t *line);
+void cgrlist_plan_close(cgrlist_plan *plan); /* closes its listing, too; a closed one stays closed */
+uint32_t cgrlist_plan_add_contact(cgrlist_plan *plan, uint64_t from, uint64_t to, uint64_t start, uint64_t end,
+                                  uint64_t rate, uint32_t *number);
+uint32_t cgrlist_plan_add_range(cgrlist_plan *plan, uint64_t one, uint64_t other, uint64_t start, uint64_t end,
+                                uint32_t light);
+uint32_t cgrlist_plan_delete_contact(cgrlist_plan *plan, uint64_t from, uint64_t to, uint64_t start, uint32_t *number);
+uint32_t cgrlist_plan_delete_range(cgrlist_plan *plan, uint64_t one, uint64_t other, uint64_t start);
+uint32_t cgrlist_plan_counts(cgrlist_plan *plan, cgrlist_counts *counts);
+uint32_t cgrlist_plan_digest(cgrlist_plan *plan, uint8_t digest[32]);
+/* NO: no such contact stands */
+uint32_t cgrlist_plan_contact(cgrlist_plan *plan, uint32_t number, cgrlist_contact *contact);
+
+/* ---- Routes ---- */
+/* The best route. OK, NO if there is none, ROOM if `contacts` is too small (route->hops is how many it needs). */
+uint32_t cgrlist_best(cgrlist_plan *plan, const cgrlist_request *request, const uint64_t *avoid, size_t avoids,
+                      cgrlist_route *route, uint32_t *contacts, size_t contacts_room);
+/* The first `count` routes, at most 10000, or all if they are fewer. */
+uint32_t cgrlist_first(cgrlist_plan *plan, const cgrlist_request *request, const uint64_t *avoid, size_t avoids,
+                       uint32_t count, cgrlist_route *routes, size_t routes_room, uint32_t *contacts,
+                       size_t contacts_room, cgrlist_page *page);
+/* OK: the contacts make a route, whose record is in `outcome`. NO: its first fault is. */
+uint32_t cgrlist_follow(cgrlist_plan *plan, const cgrlist_request *request, const uint64_t *avoid, size_t avoids,
+                        const uint32_t *contacts, size_t count, cgrlist_outcome *outcome);
+/* The hops before the first fault: *hops_count of them; ROOM if they are more than there is room for. OK or NO as
+ * cgrlist_follow otherwise. */
+uint32_t cgrlist_hops(cgrlist_plan *plan, const cgrlist_request *request, const uint64_t *avoid, size_t avoids,
+                      const uint32_t *contacts, size_t count, cgrlist_hop *hops, size_t hops_room, size_t *hops_count);
+
+/* ---- A listing: page after page, one open listing a plan. While it is open the plan can't be changed. ---- */
+uint32_t cgrlist_listing_open(cgrlist_plan *plan, const cgrlist_request *request, const uint64_t *avoid, size_t avoids);
+/* Opens the listing of a session text, at its place; no search is made. *line is the text's bad line, or 0. */
+uint32_t cgrlist_listing_load(cgrlist_plan *plan, const uint8_t *text, size_t bytes, uint64_t *line);
+/* The next page. With ROOM (what fits is written, page->routes and page->contacts are needed) the listing stays where
+ * it was. */
+uint32_t cgrlist_listing_next(cgrlist_plan *plan, uint32_t count, cgrlist_route *routes, size_t routes_room,
+                              uint32_t *contacts, size_t contacts_room, cgrlist_page *page);
+/* Takes the last page that gave routes back; NO if there is none. */
+uint32_t cgrlist_listing_back(cgrlist_plan *plan);
+uint32_t cgrlist_listing_place(cgrlist_plan *plan, cgrlist_place *place);
+/* The session text of the place: *bytes is its length; ROOM if it doesn't fit (nothing is written then). */
+uint32_t cgrlist_listing_text(cgrlist_plan *plan, uint8_t *text, size_t room, size_t *bytes);
+uint32_t cgrlist_listing_close(cgrlist_plan *plan);
+/* OK: the text is the session text of a place in the list of its request over this plan. NO: it isn't. */
+uint32_t cgrlist_verify(cgrlist_plan *plan, const uint8_t *text, size_t bytes);
+
+/* ---- Texts: each writes as much as there is room for (no zero byte at the end), and returns its length. ---- */
+/* "SameNode", "NoRoute" ..; empty if there is no such status */
+size_t cgrlist_status_text(uint32_t status, char *text, size_t room);
+size_t cgrlist_fault_text(uint32_t fault, char *text, size_t room);   /* "NotChained" .. */
+size_t cgrlist_version(char *text, size_t room);                      /* "1.2.0" */
+uint32_t cgrlist_abi(void);
+
+/* ---- Empty buffers. The library takes no null pointer, so the calls above are made through these, which give it the
+ * place of a local variable for a buffer of length 0. ---- */
+static inline uint32_t cgrlist_plan_read_or_empty(cgrlist_plan *plan, const uint8_t *text, size_t bytes,
+                                                  uint32_t *line) {
+    const uint8_t none = 0;
+    return cgrlist_plan_read(plan, bytes ? text : &none, bytes, line);
+}
+
+static inline uint32_t cgrlist_best_or_empty(cgrlist_plan *plan, const cgrlist_request *request, const uint64_t *avoid,
+                                             size_t avoids, cgrlist_route *route, uint32_t *contacts,
+                                             size_t contacts_room) {
+    const uint64_t no_node = 0;
+    uint32_t no_contact = 0;
+    return cgrlist_best(plan, request, avoids ? avoid : &no_node, avoids, route, contacts_room ? contacts : &no_contact,
+                        contacts_room);
+}
+
+static inline uint32_t cgrlist_first_or_empty(cgrlist_plan *plan, const cgrlist_request *request, const uint64_t *avoid,
+                                              size_t avoids, uint32_t count, cgrlist_route *routes, size_t routes_room,
+                                              uint32_t *contacts, size_t contacts_room, cgrlist_page *page) {
+    const uint64_t no_node = 0;
+    uint32_t no_contact = 0;
+    cgrlist_route no_route = {0, 0, 0, 0, 0};
+    return cgrlist_first(plan, request, avoids ? avoid : &no_node, avoids, count, routes_room ? routes : &no_route,
+                         routes_room, contacts_room ? contacts : &no_contact, contacts_room, page);
+}
+
+static inline uint32_t cgrlist_follow_or_empty(cgrlist_plan *plan, const cgrlist_request *request,
+                                               const uint64_t *avoid, size_t avoids, const uint32_t *contacts,
+                                               size_t count, cgrlist_outcome *outcome) {
+    const uint64_t no_node = 0;
+    const uint32_t no_contact = 0;
+    return cgrlist_follow(plan, request, avoids ? avoid : &no_node, avoids, count ? contacts : &no_contact, count,
+                          outcome);
+}
+
+static inline uint32_t cgrlist_hops_or_empty(cgrlist_plan *plan, const cgrlist_request *request, const uint64_t *avoid,
+                                             size_t avoids, const uint32_t *contacts, size_t count, cgrlist_hop *hops,
+                                             size_t hops_room, size_t *hops_count) {
+    const uint64_t no_node = 0;
+    const uint32_t no_contact = 0;
+    cgrlist_hop no_hop = {0, 0, 0, 0, 0};
+    return cgrlist_hops(plan, request, avoids ? avoid : &no_node, avoids, count ? contacts : &no_contact, count,
+                        hops_room ? hops : &no_hop, hops_room, hops_count);
+}
+
+static inline uint32_t cgrlist_listing_open_or_empty(cgrlist_plan *plan, const cgrlist_request *request,
+                                                     const uint64_t *avoid, size_t avoids) {
+    const uint64_t no_node = 0;
+    return cgrlist_listing_open(plan, request, avoids ? avoid : &no_node, avoids);
+}
+
+static inline uint32_t cgrlist_listing_load_or_empty(cgrlist_plan *plan, const uint8_t *text, size_t bytes,
+                                                     uint64_t *line) {
+    const uint8_t none = 0;
+    return cgrlist_listing_load(plan, bytes ? text : &none, bytes, line);
+}
+
+static inline uint32_t cgrlist_listing_next_or_empty(cgrlist_plan *plan, uint32_t count, cgrlist_route *routes,
+                                                     size_t routes_room, uint32_t *contacts, size_t contacts_room,
+                                                     cgrlist_page *page) {
+    uint32_t no_contact = 0;
+    cgrlist_route no_route = {0, 0, 0, 0, 0};
+    return cgrlist_listing_next(plan, count, routes_room ? routes : &no_route, routes_room,
+                                contacts_room ? contacts : &no_contact, contacts_room, page);
+}
+
+static inline uint32_t cgrlist_listing_text_or_empty(cgrlist_plan *plan, uint8_t *text, size_t room, size_t *bytes) {
+    uint8_t none = 0;
+    return cgrlist_listing_text(plan, room ? text : &none, room, bytes);
+}
+
+static inline uint32_t cgrlist_verify_or_empty(cgrlist_plan *plan, const uint8_t *text, size_t bytes) {
+    const uint8_t none = 0;
+    return cgrlist_verify(plan, bytes ? text : &none, bytes);
+}
+
+static inline size_t cgrlist_status_text_or_empty(uint32_t status, char *text, size_t room) {
+    char none = 0;
+    return cgrlist_status_text(status, room ? text : &none, room);
+}
+
+static inline size_t cgrlist_fault_text_or_empty(uint32_t fault, char *text, size_t room) {
+    char none = 0;
+    return cgrlist_fault_text(fault, room ? text : &none, room);
+}
+
+static inline size_t cgrlist_version_or_empty(char *text, size_t room) {
+    char none = 0;
+    return cgrlist_version(room ? text : &none, room);
+}
+
+#ifdef __cplusplus
+}
+#endif
+
+#define cgrlist_plan_read cgrlist_plan_read_or_empty
+#define cgrlist_best cgrlist_best_or_empty
+#define cgrlist_first cgrlist_first_or_empty
+#define cgrlist_follow cgrlist_follow_or_empty
+#define cgrlist_hops cgrlist_hops_or_empty
+#define cgrlist_listing_open cgrlist_listing_open_or_empty
+#define cgrlist_listing_load cgrlist_listing_load_or_empty
+#define cgrlist_listing_next cgrlist_listing_next_or_empty
+#define cgrlist_listing_text cgrlist_listing_text_or_empty
+#define cgrlist_verify cgrlist_verify_or_empty
+#define cgrlist_status_text cgrlist_status_text_or_empty
+#define cgrlist_fault_text cgrlist_fault_text_or_empty
+#define cgrlist_version cgrlist_version_or_empty
+
+#endif
+

@@ -1,0 +1,287 @@
+/* Makes drawn calls over drawn plans, requests and texts, and compares what several calls say of one thing. It is meant for
+ * valgrind and for the sanitizers: each buffer is a block of just its length. Its words: how many plans, and a seed. Status 1:
+ * two calls don't agree, and standard error tells which. */
+#include "cgrlist.h"
+#include <inttypes.h>
+#include <stdio.h>
+#include <stdlib.h>
+#include <string.h>
+
+static uint64_t state;
+static unsigned long run, counts[256];
+
+static uint32_t draw(uint32_t below) {
+    state = state * 6364136223846793005u + 1442695040888963407u;
+    return (uint32_t)((state >> 33) % below);
+}
+
+static void *block(size_t count, size_t size) {
+    void *made = count ? calloc(count, size) : NULL;
+    if (count && !made) exit(2);
+    return made;
+}
+
+/* Counts a status, and returns it. */
+static uint32_t met(uint32_t status) {
+    counts[status & 255]++;
+    return status;
+}
+
+static void must(bool is_so, const char *what) {
+    if (is_so) return;
+    fprintf(stderr, "plan %lu: %s\n", run, what);
+    exit(1);
+}
+
+/* ---- What is drawn ---- */
+
+typedef struct asked {
+    cgrlist_request request;
+    uint64_t *avoid;
+    size_t avoids;
+} asked;
+
+static uint64_t draw_node(void) { return draw(40) ? draw(6) : UINT64_MAX; }
+static uint64_t draw_time(void) { return draw(40) ? draw(60) : CGRLIST_LAST_TIME - 1 + draw(3); }
+
+static asked draw_asked(void) {
+    asked a; /* one statement a draw, so that each compiler draws in the same order */
+    a.request.from = draw_node();
+    a.request.to = draw_node();
+    a.request.at = draw_time();
+    a.request.margin_ppm = draw(2) ? 0 : draw(1100000);
+    a.request.max_hops = draw(5);
+    a.avoids = draw(3);
+    a.avoid = block(a.avoids, sizeof *a.avoid);
+    for (size_t i = 0; i < a.avoids; i++) a.avoid[i] = 1 + i + draw(4);
+    return a;
+}
+
+static const char *const PIECES[] = {"a ", "d ", "a contact ", "a range ", "d contact ", "@ 2030/01/01-00:00:00\n", "+0 ", "+10 ", "+99 ",
+                                     "1 ", "2 ", "3 ", "4 ", "5 ", "\n", "2030/01/01-00:00:00 ", "#", "\t", "5000000", "\r\n"};
+
+/* A plan's text: pieces and stray bytes, after a line that makes relative times good. */
+static uint8_t *draw_text(size_t *bytes) {
+    char text[4096];
+    size_t used = 0;
+    for (uint32_t left = draw(60), first = 5; left; left--, first = 0) {
+        const char *piece = PIECES[first && draw(8) ? first : draw(sizeof PIECES / sizeof *PIECES)];
+        memcpy(text + used, piece, strlen(piece));
+        used += strlen(piece);
+        if (!draw(50)) text[used++] = (char)draw(256);
+    }
+    uint8_t *out = block(used, 1);
+    if (used) memcpy(out, text, used);
+    *bytes = used;
+    return out;
+}
+
+static void open_plan(cgrlist_plan *plan) {
+    if (draw(2)) {
+        size_t bytes;
+        uint32_t line;
+        uint8_t *text = draw_text(&bytes);
+        uint32_t status = met(cgrlist_plan_read(plan, text, bytes, &line));
+        must(plan->is_open == (status == CGRLIST_OK), "a plan is open if it was read");
+        must((line > 0) == (status >= CGRLIST_LINE_TOO_LONG), "a refused text has a bad line");
+        free(text);
+    }
+    if (!plan->is_open) must(met(cgrlist_plan_new(plan)) == CGRLIST_OK, "a new plan");
+}
+
+/* A change, which is refused without a trace or taken. */
+static void change(cgrlist_plan *plan) {
+    uint64_t from = draw_node(), to = draw_node(), start = draw_time(), end = start + draw(40);
+    uint8_t before[32], after[32];
+    uint32_t light = draw(40) ? draw(5) : 999999 + draw(3), number, status;
+    cgrlist_plan_digest(plan, before);
+    switch (draw(8)) {
+    case 0: status = cgrlist_plan_delete_contact(plan, from, to, start, &number); break;
+    case 1: status = cgrlist_plan_delete_range(plan, from, to, 0); break;
+    case 2: status = cgrlist_plan_add_range(plan, from, to, 0, 1000 + draw(9), light); break;
+    default: status = cgrlist_plan_add_contact(plan, from, to, start, end, draw(9), &number);
+    }
+    cgrlist_plan_digest(plan, after);
+    must((memcmp(before, after, 32) != 0) == (met(status) == CGRLIST_OK), "a plan changes if a change is taken");
+}
+
+/* ---- Routes ---- */
+
+typedef struct page {
+    cgrlist_page told;
+    cgrlist_route *routes;
+    uint32_t *contacts;
+} page;
+
+static void drop(page *it) {
+    free(it->routes);
+    free(it->contacts);
+}
+
+/* The first routes of a request, or of the listing, in blocks of just their length. */
+static uint32_t take(cgrlist_plan *plan, const asked *a, uint32_t count, page *out) {
+    memset(out, 0, sizeof *out);
+    for (int turn = 0;; turn++) {
+        size_t routes = out->told.routes, contacts = out->told.contacts;
+        uint32_t status = a ? cgrlist_first(plan, &a->request, a->avoid, a->avoids, count, out->routes, routes, out->contacts, contacts, &out->told)
+                            : cgrlist_listing_next(plan, count, out->routes, routes, out->contacts, contacts, &out->told);
+        if (met(status) != CGRLIST_ROOM) return status;
+        must(turn == 0, "there is room for what was needed");
+        out->routes = block(out->told.routes, sizeof *out->routes);
+        out->contacts = block(out->told.contacts, sizeof *out->contacts);
+    }
+}
+
+static bool is_same_route(const page *one, size_t i, const page *other, size_t j) {
+    const cgrlist_route *a = &one->routes[i], *b = &other->routes[j];
+    return a->delivery == b->delivery && a->until == b->until && a->entry == b->entry && a->hops == b->hops &&
+           !memcmp(one->contacts + a->first, other->contacts + b->first, a->hops * sizeof *one->contacts);
+}
+
+/* Buffers that are too small take the routes that fit. */
+static void cramp(cgrlist_plan *plan, const asked *a, uint32_t count, const page *all) {
+    page few = {{0, 0, 0, false}, NULL, NULL};
+    size_t routes = draw((uint32_t)all->told.routes + 1), contacts = draw((uint32_t)all->told.contacts + 1);
+    few.routes = block(routes, sizeof *few.routes);
+    few.contacts = block(contacts, sizeof *few.contacts);
+    met(cgrlist_first(plan, &a->request, a->avoid, a->avoids, count, few.routes, routes, few.contacts, contacts, &few.told));
+    must(few.told.routes == all->told.routes && few.told.contacts == all->told.contacts && few.told.more == all->told.more, "what is needed");
+    must(few.told.written <= routes, "no more is written than there is room for");
+    for (size_t i = 0; i < few.told.written; i++) must(is_same_route(&few, i, all, i), "what fits is written");
+    drop(&few);
+}
+
+static void check_route(cgrlist_plan *plan, const asked *a, const page *all, size_t place) {
+    const cgrlist_route *route = &all->routes[place];
+    cgrlist_outcome outcome;
+    size_t count = 0;
+    cgrlist_hop *hops = block(route->hops, sizeof *hops);
+    const uint32_t *contacts = all->contacts + route->first;
+    must(met(cgrlist_follow(plan, &a->request, a->avoid, a->avoids, contacts, route->hops, &outcome)) == CGRLIST_OK, "a listed route is one");
+    must(outcome.delivery == route->delivery && outcome.until == route->until && outcome.entry == route->entry, "its record is followed");
+    must(met(cgrlist_hops(plan, &a->request, a->avoid, a->avoids, contacts, route->hops, hops, route->hops, &count)) == CGRLIST_OK && count == route->hops, "it has its hops");
+    must(hops[count - 1].arrival == route->delivery && hops[0].to == route->entry && hops[count - 1].to == a->request.to, "its hops lead there");
+    free(hops);
+}
+
+static void check_best(cgrlist_plan *plan, const asked *a, const page *all) {
+    size_t room = draw(8);
+    page best = {{0, 0, 0, false}, block(1, sizeof(cgrlist_route)), block(room, sizeof(uint32_t))};
+    uint32_t status = met(cgrlist_best(plan, &a->request, a->avoid, a->avoids, best.routes, best.contacts, room));
+    if (!all->told.routes) must(status == CGRLIST_NO, "there is no best route");
+    else if (all->routes->hops > room) must(status == CGRLIST_ROOM && best.routes->hops == all->routes->hops, "what a best route needs");
+    else must(status == CGRLIST_OK && is_same_route(&best, 0, all, 0), "the best route is the first");
+    drop(&best);
+}
+
+static void follow_any(cgrlist_plan *plan, const asked *a) {
+    size_t count = draw(5), room = draw(5), given = 0;
+    uint32_t *contacts = block(count, sizeof *contacts);
+    cgrlist_hop *hops = block(room, sizeof *hops);
+    cgrlist_outcome outcome;
+    for (size_t i = 0; i < count; i++) contacts[i] = draw(40) ? draw(20) : UINT32_MAX;
+    uint32_t status = met(cgrlist_follow(plan, &a->request, a->avoid, a->avoids, contacts, count, &outcome));
+    uint32_t other = met(cgrlist_hops(plan, &a->request, a->avoid, a->avoids, contacts, count, hops, room, &given));
+    must(other == status || (other == CGRLIST_ROOM && given > room), "hops and follow agree");
+    if (status == CGRLIST_NO) must(outcome.place ? given == outcome.place - 1 : given == count, "the hops before the fault");
+    free(contacts);
+    free(hops);
+}
+
+/* ---- Listings ---- */
+
+/* The session text of the place, in a block of just its length. */
+static uint8_t *text_of(cgrlist_plan *plan, size_t *bytes) {
+    must(met(cgrlist_listing_text(plan, NULL, 0, bytes)) == CGRLIST_ROOM, "a text needs room");
+    uint8_t *text = block(*bytes, 1);
+    must(met(cgrlist_listing_text(plan, text, *bytes, bytes)) == CGRLIST_OK, "a text");
+    return text;
+}
+
+/* Takes pages, some of them back, and compares them with all routes. */
+static void walk(cgrlist_plan *plan, const page *all) {
+    size_t place = 0, before[8], backs = 0;
+    for (int turn = 0; turn < 6; turn++) {
+        if (!draw(3)) {
+            must(met(cgrlist_listing_back(plan)) == (backs ? CGRLIST_OK : CGRLIST_NO), "a page back");
+            if (backs) place = before[--backs];
+            continue;
+        }
+        page next;
+        must(take(plan, NULL, draw(4), &next) == CGRLIST_OK, "a page");
+        for (size_t i = 0; i < next.told.routes; i++) must(place + i < all->told.routes && is_same_route(&next, i, all, place + i), "a page's routes");
+        if (next.told.routes) before[backs++] = place;
+        place += next.told.routes;
+        must(next.told.more == (place < all->told.routes || all->told.more), "a page's end");
+        drop(&next);
+    }
+    cgrlist_place where;
+    must(met(cgrlist_listing_place(plan, &where)) == CGRLIST_OK && where.given == place && where.can_back == (backs > 0), "the place");
+}
+
+/* Loads a text, whole or damaged, in place of the listing. */
+static void reload(cgrlist_plan *plan, uint8_t *text, size_t bytes) {
+    bool is_damaged = draw(2);
+    uint64_t line;
+    if (is_damaged) text[draw((uint32_t)bytes)] ^= (uint8_t)(1 << draw(8));
+    uint32_t verified = met(cgrlist_verify(plan, text, bytes)), status = met(cgrlist_listing_load(plan, text, bytes, &line));
+    if (!is_damaged) must(!verified && !status, "an own text is good");
+    if (verified == CGRLIST_OK) must(status == CGRLIST_OK, "a verified text can be loaded");
+    if (status != CGRLIST_OK) return;
+    page next;
+    if (verified == CGRLIST_OK) must(take(plan, NULL, draw(4), &next) == CGRLIST_OK, "a page after a text");
+    else take(plan, NULL, draw(4), &next);
+    drop(&next);
+    must(met(cgrlist_listing_close(plan)) == CGRLIST_OK, "a loaded listing");
+}
+
+static void list(cgrlist_plan *plan, const asked *a, const page *all) {
+    size_t bytes, again;
+    uint32_t number;
+    must(met(cgrlist_listing_open(plan, &a->request, a->avoid, a->avoids)) == CGRLIST_OK, "a listing");
+    must(met(cgrlist_plan_add_contact(plan, 8, 9, 0, 1, 0, &number)) == CGRLIST_LISTING, "a listed plan stays");
+    walk(plan, all);
+    uint8_t *text = text_of(plan, &bytes), *same = text_of(plan, &again);
+    must(bytes == again && !memcmp(text, same, bytes), "a place has one text");
+    free(same);
+    if (draw(8)) must(met(cgrlist_listing_close(plan)) == CGRLIST_OK, "the listing");
+    if (cgrlist_listing_place(plan, &(cgrlist_place){0, false, false}) == CGRLIST_NO_LISTING) reload(plan, text, bytes);
+    else cgrlist_listing_close(plan);
+    free(text);
+}
+
+/* ---- Plans ---- */
+
+static void ask(cgrlist_plan *plan) {
+    asked a = draw_asked();
+    page all;
+    uint32_t count = draw(500) ? draw(30) : 10000 + draw(2);
+    follow_any(plan, &a);
+    if (take(plan, &a, count, &all) == CGRLIST_OK) {
+        if (count) check_best(plan, &a, &all);
+        cramp(plan, &a, count, &all);
+        for (size_t i = 0; i < all.told.routes && i < 3; i++) check_route(plan, &a, &all, i);
+        if (count > 24) list(plan, &a, &all);
+    }
+    drop(&all);
+    free(a.avoid);
+}
+
+int main(int argc, char **argv) {
+    unsigned long runs = argc > 1 ? strtoul(argv[1], NULL, 10) : 1000;
+    state = argc > 2 ? strtoull(argv[2], NULL, 10) : 1;
+    for (run = 0; run < runs; run++) {
+        cgrlist_plan plan = CGRLIST_PLAN_CLOSED;
+        open_plan(&plan);
+        for (uint32_t left = draw(80); left; left--) {
+            change(&plan);
+            if (!draw(4)) ask(&plan);
+        }
+        cgrlist_plan_close(&plan);
+        must(met(cgrlist_plan_digest(&plan, (uint8_t[32]){0})) == CGRLIST_CLOSED, "a closed plan");
+    }
+    for (int i = 0; i < 256; i++)
+        if (counts[i]) printf("%d:%lu ", i, counts[i]);
+    puts("");
+    return 0;
+}
