@@ -1,4 +1,5 @@
 mod FirstLemmas
+mod JoinedLemmas
 mod ListingLemmas
 mod PageLemmas
 mod BufferLemmas

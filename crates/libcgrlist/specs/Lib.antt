@@ -3,6 +3,7 @@ pub mod Buffers
 pub mod Changes
 pub mod First
 pub mod Following
+pub mod Joined
 pub mod Listings
 pub mod Open
 pub mod Opened

@@ -8,6 +8,7 @@ mod first;
 mod follow;
 mod handle;
 mod hops;
+mod laws;
 mod listed;
 mod listing;
 mod opened;
@@ -28,6 +29,7 @@ pub use first::cgrlist_first;
 pub use follow::cgrlist_follow;
 pub use handle::{Loose, Place, PlanHandle};
 pub use hops::cgrlist_hops;
+pub use laws::pages_follow_the_list;
 pub use listing::{
     ListingPlace, cgrlist_listing_back, cgrlist_listing_close, cgrlist_listing_next,
     cgrlist_listing_open, cgrlist_listing_place,
