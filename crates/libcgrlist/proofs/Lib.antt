@@ -5,6 +5,7 @@ mod PageLemmas
 mod BufferLemmas
 mod FollowLemmas
 mod HopLemmas
+mod LoadLemmas
 mod PlaceValues
 mod TextLemmas
 mod Values
