@@ -28,7 +28,7 @@ impl Gathered {
 
     /// The bytes that it took.
     pub fn into_bytes(self) -> Vec<u8, Global>
-        ensures { result.items ≡ self.entry.bytes.items }
+        ensures { result.items ≡ self.bytes.items }
     {
         self.bytes
     }

@@ -1,6 +1,6 @@
 //! The session text of a listing's place.
 
-ghost use Rattle.std.specs.Prelude.{◌≡◌, ◌+◌, IfErr, IfOk};
+ghost use Rattle.std.specs.Prelude.{◌≡◌, IfErr, IfOk, IsFalse};
 ghost use Rattle.sabr_session.specs.SessionText.{text_of_session};
 ghost use Rattle.libcgrlist.specs.ListingTexts.{AnswersText, GivesNoText, PutsText};
 ghost use Rattle.libcgrlist.specs.Listings.{IfOpen, listing_refusal};
@@ -66,6 +66,7 @@ pub extern "C" fn cgrlist_listing_text(
     ensures open { handle.new.is_open ≡ handle.old.is_open }
     ensures whole { IsWhole handle.new.is_open handle.new.place.held }
     ensures text { Calls handle.old.is_open handle.old.place.held result handle.new.place.held (λ o n. (n ≡ o) × AnswersText o.listing result text.old text.new bytes.old bytes.new) }
+    ensures closed { IsFalse handle.old.is_open → GivesNoText text.old text.new bytes.old bytes.new }
 {
     if !handle.is_open {
         return CLOSED;
