@@ -1,14 +1,12 @@
 -- The listing of a session text that lies in memory.
-use Rattle.std.proofs.Common.{◌≡◌, ℕ, ◌+◌, ◌⊎◌, inl, inr, Bool, true, false, List, [], ◌++◌, append-nil, sym, ap, subst, ◌∙◌, refl, arith, Result, Ok, Err, Some, None}
+use Rattle.std.proofs.Common.{◌≡◌, ℕ, ◌+◌, ◌⊎◌, inl, inr, Bool, true, List, [], ◌++◌, append-nil, sym, ap, subst, ◌∙◌, refl, arith, Result, Ok, Err, Some}
 use Rattle.sabr_model.specs.Devices.{Input}
 use Rattle.sabr_model.specs.plan.Plan.{TabledPlan}
-use Rattle.sabr_plan.specs.Canonical.{digest_of}
-use Rattle.sabr_frontier.specs.session.Session.{Seen, session_over}
+use Rattle.sabr_frontier.specs.session.Session.{Seen}
 use Rattle.sabr_session.specs.SessionFed.{IsSessionFrom}
 use Rattle.sabr_session.specs.SessionGiven.{BreaksText, EndsText, ReadsSession, RefusesText, said_over}
-use Rattle.sabr_session.specs.SessionRead.{ComesTo, IsSessionOf}
+use Rattle.sabr_session.specs.SessionRead.{ComesTo}
 use Rattle.sabr_session.specs.declared.session_fault.SessionFault.{SessionFault}
-use Rattle.sabr_session.specs.declared.session_fault.SessionFault.TheVariants as fault
 use Rattle.libcgrlist.specs.Loading.{IsLoaded, IsRefusal, IsRefusedText, session_line, session_status}
 use Rattle.libcgrlist.specs.Opened.{OpenPlan}
 use Rattle.libcgrlist.specs.Paused.{listing_of}
