@@ -7,6 +7,6 @@ use Rattle.libcgrlist.proofs.verify.verify_text.Goals as goal
 
 pub returns-clause-verified : goal.returns-clause-verified
 returns-clause-verified c =
-    let plan : c.plan.result.now ≡ c.args.opened.now.plan = c.plan.ensures ∙ ap (λ (o : OpenPlan). o.plan) c.digest.ensures.same in
+    let plan : c.plan.result.now ≡ c.args.opened.now.plan = c.plan.ensures ∙ ap (λ (o : OpenPlan). o.plan) c.digest-digest.ensures.same in
     subst (λ (q : TabledPlan). Verifies q.plan c.args.text.now c.verify.result) plan
     (subst (λ w. Verifies c.plan.result.now.plan w c.verify.result) c.new-reader.ensures.rest (verified_bytes _ _ _ _ _ _ _ _ c.verify.ensures))
