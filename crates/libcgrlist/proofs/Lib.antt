@@ -1,9 +1,11 @@
 mod FirstLemmas
+mod JoinedLemmas
 mod ListingLemmas
 mod PageLemmas
 mod BufferLemmas
 mod FollowLemmas
 mod HopLemmas
+mod LoadLemmas
 mod PlaceValues
 mod TextLemmas
 mod Values

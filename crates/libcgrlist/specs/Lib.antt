@@ -3,7 +3,10 @@ pub mod Buffers
 pub mod Changes
 pub mod First
 pub mod Following
+pub mod Joined
+pub mod ListingTexts
 pub mod Listings
+pub mod Loading
 pub mod Open
 pub mod Opened
 pub mod Owned

@@ -6,10 +6,14 @@ mod bytes;
 mod changes;
 mod first;
 mod follow;
+mod gathered;
 mod handle;
 mod hops;
+mod laws;
 mod listed;
 mod listing;
+mod listing_load;
+mod listing_text;
 mod opened;
 mod plans;
 mod request;
@@ -28,10 +32,13 @@ pub use first::cgrlist_first;
 pub use follow::cgrlist_follow;
 pub use handle::{Loose, Place, PlanHandle};
 pub use hops::cgrlist_hops;
+pub use laws::pages_follow_the_list;
 pub use listing::{
     ListingPlace, cgrlist_listing_back, cgrlist_listing_close, cgrlist_listing_next,
     cgrlist_listing_open, cgrlist_listing_place,
 };
+pub use listing_load::cgrlist_listing_load;
+pub use listing_text::cgrlist_listing_text;
 pub use opened::Opened;
 pub use plans::{cgrlist_plan_close, cgrlist_plan_new, cgrlist_plan_read};
 pub use rows::{Page, RouteRow};

@@ -165,7 +165,7 @@ impl Opened {
     ghost use Rattle.std.specs.List.{list_any};
     ghost use Rattle.sabr_model.specs.plan.Plan.{last_time, most_light};
     ghost use Rattle.sabr_model.specs.declared.fault.AddFault.{AddFault};
-    ghost use Rattle.sabr_model.specs.declared.fault.AddFault.TheVariants.{NoMemory, NothingToDelete};
+    ghost use Rattle.sabr_model.specs.declared.fault.AddFault.TheVariants as fault;
     ghost use Rattle.sabr_model.specs.plan.Adding.{begins, next_contact, contact_refusal, with_contact, range_refusal, with_range, number_of_opening, without_contact, without_range};
     ghost use Rattle.libcgrlist.specs.Changes.{Becomes};
 
@@ -180,7 +180,7 @@ impl Opened {
         requires to { 0 < new.now.to }
         requires end { new.now.end ≤ last_time }
         ensures refused { (f : AddFault) → contact_refusal self.old.plan.plan new.now.from new.now.to new.now.start new.now.end ≡ Some f → result ≡ Err f }
-        ensures accepted { contact_refusal self.old.plan.plan new.now.from new.now.to new.now.start new.now.end ≡ None → IsOkUnless result NoMemory }
+        ensures accepted { contact_refusal self.old.plan.plan new.now.from new.now.to new.now.start new.now.end ≡ None → IsOkUnless result fault.NoMemory }
         ensures number { IfOk result (λ n. n ≡ self.old.plan.plan.greatest + 1) }
         ensures ok { OnOk result (Becomes self.old (with_contact self.old.plan.plan (next_contact self.old.plan.plan new.now.from new.now.to new.now.start new.now.end new.now.rate)) self.new) }
         ensures err { OnErr result (self.new ≡ self.old) }
@@ -205,7 +205,7 @@ impl Opened {
         requires end { new.now.end ≤ last_time }
         requires light { new.now.light ≤ most_light }
         ensures refused { (f : AddFault) → range_refusal self.old.plan.plan new.now ≡ Some f → result ≡ Err f }
-        ensures accepted { range_refusal self.old.plan.plan new.now ≡ None → IsOkUnless result NoMemory }
+        ensures accepted { range_refusal self.old.plan.plan new.now ≡ None → IsOkUnless result fault.NoMemory }
         ensures ok { OnOk result (Becomes self.old (with_range self.old.plan.plan new.now) self.new) }
         ensures err { OnErr result (self.new ≡ self.old) }
     {
@@ -229,7 +229,7 @@ impl Opened {
     /// Those of [`Plan::delete_contact`].
     pub fn delete_contact(&mut self, from: u64, to: u64, start: u64) -> Result<u32, AddFault>
         requires listing { IsFalse (is_some self.old.listing) }
-        ensures value { result ≡ ok_or (number_of_opening self.old.plan.plan from to start) NothingToDelete }
+        ensures value { result ≡ ok_or (number_of_opening self.old.plan.plan from to start) fault.NothingToDelete }
         ensures ok { OnOk result (Becomes self.old (without_contact self.old.plan.plan from to start) self.new) }
         ensures err { OnErr result (self.new ≡ self.old) }
     {
@@ -247,7 +247,7 @@ impl Opened {
     pub fn delete_range(&mut self, one: u64, other: u64, start: u64) -> Result<(), AddFault>
         requires listing { IsFalse (is_some self.old.listing) }
         ensures deleted { IsOk result ↔ IsTrue (list_any (begins one other start) self.old.plan.plan.ranges) }
-        ensures fault { IfErr result (λ f. f ≡ NothingToDelete) }
+        ensures fault { IfErr result (λ e. e ≡ fault.NothingToDelete) }
         ensures ok { OnOk result (Becomes self.old (without_range self.old.plan.plan one other start) self.new) }
         ensures err { OnErr result (self.new ≡ self.old) }
     {

@@ -1,10 +1,12 @@
 //! The statuses of calls, as `cgrlist.h` numbers them.
 
 ghost use Rattle.std.specs.Prelude.{◌≡◌};
+ghost use Rattle.libcgrlist.specs.Loading.{session_status};
 ghost use Rattle.libcgrlist.specs.Status.{change_status, line_status, request_status};
 
 use sabr_model::{AddFault, RequestError};
 use sabr_plan::PlanKind;
+use sabr_session::SessionFault;
 
 /// The call did what it says.
 pub const DONE: u32 = 0;
@@ -151,5 +153,21 @@ pub fn of_line(kind: PlanKind) -> u32
         PlanKind::TooMany => LINE_TOO_MANY,
         PlanKind::NothingToDelete => LINE_NOTHING_TO_DELETE,
         PlanKind::Read | PlanKind::NoMemory => MEMORY,
+    }
+}
+
+/// The status of a refused session text. Bytes in memory are read without a failure.
+pub fn of_session(fault: SessionFault) -> u32
+    ensures { result ≡ session_status fault }
+{
+    match fault {
+        SessionFault::BadHeader => SESSION_BAD_HEADER,
+        SessionFault::BadLine(_) => SESSION_BAD_LINE,
+        SessionFault::OtherPlan => SESSION_OTHER_PLAN,
+        SessionFault::BadRequest => SESSION_BAD_REQUEST,
+        SessionFault::NotClosed => SESSION_NOT_CLOSED,
+        SessionFault::BadRoute(_) => SESSION_BAD_ROUTE,
+        SessionFault::BadCount => SESSION_BAD_COUNT,
+        SessionFault::Read | SessionFault::NoMemory => MEMORY,
     }
 }

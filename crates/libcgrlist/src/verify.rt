@@ -2,29 +2,28 @@
 
 ghost use Rattle.std.specs.Prelude.{◌≡◌};
 ghost use Rattle.libcgrlist.specs.Open.{Calls, IsWhole};
-ghost use Rattle.libcgrlist.specs.Verified.{IsVerified};
+ghost use Rattle.libcgrlist.specs.Verified.{IsVerified, Verifies};
 
 use crate::bytes::Bytes;
 use crate::handle::PlanHandle;
 use crate::opened::Opened;
 use crate::status::{CLOSED, DONE, MEMORY, NO};
 use sabr_search::Settled;
-use sabr_session::verify;
+use sabr_session::{SessionFault, verify};
 use std::alloc::Global;
 
-/// Verifies that bytes are the session text of a place over the plan, and returns the status.
-fn verify_text(alloc: Global, opened: &mut Opened, text: &[u8]) -> u32
+/// Verifies that bytes are the session text of a place over the plan.
+fn verify_text(
+    alloc: Global,
+    opened: &mut Opened,
+    text: &[u8],
+) -> Result<bool, SessionFault>
     ensures same { opened.new ≡ opened.old }
-    ensures verified { IsVerified opened.old.plan.plan text.now result }
+    ensures verified { Verifies opened.old.plan.plan text.now result }
 {
     let digest = opened.digest();
     let mut reader = Bytes::new(text);
-    let finder = Settled::new(alloc);
-    match verify(alloc, &mut reader, opened.plan(), &digest, finder) {
-        Ok(true) => DONE,
-        Ok(false) => NO,
-        Err(_refused) => MEMORY,
-    }
+    verify(alloc, &mut reader, opened.plan(), &digest, Settled::new(alloc))
 }
 
 /// Tells whether a text is the session text of a place in the list of its request over the plan.
@@ -39,7 +38,11 @@ pub extern "C" fn cgrlist_verify(alloc: Global, handle: &mut PlanHandle, text: &
         return CLOSED;
     }
     let mut opened = handle.take(alloc);
-    let status = verify_text(alloc, &mut opened, text);
+    let verified = verify_text(alloc, &mut opened, text);
     handle.give(opened);
-    status
+    match verified {
+        Ok(true) => DONE,
+        Ok(false) => NO,
+        Err(_refused) => MEMORY,
+    }
 }
