@@ -4,7 +4,7 @@ ghost use Rattle.std.specs.Prelude.{◌≡◌, ◌≤◌, IfErr, IfOk, None, OnE
 ghost use Rattle.sabr_frontier.specs.listing.Listing.{most_routes};
 ghost use Rattle.sabr_frontier.specs.session.Session.{started};
 ghost use Rattle.libcgrlist.specs.Answers.{asked_status, page_status};
-ghost use Rattle.libcgrlist.specs.Listings.{AnswersBack, AnswersNext, AnswersPlace, ClosesListing, GivesNext, GivesPlace, GoesBack, OpensListing, TakesUp, goes_on, listing_then, next_records, second_refusal};
+ghost use Rattle.libcgrlist.specs.Listings.{AnswersBack, AnswersNext, AnswersPlace, ClosesListing, GivesNext, GivesPlace, GoesBack, IsPlaceOf, OpensListing, TakesUp, goes_on, listing_then, next_records, second_refusal};
 ghost use Rattle.libcgrlist.specs.Open.{Calls, IsWhole};
 ghost use Rattle.libcgrlist.specs.Pages.{IsPage};
 ghost use Rattle.libcgrlist.specs.Paused.{listing_of};
@@ -142,17 +142,27 @@ fn go_back(alloc: Global, opened: &mut Opened) -> Result<bool, u32>
     Ok(gone)
 }
 
+/// Where a session stands.
+fn place_in(session: &Session<'_, Settled<Global>, Global>) -> ListingPlace
+    ensures { IsPlaceOf (listing_of session.now) result }
+{
+    let given = session.emitted() as u64;
+    let more = session.more();
+    let can_back = session.can_back();
+    ListingPlace {
+        given,
+        more,
+        can_back,
+    }
+}
+
 /// Tells where the listing stands.
 fn place_of(alloc: Global, opened: &mut Opened) -> Result<ListingPlace, u32>
     ensures { GivesPlace opened.old result opened.new }
 {
     let (links, paused) = take_up(alloc, opened)?;
     let session = paused.resume(Index::from_links(opened.plan(), links));
-    let place = ListingPlace {
-        given: session.emitted() as u64,
-        more: session.more(),
-        can_back: session.can_back(),
-    };
+    let place = place_in(&session);
     let (paused, index) = session.pause();
     let links = index.into_links();
     opened.keep_links(links);
