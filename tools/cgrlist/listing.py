@@ -114,7 +114,8 @@ class Listing:
 
 def asked_again(program, plan, request, distinct):
     """The best route of a request, and then each time the best one over the plan without what is distinct of those
-    before, a page for each. What their places are in the list of all routes isn't known.
+    before, a page for each. What their places are in the list of all routes isn't known. That list holds each of them, in
+    the same order (sabr_laws::fewer_contacts_take_their_routes).
     """
     passing, lost, taken = {}, set(), set()
     while True:

@@ -30,7 +30,8 @@ class Lost:
 
 def losses(program, plan, request, routes):
     """For each contact of some routes, in their order, what is best if it alone is lost."""
-    # Of routes that begin the list of all, the first without a contact is the best one.
+    # Of routes that begin the list of all, the first without a contact is the best one: without the contact, a plan lists
+    # the routes that don't have it, in the same order (sabr_laws::lost_contacts_take_their_routes).
     begins = [route.rank for route in routes] == [*range(1, len(routes) + 1)]
     numbers = dict.fromkeys(number for route in routes for number in route.contacts)
     return [*in_order(functools.partial(_loss, program, plan, request, routes if begins else ()), numbers)]
