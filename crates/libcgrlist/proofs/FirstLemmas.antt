@@ -60,3 +60,7 @@ first_of p r k (Ok l) rules limits follow listed last =
 pub best_of : (f : List ℕ → RouteRecord) (L : List (List ℕ)) (xs : List RouteRecord) (status : ℕ) (row : RouteRow) (numbers : List ℕ) → xs ≡ map f (take 1 L) → WritesBest xs status row numbers → WritesBest (map f L) status row numbers
 best_of f [] xs status row numbers is w = subst (λ (ys : List RouteRecord). WritesBest ys status row numbers) is w
 best_of f (s ∷ L) xs status row numbers is w = subst (λ (ys : List RouteRecord). WritesBest ys status row numbers) is w
+
+-- the routes of a last page are short, and so is a list that equals them
+pub short_of : (p : TabledPlan) (r : RouteRequest) (k : ℕ) (l : LastSeen) (xs : List RouteRecord) → xs ≡ l.routes → IsFirst p r k l → All (λ (a : RouteRecord). length a.contacts ≤ 20000) xs
+short_of p r k l xs is first = subst (λ (ys : List RouteRecord). All (λ (a : RouteRecord). length a.contacts ≤ 20000) ys) (sym is) first.short
