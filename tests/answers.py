@@ -520,6 +520,8 @@ from,to,delivery,last_delivery,contacts,nodes
 2030-01-01 00:01:40,2030-01-01 00:02:00,,,,""", lambda: lines_with("^(?!.*told up)", room.told(
         "timetable --plan examples/a.txt --from 1 --to 3 --between 2030-01-01 2030-01-01T00:02:00Z --csv"))
 
+    yield "a timetable's first stretch comes while the program is asked", [MORNING_STRETCH, "before"], stretch_and_when, room
+
     table = ["timetable --plan examples/a.txt --from 1 --to 3 --between 2030-01-01 2030-01-01T00:02:00Z"]
     yield "a timetable as JSON", [
         {"from": "2030-01-01T00:01:40Z", "to": "2030-01-01T00:02:00Z", **dict.fromkeys(("delivery", "last_delivery", "contacts", "nodes"))}
@@ -532,6 +534,29 @@ from,to,delivery,last_delivery,contacts,nodes
         return [(len(list(same)), contacts) for contacts, same in groupby(re.findall(" contacts (.*)", room.run(*words).out))]
 
     yield "it tells each second", [(10, "1 4"), (40, "1 2"), (50, "1 4")], each_second
+
+
+MORNING_STRETCH = "2030-01-01 00:45:00,2030-01-01 02:19:59,2030-01-01 02:47:22,2030-01-01 02:47:22,4 11 2,31 > 22 > 12 > 1"
+
+
+def stretch_and_when(room):
+    """The first stretch of a timetable, and whether a pipe has it before or after the program was asked for seconds from 06:00 on,
+    for whose answer the program waits until the stretch was read, or at most half a minute."""
+    slow = room.stub("slow", f"""#!/usr/bin/env bash
+if [ "$1" = many ] && grep -qE ' {DAY}-(0[6-9]|1)' "$5"; then
+    for turn in {{1..300}}; do [ -e "$0.read" ] || sleep 0.1; done
+    [ -e "$0.read" ] || touch "$0.late"
+fi
+exec {room.program} "$@"
+""")
+    words = f"--plan examples/relay.txt --from 31 --to 1 --between {DAY}-00:45:00 {DAY}-12:00:00 --csv"
+    how = {"cwd": TOP, "env": {**os.environ, "PYTHONUNBUFFERED": ""}, "stdout": subprocess.PIPE, "stderr": subprocess.DEVNULL, "text": True}
+    with subprocess.Popen(["tools/timetable", "--program", slow, *words.split()], **how) as ran:
+        _, stretch = ran.stdout.readline(), ran.stdout.readline()
+        is_late = os.path.exists(f"{slow}.late")
+        room.file("slow.read")
+        ran.communicate()
+    return [stretch.rstrip("\n"), "after" if is_late else "before"]
 
 
 def plans_compared(room):

@@ -116,7 +116,7 @@ class Shown(Room):
 
     def say(self, command, folder):
         """What a command prints, and its status."""
-        how = {**os.environ, "PATH": f"{folder}/bin:{os.environ['PATH']}", "HOME": folder, "LC_ALL": "C.UTF-8"}
+        how = {**os.environ, "PATH": f"{folder}/bin:{os.environ['PATH']}", "HOME": folder, "LC_ALL": "C.UTF-8", "TMPDIR": self.path}
         further = {"stdin": subprocess.DEVNULL, "stdout": subprocess.PIPE, "stderr": subprocess.STDOUT, "timeout": SECONDS}
         try:
             ran = subprocess.run(["bash", "-c", command], cwd=folder, env=how, **further)

@@ -198,7 +198,7 @@ def _run(tool):
             if Tool.progress:
                 Tool.progress.clear()
             sys.stdout.write(piece)
-        sys.stdout.flush()
+            sys.stdout.flush()  # who reads a pipe has it at once
     except Refused as refused:
         _give_up(refused)
     except BrokenPipeError as error:  # as the signal would end it

@@ -259,13 +259,14 @@ def command(tool):
 
 def write_whole(path, text):
     """Writes a file. If that fails, what stood there stays: a file beside it is written, which then takes its name."""
-    path = os.path.realpath(path)
-    is_special = os.path.exists(path) and not os.path.isfile(path)  # a pipe or a device
+    is_special = os.path.exists(path) and not os.path.isfile(path)  # a pipe or a device, written as it stands
+    path = path if is_special else os.path.realpath(path)
     beside = path if is_special else f"{path}.{os.getpid()}"
     try:
         with open(beside, "w", encoding="utf-8", newline="\n") as file:
             file.write(text)
-        os.replace(beside, path)
+        if not is_special:
+            os.replace(beside, path)
     except OSError as error:
         raise Refused(f"{path}: {error.strerror}", FILE_STATUS) from error
     finally:

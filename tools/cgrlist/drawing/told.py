@@ -47,16 +47,17 @@ def answers_of(program, plan, request, routes, report):
     the command of a report over the plan begins.
     """
     lost = best_without(program, plan, request, routes)
-    listed, others = with_send_by(program, request, routes), iter(with_send_by(program, request, lost.routes()))
+    listed, others = with_send_by(program, request, routes, lost.routes())
+    others = iter(others)
     lost = Lost(*({of: route and next(others) for of, route in found.items()} for found in (lost.contacts, lost.nodes)))
     command = shlex.join([*report, *replace(request, avoid=()).words()])
     return Told(listed, request, lost, program.digest(), starts_of(program, plan, request, routes), command)
 
 
-def with_send_by(program, request, routes):
-    """Routes, the first ones with the last second at the source for their contacts."""
-    (answer,) = program.with_send_by([Answer(tuple(routes[:SEND_BY]), None, request)])
-    return [*answer.routes, *routes[SEND_BY:]]
+def with_send_by(program, request, *lists):
+    """Lists of routes, the first ones of each with the last second at the source for their contacts. All are asked together."""
+    answers = program.with_send_by([Answer(tuple(routes[:SEND_BY]), None, request) for routes in lists])
+    return [[*answer.routes, *routes[SEND_BY:]] for answer, routes in zip(answers, lists)]
 
 
 def starts_of(program, plan, request, routes):

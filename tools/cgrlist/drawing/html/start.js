@@ -111,7 +111,7 @@ addEventListener("hashchange", () => {
 
 surroundings.onchange = () => theme.isChosen || changeTheme(surroundings.matches);
 
-// A print is light, and has all rows that are chosen and the hops of all routes.
+// A print is light, and has all rows that are chosen and the hops of the first routes.
 addEventListener("beforeprint", () => {
   theme.before = theme.isDark;
   isPrinting = true;

@@ -124,11 +124,15 @@ const hideTip = () => showTip(null);
 
 // ---- The list of routes ----
 
+const PRINTED = 100; // so many routes a print lists, with their hops
+
 function listRoutes() {
   const isFocused = document.activeElement.dataset.key; // the list is made anew, and keeps the focus
   byId("count").textContent = headOfList();
   const order = (one, other) => (other === bestThen()) - (one === bestThen()) || one.place - other.place;
-  byId("routes").replaceChildren(...[...allRoutes()].sort(order).map(card));
+  const all = [...allRoutes()].sort(order), shown = all.slice(0, isPrinting ? PRINTED : all.length);
+  const left = all.length - shown.length;
+  byId("routes").replaceChildren(...shown.map(card), left ? element("li", {}, `${count(left, "more route")} not printed`) : "");
   byId("lost").replaceChildren(...(isLosing() ? aboutLoss() : isStarting() ? aboutStart() : []));
   byId("lost").classList.toggle("start", isStarting());
   byId("ask").hidden = Boolean(request || routes.length);
