@@ -185,6 +185,15 @@ def checks_of(part, room, sections):
                 yield Check(f"{part} -k {shlex.quote(title)}", partial(compared, title, wanted, act, given), title)
 
 
+# What a tool tells each ten seconds of how far it is, as it may on a busy machine.
+PROGRESS = r"^\w+: (\d+ routes of \d+ looked at|\d+ of \d+ requests are answered|told up to ).*\n?"
+
+
+def without_progress(text):
+    """A text without the lines that tell how far a tool is."""
+    return re.sub(PROGRESS, "", text, flags=re.M)
+
+
 def parts_of(pattern, text):
     """What a pattern finds in a text, a line each."""
     return "\n".join(re.findall(pattern, text, re.M))

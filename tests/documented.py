@@ -14,7 +14,7 @@ import shutil
 import subprocess
 import sys
 
-from checking import TOP, Room, checks_of
+from checking import TOP, Room, checks_of, without_progress
 
 DOCUMENTS = ["README.md", "examples/README.md", "docs/formats.md", "docs/cgrlist.1"]
 NAMED = ["examples", "tools", "docs", "tests", "completions", "install"]  # what commands name of the clone
@@ -29,9 +29,6 @@ LEFT_OUT = {
 # A command that calls such a program isn't run if it isn't installed, nor one that needs such a module of Python.
 NEEDS = ["parallel"]
 MODULES = {"examples/cluster.py": "distributed"}
-
-# What a tool tells each ten seconds of how far it is, as it may on a busy machine.
-PROGRESS = r"^\w+: (\d+ routes of \d+ looked at|\d+ of \d+ requests are answered|told up to ).*\n"
 
 
 def python_with(modules):
@@ -122,7 +119,7 @@ class Shown(Room):
             ran = subprocess.run(["bash", "-c", command], cwd=folder, env=how, **further)
         except subprocess.TimeoutExpired:
             return f"it had not ended after {SECONDS} seconds\n", 124
-        return re.sub(PROGRESS, "", ran.stdout.decode(errors="replace"), flags=re.M), ran.returncode
+        return without_progress(ran.stdout.decode(errors="replace")), ran.returncode
 
     def found(self, document, commands, answer):
         """What the last of some commands prints, or if no answer is shown that it ends well; or else its status, too."""

@@ -678,6 +678,22 @@ def prints(it, room):
     left_out = it.run("return byId('sheets').lastChild.textContent")
     it.run("dispatchEvent(new Event('afterprint'))")
     yield "links that aren't shown", f"{hidden} more links of the plan not shown", lambda: left_out
+    yield from long_print(it, room)
+
+
+def long_print(it, room):
+    """A print lists the first 100 routes with their hops, and says how many more there are. The list is whole again after it."""
+    asked = ["--from", "1", "--to", "3", "--at", "2030/01/01-00:00:00", "--count", "103"]
+    it.open(room.make("long", "--plan", room.ring_plan(5, 100, "long"), *asked))
+    found = """dispatchEvent(new Event(arguments[0]));
+        const items = [...document.querySelectorAll('#routes li')];
+        return [items.length, document.querySelectorAll('.hops table').length, items[99].querySelector('.rank').textContent];"""
+    printed = it.run(found, "beforeprint")
+    left = it.run("return byId('routes').lastChild.textContent")
+    whole = it.run(found, "afterprint")
+    yield "the first 100 routes are printed", [101, 100, "100"], lambda: printed
+    yield "and how many are not", "3 more routes not printed", lambda: left
+    yield "all are listed after a print", [103, 0, "100"], lambda: whole
 
 
 def links_in(contacts):

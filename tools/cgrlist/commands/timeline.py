@@ -34,8 +34,8 @@ contact of a shown route, or Enter, tells the best route without that contact, a
 made. Further ones, and nodes, can be lost with it; if the page doesn't know the answer, it shows the command that tells.
 The line in the strip below the picture can be dragged: it tells the best route for other seconds at the source, of which
 the program was asked for at most 720. Routes can be saved as CSV, and the picture as SVG. A print has all rows that are
-chosen. The page has at most 1000 routes without --all, the first 100 with `send by`, the last second at the source. Its
-address keeps what is chosen, as H#lost=11&theme=dark.
+chosen, and the first 100 routes. The page has at most 1000 routes without --all, the first 100 with `send by`, the last
+second at the source. Its address keeps what is chosen, as H#lost=11&theme=dark.
 
 Status 0: done. 1: the routes or the names can't be used, or the routes are not of this plan. 2: the words can't be
 used, or the picture is too high. 3: the plan can't be read. 5: a file can't be read, or writing failed. 125: there is
