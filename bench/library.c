@@ -3,7 +3,7 @@
  *     library PLAN FROM TO SECOND WHAT TIMES
  *
  * The plan is read, and one question asked. Then comes, so many times: `best`, a best route, each a minute later than the
- * one before; `change`, a contact added or deleted, and a best route; `once`, the first 1000 routes; `pages`, the same by
+ * one before; `change`, a contact deleted, and a best route; `once`, the first 1000 routes; `pages`, the same by
  * pages of 100. `read` reads the plan and asks no question. */
 #include "cgrlist.h"
 #include <stdio.h>
@@ -30,12 +30,12 @@ static void best(void) {
     request.at += 60;
 }
 
+/* A plan of 20000 contacts takes no more, so contacts are deleted, in the order of their numbers. */
 static void change(void) {
-    static bool stands;
-    uint32_t number;
-    if (stands) must(cgrlist_plan_delete_contact(&plan, request.from, request.to, 1, &number));
-    else must(cgrlist_plan_add_contact(&plan, request.from, request.to, 1, 2, 0, &number));
-    stands = !stands;
+    static uint32_t last;
+    cgrlist_contact contact;
+    while (cgrlist_plan_contact(&plan, ++last, &contact) == CGRLIST_NO) continue;
+    must(cgrlist_plan_delete_contact(&plan, contact.from, contact.to, contact.start, &last));
     ask();
 }
 

@@ -4,7 +4,7 @@
     library.py [PROGRAM] [--library FOLDER] [--only NAME,..] [--out FOLDER] [--times N] [--most-seconds S] [--json FILE]
 
 Over each plan are counted, in millions: reading it and the first question, beside a run of `first`; a best route, beside
-that of `many`, each for the same seconds; a contact added or deleted and a best route after it; and 1000 routes at once, and
+that of `many`, each for the same seconds; a contact deleted and a best route after it; and 1000 routes at once, and
 by pages of 100. What one call takes is the difference of two runs, by the number of calls that one has more. FOLDER is
 library/out if not given, which library/build makes; bench/library.c makes the calls. It needs valgrind and a C compiler.
 """
