@@ -64,11 +64,7 @@ fn write_route(
 }
 
 /// Writes routes, one after another, up to the first that doesn't fit, and returns how many.
-fn write_fitting(
-    routes: &[Route<Global>],
-    rows: &mut [RouteRow],
-    contacts: &mut [u32],
-) -> usize
+fn write_fitting(routes: &[Route<Global>], rows: &mut [RouteRow], contacts: &mut [u32]) -> usize
     ensures written { IsWritten routes.now rows.new contacts.new result }
     ensures rows_len { length rows.new ≡ length rows.old }
     ensures contacts_len { length contacts.new ≡ length contacts.old }

@@ -13,17 +13,19 @@ use sabr_session::{SessionFault, verify};
 use std::alloc::Global;
 
 /// Verifies that bytes are the session text of a place over the plan.
-fn verify_text(
-    alloc: Global,
-    opened: &mut Opened,
-    text: &[u8],
-) -> Result<bool, SessionFault>
+fn verify_text(alloc: Global, opened: &mut Opened, text: &[u8]) -> Result<bool, SessionFault>
     ensures same { opened.new ≡ opened.old }
     ensures verified { Verifies opened.old.plan.plan text.now result }
 {
     let digest = opened.digest();
     let mut reader = Bytes::new(text);
-    verify(alloc, &mut reader, opened.plan(), &digest, Settled::new(alloc))
+    verify(
+        alloc,
+        &mut reader,
+        opened.plan(),
+        &digest,
+        Settled::new(alloc),
+    )
 }
 
 /// Tells whether a text is the session text of a place in the list of its request over the plan.

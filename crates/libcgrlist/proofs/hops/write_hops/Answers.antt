@@ -37,21 +37,21 @@ loop-i-preserved c =
     let hops : List _ = hops_of p r (take i s) in
     let more = take_more s i 0 c.loop-i-test.true in
     let one : hops_of p r (take (i + 1) s) ≡ hops ++ c.in-Some.hop ∷ [] =
-        rw add-one (hops_of-one p r s i 0 c.in-Some.hop c.loop-i-test.true c.loop-i.invariant.path c.in-Some.ensures.good c.in-Some.ensures.hop) in
+    rw add-one (hops_of-one p r s i 0 c.in-Some.hop c.loop-i-test.true c.loop-i.invariant.path c.in-Some.ensures.good c.in-Some.ensures.hop) in
     let path = subst (λ w. IsTrue (is_path p r w)) (sym more) c.in-Some.ensures.path in
     let there = subst (λ w. IsReachedBy p r w c.in-Some.there) (sym more) c.in-Some.ensures.reached in
     let count = ap length one ∙ length-append hops (c.in-Some.hop ∷ []) ∙ ap (λ k. k + 1) c.loop-i.invariant.count in
     elim c.if-i-hops.branch [
       | then-i-hops w ↦ record {
-          path = path;
-          here = rw w.here-is there;
-          written = w.hops-is ∙ put_over-set c.args.hops.now hops c.loop-i.hops c.in-Some.hop i c.loop-i.invariant.written c.loop-i.invariant.count w.if-i-hops.true ∙ ap (put_over c.args.hops.now) (sym one);
-          count = count;
-        }
+        path = path;
+        here = rw w.here-is there;
+        written = w.hops-is ∙ put_over-set c.args.hops.now hops c.loop-i.hops c.in-Some.hop i c.loop-i.invariant.written c.loop-i.invariant.count w.if-i-hops.true ∙ ap (put_over c.args.hops.now) (sym one);
+        count = count;
+      }
       | else-i-hops w ↦ record {
-          path = path;
-          here = rw w.here-is there;
-          written = w.hops-is ∙ put_over-same c.args.hops.now hops c.loop-i.hops c.in-Some.hop i c.loop-i.invariant.written c.loop-i.invariant.count w.if-i-hops.false ∙ ap (put_over c.args.hops.now) (sym one);
-          count = count;
-        }
+        path = path;
+        here = rw w.here-is there;
+        written = w.hops-is ∙ put_over-same c.args.hops.now hops c.loop-i.hops c.in-Some.hop i c.loop-i.invariant.written c.loop-i.invariant.count w.if-i-hops.false ∙ ap (put_over c.args.hops.now) (sym one);
+        count = count;
+      }
     ]

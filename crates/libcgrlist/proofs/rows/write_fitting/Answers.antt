@@ -28,7 +28,7 @@ loop-at-preserved c =
     let a = c.index-routes-at.result in
     let hops : length c.as_slice-hops.result.now ≡ length a.contacts = ap (λ (z : List ℕ). length z) (c.as_slice-hops.ensures ∙ ap (λ (b : RouteRecord). b.contacts) c.route.view_is) in
     let one = one_so_far c.args.routes.now c.loop-at.at a c.loop-at-test.true c.index-routes-at.is c.loop-at.rows c.write_route.new.rows c.loop-at.contacts c.write_route.new.contacts c.loop-at.first c.loop-at.invariant.so_far
-        c.if-rows-at.false (omega (arith, hops, c.if-contacts-first.false, c.loop-at.invariant.so_far.fits)) c.write_route.ensures.rows_len c.write_route.ensures.contacts_len c.write_route.ensures.row c.write_route.ensures.contacts in
+    c.if-rows-at.false (omega (arith, hops, c.if-contacts-first.false, c.loop-at.invariant.so_far.fits)) c.write_route.ensures.rows_len c.write_route.ensures.contacts_len c.write_route.ensures.row c.write_route.ensures.contacts in
     record {
       so_far = rw hops one;
       rows_len = c.write_route.ensures.rows_len ∙ c.loop-at.invariant.rows_len;
