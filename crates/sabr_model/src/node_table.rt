@@ -121,6 +121,7 @@ fn add_node<A: Allocator + Copy>(
 
 /// Notes a contact that is to be added after the others, and returns the indexes of its nodes. Unless both are as guessed,
 /// each is looked up.
+#[inline(always)] // Else a program that also adds contacts by itself takes 5 percent longer to read a plan.
 pub fn note_contact<A: Allocator + Copy>(
     alloc: A,
     table: &mut NodeTable<A>,

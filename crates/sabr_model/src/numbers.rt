@@ -27,6 +27,14 @@ impl<A: Allocator + Copy> Numbers<A> {
         Numbers { items }
     }
 
+    /// Gives back the vector that holds the list, which takes no memory.
+    pub fn into_vec(self) -> Vec<u32, A>
+        ensures { result.items ≡ self }
+    {
+        let Numbers { items } = self;
+        items
+    }
+
     /// The numbers, from the first to the last.
     pub fn as_slice(&self) -> &[u32]
         ensures { result.now ≡ self.now }
