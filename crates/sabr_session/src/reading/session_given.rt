@@ -14,7 +14,7 @@ use sabr_model::{Failed, Plan, Read};
 use sabr_search::BestOf;
 use std::alloc::Allocator;
 
-/// The size of the buffer that the reader fills, in bytes. Not varied in measurements. To vary it: `bench/sessions.py`.
+/// The size of the buffer that the reader fills, in bytes. Not varied in measurements.
 const PIECE_BYTES: usize = 4096;
 
 /// Reads the session that a text spells over a plan, to the end of the text or to its first fault.

@@ -5,7 +5,7 @@ ghost use Rattle.sabr_session.specs.Gathering.{IsEmptyBefore, Puts, Sends};
 use arrayvec::ArrayVec;
 use sabr_model::{Write, WriteFault, write_text};
 
-/// The most bytes that are gathered. Not varied in measurements. To vary it: `bench/sessions.py`.
+/// The most bytes that are gathered. Not varied in measurements.
 const CAPACITY: usize = 4096;
 
 /// A writer, and the bytes of a text that it wasn't handed yet. It takes no memory beyond its array.
