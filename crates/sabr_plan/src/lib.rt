@@ -52,5 +52,5 @@ pub use fault::{PlanFault, PlanKind};
 pub use feed::line_end;
 pub use laws::spelled_plans_obey;
 pub use number::{leading_number, number_within};
-pub use read::read_plan;
+pub use read::{parse_plan, read_plan};
 pub use time::{parse_time, time_text};

@@ -1,8 +1,10 @@
 //! Reading a plan.
 
-ghost use Rattle.std.specs.Prelude.{◌≡◌, ◌+◌, IfErr};
+ghost use Rattle.std.specs.Prelude.{◌≡◌, ◌+◌, IfErr, true};
 ghost use Rattle.sabr_plan.specs.declared.fault.PlanKind.TheVariants as kind;
+ghost use Rattle.sabr_plan.specs.Feeding.{Answers};
 ghost use Rattle.sabr_plan.specs.PlanRead.{ReadsPlan};
+ghost use Rattle.sabr_plan.specs.Reading.{plan_of};
 
 use crate::fault::PlanFault;
 use crate::feed::PlanFeed;
@@ -34,4 +36,17 @@ pub fn read_plan<R: Read, A: Allocator + Copy>(
             Err(Failed) => return Err(feed.failed()),
         }
     }
+}
+
+/// The plan that a text in memory spells, as `read_plan` reads it, without a copy of the text.
+///
+/// # Errors
+///
+/// The first bad line, and of that line the first kind that holds; or `NoMemory`, only if an allocation was refused.
+pub fn parse_plan<A: Allocator + Copy>(alloc: A, text: &[u8]) -> Result<Plan<A>, PlanFault>
+    ensures { Answers (plan_of text.now true) result }
+{
+    let mut feed = PlanFeed::new(alloc);
+    feed.feed(text)?;
+    feed.finish()
 }
