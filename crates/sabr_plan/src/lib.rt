@@ -1,9 +1,9 @@
 //! The plan files of ionrc(5): reading a plan, times, the canonical text of a plan, and its digest.
 //!
-//! [`read_plan`] reads a plan from a reader, and reports the first bad line as a [`PlanFault`]: the number of the line,
-//! from 1, and a [`PlanKind`]. [`canonical`] writes one text for each plan, and [`digest`] is the SHA-256 of that text,
-//! by which a saved session knows its plan. [`parse_time`] and [`time_text`] convert a second from and to
-//! `yyyy/mm/dd-hh:mm:ss`. [`number_within`] reads a decimal number.
+//! [`read_plan`] reads a plan from a reader, and [`parse_plan`] from a text in memory. Both report the first bad line as
+//! a [`PlanFault`]: the number of the line, from 1, and a [`PlanKind`]. [`canonical`] writes one text for each plan, and
+//! [`digest`] is the SHA-256 of that text, by which a saved session knows its plan. [`parse_time`] and [`time_text`]
+//! convert a second from and to `yyyy/mm/dd-hh:mm:ss`. [`number_within`] reads a decimal number.
 //!
 //! **Commands.** `a contact FROM-TIME TO-TIME SENDER RECEIVER RATE`, `a range FROM-TIME TO-TIME NODE NODE LIGHT`,
 //! `d contact TIME SENDER RECEIVER`, `d range TIME NODE NODE`, and `@ TIME`, from which the relative times `+N` of the
@@ -25,7 +25,7 @@
 //! ```ignore
 //! let text = b"a contact 2030/01/01-00:00:00 2030/01/01-00:01:40 1 2 1000\n\
 //!     a range 2030/01/01-00:00:00 2030/01/01-00:16:40 1 2 10\n";
-//! let plan = read_plan(rt.alloc(), &mut Device::new(text.as_slice()))?;
+//! let plan = parse_plan(rt.alloc(), text)?;
 //! assert_eq!(rt; plan.hop(1).and_then(|h| h.light), Some(10));
 //! assert_eq!(rt; parse_time(b"2030/01/01-00:00:00"), Some(1893456000));
 //! ```

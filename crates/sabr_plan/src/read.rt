@@ -38,11 +38,11 @@ pub fn read_plan<R: Read, A: Allocator + Copy>(
     }
 }
 
-/// The plan that a text in memory spells, as `read_plan` reads it, without a copy of the text.
+/// Reads a plan from a text in memory, as [`read_plan`] reads it, without a copy of the text.
 ///
 /// # Errors
 ///
-/// The first bad line, and of that line the first kind that holds; or `NoMemory`, only if an allocation was refused.
+/// The first bad line, and of that line the first kind that applies. `NoMemory` only if an allocation failed.
 pub fn parse_plan<A: Allocator + Copy>(alloc: A, text: &[u8]) -> Result<Plan<A>, PlanFault>
     ensures { Answers (plan_of text.now true) result }
 {
