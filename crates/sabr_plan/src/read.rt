@@ -11,14 +11,15 @@ use crate::feed::PlanFeed;
 use sabr_model::{Failed, Plan, Read};
 use std::alloc::Allocator;
 
-/// Reads the plan that a text spells, to the text's end or up to its first bad line.
+/// Reads a plan, to the text's end or up to its first bad line.
 ///
-/// The text is that of ionrc(5), as far as this project's profile goes. It takes one pass over the text.
+/// The text has the format of ionrc(5), as far as this project's profile goes. It is one pass over the text, in chunks
+/// of 8192 bytes.
 ///
 /// # Errors
 ///
-/// The first bad line, and of that line the first kind that holds. `Read` only if the reader failed, and `NoMemory`
-/// only if an allocation was refused. How many bytes after a bad line were taken from the reader is unspecified.
+/// The first bad line, and of that line the first kind that applies. `Read` only if the reader failed, and `NoMemory`
+/// only if an allocation failed. The number of bytes after a bad line that were taken from the reader is unspecified.
 pub fn read_plan<R: Read, A: Allocator + Copy>(
     alloc: A,
     reader: &mut R,
@@ -37,11 +38,11 @@ pub fn read_plan<R: Read, A: Allocator + Copy>(
     }
 }
 
-/// The plan that a text in memory spells, as `read_plan` reads it, without a copy of the text.
+/// Reads a plan from a text in memory, as [`read_plan`] reads it, without a copy of the text.
 ///
 /// # Errors
 ///
-/// The first bad line, and of that line the first kind that holds; or `NoMemory`, only if an allocation was refused.
+/// The first bad line, and of that line the first kind that applies. `NoMemory` only if an allocation failed.
 pub fn parse_plan<A: Allocator + Copy>(alloc: A, text: &[u8]) -> Result<Plan<A>, PlanFault>
     ensures { Answers (plan_of text.now true) result }
 {
