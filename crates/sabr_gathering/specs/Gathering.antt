@@ -16,7 +16,7 @@ use Rattle.sabr_model.specs.plan.RangeOrder.{place_number}
 use Rattle.sabr_model.specs.plan.Openings.{opening_of}
 use Rattle.sabr_gathering.specs.ChainedPlaces.{AreChained}
 
--- contacts alone and the greatest number given, as a plan without ranges
+-- contacts alone and the largest number assigned, as a plan without ranges
 abbrev pub plan_of_contacts : List Contact → ℕ → ContactPlan
 plan_of_contacts contacts greatest = record { contacts = contacts; ranges = []; greatest = greatest }
 
@@ -40,7 +40,7 @@ contact_buckets contacts = map (λ c. opening_bucket (opening_of c)) contacts
 abbrev pub OpenBy : Opening → List Contact → Type 0
 OpenBy last contacts = AllByRecursion (λ c. opening_number (opening_of c) ≤ opening_number last) contacts
 
--- the first contacts are in chains, and if the contacts rise none opens after the last one
+-- the first contacts are in chains, and if the contacts ascend none opens after the last one
 abbrev pub KnowsSome : List ℕ → List ℕ → Bool → Opening → List Contact → Type 0
 KnowsSome befores lasts rising last contacts = AreChained (contact_buckets contacts) befores lasts × (rising ≡ true → OpenBy last contacts)
 
@@ -64,7 +64,7 @@ plan_of_ranges ranges = record { contacts = []; ranges = ranges; greatest = 0 }
 abbrev pub RangesObey : List Range → Type 0
 RangesObey ranges = IsPlan (plan_of_ranges ranges)
 
--- the ranges in their places, and the latest put among them
+-- the sorted ranges, and the latest put among them
 abbrev pub gathered : List Range → List Range → List Range
 gathered placed late = put_all by_range_key late placed
 

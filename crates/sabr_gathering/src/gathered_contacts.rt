@@ -1,4 +1,4 @@
-//! Contacts that are gathered one by one, for a plan that takes them all at once.
+//! Contacts that are gathered one by one, for a plan that is made of all at once.
 
 ghost use Rattle.std.specs.Prelude.{◌≡◌, ◌<◌, ◌≤◌, ◌+◌, [], None, Some, Err, IfOk, OnOk, OnErr, IsOkUnless, ok_or, unwrap_or};
 ghost use Rattle.std.specs.List.{list_any};
@@ -12,9 +12,9 @@ use sabr_model::{AddFault, Contact, MOST_RECORDS, Opening};
 use std::alloc::{Allocator, Global};
 use std::marker::Model;
 
-/// Contacts that obey the rules of a plan's contacts, by number, and the greatest number that was given.
+/// Contacts that obey the rules of a plan's contacts, by ascending number, and the largest number assigned so far.
 ///
-/// Their openings are known beside them, so that a duplicate is found in one step.
+/// A hash table of their senders, receivers and starts finds a duplicate in O(1) on average.
 #[derive(Drop)]
 pub struct GatheredContacts<A: Allocator + Copy = Global> {
     contacts: Vec<Contact, A>,
@@ -34,7 +34,7 @@ impl<A: Allocator + Copy> Model for GatheredContacts<A> {
 }
 
 impl<A: Allocator + Copy> GatheredContacts<A> {
-    /// Makes an empty value. It takes no memory.
+    /// Makes an empty value. It doesn't allocate.
     pub fn new(alloc: A) -> GatheredContacts<A>
         ensures { result ≡ record { contacts = []; ranges = []; greatest = 0 } }
     {
@@ -45,8 +45,8 @@ impl<A: Allocator + Copy> GatheredContacts<A> {
         }
     }
 
-    /// Adds a contact, as `Plan::add_contact` does, and returns its number: nodes, times in seconds, rate in bytes per
-    /// second, and the same refusals. It takes one step.
+    /// Adds a contact, as `Plan::add_contact` does, and returns its number: nodes, times in seconds since
+    /// 1970-01-01T00:00:00Z, rate in bytes per second, and the same errors. It is O(1) on average.
     #[inline(always)]
     pub fn add(
         &mut self,
@@ -60,11 +60,11 @@ impl<A: Allocator + Copy> GatheredContacts<A> {
         requires to { 0 < to }
         requires end { end ≤ last_time }
 
-        // The first reason to refuse it is the answer. Without one, only memory can be refused.
+        // The first reason to refuse it is returned. Without one, only an allocation can fail.
         ensures refused { (f : AddFault) → contact_refusal self.old from to start end ≡ Some f → result ≡ Err f }
         ensures accepted { contact_refusal self.old from to start end ≡ None → IsOkUnless result NoMemory }
 
-        // It has the next number. A refusal changes nothing.
+        // It has the next number. An error changes nothing.
         ensures number { IfOk result (λ n. n ≡ self.old.greatest + 1) }
         ensures ok { OnOk result (self.new ≡ with_contact self.old (next_contact self.old from to start end rate)) }
         ensures err { OnErr result (self.new ≡ self.old) }
@@ -95,7 +95,7 @@ impl<A: Allocator + Copy> GatheredContacts<A> {
         Ok(number)
     }
 
-    /// Returns why a contact is refused, or none if it isn't.
+    /// Returns the first reason to refuse a contact, or `None`.
     #[cold]
     #[inline(never)]
     fn fault(&self, from: u64, to: u64, start: u64, end: u64) -> AddFault
@@ -113,9 +113,15 @@ impl<A: Allocator + Copy> GatheredContacts<A> {
         self.contacts.iter().any(|c| c.opens(from, to, start))
     }
 
-    /// Deletes the contact with this sender, receiver and start, and returns its number, which is not given again.
+    /// Deletes the contact with this sender, receiver and start, and returns its number, which is never assigned again.
+    /// The start is in seconds since 1970-01-01T00:00:00Z.
     ///
-    /// `NothingToDelete` if there is no such contact; then the contacts stay as they were. It takes no memory.
+    ///
+    /// It doesn't allocate. It is a pass over the contacts.
+    ///
+    /// # Errors
+    ///
+    /// `NothingToDelete` if there is no such contact. Then the contacts stay as they were.
     pub fn delete(&mut self, from: u64, to: u64, start: u64) -> Result<u32, AddFault>
         ensures value { result ≡ ok_or (number_of_opening self.old from to start) NothingToDelete }
         ensures ok { OnOk result (self.new ≡ without_contact self.old from to start) }
@@ -130,7 +136,7 @@ impl<A: Allocator + Copy> GatheredContacts<A> {
         Ok(number)
     }
 
-    /// Returns the contacts by number, and the greatest number that was given. It takes no memory.
+    /// Returns the contacts by ascending number, and the largest number assigned so far. It doesn't allocate.
     pub fn into_contacts(self) -> (Vec<Contact, A>, u32)
         ensures contacts { result.0.items ≡ self.contacts }
         ensures greatest { result.1 ≡ self.greatest }

@@ -1,4 +1,5 @@
-//! The openings of contacts that come one by one. A contact that opens after all others needs no search for a duplicate.
+//! The openings of contacts that come one by one. A contact whose opening is the largest so far needs no search for a
+//! duplicate.
 
 ghost use Rattle.std.specs.Prelude.{◌≡◌, ◌<◌, ◌≤◌, ◌↔◌, [], IsTrue, OnOk, length};
 ghost use Rattle.std.specs.List.{list_any};
@@ -10,18 +11,19 @@ use crate::chains::Chains;
 use sabr_model::{Contact, Opening, comes_by};
 use std::alloc::{AllocError, Allocator};
 
-/// The number of buckets. A chain of the largest plan has five contacts. With 8192, plans of 448 and 1833 contacts take 4 and 2
-/// percent more instructions for one route, and four of 17000 to 20000 contacts 0.3 to 0.8 percent fewer; with 2048, the
-/// small ones take 2 and 1 percent fewer, and the large ones 1 to 2 percent more. To vary it: `bench/figures.py --counts 1
-/// --only grid-8,dense-20,relay-moon-20000,walker-24-20000,dense-60,line-19998`.
+/// The number of buckets. A chain of the largest plan has five contacts. With 8192, plans of 448 and 1833 contacts take
+/// 4 and 2 percent more instructions for one route, and four of 17000 to 20000 contacts 0.3 to 0.8 percent fewer; with
+/// 2048, the small ones take 2 and 1 percent fewer, and the large ones 1 to 2 percent more. To vary it:
+/// `bench/figures.py --counts 1 --only grid-8,dense-20,relay-moon-20000,walker-24-20000,dense-60,line-19998`.
 const BUCKETS: usize = 4096;
 
-/// The last of the openings of contacts, by start, sender and receiver, and chains of the first contacts by buckets.
+/// The largest opening of contacts, by start, sender and receiver, and a hash table of the first contacts.
 ///
-/// While each contact opens after those before it, no chain is made. From the first that doesn't, all are in chains.
+/// While each contact opens after those before it, the table is empty. From the first that doesn't, all contacts are in
+/// the table.
 #[derive(Drop)]
 pub struct KnownOpenings<A: Allocator + Copy> {
-    /// The first contacts in chains by their openings.
+    /// The hash table of the first contacts, by their openings.
     pub chains: Chains<A>,
     /// Whether each contact so far opens after those before it.
     pub rising: bool,
@@ -30,7 +32,7 @@ pub struct KnownOpenings<A: Allocator + Copy> {
 }
 
 impl<A: Allocator + Copy> KnownOpenings<A> {
-    /// The openings of no contact. It takes no memory.
+    /// The openings of no contact. It doesn't allocate.
     pub fn new(alloc: A) -> KnownOpenings<A>
         ensures lasts { result.chains.lasts.items ≡ [] }
         ensures befores { result.chains.befores.items ≡ [] }
@@ -46,8 +48,8 @@ impl<A: Allocator + Copy> KnownOpenings<A> {
         }
     }
 
-    /// Notes the opening of a contact that is to stand after these. Returns false if one of them has it, and None if
-    /// out of memory.
+    /// Notes the opening of a contact that is to come after these. Returns false if one of them has it, and `None` if
+    /// an allocation failed.
     #[inline(always)]
     pub fn note(&mut self, contacts: &[Contact], opening: Opening) -> Option<bool>
         requires { KnowsSome self.old.chains.befores.items self.old.chains.lasts.items self.old.rising self.old.last contacts.now }
@@ -57,12 +59,13 @@ impl<A: Allocator + Copy> KnownOpenings<A> {
             self.last = opening;
             return Some(true);
         }
-        // A copy, so that an opening that comes last needs no place in memory.
+        // A copy, so that an opening that comes last stays in registers.
         let late = opening;
         self.note_in_chain(contacts, &late)
     }
 
-    /// The same, if it may not be the last.
+    /// Notes the opening of a contact that is to come after these, by the hash table. Returns false if one of them has
+    /// it, and `None` if an allocation failed.
     #[cold]
     #[inline(never)]
     fn note_in_chain(&mut self, contacts: &[Contact], opening: &Opening) -> Option<bool>
@@ -109,7 +112,7 @@ fn bucket_of(opening: &Opening) -> usize
     ((mixed >> 44) % 4096) as usize
 }
 
-/// Puts the contacts that are in no chain into theirs.
+/// Adds the contacts that aren't in the hash table.
 fn chain_all<A: Allocator + Copy>(
     chains: &mut Chains<A>,
     contacts: &[Contact],
@@ -132,7 +135,7 @@ fn chain_all<A: Allocator + Copy>(
     Ok(())
 }
 
-/// Returns true if one of the contacts, all in chains, has this opening.
+/// Returns true if one of the contacts, all of which are in the hash table, has this opening.
 fn opens_in_chain(
     contacts: &[Contact],
     befores: &[usize],

@@ -17,7 +17,7 @@ use std::mem;
 #[derive(Drop)]
 pub struct OrderedRanges<A: Allocator + Copy> {
     ranges: Vec<Range, A>,
-    /// Room for merging; its ranges play no part.
+    /// Room for merging. Its contents have no meaning.
     spare: Vec<Range, A>,
 }
 
@@ -34,7 +34,7 @@ impl<A: Allocator + Copy> Model for OrderedRanges<A> {
 }
 
 impl<A: Allocator + Copy> OrderedRanges<A> {
-    /// Makes an empty value. It takes no memory.
+    /// Makes an empty value. It doesn't allocate.
     pub fn new(alloc: A) -> OrderedRanges<A>
         ensures { result ≡ [] }
     {
@@ -44,7 +44,7 @@ impl<A: Allocator + Copy> OrderedRanges<A> {
         }
     }
 
-    /// Takes a list of ranges in order.
+    /// Makes a value of ranges in order.
     pub fn of(alloc: A, ranges: Vec<Range, A>) -> OrderedRanges<A>
         requires { RangesObey ranges.items }
         ensures { result ≡ ranges.items }
@@ -62,7 +62,7 @@ impl<A: Allocator + Copy> OrderedRanges<A> {
         self.ranges.len()
     }
 
-    /// Returns true if one of the ranges overlaps a range of the same ordered pair.
+    /// Returns true if one of the ranges is of the same ordered pair as `range` and overlaps it.
     pub fn overlaps(&self, range: &Range) -> bool
         ensures { result ≡ list_any (overlap range.now) self.now }
     {
@@ -79,7 +79,7 @@ impl<A: Allocator + Copy> OrderedRanges<A> {
         Ok(())
     }
 
-    /// Puts others in their places among these, and leaves none there.
+    /// Merges other ranges into these, and leaves the others empty.
     pub fn take_in(&mut self, others: &mut OrderedRanges<A>) -> Result<(), AllocError>
         requires { AreGathered self.old others.old }
         ensures all { OnOk result (self.new ≡ gathered self.old others.old) }

@@ -7,9 +7,13 @@ use crate::gathered_ranges::GatheredRanges;
 use sabr_model::{NoMemory, Plan};
 use std::alloc::Allocator;
 
-/// Makes the plan of these contacts and ranges, or returns `NoMemory` if memory for its tables is refused.
+/// Makes the plan of these contacts and ranges.
 ///
-/// It takes some steps for each contact and range.
+/// Its time grows with the number of contacts and ranges, and with sorting the ranges that came late.
+///
+/// # Errors
+///
+/// [`NoMemory`] if an allocation for its tables failed.
 pub fn gathered_plan<A: Allocator + Copy>(
     alloc: A,
     contacts: GatheredContacts<A>,

@@ -11,7 +11,7 @@ use Rattle.sabr_plan.specs.declared.command.Target.{Target}
 use Rattle.sabr_plan.specs.declared.command.Target.TheVariants.{Contact, Range}
 use Rattle.sabr_plan.specs.declared.fault.PlanKind.TheVariants.{BadNode, BadNumber}
 use Rattle.sabr_plan.proofs.PlainWords.{plain_one, still_ended, ended_blanks, ended_ahead, no_words, more_words, first_a, no_comment}
-use Rattle.sabr_plan.proofs.swift_line.swift_addition.Goals as goal
+use Rattle.sabr_plan.proofs.fast_line.fast_addition.Goals as goal
 
 -- five words that are operands are an addition
 added : (reference : Option ℕ) (target : Target) (s e x y v : List ℕ) (a : Addition) → time_at reference s ≡ Ok a.start → time_at reference e ≡ Ok a.end → node_of x ≡ Ok a.first → node_of y ≡ Ok a.second → value_of target v ≡ Ok a.value → addition_of reference target (s ∷ e ∷ x ∷ y ∷ v ∷ []) ≡ Ok (Add target a)

@@ -1,4 +1,4 @@
-//! A fast reader of additions, in one pass over a line. It says nothing about other lines.
+//! A fast reader of additions, in one pass over a line. It leaves all other lines to the general reader.
 
 ghost use Rattle.std.specs.Prelude.{◌≡◌, ◌≢◌, ◌∷◌, Ok, Some, IfSome, IsFalse};
 ghost use Rattle.sabr_plan.specs.Numbers.{number_within};
@@ -14,16 +14,16 @@ use crate::number::{leading_digits, leading_number};
 use crate::operand::{Reference, greatest_value};
 use crate::words::is_blank;
 
-/// The bytes of an absolute time.
+/// The number of bytes of an absolute time.
 const TIME_BYTES: usize = 19;
 
-/// The bytes `a contac` as one number, the first of them lowest.
+/// The bytes `a contac` as one number, of which the first byte is the lowest.
 const A_CONTAC: u64 = 0x6361_746e_6f63_2061;
 
-/// The bytes `a range ` as one number, the first of them lowest.
+/// The bytes `a range ` as one number, of which the first byte is the lowest.
 const A_RANGE: u64 = 0x2065_676e_6172_2061;
 
-/// Returns what comes after a byte, if a text begins with it.
+/// Returns the text after a byte, if a text begins with that byte.
 #[inline(always)]
 fn behind(text: &[u8], byte: u8) -> Option<&[u8]>
     requires ended { IsFalse (is_one_line text.now) }
@@ -37,8 +37,8 @@ fn behind(text: &[u8], byte: u8) -> Option<&[u8]>
     Some(&text[1..])
 }
 
-/// Returns a text from its first byte on that is no blank. It is kept apart, since most lines have no blanks but one space
-/// before each word.
+/// Returns a text from its first byte on that is no blank. It is a function of its own, since most lines have one space
+/// before each word, and no other blanks.
 #[cold]
 #[inline(never)]
 fn after_blanks(text: &[u8]) -> &[u8]
@@ -53,7 +53,7 @@ fn after_blanks(text: &[u8]) -> &[u8]
     &text[count..]
 }
 
-/// Returns what comes after the LF, if no word comes before it.
+/// Returns the text after the LF, if only blanks come before it.
 #[inline(always)]
 fn after_end(text: &[u8]) -> Option<&[u8]>
     requires { IsFalse (is_one_line text.now) }
@@ -69,7 +69,7 @@ fn after_end(text: &[u8]) -> Option<&[u8]>
     Some(&end[1..])
 }
 
-/// Returns what comes after the blanks at the front of a text, if there is one.
+/// Returns the text after the blanks at its front, if there is at least one.
 #[inline(always)]
 fn after_gap(text: &[u8]) -> Option<&[u8]>
     requires { IsFalse (is_one_line text.now) }
@@ -88,7 +88,8 @@ fn after_gap(text: &[u8]) -> Option<&[u8]>
     Some(start)
 }
 
-/// Reads a number at the front of a text, after blanks. Returns the number and the text after it.
+/// Reads a number at the front of a text, after blanks. Returns the number and the text after it. `None` means: use the
+/// general reader.
 #[inline(always)]
 fn number_ahead(low: u64, high: u64, text: &[u8]) -> Option<(u64, &[u8])>
     requires { IsFalse (is_one_line text.now) }
@@ -99,7 +100,8 @@ fn number_ahead(low: u64, high: u64, text: &[u8]) -> Option<(u64, &[u8])>
     Some((value, rest))
 }
 
-/// Reads a relative time at the front of a text. Returns the time and the text after it.
+/// Reads a relative time at the front of a text. Returns the time and the text after it. `None` means: use the general
+/// reader.
 #[inline(always)]
 fn relative_front<'a>(reference: &Reference, text: &'a [u8]) -> Option<(u64, &'a [u8])>
     requires { IsFalse (is_one_line text.now) }
@@ -115,7 +117,7 @@ fn relative_front<'a>(reference: &Reference, text: &'a [u8]) -> Option<(u64, &'a
     Some((time, rest))
 }
 
-/// Reads a time at the front of a text. Returns the time and the text after it.
+/// Reads a time at the front of a text. Returns the time and the text after it. `None` means: use the general reader.
 #[inline(always)]
 fn time_front<'a>(
     reference: &Reference,
@@ -136,7 +138,8 @@ fn time_front<'a>(
     Some((time, rest))
 }
 
-/// Reads a time at the front of a text, after blanks. Returns the time and the text after it.
+/// Reads a time at the front of a text, after blanks. Returns the time and the text after it. `None` means: use the
+/// general reader.
 #[inline(always)]
 fn time_ahead<'a>(
     reference: &Reference,
@@ -165,7 +168,8 @@ fn any_target_ahead(line: &[u8]) -> Option<(Target, &[u8])>
     Some((Target::Range, text))
 }
 
-/// The same. Most lines have no blanks but one space before each word.
+/// Returns the target of the addition that a line begins with, and the text after its name. Most lines have one space
+/// before each word, and no other blanks.
 #[inline(always)]
 fn target_ahead(line: &[u8]) -> Option<(Target, &[u8])>
     requires { IsFalse (is_one_line line.now) }
@@ -183,10 +187,10 @@ fn target_ahead(line: &[u8]) -> Option<(Target, &[u8])>
     any_target_ahead(line)
 }
 
-/// Returns the command of a text's first line, if it is an addition that is quick to read, and the text after the line's
-/// LF. None says nothing.
+/// Returns the command of a text's first line, if it is an addition in the usual form, and the text after the line's
+/// LF. `None` means: use the general reader.
 #[inline(always)]
-pub fn swift_addition<'a>(
+pub fn fast_addition<'a>(
     reference: &Reference,
     start_day: &mut KnownDay,
     end_day: &mut KnownDay,

@@ -6,7 +6,7 @@ use Rattle.std.proofs.lemmas.List.{take_all, take-append-drop}
 use Rattle.sabr_plan.specs.Words.{is_blank, is_one_line}
 use Rattle.sabr_plan.specs.PlainWords.{IsAfterBlanks}
 use Rattle.sabr_plan.proofs.PlainWords.{plain_blanks, plain_one, ended_blanks}
-use Rattle.sabr_plan.proofs.swift_line.after_blanks.Goals as goal
+use Rattle.sabr_plan.proofs.fast_line.after_blanks.Goals as goal
 
 go_on : (text : List ℕ) (count : ℕ) → list_all is_blank (take count text) ≡ true → is_one_line text ≡ false → count < length text
 go_on text count all lf = elim (cases_lt count (length text)) [

@@ -1,6 +1,6 @@
 -- A time comes after the blanks.
 use Rattle.sabr_plan.proofs.PlainWords.{ended_ahead}
-use Rattle.sabr_plan.proofs.swift_line.time_ahead.Goals as goal
+use Rattle.sabr_plan.proofs.fast_line.time_ahead.Goals as goal
 
 pub returns-clause-word : goal.returns-clause-word
 returns-clause-word c = record { start = _; gap = c.in_ok-after_gap.ensures.gap; front = c.in_ok-time.ensures }

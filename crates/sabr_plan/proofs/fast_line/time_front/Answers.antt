@@ -2,7 +2,7 @@
 use Rattle.std.proofs.Common.{ap, ◌∙◌}
 use Rattle.sabr_plan.specs.Operands.{time_at}
 use Rattle.sabr_plan.proofs.KnownDays.{graphic_time, time_at-text}
-use Rattle.sabr_plan.proofs.swift_line.time_front.Goals as goal
+use Rattle.sabr_plan.proofs.fast_line.time_front.Goals as goal
 
 pub returns : goal.returns
 returns c =

@@ -1,6 +1,6 @@
 -- A number comes after the blanks.
 use Rattle.sabr_plan.proofs.PlainWords.{ended_ahead, graphic_number}
-use Rattle.sabr_plan.proofs.swift_line.number_ahead.Goals as goal
+use Rattle.sabr_plan.proofs.fast_line.number_ahead.Goals as goal
 
 pub returns-clause-word : goal.returns-clause-word
 returns-clause-word c =

@@ -6,7 +6,7 @@ use borrow.Author.Tests.{le-leb, lt-ltb}
 use Rattle.sabr_plan.specs.Digits.{is_digit, digits_value}
 use Rattle.sabr_plan.specs.Operands.{after_reference, absolute_time, relative_of, time_at}
 use Rattle.sabr_plan.proofs.PlainWords.{graphic_digits, graphic_behind}
-use Rattle.sabr_plan.proofs.swift_line.relative_front.Goals as goal
+use Rattle.sabr_plan.proofs.fast_line.relative_front.Goals as goal
 
 module _ (digits : List ℕ) (some : 0 < length digits) (all : list_all is_digit digits ≡ true) where
   relative : (reference : Option ℕ) → length digits ≤ 12 → time_at reference (43 ∷ digits) ≡ after_reference reference (digits_value digits)

@@ -1,7 +1,7 @@
 use Rattle.std.proofs.Common.{◌≡◌, ◌-◌, ◌≤◌, length, take, true}
 use Rattle.std.specs.List.{list_all}
 use Rattle.sabr_plan.specs.Words.{is_blank}
-use Rattle.sabr_plan.proofs.swift_line.after_blanks.Given as goal
+use Rattle.sabr_plan.proofs.fast_line.after_blanks.Given as goal
 
 abbrev pub invariant-loop-count : goal.invariant-loop-count
 invariant-loop-count l = record {
