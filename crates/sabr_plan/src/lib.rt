@@ -37,6 +37,7 @@ mod eight_digits;
 mod fast_line;
 mod fault;
 mod feed;
+mod gathering;
 mod known_day;
 mod laws;
 mod number;
