@@ -22,10 +22,6 @@ ROWS = [
      ["--contacts", "40", "--shapes", "hub", "--pieces", "7", "--repeats", "1", "--out", "plans"], [0],
      ["hub-40-relative", "hub-40-absolute", "hub-40-aligned", "hub-40-trailing", "hub-40-tabs", "hub-40", "hub-40-relative by 7"]),
     ("the plans of each shape", "plans.py", ["--contacts", "40", "--out", "plans"], [], []),
-    ("each finder lists three routes by four searches after the first", "searching.py", [*OVER_A, "--count", "3", "--repeats", "1"],
-     [1, 2], ["3 4"]),
-    ("a text of 191 bytes is written, read and verified", "sessions.py", [*OVER_A, "--counts", "3", "--repeats", "1"],
-     [1, 2, 3], ["3 3 191"]),
 ]
 # These count instructions.
 COUNTED = [
@@ -56,12 +52,11 @@ def cells_in(text, columns):
 class Benches(Room):
     def __init__(self, asked):
         super().__init__()
-        self.programs = {crate: asked.program(crate) for crate in ("cgrlist", "bench")}
+        self.programs = {"cgrlist": asked.program("cgrlist")}
 
     def made(self, script, words, columns):
         """A script's status, the cells of those columns, and what it tells if it fails, in a folder of its own."""
-        crate = "bench" if script in ("searching.py", "sessions.py") else "cgrlist"
-        program = [] if script == "plans.py" else [self.programs[crate]]
+        program = [] if script == "plans.py" else [self.programs["cgrlist"]]
         with tempfile.TemporaryDirectory(dir=self.path) as folder:
             ran = self.run([f"{TOP}/bench/{script}", *program, *(self.programs.get(it, it) for it in words)], at=folder)
         return ran.status, cells_in(ran.out, columns), ran.err if ran.status else ""
@@ -75,13 +70,5 @@ def scripts(room):
         yield about, (0, wanted, ""), room.made, script, words, columns
 
 
-def refusals(room):
-    asked, path = "1 3 2030/01/01-00:00:00 3", f"{TOP}/examples/a.txt"
-    for words in ("", f"searches settled {path} {asked}", f"search other {path} {asked}", f"search settled {path}",
-                  f"session {path} {asked}", f"session prove {path} {path}", f"session verify {path}"):
-        ran = room.run([room.programs["bench"]], words)
-        yield f"no bench is named by '{words.replace(TOP, '')}'", (2, ""), lambda: (ran.status, ran.out)
-
-
 def checks(asked):
-    return checks_of("benches", Benches(asked), [scripts, refusals])
+    return checks_of("benches", Benches(asked), [scripts])
