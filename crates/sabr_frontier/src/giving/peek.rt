@@ -14,9 +14,10 @@ ghost use Rattle.sabr_frontier.specs.tree.Undo.{IsRoomy};
 
 use crate::giving::asker::Asker;
 use crate::giving::divide::{ask_after, numbers};
-use crate::giving::other_way::goes_otherwise;
+use crate::giving::other_way::{Ending, goes_otherwise};
 use crate::giving::take::floor_of;
 use crate::tree::{Node, NodeId, Tree};
+use sabr_index::Looks;
 use sabr_model::{NoMemory, Route};
 use sabr_search::BestOf;
 use std::alloc::Allocator;
@@ -82,13 +83,17 @@ fn part_goes_on<B: BestOf<A>, A: Allocator + Copy>(
     ensures same { asker.new.asked ≡ asker.old.asked }
 {
     asker.plan().tell_rules();
+    let request = asker.request();
+    request.tell_limits();
     let excluded = part.excluded.as_slice();
+    let ending = Ending { route, excluded };
+    let mut looks = Looks::many();
     if goes_otherwise(
         asker.alloc(),
-        asker.index(),
-        asker.request(),
-        route,
-        excluded,
+        asker.index().counted(),
+        &mut looks,
+        request,
+        ending,
     )? {
         return Ok(true);
     }

@@ -1,8 +1,11 @@
-use Rattle.std.proofs.Common.{◌≡◌, ◌+◌, ◌||◌, false, arith, slice_index, take, drop, subst, sym, ap, ◌∙◌}
-use Rattle.std.specs.Prelude.{IfOk, is_some}
+use Rattle.std.proofs.Common.{◌≡◌, ◌+◌, ◌≤◌, ◌||◌, false, arith, length, slice_index, take, drop, subst, sym, ap, ◌∙◌}
+use Rattle.std.specs.Prelude.{IfOk, IsTrue, is_some}
 use Rattle.std.specs.Cmp.{nat_cmp_total}
 use Rattle.std.specs.List.Sorted.{IsStrictlyIncreasing}
 use Rattle.sabr_model.specs.plan.Plan.{IsPlan, TabledPlan}
+use Rattle.sabr_model.specs.routes.Arrival.{RouteRequest}
+use Rattle.sabr_model.specs.routes.Route.{is_route}
+use Rattle.sabr_model.proofs.RouteLemmas.Paths.{path_facts, route_is_path}
 use Rattle.sabr_search.specs.questions.Bounded.{IsFloor}
 use Rattle.sabr_frontier.specs.tree.Asking.{best_for}
 use Rattle.sabr_frontier.specs.tree.Best.{best_up_to}
@@ -14,15 +17,31 @@ use Rattle.sabr_frontier.proofs.TreeLemmas.TestBoundaries.{increasing}
 use Rattle.sabr_frontier.proofs.TreeLemmas.OtherWays.{goes_on_otherwise}
 use Rattle.sabr_frontier.proofs.giving.peek.part_goes_on.Goals as goal
 
+pub goes_otherwise-requires-clause-route : goal.goes_otherwise-requires-clause-route
+goes_otherwise-requires-clause-route g c =
+    let p = c.args.asker.now.asked.plan in
+    let s = c.args.route.now in
+    subst (λ (t : TabledPlan). IsTrue (is_route t.plan c.request-request.result.now s)) (sym (c.counted.ensures ∙ c.index.ensures))
+    (subst (λ q. IsTrue (is_route p.plan q s)) (sym c.request-request.ensures) c.requires.route)
+
+pub goes_otherwise-requires-clause-few : goal.goes_otherwise-requires-clause-few
+goes_otherwise-requires-clause-few g c =
+    let p = c.args.asker.now.asked.plan.plan in
+    let r = c.args.asker.now.asked.request in
+    let s = c.args.route.now in
+    let within : length s ≤ r.max_hops = (path_facts p r s (route_is_path p r s c.requires.route)).within in
+    let limit : r.max_hops ≤ 20000 = subst (λ (q : RouteRequest). q.max_hops ≤ 20000) c.request-request.ensures c.tell_limits.ensures.hops.1 in
+    omega (arith, within, limit, c.many-looks.ensures)
+
 pub returns-then-branch-clause-ok : goal.returns-then-branch-clause-ok
 returns-then-branch-clause-ok g c =
     let p = c.args.asker.now.asked.plan in
     let r = c.args.asker.now.asked.request in
     let s = c.args.route.now in
     let good : IsPlan p.plan = subst (λ (t : TabledPlan). IsPlan t.plan) c.plan.ensures c.tell_rules.ensures in
-    let over : GoesOtherwise p.plan c.request.result.now s c.as_slice-excluded.result.now =
-    subst (λ (t : TabledPlan). GoesOtherwise t.plan c.request.result.now s c.as_slice-excluded.result.now) c.index.ensures (c.in_ok-goes_otherwise.ensures c.if-branch.true) in
-    let of : GoesOtherwise p.plan r s c.as_slice-excluded.result.now = subst (λ q. GoesOtherwise p.plan q s c.as_slice-excluded.result.now) c.request.ensures over in
+    let over : GoesOtherwise p.plan c.request-request.result.now s c.as_slice-excluded.result.now =
+    subst (λ (t : TabledPlan). GoesOtherwise t.plan c.request-request.result.now s c.as_slice-excluded.result.now) (c.counted.ensures ∙ c.index.ensures) (c.in_ok-goes_otherwise.ensures.yes c.if-branch.true) in
+    let of : GoesOtherwise p.plan r s c.as_slice-excluded.result.now = subst (λ q. GoesOtherwise p.plan q s c.as_slice-excluded.result.now) c.request-request.ensures over in
     let otherwise : GoesOtherwise p.plan r s c.args.part.now.excluded = subst (GoesOtherwise p.plan r s) c.as_slice-excluded.ensures of in
     sym (ap (λ o. part_goes_on (best_up_to p.plan r o) c.args.part.now s) c.requires.unbounded ∙ goes_on_otherwise p.plan r good c.args.part.now s c.requires.next otherwise)
 
