@@ -96,8 +96,11 @@ impl<A: Allocator + Copy> Search<A> {
         let hops = asked.hops_left();
         let before = looks.left();
         let found = self.run(&wide, &kept.reach, looks, hops, asked.bound_left())?;
-        kept.spending.search(before.saturating_sub(looks.left()));
-        let Some(place) = kept.answers.keep(&wide, hops, &found, breadth) else {
+        let spent = before.saturating_sub(looks.left());
+        let place = kept.answers.keep(&wide, hops, &found, breadth);
+        kept.spending.search(spent);
+        kept.widening.count_search(breadth, spent);
+        let Some(place) = place else {
             return Ok(None);
         };
         Ok(kept.answers.recall_at(place, asked, looks))
@@ -201,7 +204,9 @@ impl<A: Allocator + Copy> Search<A> {
         }
         let before = looks.left();
         let found = self.find_own(asked, &kept.reach, looks)?;
-        kept.spending.search(before.saturating_sub(looks.left()));
+        let spent = before.saturating_sub(looks.left());
+        kept.spending.search(spent);
+        kept.widening.count_search(Breadth::Own, spent);
         let answer = asked.answer(self.alloc, looks, &found)?;
         kept.answers.keep_after(asked, &found);
         Ok(answer)

@@ -18,7 +18,7 @@ const TRIES: u32 = 32;
 
 /// If they answered fewer, `PAUSE` questions aren't asked of them. With 0, `relay-moon-2000` took 7 percent more; with 20,
 /// `iridium-6-10` took 20 percent more, and `grid-8` 9 percent fewer.
-const LEAST: u32 = 10;
+const LEAST: u64 = 10;
 
 /// With 1024, `walker-24-5000` took 5 percent more, and `relay-moon-2000` 1 percent fewer.
 const PAUSE: u32 = 128;
@@ -83,6 +83,6 @@ impl Spending {
 
     /// Counts a question that they answered.
     pub fn win(&mut self) {
-        self.tries.win();
+        self.tries.win(1);
     }
 }
