@@ -1,5 +1,5 @@
 -- Why a command ends before its run, the values of commands that have none, and what is left of files.
-use Rattle.std.proofs.Common.{◌≡◌, ◌⊎◌, ℕ, List, [], ◌∷◌, IfOk, IsTrue, Result, Ok, Err, Option, None, Some, Box, box_value, option_map, inr, refl, ap, subst, ◌∙◌}
+use Rattle.std.proofs.Common.{◌≡◌, ℕ, List, [], ◌∷◌, IfOk, IsTrue, Result, Ok, Err, Option, None, Some, Box, box_value, option_map, inr, refl, ap, subst}
 use Rattle.sabr_model.specs.Devices.{Output}
 use Rattle.clap.specs.Words.{subcommand_name_of, subcommand_rows, subcommand_rows_of}
 use Rattle.clap.specs.declared.parser.matches.ArgMatches.{ArgMatches}
@@ -15,7 +15,7 @@ use Rattle.commands.specs.declared.status.Status.TheVariants as status
 use Rattle.commands.specs.runs.Calls.{FailsAtFile, IsUnopened, Opens, StopsBefore}
 use Rattle.commands.specs.runs.Files.{FileRules, KeepsIfDone, Left, LeavesFile, unwritten}
 use Rattle.commands.specs.runs.Program.{Given, named_in}
-use Rattle.commands.specs.words.Paths.{lists_word, path_under, plan_word, session_word}
+use Rattle.commands.specs.words.Paths.{lists_word, plan_word, session_word}
 use Rattle.commands.specs.words.Values.{ValuesRead, command_named, has_lists, has_session, values_of}
 
 -- no value at all

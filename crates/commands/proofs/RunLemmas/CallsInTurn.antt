@@ -1,5 +1,5 @@
 -- Calls in turn print the listing page by page, and leave its session texts at their paths.
-use Rattle.std.proofs.Common.{◌≡◌, ◌≢◌, ℕ, ◌+◌, Bool, true, false, List, [], ◌∷◌, ◌++◌, refl, sym, ap, subst, ◌∙◌, inl, inr, Result, Ok, Err, Option, None, Some, is_some, if◌then◌else◌}
+use Rattle.std.proofs.Common.{◌≡◌, ℕ, ◌+◌, Bool, true, false, List, [], ◌∷◌, ◌++◌, refl, sym, ap, subst, ◌∙◌, inl, inr, Result, Ok, Err, Option, None, Some, is_some, if◌then◌else◌}
 use Rattle.std.specs.Io.KnownBytes.{Appends}
 use Rattle.std.specs.Str.{bytes_eq}
 use Rattle.std.proofs.lemmas.Slice.Eq.{bytes_eq-Decides}
@@ -7,8 +7,6 @@ use Rattle.clap.specs.declared.parser.matches.Found.{Found}
 use Rattle.sabr_model.specs.Devices.{Input, Output, Takes}
 use Rattle.sabr_model.specs.plan.Plan.{ContactPlan, TabledPlan}
 use Rattle.sabr_model.specs.routes.Arrival.{RouteRequest}
-use Rattle.sabr_model.specs.routes.Asking.{IsRequest}
-use Rattle.sabr_plan.specs.Reading.{plan_of}
 use Rattle.sabr_plan.specs.PlanRead.{ReadsPlan}
 use Rattle.sabr_plan.specs.declared.fault.PlanFault.{PlanFault}
 use Rattle.sabr_frontier.specs.listing.State.{State}
@@ -18,15 +16,13 @@ use Rattle.commands.specs.declared.command.CommandName.{CommandName}
 use Rattle.commands.specs.declared.command.CommandName.TheVariants as command
 use Rattle.commands.specs.declared.failure.Failure.{Failure}
 use Rattle.commands.specs.declared.status.Status.TheVariants as status
-use Rattle.commands.specs.words.Paths.{path_under}
-use Rattle.commands.specs.words.Values.{values_of}
-use Rattle.commands.specs.runs.Files.{Left, LeavesFile}
-use Rattle.commands.specs.runs.Calls.{IsMadeWhereKept, RunsCommand, RunsFirst, RunsNext, kept_path}
+use Rattle.commands.specs.runs.Files.{LeavesFile}
+use Rattle.commands.specs.runs.Calls.{IsMadeWhereKept, RunsCommand}
 use Rattle.commands.specs.runs.Runs.{status_at}
 use Rattle.commands.specs.runs.SessionRuns.{WritesFirstPage, WritesNextPage, WritesPage, place_of, text_over}
 use Rattle.commands.specs.runs.NextPage.{place_after, report_from}
-use Rattle.commands.specs.runs.RunsInTurn.{Run, IsDone, IsFirst, IsNext, AreNext, IsPage, ArePages}
-use Rattle.commands.specs.runs.CallsInTurn.{Files, over, files_after, Call, IsDoneCall, Asks, AsksFirst, AsksNext, IsFirstCall, AreNextCalls, files_left, IsPrinted, ArePrinted, CallsInTurn}
+use Rattle.commands.specs.runs.RunsInTurn.{Run, IsDone, IsFirst, IsNext, AreNext, ArePages}
+use Rattle.commands.specs.runs.CallsInTurn.{Files, over, files_after, Call, IsDoneCall, Asks, AsksFirst, AsksNext, IsFirstCall, AreNextCalls, files_left, ArePrinted, CallsInTurn}
 use Rattle.commands.proofs.RunLemmas.RunsInTurn.{never_done, runs_in_turn}
 
 -- ---- files

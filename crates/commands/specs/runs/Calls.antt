@@ -16,7 +16,6 @@ use Rattle.commands.specs.declared.command.CommandName.TheVariants as command
 use Rattle.commands.specs.declared.failure.Failure.{Failure}
 use Rattle.commands.specs.declared.failure.Failure.TheVariants as failure
 use Rattle.commands.specs.declared.status.Status.{Status}
-use Rattle.commands.specs.declared.status.Status.TheVariants as status
 use Rattle.commands.specs.declared.runs.answer_kind.AnswerKind.TheVariants.{FirstRoutes, Explanation}
 use Rattle.commands.specs.declared.words.line_form.LineForm.TheVariants.{Requests, Lists}
 use Rattle.commands.specs.declared.words.requests_fault.RequestsFault.{RequestsFault}

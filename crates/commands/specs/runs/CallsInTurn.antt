@@ -16,7 +16,7 @@ use Rattle.commands.specs.declared.command.CommandName.TheVariants as command
 use Rattle.commands.specs.declared.status.Status.TheVariants as status
 use Rattle.commands.specs.words.CommandLine.{given_by}
 use Rattle.commands.specs.words.Paths.{path_under, plan_word, session_word, session_out_word}
-use Rattle.commands.specs.words.Values.{ValuesRead, values_of}
+use Rattle.commands.specs.words.Values.{values_of}
 use Rattle.commands.specs.runs.Files.{FileRules, Left}
 use Rattle.commands.specs.runs.NextPage.{place_after, report_from}
 use Rattle.commands.specs.runs.Program.{EndsWords, named_in, rows_in}
