@@ -4,5 +4,4 @@ pub mod deadlines;
 pub mod from_goal;
 pub mod latest;
 pub mod nearest;
-pub mod seconds;
 pub mod since;

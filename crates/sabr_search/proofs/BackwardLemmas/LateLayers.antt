@@ -15,7 +15,7 @@ use Rattle.sabr_search.proofs.LevelLemmas.DeadEnds.{dead_at}
 use Rattle.sabr_search.proofs.LevelLemmas.Leaves.{leaves_out_none}
 
 module _ {A : Type 0} (task : SearchTask) (is : IsTask task) (since : List ℕ) (arrivals : AreArrivals task since) (d left : ℕ) (s : Deadlines A)
-    (made : AreLateLayers task since d left s.ends.items s.late s.place.items s.entries.items) (linked : AreLinked s.entries.items s.fewer.items) where
+    (made : AreLateLayers task since d left s.ends.items s.late.items s.place.items s.entries.items) (linked : AreLinked s.entries.items s.fewer.items) where
   -- layer 0 is the goal
   base : (v x : ℕ) → HasDeadline s.ends.items s.entries.items 0 v x → (v ≡ task.goal) × (x ≡ d + 1)
   base v x e =

@@ -40,30 +40,30 @@ head_within task first begin late place entries was v inside = (last_of task fir
 
 -- the lists with one node noted, and what stood before the layer
 pub record AreNoted {A : Type 0} (task : SearchTask) (first begin u x : ℕ) (s t : Deadlines A) : Type 0 where
-  pub lists : AreLate task first begin (slice_set s.late u x) t.place.items t.entries.items
+  pub lists : AreLate task first begin (slice_set s.late.items u x) t.place.items t.entries.items
   pub linked : AreLinked t.entries.items t.fewer.items
   pub kept : take begin t.entries.items ≡ take begin s.entries.items
 
-pub late_noted : {A : Type 0} (task : SearchTask) (first begin : ℕ) (s t : Deadlines A) → AreLate task first begin s.late s.place.items s.entries.items → AreLinked s.entries.items s.fewer.items →
-    (u x : ℕ) → u < length task.table → slice_index_or task.shut u false ≡ false → u ≢ task.goal → slice_index s.late u < x →
+pub late_noted : {A : Type 0} (task : SearchTask) (first begin : ℕ) (s t : Deadlines A) → AreLate task first begin s.late.items s.place.items s.entries.items → AreLinked s.entries.items s.fewer.items →
+    (u x : ℕ) → u < length task.table → slice_index_or task.shut u false ≡ false → u ≢ task.goal → slice_index s.late.items u < x →
     ((t : ℕ) → t < x → (n : ℕ) × (w : ℕ) × (b : ℕ) × Takes task n u t w b × InTimeFor s.entries.items first begin w b) →
-    IsNotedLate (head_of s.late s.place.items u) begin u x s t → AreNoted task first begin u x s t
-late_noted task first begin s t was linked u x inside unshut other later sound (inl here) = elim (cases_eq (slice_index s.late u) 0) [
-  | inl none ↦ absurd (omega (arith, here.0, head_none s.late s.place.items u none))
+    IsNotedLate (head_of s.late.items s.place.items u) begin u x s t → AreNoted task first begin u x s t
+late_noted task first begin s t was linked u x inside unshut other later sound (inl here) = elim (cases_eq (slice_index s.late.items u) 0) [
+  | inl none ↦ absurd (omega (arith, here.0, head_none s.late.items s.place.items u none))
   | inr yes' ↦
-      (let some : 0 < slice_index s.late u = omega (arith, yes') in
-      let head = head_some s.late s.place.items u some in
+      (let some : 0 < slice_index s.late.items u = omega (arith, yes') in
+      let head = head_some s.late.items s.place.items u some in
       let above : begin ≤ slice_index s.place.items u = omega (arith, here.0, head) in
-      let place : head_of s.late s.place.items u - 1 ≡ slice_index s.place.items u = omega (arith, head) in
+      let place : head_of s.late.items s.place.items u - 1 ≡ slice_index s.place.items u = omega (arith, head) in
       let is : t.entries.items ≡ slice_set s.entries.items (slice_index s.place.items u) (record { node = u; before = x }) = here.2 ∙ ap (λ k. slice_set s.entries.items k (record { node = u; before = x })) place in
       record {
-        lists = rw (here.1, is) (changed_late task first begin s.late s.place.items s.entries.items was u x inside unshut other later sound some above);
-        linked = rw (is, here.3) (linked_set s.entries.items (slice_index s.place.items u) u x (slice_index s.late u) (was.top u inside some) s.fewer.items linked);
+        lists = rw (here.1, is) (changed_late task first begin s.late.items s.place.items s.entries.items was u x inside unshut other later sound some above);
+        linked = rw (is, here.3) (linked_set s.entries.items (slice_index s.place.items u) u x (slice_index s.late.items u) (was.top u inside some) s.fewer.items linked);
         kept = rw is (take_set begin s.entries.items (slice_index s.place.items u) (record { node = u; before = x }) above);
       })
 ]
 late_noted task first begin s t was linked u x inside unshut other later sound (inr new) = record {
-  lists = rw (new.1, new.2) (pushed_late task first begin s.late s.place.items s.entries.items was u x inside unshut other later sound (λ some. omega (arith, new.0, head_some s.late s.place.items u some)));
-  linked = rw (new.2, new.3) (linked_push s.entries.items (record { node = u; before = x }) s.fewer.items _ linked (last_of task first begin s.late s.place.items s.entries.items was u inside));
+  lists = rw (new.1, new.2) (pushed_late task first begin s.late.items s.place.items s.entries.items was u x inside unshut other later sound (λ some. omega (arith, new.0, head_some s.late.items s.place.items u some)));
+  linked = rw (new.2, new.3) (linked_push s.entries.items (record { node = u; before = x }) s.fewer.items _ linked (last_of task first begin s.late.items s.place.items s.entries.items was u inside));
   kept = rw new.2 (take_push begin s.entries.items (record { node = u; before = x }) was.begins);
 }

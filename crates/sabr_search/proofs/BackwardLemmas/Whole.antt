@@ -11,7 +11,7 @@ use Rattle.sabr_search.proofs.ForwardLemmas.MadeLayers.{index_past}
 use Rattle.sabr_search.proofs.BackwardLemmas.LateMade.{open_entry}
 use Rattle.sabr_search.proofs.BackwardLemmas.LateNoted.{last_of}
 
-module _ {A : Type 0} (task : SearchTask) (is : IsTask task) (since : List ℕ) (d left : ℕ) (s : Deadlines A) (made : AreBackLayers task since d left s.ends.items s.late s.place.items s.entries.items) where
+module _ {A : Type 0} (task : SearchTask) (is : IsTask task) (since : List ℕ) (d left : ℕ) (s : Deadlines A) (made : AreBackLayers task since d left s.ends.items s.late.items s.place.items s.entries.items) where
   -- no entry is after the last layer
   pub up_to_last : (j v x : ℕ) → HasDeadline s.ends.items s.entries.items j v x → j < left + 1
   up_to_last j v x e = elim (cases_lt left j) [
@@ -36,13 +36,13 @@ module _ {A : Type 0} (task : SearchTask) (is : IsTask task) (since : List ℕ) 
     chained = record {
       many = made.lists.many ∙ sym made.lists.flags;
       linked = linked;
-      last = λ v inside. last_of task _ _ s.late s.place.items s.entries.items made.lists v (omega (arith, inside, made.lists.flags));
+      last = λ v inside. last_of task _ _ s.late.items s.place.items s.entries.items made.lists v (omega (arith, inside, made.lists.flags));
       later = later;
     };
     first_end = made.first_end;
     second_end = made.second_end;
     rising = λ j less. made.rising j (omega (arith, less, made.many));
     goal_first = made.goal_first;
-    unshut = λ p v here. (open_entry task is _ _ s.late s.place.items s.entries.items made.lists p _ here.1).1;
+    unshut = λ p v here. (open_entry task is _ _ s.late.items s.place.items s.entries.items made.lists p _ here.1).1;
     taken = λ j w x n u t b less e by step. made.taken j w x n u t b (within j w x less e) e by step;
   }

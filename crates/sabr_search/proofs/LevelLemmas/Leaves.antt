@@ -96,7 +96,7 @@ level_of whole level first made task prefix asked same requests hops =
 
 -- so they are a level of each that is asked of the plan and the request
 pub is_level : {A : Type 0} (p : TabledPlan) (r : RouteRequest) (whole : SearchTask) (level : Level A) → IsAsked whole [] → tabled_of whole ≡ p → whole.request ≡ r → (0 < level.delivery → IsMadeFor whole level) → IsLevel p r level
-is_level p r whole level first plan request made = λ some task prefix asked same requests. level_of whole level first (made some) task prefix asked (plan ∙ sym same) (request ∙ sym requests)
+is_level p r whole level first plan request made = λ some task prefix asked same requests. record { to = level_of whole level first (made some) task prefix asked (plan ∙ sym same) (request ∙ sym requests) }
 
 module _ {A : Type 0} (task : SearchTask) (is : IsTask task) (d hops : ℕ) (s : Deadlines A) (over : IsLevelOf task d hops s) where
   -- as far as fewer hops

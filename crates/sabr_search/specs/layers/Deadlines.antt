@@ -40,9 +40,9 @@ head_of late place v = if slice_index late v == 0 then 0 else slice_index place 
 
 -- by node its last entry, and by entry the one of its node before it, which is too late sooner
 pub record AreChained {A : Type 0} (s : Deadlines A) : Type 0 where
-  pub many : length s.late ≡ length s.place.items
+  pub many : length s.late.items ≡ length s.place.items
   pub linked : AreLinked s.entries.items s.fewer.items
-  pub last : (v : ℕ) → v < length s.place.items → IsLastBelow s.entries.items v (length s.entries.items) (head_of s.late s.place.items v)
+  pub last : (v : ℕ) → v < length s.place.items → IsLastBelow s.entries.items v (length s.entries.items) (head_of s.late.items s.place.items v)
   pub later : (p q : ℕ) (e f : Deadline) → p < q → slice_get s.entries.items p ≡ Some e → slice_get s.entries.items q ≡ Some f → e.node ≡ f.node → e.before < f.before
 
 -- no entry of node v before `end` may be left at this second or later

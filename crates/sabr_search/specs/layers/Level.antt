@@ -56,9 +56,13 @@ pub record IsLevelOf {A : Type 0} (task : SearchTask) (d hops : ℕ) (s : Deadli
   pub soonest : AreSince task since
   pub begins : slice_index_or whole.shut task.start false ≡ false → slice_index since task.start ≤ task.at
 
--- so it is for each question of the request, if the level has layers
+-- so it is as far as any hops
+pub record IsLevelFor {A : Type 0} (task : SearchTask) (level : Level A) : Type 0 where
+  pub to : (hops : ℕ) → IsLevelOf task level.delivery hops level.layers
+
+-- and for each question of the request, if the level has layers
 abbrev pub IsLevel : {A : Type 0} → TabledPlan → RouteRequest → Level A → Type 0
-IsLevel p r level = 0 < level.delivery → (task : SearchTask) (prefix : List ℕ) → IsAsked task prefix → tabled_of task ≡ p → task.request ≡ r → (hops : ℕ) → IsLevelOf task level.delivery hops level.layers
+IsLevel p r level = 0 < level.delivery → (task : SearchTask) (prefix : List ℕ) → IsAsked task prefix → tabled_of task ≡ p → task.request ≡ r → IsLevelFor task level
 
 -- a way on from each entry in time delivers in time
 abbrev pub AreSound : {A : Type 0} → SearchTask → ℕ → Deadlines A → Type 0

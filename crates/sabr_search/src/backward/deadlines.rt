@@ -3,7 +3,6 @@
 ghost use Rattle.std.specs.Prelude.{◌≡◌, ℕ, ◌<◌, Some, ◌≤◌, ◌+◌, length, slice_get};
 ghost use Rattle.sabr_search.specs.layers.Deadlines.{AreChained, IsLatestWithin, end_within, head_of};
 
-use crate::backward::seconds::Seconds;
 use std::alloc::Allocator;
 
 /// A node of a layer, and the first second that is too late there: whoever leaves it before is at the goal in time.
@@ -19,7 +18,7 @@ pub struct Deadlines<A: Allocator + Copy> {
     /// The allocator of the buffers.
     pub alloc: A,
     /// For each node, the first second that is too late so far.
-    pub late: Seconds<A>,
+    pub late: Vec<u64, A>,
     /// For each node, the place of its last entry; any place if it has none.
     pub place: Vec<usize, A>,
     /// The entries, layer by layer; the first is the goal's.
@@ -35,7 +34,7 @@ impl<A: Allocator + Copy> Deadlines<A> {
     pub fn new(alloc: A) -> Deadlines<A> {
         Deadlines {
             alloc,
-            late: Seconds::new(alloc),
+            late: Vec::new(alloc),
             place: Vec::new(alloc),
             entries: Vec::new(alloc),
             fewer: Vec::new(alloc),
@@ -46,15 +45,17 @@ impl<A: Allocator + Copy> Deadlines<A> {
     /// Returns the place after a node's last entry; 0 if it has none.
     #[inline(always)]
     pub fn head(&self, node: usize) -> usize
-        requires late { node < length self.now.late }
+        requires late { node < length self.now.late.items }
         requires place { node < length self.now.place.items }
-        requires within { head_of self.now.late self.now.place.items node ≤ length self.now.entries.items }
-        ensures { result ≡ head_of self.now.late self.now.place.items node }
+        requires within { head_of self.now.late.items self.now.place.items node ≤ length self.now.entries.items }
+        ensures { result ≡ head_of self.now.late.items self.now.place.items node }
     {
-        if self.late.at(node) == 0 {
+        let late = self.late[node];
+        if late == 0 {
             return 0;
         }
-        self.place[node] + 1
+        let last = self.place[node];
+        last + 1
     }
 
     /// Returns the place after the entries of at most so many hops.

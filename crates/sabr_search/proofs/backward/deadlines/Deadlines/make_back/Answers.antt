@@ -36,7 +36,7 @@ returns-then-is_met-clause-met g c =
     let by = c.is_met.ensures.met c.if-is_met.true in
     let s : Visit = by.1 in
     let step = c.requires.real by.0 s by.2 in
-    λ less. are_met task c.requires.task _ c.requires.arrivals _ c.loop-left.left own made c.loop-left.invariant.linked (met_by task _ _ c.loop-left.left own.ends.items own.late own.place.items own.entries.items made step.0 s.node s.at step.1 by.3)
+    λ less. are_met task c.requires.task _ c.requires.arrivals _ c.loop-left.left own made c.loop-left.invariant.linked (met_by task _ _ c.loop-left.left own.ends.items own.late.items own.place.items own.entries.items made step.0 s.node s.at step.1 by.3)
 
 pub loop-left-preserved : goal.loop-left-preserved
 loop-left-preserved g c =
@@ -50,14 +50,14 @@ loop-left-preserved g c =
     let many : c.len-end.result ≡ length next.entries.items = omega (arith, c.len-end.ensures, next.entries.ok.0) in
     record {
       counted = omega (arith, c.next_back.ensures.counted, c.loop-left.invariant.counted);
-      made = late_next task c.requires.task c.args.aim.now.since.now c.args.aim.now.delivery left old.ends.items old.late old.place.items old.entries.items made.layers
-          c.push.new.self.items next.late next.place.items next.entries.items one.lists one.kept (one.told c.if-not-whole.false)
+      made = late_next task c.requires.task c.args.aim.now.since.now c.args.aim.now.delivery left old.ends.items old.late.items old.place.items old.entries.items made.layers
+          c.push.new.self.items next.late.items next.place.items next.entries.items one.lists one.kept (one.told c.if-not-whole.false)
           (c.in_ok-push.ensures.items ∙ ap (λ xs. xs ++ c.len-end.result ∷ []) same_ends ∙ ap (λ k. old.ends.items ++ k ∷ []) many)
           made.unmet
           (λ w x n b entry by step.
           let s = c.requires.steps n w b step in
           let node : s.1.node ≡ w = s.3 in
-          unmet_by task _ _ left old.ends.items old.late old.place.items old.entries.items made n w b step left x entry (omega (arith, c.is_met.ensures.unmet c.if-is_met.false s.0 s.1 s.2, s.4, ap (slice_index old.late) node)) by);
+          unmet_by task _ _ left old.ends.items old.late.items old.place.items old.entries.items made n w b step left x entry (omega (arith, c.is_met.ensures.unmet c.if-is_met.false s.0 s.1 s.2, s.4, ap (slice_index old.late.items) node)) by);
       linked = one.linked;
     }
 
