@@ -5,11 +5,11 @@ ghost use Rattle.std.specs.Prelude.{◌≡◌, ◌≢◌, ℕ, ◌+◌, ◌*◌,
 ghost use Rattle.sabr_search.specs.questions.Task.{IsTask, never};
 ghost use Rattle.sabr_search.specs.questions.Steps.{received};
 ghost use Rattle.sabr_search.specs.questions.Linked.{IsLinkWithin};
-ghost use Rattle.sabr_search.specs.layers.Deadlines.{IsApart};
+ghost use Rattle.sabr_search.specs.layers.Deadlines.{AreLinked, IsApart, head_of};
 ghost use Rattle.sabr_search.specs.questions.FirstSteps.{AreFirstSteps};
 ghost use Rattle.sabr_search.specs.layers.Settling.{AreReal};
-ghost use Rattle.sabr_search.specs.layers.Late.{InTimeFor, AreLateAfter, IsNotedLate, IsToldTo, IsToldOver, IsToldByHead, IsLayerTold, AreArrivals, StayMet, IsNoneWithin};
-ghost use Rattle.sabr_search.specs.layers.Level.{AreWhole};
+ghost use Rattle.sabr_search.specs.layers.Late.{InTimeFor, AreLateAfter, IsNotedLate, IsToldTo, IsToldOver, IsToldByHead, IsLayerTold, AreArrivals, IsNoneWithin};
+ghost use Rattle.sabr_search.specs.layers.Level.{AreMet, AreWhole};
 
 use crate::backward::deadlines::{Deadline, Deadlines};
 use crate::backward::since::Since;
@@ -38,17 +38,18 @@ impl<A: Allocator + Copy> Deadlines<A> {
     fn note_late(&mut self, entry: Deadline, begin: usize) -> Result<(), NoMemory>
         requires place { entry.node < length self.old.place.items }
         requires late { entry.node < length self.old.late.items }
-        requires placed { 0 < slice_index self.old.late.items entry.node → slice_index self.old.place.items entry.node < length self.old.entries.items }
+        requires placed { head_of self.old.late.items self.old.place.items entry.node ≤ length self.old.entries.items }
         ensures ends { self.new.ends ≡ self.old.ends }
         ensures late { OnOk result (self.new.late.items ≡ slice_set self.old.late.items entry.node entry.before) }
-        ensures noted { OnOk result (IsNotedLate self.old.late.items self.old.place.items self.old.entries.items begin entry.node entry.before self.new.place.items self.new.entries.items) }
+        ensures noted { OnOk result (IsNotedLate (head_of self.old.late.items self.old.place.items entry.node) begin entry.node entry.before self.old self.new) }
     {
-        let at = self.place[entry.node];
-        if self.late[entry.node] > 0 && at >= begin {
-            self.entries[at] = entry;
+        let head = self.head(entry.node);
+        if head > begin {
+            self.entries[head - 1] = entry;
         } else {
             let end = self.entries.len();
             self.entries.push(entry)?;
+            self.fewer.push(head)?;
             self.place[entry.node] = end;
         }
         self.late[entry.node] = entry.before;
@@ -100,9 +101,11 @@ impl<A: Allocator + Copy> Deadlines<A> {
         requires few { length from.passes.now ≤ looks.old.left }
         requires given { (b : ℕ) → b < to.before → InTimeFor self.old.entries.items (slice_index self.old.ends.items left) (slice_index self.old.ends.items (left + 1)) to.node b }
         requires lists { AreLateAfter aim.now.task.now self.old.ends.items left self.old.late.items self.old.place.items self.old.entries.items }
+        requires linked { AreLinked self.old.entries.items self.old.fewer.items }
         ensures ends { self.new.ends ≡ self.old.ends }
         ensures looks { looks.old.left ≤ looks.new.left + length from.entry.passes.now }
         ensures lists { OnOk result (AreLateAfter aim.now.task.now self.old.ends.items left self.new.late.items self.new.place.items self.new.entries.items) }
+        ensures linked { OnOk result (AreLinked self.new.entries.items self.new.fewer.items) }
         ensures kept { OnOk result (take (slice_index self.old.ends.items (left + 1)) self.new.entries.items ≡ take (slice_index self.old.ends.items (left + 1)) self.old.entries.items) }
         ensures rises { OnOk result ((k : ℕ) → slice_index self.old.late.items k ≤ slice_index self.new.late.items k) }
         ensures told { OnOk result (IsToldOver aim.now.task.now aim.now.since.now self.new.late.items from.entry.node from.entry.passes.now to.before) }
@@ -146,10 +149,12 @@ impl<A: Allocator + Copy> Deadlines<A> {
         requires arrivals { length aim.now.since.now ≡ length aim.now.task.now.table }
         requires given { (b : ℕ) → b < to.before → InTimeFor self.old.entries.items (slice_index self.old.ends.items left) (slice_index self.old.ends.items (left + 1)) to.node b }
         requires lists { AreLateAfter aim.now.task.now self.old.ends.items left self.old.late.items self.old.place.items self.old.entries.items }
+        requires linked { AreLinked self.old.entries.items self.old.fewer.items }
         ensures ends { self.new.ends ≡ self.old.ends }
         ensures counted { looks.old.left ≤ looks.new.left + received aim.now.task.now to.node }
         ensures none { IfOk result (λ whole. whole ≡ false → looks.old.left < received aim.now.task.now to.node) }
         ensures lists { OnOk result (AreLateAfter aim.now.task.now self.old.ends.items left self.new.late.items self.new.place.items self.new.entries.items) }
+        ensures linked { OnOk result (AreLinked self.new.entries.items self.new.fewer.items) }
         ensures kept { OnOk result (take (slice_index self.old.ends.items (left + 1)) self.new.entries.items ≡ take (slice_index self.old.ends.items (left + 1)) self.old.entries.items) }
         ensures rises { OnOk result ((k : ℕ) → slice_index self.old.late.items k ≤ slice_index self.new.late.items k) }
         ensures told { IfOk result (λ whole. IsTrue whole → IsToldTo aim.now.task.now aim.now.since.now self.new.late.items to) }
@@ -183,13 +188,14 @@ impl<A: Allocator + Copy> Deadlines<A> {
         requires task { IsTask aim.now.task.now }
         requires arrivals { length aim.now.since.now ≡ length aim.now.task.now.table }
         requires bounded { left + 1 < length self.old.ends.items }
-        requires goal { IfSome (slice_get self.old.entries.items 0) (λ e. e.node ≡ aim.now.task.now.goal) }
         requires apart { IsApart self.old.ends.items self.old.entries.items left }
         requires lists { AreLateAfter aim.now.task.now self.old.ends.items left self.old.late.items self.old.place.items self.old.entries.items }
+        requires linked { AreLinked self.old.entries.items self.old.fewer.items }
         ensures ends { self.new.ends ≡ self.old.ends }
         ensures counted { looks.old.left ≤ looks.new.left + length aim.now.task.now.plan.contacts }
         ensures none { IfOk result (λ whole. whole ≡ false → looks.old.left < length aim.now.task.now.plan.contacts) }
         ensures lists { OnOk result (AreLateAfter aim.now.task.now self.old.ends.items left self.new.late.items self.new.place.items self.new.entries.items) }
+        ensures linked { OnOk result (AreLinked self.new.entries.items self.new.fewer.items) }
         ensures kept { OnOk result (take (slice_index self.old.ends.items (left + 1)) self.new.entries.items ≡ take (slice_index self.old.ends.items (left + 1)) self.old.entries.items) }
         ensures told { IfOk result (λ whole. IsTrue whole → IsLayerTold aim.now.task.now aim.now.since.now self.old.ends.items left self.old.entries.items self.new.late.items) }
     {
@@ -211,6 +217,7 @@ impl<A: Allocator + Copy> Deadlines<A> {
         requires early { delivery < never }
         ensures ends { OnOk result (self.new.ends.items ≡ 0 ∷ 1 ∷ []) }
         ensures entries { OnOk result (self.new.entries.items ≡ record { node = task.now.goal; before = delivery + 1 } ∷ []) }
+        ensures linked { OnOk result (self.new.fewer.items ≡ 0 ∷ []) }
         ensures flags { OnOk result (length self.new.place.items ≡ length task.now.shut) }
         ensures place { OnOk result (slice_index self.new.place.items task.now.goal ≡ 0) }
         ensures many { OnOk result (length self.new.late.items ≡ length task.now.shut) }
@@ -227,6 +234,8 @@ impl<A: Allocator + Copy> Deadlines<A> {
             node: task.goal(),
             before: delivery + 1,
         })?;
+        self.fewer.clear();
+        self.fewer.push(0)?;
         self.ends.clear();
         self.ends.push(0)?;
         self.ends.push(1)?;
@@ -258,7 +267,7 @@ impl<A: Allocator + Copy> Deadlines<A> {
         requires task { IsTask aim.now.task.now }
         requires arrivals { AreArrivals aim.now.task.now aim.now.since.now }
         requires early { aim.now.delivery < never }
-        ensures whole { IfOk result (λ all. IsTrue all → AreWhole aim.now.task.now aim.now.since.now aim.now.delivery self.new.ends.items self.new.entries.items) }
+        ensures whole { IfOk result (λ all. IsTrue all → (most : ℕ) → AreWhole aim.now.task.now aim.now.since.now aim.now.delivery most self.new) }
     {
         self.first_back(aim.task, aim.delivery)?;
         for left in 0..aim.task.shut().len() {
@@ -292,7 +301,7 @@ impl<A: Allocator + Copy> Deadlines<A> {
         ensures counted { looks.old.left ≤ looks.new.left + hops * length aim.now.task.now.plan.contacts }
         ensures within { IfOk result (λ o. IfSome o (λ left. left ≤ hops)) }
         ensures layers { IfOk result (λ o. IfSome o (λ left. left < hops → looks.old.left ≤ looks.new.left + (left + 1) * length aim.now.task.now.plan.contacts)) }
-        ensures met { IfOk result (λ o. IfSome o (λ left. left < hops → StayMet aim.now.task.now aim.now.since.now aim.now.delivery left self.new)) }
+        ensures met { IfOk result (λ o. IfSome o (λ left. left < hops → AreMet aim.now.task.now aim.now.delivery left self.new)) }
         ensures beyond { IfOk result (λ o. IfSome o (λ left. left ≡ hops → IsNoneWithin aim.now.task.now hops aim.now.delivery)) }
         ensures none { IfOk result (λ o. IfNone o (looks.old.left < hops * length aim.now.task.now.plan.contacts)) }
     {
