@@ -59,6 +59,7 @@ PARTS = {
     "instructions": lists.instructions,
     "reading": reading.reading,
 }
+FURTHER = ["limits", "long", "spellings", "many", "pages", "memory"]
 YARDSTICK = os.path.join(TOP, "bench", "yardstick")
 
 
@@ -158,9 +159,6 @@ def add_words_of_parts(words):
     words.add_argument("--pieces", type=plans.numbers, default=[1, 4096, 65536], help="reading: of so many bytes")
     words.add_argument("--library", metavar="FOLDER", default=os.path.join(TOP, "library", "out"))
     words.add_argument("--times", type=int, default=100, help="library: the calls whose difference is taken (100)")
-
-
-FURTHER = ["limits", "long", "spellings", "many", "pages", "memory"]
 
 
 def main(parts):

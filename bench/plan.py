@@ -17,11 +17,11 @@ def text_of(second: int) -> str:
     return time.strftime(TIME_TEXT, time.gmtime(second))
 
 
-def relative(second, _):
+def relative(second: int, _) -> str:
     return f"+{second}"
 
 
-def absolute(second, reference):
+def absolute(second: int, reference: int) -> str:
     return text_of(reference + second)
 
 
@@ -40,24 +40,17 @@ SPELLINGS = {
 }
 
 
-def spelled(record, spelling, reference):
-    """The line of a record, whose times are seconds after the reference."""
-    kind, start, end, *numbers = record
-    time_text, line_of = SPELLINGS[spelling]
-    return line_of(["a", kind, time_text(start, reference), time_text(end, reference), *map(str, numbers)])
-
-
 def respelled(text: str, spelling: str) -> str:
     """A plan's text in another spelling: its lines that add have relative times, one space between words."""
+    time_text, line_of = SPELLINGS[spelling]
     head = [line for line in text.split("\n") if line and not line.startswith("a ")]
     reference = second_of(next(line for line in head if line.startswith("@"))[2:])
-    records = []
-    for kind, start, end, *numbers in re.findall(r"^a (\w+) \+(\d+) \+(\d+) (\d+) (\d+) (\d+)$", text, re.MULTILINE):
-        records.append((kind, int(start), int(end), *numbers))
+    records = re.findall(r"^(a) (\w+) \+(\d+) \+(\d+) (\d+) (\d+) (\d+)$", text, re.MULTILINE)
     if spelling == "shuffled":
         random.Random(1).shuffle(records)
-    lines = [spelled(record, spelling, reference) for record in records]
-    return "".join(f"{line}\n" for line in head + lines)
+    for add, kind, start, end, *numbers in records:
+        head.append(line_of([add, kind, time_text(int(start), reference), time_text(int(end), reference), *numbers]))
+    return "".join(f"{line}\n" for line in head)
 
 
 class Plan:
@@ -94,9 +87,8 @@ class Plan:
         pairs = {tuple(sorted(it[2:4])) for it in self.contacts}
         self.ranges = [it for it in self.ranges if it[0] <= last and tuple(sorted(it[2:4])) in pairs]
 
-    def text(self, spelling="relative", ranges_last=False):
-        records = [[("range", *it) for it in self.ranges], [("contact", *it) for it in self.contacts]]
-        if ranges_last:
-            records.reverse()
-        lines = [spelled(it, spelling, second_of(BEGINS)) for kind in records for it in kind]
-        return "".join(f"{line}\n" for line in [*self.head, f"@ {BEGINS}", *lines])
+    def text(self, ranges_last=False):
+        ranges = [f"a range +{start} +{end} {one} {other} {light}" for start, end, one, other, light in self.ranges]
+        contacts = [f"a contact +{start} +{end} {one} {other} {rate}" for start, end, one, other, rate in self.contacts]
+        lines = contacts + ranges if ranges_last else ranges + contacts
+        return "\n".join([*self.head, f"@ {BEGINS}", *lines, ""])

@@ -129,15 +129,16 @@ def write_spelled(question, spelling, folder):
         return write_text(folder, f"{question.plan()}-{spelling}", respelled(file.read(), spelling))
 
 
-def write_shape(name, spelling, given):
-    """Writes a plan in another spelling, and returns its path. Lines of spread and hub stand in no order at first."""
+def write_drawn(name, spelling, given):
+    """The same of a plan's name. Of spread and hub, lines stand in no order as they are drawn."""
     if name.partition("-")[0] not in SHAPES:
         return write_spelled(write(name, given.out, given.seed)[0], spelling, given.out)
     plan = made(name, given.seed)
-    if spelling != "shuffled":
-        plan.contacts.sort(key=lambda it: it[0])
-        plan.ranges.sort(key=lambda it: it[0])
-    return write_text(given.out, f"{name}-{spelling}", plan.text(spelling, given.ranges_last))
+    if spelling == "shuffled":
+        return write_text(given.out, f"{name}-{spelling}", plan.text(given.ranges_last))
+    for records in (plan.contacts, plan.ranges):
+        records.sort(key=lambda it: it[0])
+    return write_text(given.out, f"{name}-{spelling}", respelled(plan.text(given.ranges_last), spelling))
 
 
 def plan_of(name):
@@ -174,7 +175,7 @@ def main():
     for one in questions(given.only, given.out, given.seed):
         print(f"{one.name:16} {one.source} to {one.target} at {one.at}")
         for spelling in given.spellings:
-            print(write_shape(one.plan(), spelling, given))
+            print(write_drawn(one.plan(), spelling, given))
 
 
 if __name__ == "__main__":

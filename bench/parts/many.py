@@ -27,7 +27,7 @@ class Requests:
 
     def __init__(self, bench, question, folder):
         given, dice = bench.given, random.Random(f"{os.path.basename(question.path)} {bench.given.seed}")
-        self.bench, self.path, self.file = bench, question.path, os.path.join(folder, "requests")
+        self.bench, self.plan, self.path, self.file = bench, question.plan(), question.path, os.path.join(folder, "requests")
         nodes = nodes_of(question.path)
         pairs = [dice.sample(nodes, 2) for _ in range(given.requests)]
         self.all = [Question("", question.path, str(one), str(other), question.at) for one, other in pairs]
@@ -61,7 +61,7 @@ class Requests:
 
     def row(self, count):
         given, (program, native) = self.bench.given, self.bench.programs
-        row = {"plan": os.path.splitext(os.path.basename(self.path))[0], "count": count}
+        row = {"plan": self.plan, "count": count}
         row["many"] = instructions(program.words(self.words(self.all, count)), given.most_seconds)
         first, whole = self.mean(program, count), self.mean(native, count)
         read = instructions(native.words(strangers(self.path).words(1)), given.most_seconds)

@@ -16,10 +16,11 @@ def strangers(path):
 
 
 def texts_of(name, given):
-    """How a plan is given, each with its name and its path: its spellings, and then the pieces of the first one."""
-    paths = [plans.write_shape(name, spelling, given) for spelling in given.spellings or SPELLINGS]
-    whole = [(os.path.splitext(os.path.basename(path))[0], path, None) for path in paths]
-    return whole + [(f"{whole[0][0]} by {piece}", paths[0], piece) for piece in given.pieces]
+    """How a plan is given, each with its name, its path and its pieces: its spellings, and then the first one in pieces."""
+    spellings = given.spellings or list(SPELLINGS)
+    whole = [(f"{name}-{spelling}", plans.write_drawn(name, spelling, given), None) for spelling in spellings]
+    first, path, _ = whole[0]
+    return whole + [(f"{first} by {piece}", path, piece) for piece in given.pieces]
 
 
 def nanoseconds_a_byte(bench, turns, size):
