@@ -5,5 +5,4 @@ pub mod from_goal;
 pub mod latest;
 pub mod nearest;
 pub mod pick;
-pub mod seconds;
 pub mod since;

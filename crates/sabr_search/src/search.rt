@@ -31,7 +31,7 @@ use std::alloc::Allocator;
 const TRIES: u32 = 16;
 
 /// How many of them it must answer. With 4, the same eight took 0.4 percent more, and with 12 they took 0.1.
-const LEAST: u32 = 8;
+const LEAST: u64 = 8;
 
 /// How many such questions begin with layers forward otherwise. With 256, dense-60 took 4 percent more; with 4096 nothing
 /// changed.
@@ -175,7 +175,7 @@ impl<A: Allocator + Copy> Search<A> {
             return Ok(Found::GaveUp);
         };
         if best.hops == 0 {
-            self.settles.win();
+            self.settles.win(1);
             return Ok(Found::Beyond(bound.at_any_hops()));
         }
         let since = Since {
@@ -194,7 +194,7 @@ impl<A: Allocator + Copy> Search<A> {
         if best.hops > hops {
             return self.layers.least_within(&aim, looks, hops, bound);
         }
-        self.settles.win();
+        self.settles.win(1);
         self.layers.least_up_to(&aim, looks, hops, bound)
     }
 }

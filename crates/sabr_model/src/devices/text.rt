@@ -8,7 +8,6 @@ use crate::devices::traits::Write;
 #[derive(Clone, Copy, Debug, PartialEq, Eq)]
 pub struct WriteFault;
 
-///
 /// Writes the whole text, with as many calls of the writer as that takes. It doesn't flush.
 ///
 /// # Errors

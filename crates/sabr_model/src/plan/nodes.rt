@@ -33,7 +33,6 @@ impl<A: Allocator + Copy> Plan<A> {
         }
     }
 
-    ///
     /// Returns the index of a node in the table of nodes, from 0. `None` if the node sends and receives no standing
     /// contact. It is O(1).
     ///
@@ -44,7 +43,6 @@ impl<A: Allocator + Copy> Plan<A> {
         self.table.get_index_of(&node)
     }
 
-    ///
     /// Returns the window, receiver and light time of the standing contact with this number. `None` if the number was
     /// never assigned, or its contact was deleted.
     ///
@@ -58,7 +56,6 @@ impl<A: Allocator + Copy> Plan<A> {
         Some(self.hop_of(place, &self.contacts[place]))
     }
 
-    ///
     /// Returns the number of the contact at an index of [`contacts`](Plan::contacts), and its window, receiver and
     /// light time. The index is below the number of standing contacts.
     ///

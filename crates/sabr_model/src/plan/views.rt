@@ -39,7 +39,6 @@ impl<A: Allocator + Copy> Plan<A> {
         self.greatest
     }
 
-    ///
     /// Returns the standing contact with this number. `None` if the number was never assigned, or its contact was
     /// deleted.
     ///

@@ -6,7 +6,6 @@ use Rattle.std.proofs.lemmas.Option.{slice_get_within}
 use Rattle.sabr_search.specs.declared.backward.deadlines.Deadline.{Deadline}
 use Rattle.sabr_search.specs.questions.Task.{SearchTask, Takes, IsTask}
 use Rattle.sabr_search.specs.layers.Deadlines.{HasDeadline}
-use Rattle.sabr_search.specs.layers.Seconds.{AreNamed}
 use Rattle.sabr_search.specs.layers.Late.{InTimeFor, AreLate, AreTold, IsToldBy, AreBackLayers, AreLateLayers, IsMet}
 use Rattle.sabr_search.proofs.ForwardLemmas.LayerEntries.{same_below}
 use Rattle.sabr_search.proofs.ForwardLemmas.Forward.{last_or_before}
@@ -193,20 +192,6 @@ pub all_zero : (n k : ℕ) → slice_index (replicate n 0) k ≡ 0
 all_zero zero k = refl
 all_zero (suc n) zero = refl
 all_zero (suc n) (suc k) = all_zero n k
-
--- and there still is if some are left out, and others added
-pub zeros_taken : (n m k : ℕ) (xs : List ℕ) → ((i : ℕ) → slice_index xs i ≡ 0) → slice_index (take n xs ++ replicate m 0) k ≡ 0
-zeros_taken zero m k xs none = all_zero m k
-zeros_taken (suc n) m k [] none = all_zero m k
-zeros_taken (suc n) m zero (x ∷ xs) none = none 0
-zeros_taken (suc n) m (suc k) (x ∷ xs) none = zeros_taken n m k xs (λ i. none (suc i))
-
--- where nothing is set no node has to be named
-pub named_none : (seconds : List ℕ) → ((k : ℕ) → slice_index seconds k ≡ 0) → AreNamed seconds []
-named_none seconds none = record {
-  named = λ k on. absurd (omega (arith, on, none k));
-  inside = λ p k at. absurd (omega (arith, slice_get_within [] p k at));
-}
 
 -- the goal alone
 pub back_first : (task : SearchTask) → IsTask task → (since : List ℕ) (d : ℕ) (ends late place : List ℕ) (entries : List Deadline) → ends ≡ 0 ∷ 1 ∷ [] → entries ≡ record { node = task.goal; before = d + 1 } ∷ [] →

@@ -3,7 +3,6 @@
 ghost use Rattle.std.specs.Prelude.{◌≡◌, ◌↔◌, ℕ, ◌+◌, ◌≤◌, ◌<◌, length, slice_index};
 ghost use Rattle.sabr_search.specs.layers.Deadlines.{AreInside, IsInTime, IsApart, ArePointed};
 
-use crate::backward::seconds::Seconds;
 use std::alloc::Allocator;
 
 /// A node of a layer, and the first second that is too late there: whoever leaves it before is at the goal in time.
@@ -19,7 +18,7 @@ pub struct Deadlines<A: Allocator + Copy> {
     /// The allocator of the buffers.
     pub alloc: A,
     /// For each node, the first second that is too late so far.
-    pub late: Seconds<A>,
+    pub late: Vec<u64, A>,
     /// For each node, the place of an entry; any place if it has none.
     pub place: Vec<usize, A>,
     /// The entries, layer by layer; the first is the goal's.
@@ -33,7 +32,7 @@ impl<A: Allocator + Copy> Deadlines<A> {
     pub fn new(alloc: A) -> Deadlines<A> {
         Deadlines {
             alloc,
-            late: Seconds::new(alloc),
+            late: Vec::new(alloc),
             place: Vec::new(alloc),
             entries: Vec::new(alloc),
             ends: Vec::new(alloc),

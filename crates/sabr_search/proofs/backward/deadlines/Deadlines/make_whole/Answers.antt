@@ -20,8 +20,8 @@ loop-left-preserved g c =
     let one = c.in_ok-whole.ensures in
     let same_ends : next.ends.items ≡ old.ends.items = ap (λ v. v.items) c.next_back.ensures.ends in
     let many : c.len-end.result ≡ length next.entries.items = omega (arith, c.len-end.ensures, next.entries.ok.0) in
-    back_next c.args.aim.now.task.now c.requires.task c.args.aim.now.since.now c.args.aim.now.delivery left old.ends.items old.late old.place.items old.entries.items c.loop-left.invariant
-    c.push.new.self.items next.late next.place.items next.entries.items one.lists one.kept (one.told c.if-not-whole.false)
+    back_next c.args.aim.now.task.now c.requires.task c.args.aim.now.since.now c.args.aim.now.delivery left old.ends.items old.late.items old.place.items old.entries.items c.loop-left.invariant
+    c.push.new.self.items next.late.items next.place.items next.entries.items one.lists one.kept (one.told c.if-not-whole.false)
     (c.in_ok-push.ensures.items ∙ ap (λ xs. xs ++ c.len-end.result ∷ []) same_ends ∙ ap (λ k. old.ends.items ++ k ∷ []) many)
 
 pub returns-then-index : goal.returns-then-index
@@ -31,4 +31,4 @@ returns-then-index g c =
     let made = c.loop-left.invariant in
     let empty : slice_index old.ends.items left ≡ slice_index old.ends.items (left + 1) =
     sym (read_at old.ends.items left c.index.result.now (omega (arith, made.many)) c.index.ensures) ∙ c.if-index.true ∙ read_at old.ends.items (left + 1) c.index-in-loop-left.result.now (omega (arith, made.many)) c.index-in-loop-left.ensures in
-    record { whole = λ all. whole_of c.args.aim.now.task.now c.requires.task _ _ left old.ends.items old.late old.place.items old.entries.items made empty }
+    record { whole = λ all. whole_of c.args.aim.now.task.now c.requires.task _ _ left old.ends.items old.late.items old.place.items old.entries.items made empty }

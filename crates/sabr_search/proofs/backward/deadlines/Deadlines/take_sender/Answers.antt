@@ -13,9 +13,10 @@ returns-then-from-since-clause-told g c = λ n t w b has s less unshut other soo
 
 pub returns-then-last-latest-clause-told : goal.returns-then-last-latest-clause-told
 returns-then-last-latest-clause-told g c = λ n t w b has s less unshut other soon.
+    let latest = read_at c.args.self.now.late.items c.args.from.node c.index-latest.result.now (omega (arith, c.requires.node, c.requires.lists.many)) c.index-latest.ensures in
     let sooner : t < c.leave_over-last.result = c.leave_over-last.ensures.full n t w b has s less in
     elim c.then-last-latest.branch [
-      | then-last-latest-via-then-last-latest z ↦ omega (arith, sooner, c.at-latest.ensures, z.if-last-latest.true)
+      | then-last-latest-via-then-last-latest z ↦ omega (arith, sooner, latest, z.if-last-latest.true)
       | then-last-latest-via-else-last-latest+then-last-since z ↦ absurd (omega (arith, sooner, soon, z.if-last-since.true))
     ]
 
@@ -23,27 +24,29 @@ pub note_late-requires-clause-placed : goal.note_late-requires-clause-placed
 note_late-requires-clause-placed g c = λ some.
     let own = c.args.self.now in
     let node = c.args.from.node in
-    slice_get_within own.entries.items (slice_index own.place.items node) (record { node = node; before = slice_index own.late node }) (c.requires.lists.top node c.requires.node some)
+    slice_get_within own.entries.items (slice_index own.place.items node) (record { node = node; before = slice_index own.late.items node }) (c.requires.lists.top node c.requires.node some)
 
 pub returns-clause-lists : goal.returns-clause-lists
 returns-clause-lists g c =
+    let latest = read_at c.args.self.now.late.items c.args.from.node c.index-latest.result.now (omega (arith, c.requires.node, c.requires.lists.many)) c.index-latest.ensures in
     let begin : c.index-begin.result.now ≡ slice_index c.args.self.now.ends.items (c.args.left + 1) = read_at c.args.self.now.ends.items (c.args.left + 1) c.index-begin.result.now c.requires.bounded c.index-begin.ensures in
     rw c.in_ok-note_late.ensures.late
-    ((late_noted c.args.aim.now.task.now (slice_index c.args.self.now.ends.items c.args.left) (slice_index c.args.self.now.ends.items (c.args.left + 1)) c.args.self.now.late c.args.self.now.place.items c.args.self.now.entries.items c.requires.lists
-    c.args.from.node c.leave_over-last.result c.requires.node c.requires.unshut c.requires.other (omega (arith, c.at-latest.ensures, c.if-last-latest.false))
-    (sound_back c.args.aim.now.task.now c.requires.task c.args.from.node c.args.to.node c.at-latest.result c.leave_over-last.result c.args.to.before (slice_index c.args.self.now.ends.items c.args.left) (slice_index c.args.self.now.ends.items (c.args.left + 1)) c.args.self.now.entries.items
+    ((late_noted c.args.aim.now.task.now (slice_index c.args.self.now.ends.items c.args.left) (slice_index c.args.self.now.ends.items (c.args.left + 1)) c.args.self.now.late.items c.args.self.now.place.items c.args.self.now.entries.items c.requires.lists
+    c.args.from.node c.leave_over-last.result c.requires.node c.requires.unshut c.requires.other (omega (arith, latest, c.if-last-latest.false))
+    (sound_back c.args.aim.now.task.now c.requires.task c.args.from.node c.args.to.node c.index-latest.result.now c.leave_over-last.result c.args.to.before (slice_index c.args.self.now.ends.items c.args.left) (slice_index c.args.self.now.ends.items (c.args.left + 1)) c.args.self.now.entries.items
     (λ t from less. c.leave_over-last.ensures.sound t from less) c.if-last-latest.false c.requires.receiver c.requires.given)
     _ _ (rw begin at c.in_ok-note_late.ensures.noted)).0)
 
 pub returns-clause-kept : goal.returns-clause-kept
 returns-clause-kept g c =
+    let latest = read_at c.args.self.now.late.items c.args.from.node c.index-latest.result.now (omega (arith, c.requires.node, c.requires.lists.many)) c.index-latest.ensures in
     let begin : c.index-begin.result.now ≡ slice_index c.args.self.now.ends.items (c.args.left + 1) = read_at c.args.self.now.ends.items (c.args.left + 1) c.index-begin.result.now c.requires.bounded c.index-begin.ensures in
-    (late_noted c.args.aim.now.task.now (slice_index c.args.self.now.ends.items c.args.left) (slice_index c.args.self.now.ends.items (c.args.left + 1)) c.args.self.now.late c.args.self.now.place.items c.args.self.now.entries.items c.requires.lists
-    c.args.from.node c.leave_over-last.result c.requires.node c.requires.unshut c.requires.other (omega (arith, c.at-latest.ensures, c.if-last-latest.false))
-    (sound_back c.args.aim.now.task.now c.requires.task c.args.from.node c.args.to.node c.at-latest.result c.leave_over-last.result c.args.to.before (slice_index c.args.self.now.ends.items c.args.left) (slice_index c.args.self.now.ends.items (c.args.left + 1)) c.args.self.now.entries.items
+    (late_noted c.args.aim.now.task.now (slice_index c.args.self.now.ends.items c.args.left) (slice_index c.args.self.now.ends.items (c.args.left + 1)) c.args.self.now.late.items c.args.self.now.place.items c.args.self.now.entries.items c.requires.lists
+    c.args.from.node c.leave_over-last.result c.requires.node c.requires.unshut c.requires.other (omega (arith, latest, c.if-last-latest.false))
+    (sound_back c.args.aim.now.task.now c.requires.task c.args.from.node c.args.to.node c.index-latest.result.now c.leave_over-last.result c.args.to.before (slice_index c.args.self.now.ends.items c.args.left) (slice_index c.args.self.now.ends.items (c.args.left + 1)) c.args.self.now.entries.items
     (λ t from less. c.leave_over-last.ensures.sound t from less) c.if-last-latest.false c.requires.receiver c.requires.given)
     _ _ (rw begin at c.in_ok-note_late.ensures.noted)).1
 
 pub returns-clause-told : goal.returns-clause-told
 returns-clause-told g c = λ n t w b has s less unshut other soon.
-    rw c.in_ok-note_late.ensures.late (omega (arith, set_here c.args.self.now.late c.args.from.node c.leave_over-last.result (omega (arith, c.requires.node, c.requires.lists.many)), c.leave_over-last.ensures.full n t w b has s less))
+    rw c.in_ok-note_late.ensures.late (omega (arith, set_here c.args.self.now.late.items c.args.from.node c.leave_over-last.result (omega (arith, c.requires.node, c.requires.lists.many)), c.leave_over-last.ensures.full n t w b has s less))
