@@ -587,10 +587,24 @@ def plans_compared(room):
         {"stay": 16, "came": 1, "went": 1, "moved": 1, "changed": 2}, 600, {"start": "2030-01-01T01:00:00Z", "end": "2030-01-01T02:20:00Z"},
         {"change": "moved", "old_rank": 2, "rank": 1, "old_delivery": "2030-01-01T06:27:22Z", "delivery": "2030-01-01T06:27:22Z", "later": 0,
          "contacts": [5, 11, 2], "nodes": [31, 21, 12, 1]}, RELAY_DIGEST), as_json, request, "2"
+    yield "both plans in one picture", "3 as it was, 2 changed, 3 contact, 1 moved, 1 went", lambda: bars_of(
+        compared("--svg", request, "1", "--names", [room.file("names.txt", "31 lander\n")]))
+    yield "the routes over both", ["1 delivery 2030/01/01-06:27:22, contacts 5 11 2", "old 1 delivery 2030/01/01-02:47:22, contacts 4 11 2"], \
+        lambda: ["".join(it) for it in re.findall(r"<text><tspan [^>]*>([^<]*)</tspan>( [^<]*)</text>", compared("--svg", request, "1"))]
+    yield "contacts alone in one picture", "3 as it was, 1 came, 2 changed, 1 contact, 1 moved, 1 went", lambda: bars_of(compared("--svg"))
+    yield "no contact differs in a picture", 1, lambda: compared("--svg", plan="examples/relay.txt").count("no contact differs")
+    yield "no picture of many requests", "compare: --svg has the routes of one request: --from, --to and --at; see --help\nstatus 2", lambda: compared(
+        "--svg --count 1 --requests", [new])
     bad = room.file("bad.txt", "a range +0 +10 1 2 1\n")
     yield "which plan is refused", f"compare: {bad}: plan line 1: NoReference", lambda: compared(plan=bad).partition("\n")[0]
     yield "plans from pipes", "contacts: 4 stay, 0 came, 0 went, 0 moved, 0 changed", lambda: room.run(
         "bash -c", [f"tools/compare --program {room.program} <(cat examples/a.txt) - <examples/a.txt"]).all()
+
+
+def bars_of(picture):
+    """How many bars of a picture of two plans are of which kind."""
+    kinds = re.findall(r'<rect class="bar[^"]*" x=[^>]*><title>[^<]*?(?: s|no light time)(, [^<]*)?</title>', picture)
+    return ", ".join(f"{count} {kind}" for kind, count in sorted(Counter(kind[2:] or "contact" for kind in kinds).items()))
 
 
 COMPARED = """\

@@ -1,6 +1,5 @@
 """A plan that can be asked: each call has a method, and a function of the package with the same name and words."""
 
-import functools
 import os
 from datetime import date, datetime
 from typing import Iterable, Iterator, List, Optional, Sequence, Union
@@ -8,14 +7,13 @@ from typing import Iterable, Iterator, List, Optional, Sequence, Union
 from . import plans
 from .choosing import LOOK, Choice, Judged, judged
 from .errors import WORDS_STATUS, Refused
-from .inprocess import InProcess, library
+from .inprocess import answering
 from .lost import Loss, losses
-from .program import Counts, Program, program_path
+from .program import Counts, program_path
 from .router import Router
 from .routes import Answer, Fault, Request, Route, listed
 from .times import second_of
 from .timetable import Start, Stretch, latest_start, stretches
-from .tool import scratch
 
 PART = 200  # requests that a worker answers at a time
 
@@ -66,8 +64,7 @@ class Plan(plans.Plan):
     def asked(self) -> Router:
         """What answers over the plan."""
         if self._asked is None:
-            found, program = library(_program_path), functools.partial(_program, self.file, self._text)
-            self._asked = InProcess(found, self._text, self.file, program) if found else program()
+            self._asked = answering(_program_path, self._text, self.file)
         return self._asked
 
     def check(self) -> Counts:
@@ -213,15 +210,6 @@ def _joined(text, lines):
 
 def _program_path():
     return program_path(os.environ.get("CGRLIST"))
-
-
-def _program(file, text):
-    """The program over a plan's text, which is that of a file if it has one."""
-    if file is None:
-        file = scratch()
-        with open(file, "wb") as made:
-            made.write(text)
-    return Program(_program_path(), file)
 
 
 def _second(time):

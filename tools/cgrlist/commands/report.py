@@ -106,7 +106,7 @@ def answers_of(asked):
     lines = requests_of(lines_of(asked.words.requests), asked.names, asked.limits)
     if not lines:
         raise Refused(f"there is no request in {asked.words.requests}", WORDS_STATUS)
-    asked.program.check()  # so that a plan is refused once
+    asked.router.check()  # so that a plan is refused once
     listings, progress = [], Progress()
     for answers in in_order(functools.partial(part_answered, asked), parts_of(lines, is_counted(asked.words))):
         for answer in answers:
@@ -122,7 +122,7 @@ def answers_of(asked):
 def part_answered(asked, lines):
     """The answers to some requests of a file, by one run of the program if each has one page and none is refused."""
     requests, add = [line.request for line in lines], adding(asked)
-    pages = asked.program.many(requests, asked.words.count) if is_counted(asked.words) else None
+    pages = asked.router.many(requests, asked.words.count) if is_counted(asked.words) else None
     if pages is None:
         return [(line.request, line_answered(asked, line, add)) for line in lines]
     return [(it.request, listing_of(asked, [it]).read()) for it in add(pages)]
@@ -148,8 +148,8 @@ def losses_table(asked):
     """A table of the contacts of the shown routes: the best route if each is lost."""
     request, plan = asked.request(), asked.plan_after_check
     routes = listing_of(asked, pages_of(asked, request)).routes()
-    best = next((route for route in routes if route.rank == 1), None) or next(iter(asked.program.first(request, 1)), None)
-    rows = [loss_row(it, plan, best) for it in losses(asked.program, plan, request, routes)]
+    best = next((route for route in routes if route.rank == 1), None) or next(iter(asked.router.first(request, 1)), None)
+    rows = [loss_row(it, plan, best) for it in losses(asked.router, plan, request, routes)]
     asked.tell_hints([request])
     return Table(LOSS, [rows], asked.spelling, "lost", lambda: about(asked.spelling, plan, request))
 

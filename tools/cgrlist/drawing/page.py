@@ -7,7 +7,6 @@ style and script lets a browser refuse anything else.
 import base64
 import hashlib
 import html
-import itertools
 import json
 from pathlib import Path
 
@@ -72,15 +71,19 @@ class Page:
         }
 
     def _starts_data(self):
-        """The best routes by the second at the source, each with how many seconds have it, one after the other."""
-        it = self._told.starts
-        if it is None:
+        """The best routes by the second at the source: of each stretch how many seconds are before it and how many follow its
+        first one, the place of its route, how long that takes from the first one, and 1 if it rises.
+        """
+        starts = self._told.starts
+        if starts is None:
             return None
-        runs, routes = [], Places(dict.fromkeys(filter(None, it.routes)))
-        for route, seconds in itertools.groupby(it.routes):
-            runs.append([len([*seconds]), -1 if route is None else routes.of(route)])
-        routes = [self._route_data(route) for route in routes.values]
-        return {"first": self._second(it.first), "step": it.step, "runs": runs, "routes": routes}
+        places, rows, end = Places(it.contacts for it in starts.routes), [], starts.stretches[0].first
+        for it in starts.stretches:
+            told = [places.of(it.route.contacts), it.delivery - it.first, int(it.rises)] if it.route else []
+            rows.append([it.first - end, it.last - it.first, *told])
+            end = it.last + 1
+        first, routes = self._second(starts.stretches[0].first), map(self._route_data, starts.routes)
+        return {"first": first, "stretches": rows, "routes": [*routes]}
 
     def _command_data(self):
         """The command that asks the program for more."""
