@@ -559,6 +559,34 @@ exec {room.program} "$@"
     return [stretch.rstrip("\n"), "after" if is_late else "before"]
 
 
+def a_testers_hour(room):
+    """A router's choices for each minute from midnight on. It takes the best route but in three ways: some seconds it keeps contact
+    4 after that has ended, some it forgets the last hop, and some it takes the second route, which delivers later."""
+    seconds = [f"2030/01/01-{minute // 60:02}:{minute % 60:02}:00" for minute in range(1000)]
+    requests = room.file("requests", "".join(f"31 1 {second}\n" for second in seconds))
+    told = room.run([room.program], "many --plan examples/relay.txt --count 2 --requests", [requests]).out
+    answers = [re.findall(r"delivery (\S+) .* contacts (.*)", part) for part in told.split("request ")[1:]]
+    wrong, lines = {}, []
+    for place, (second, (best, *others)) in enumerate(zip(seconds, answers), 1):
+        contacts = best[1]
+        if place % 97 == 5 and second > f"{DAY}-02:20:00":
+            wrong[place], contacts = "hop 1: TooLate", "4 11 2"
+        elif place % 101 == 7:
+            wrong[place], contacts = "WrongEnd", contacts.rpartition(" ")[0]
+        elif place % 89 == 11 and others and others[0][0] > best[0]:
+            wrong[place], contacts = "", others[0][1]
+        lines.append(f"{contacts.replace(' ', ',')} 31 1 {second}\n")
+    ran = room.ask("report --plan examples/relay.txt --csv --wrong --exit-code --choices", [room.file("thousand", "".join(lines))])
+    found = {int(line.split(",")[0]): line.rpartition(",")[2] for line in ran.out.splitlines()[1:]}
+    late = sum(fault == "" for fault in wrong.values())
+    yield "a tester's hour: a thousand choices", 1000, lambda: len(lines)
+    yield "it is wrong in three ways", ["", "WrongEnd", "hop 1: TooLate"], lambda: sorted(set(wrong.values()))
+    yield "each wrong choice is named, and no other", wrong, lambda: found
+    yield "the counts and the status", (
+        f"report: of 1000 choices {len(wrong) - late} are no routes, and {late} deliver more than 0 s after the best\n", 1), lambda: (
+        without_progress(ran.err), ran.status)
+
+
 def plans_compared(room):
     """A pass of the lander over the high relay is ten minutes later, that relay's pass to the south is gone, the low relay's have
     another rate, and a contact came. Without the high relay's pass, routes 2 and 3 come first."""
@@ -932,4 +960,4 @@ digest {RELAY_DIGEST}"""
 def checks(asked):
     return checks_of("answers", Tools(asked.program("cgrlist")), [
         latest_seconds, versions_and_environments, refusals, reports, reports_that_are_read, times_and_names, hops_and_room, many_routes,
-        a_planners_questions, plans_compared, many_requests, hints, programs_of_clones, plans_judged_alike, refused_plans, plans_checked])
+        a_planners_questions, a_testers_hour, plans_compared, many_requests, hints, programs_of_clones, plans_judged_alike, refused_plans, plans_checked])

@@ -19,6 +19,7 @@ PART = 200  # requests that a worker answers at a time
 
 Node = Union[int, str]  # a number or a name
 Time = Union[int, str, datetime, date]
+Limit = Union[int, str, None, Iterable[Node]]  # of a margin or of hops, or nodes to avoid
 Source = Union[Node, Request]  # a source, or a whole request
 
 
@@ -82,19 +83,17 @@ class Plan(plans.Plan):
 
     # ---- Requests ----
 
-    def request(self, source: Source, destination: Optional[Node] = None, at: Optional[Time] = None, *,
-                margin_ppm: Optional[int] = None, max_hops: Optional[int] = None,
-                avoid: Union[Node, Iterable[Node]] = ()) -> Request:
-        """A request. Nodes may be numbers or names, as texts too; those to avoid are any number of them, one number, or a
-        text in which commas join them. Refused if there is no such node or time.
+    def request(self, source: Source, destination: Optional[Node] = None, at: Optional[Time] = None, **limits: Limit) -> Request:
+        """A request, with the limits `margin_ppm`, `max_hops` and `avoid`. Nodes may be numbers or names, as texts too; those to
+        avoid are any number of them, one number, or a text in which commas join them. Refused if there is no such node or time.
         """
         if isinstance(source, Request):
-            if (destination, at, margin_ppm, max_hops, avoid) != (None, None, None, None, ()):
+            if destination is not None or at is not None or limits:
                 raise TypeError("a Request has all parts of a request")
             return source
         ends = self._node(source), self._node(destination)
-        avoided = tuple(sorted(map(self._node, listed(avoid))))
-        return Request(*ends, _second(at), margin_ppm, max_hops, avoided)
+        avoided = tuple(sorted(map(self._node, listed(limits.pop("avoid", ())))))
+        return Request(*ends, _second(at), avoid=avoided, **limits)
 
     def routes(self, source: Source, destination: Optional[Node] = None, at: Optional[Time] = None, **limits) -> Iterator[Route]:
         """All routes of a request, best first, with their nodes and without their hops, as an iterator.

@@ -45,6 +45,7 @@ no program. Any other status is the program's.
 
 import os
 import shlex
+import sys
 from dataclasses import replace
 
 from ..drawing.axis import Span
@@ -237,7 +238,8 @@ def contact_row(it):
 
 def write_page(asked, view, routes):
     """Writes the page into its file."""
-    text = Page(view, asked.plan, asked.lost, told_of(asked, routes)).html()
+    made_by = shlex.join([command("timeline"), *sys.argv[1:]])
+    text = Page(view, asked.plan, asked.lost, replace(told_of(asked, routes), made_by=made_by)).html()
     if asked.words.html == "-":
         return text
     write_whole(asked.words.html, text)

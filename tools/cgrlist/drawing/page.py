@@ -11,6 +11,8 @@ import json
 from pathlib import Path
 
 from ..plans import links_of
+from ..times import iso_text, time_of
+from ..version import VERSION
 
 FOLDER = Path(__file__).resolve().parent / "html"
 # In the order in which they run.
@@ -106,11 +108,13 @@ class Page:
         return ends.union(*self._links)
 
     def _made(self):
-        """From what the answers are."""
+        """When and by which command the page was made, and from what the answers are."""
+        by = f": {self._told.made_by}" * bool(self._told.made_by)
+        made = f"Made {iso_text(time_of('now'))} by cgrlist {VERSION}{by}."
         if self._told.request is None:
             told = ["The routes are those of an explanation."] if self._told.routes else []
-            return " ".join([*told, *(f"{it}." for it in self._view.remarks)])
-        return f"The answers are those of cgrlist over the plan with this digest: {self._told.digest}"
+            return " ".join([*told, *(f"{it}." for it in self._view.remarks), made])
+        return f"{made} The answers are those of cgrlist over the plan with this digest: {self._told.digest}"
 
     def _plan_data(self):
         """The nodes, the links and the contacts."""

@@ -25,7 +25,7 @@ class Told:
     """What a page tells, besides the plan: a request with its routes, and the best routes without parts of them.
 
     Without a request, the routes are some that were explained before. `digest` is that of the plan, as the program tells
-    it. `command` asks for more, and without a request for a page with routes.
+    it. `command` asks for more, and without a request for a page with routes; `made_by` made the page.
     """
 
     routes: List[Route]
@@ -34,6 +34,7 @@ class Told:
     digest: Optional[str] = None
     starts: Optional[Starts] = None
     command: str = ""
+    made_by: str = ""
 
     def all_others(self):
         """All routes besides those that are listed."""
