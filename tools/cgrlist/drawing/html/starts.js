@@ -56,12 +56,16 @@ function routeOf({ route }, second) {
   return routes.find((it) => told(it.hops) === told(hops)) ?? { ...route, hops, delivery: here, sendBy: null };
 }
 
-// Moves the line to the nearest second that is known. At the request's own second nothing is chosen.
-function startAt(second) {
+// Moves the line to the nearest second that is known. At the request's own second nothing is chosen. While the line is
+// dragged, the list of routes stays as it is.
+function startAt(second, isDragged = false) {
   if (!isStarting()) startOver();
   const found = knownSecond(second);
   chosen.start = found === request.at ? null : found;
-  change();
+  if (!isDragged) return change();
+  byId("lost").replaceChildren(...(isStarting() ? aboutStart() : []));
+  layOut();
+  draw();
 }
 
 // ---- How it is drawn ----
@@ -157,11 +161,13 @@ const secondUnder = (event) => secondAt(event.offsetX);
 table.onpointerdown = (event) => {
   table.setPointerCapture(event.pointerId);
   startAt(secondUnder(event));
-  table.onpointermove = (moved) => startAt(secondUnder(moved));
+  table.onpointermove = (moved) => startAt(secondUnder(moved), true);
 };
 
 table.onpointerup = table.onpointercancel = () => {
   table.onpointermove = null;
+  change();
+  bringIntoView();
 };
 
 // Arrows move the line by a hundredth of the view, and Page Up and Page Down to the next stretch and the one before.
@@ -177,14 +183,8 @@ table.onkeydown = (event) => {
   if (!(event.key in seconds)) return;
   event.preventDefault();
   startAt(seconds[event.key]);
-  showStart();
+  bringIntoView();
 };
-
-// Brings the line into view.
-function showStart() {
-  const second = startSecond(), half = (view.last - view.first) / 2;
-  if (second < view.first || second > view.last) showSpan(second - half, second + half);
-}
 
 // What a screen reader is told of the line.
 function tellStart() {
