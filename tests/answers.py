@@ -1,6 +1,7 @@
 """Tries the tools that ask the program: over the worked plans, with answers that were worked out by hand, and over stubs in
 place of the program."""
 
+import functools
 import gzip
 import hashlib
 import json
@@ -559,10 +560,52 @@ exec {room.program} "$@"
     return [stretch.rstrip("\n"), "after" if is_late else "before"]
 
 
+def in_process(room):
+    """Where there is a library, tools ask it, and print what they print of the program."""
+    library = f"{TOP}/library/out/libcgrlist.so.1"
+    if not os.path.exists(library):
+        print(f"answers: in process: left out, there is no {library}")
+        return
+    ends = "--plan examples/relay.txt --from 31 --to 1"
+    choices = room.file("chosen", "4,11,2\n5,12,2\n1,3\n")
+    for words in (
+        f"timetable {ends} --between 2030-01-01 2030-01-02 --csv", f"latest {ends} --by 2030-01-01T20:00:00Z", f"latest {ends} --by 2030-01-01",
+        f"report {ends} --at 2030-01-01 --count 3 --hops --send-by --json", f"report {ends} --at 2030-01-01 --count 3 --lost",
+        f"report {ends} --at 2030-01-01 --by 2030-01-01T18:00:00Z", f"report {ends} --at 2030-01-01 --distinct nodes --count 5 --without 4",
+        f"report {ends} --at 2030-01-01 --choices {choices}", f"report {ends} --at 2030-01-01 --count 3 --max-hops 0",
+        f"timeline {ends} --at 2030-01-01 --count 3", "compare examples/relay.txt examples/a.txt --from 1 --to 3 --at 2030-01-01 --count 2",
+    ):
+        yield f"in process: {words.replace(choices, 'G')}", "the same", lambda words=words: the_same(*(
+            room.run(f"tools/{words}", CGRLIST=room.program, **how).all() for how in ({"CGRLIST_LIBRARY": library}, {"CGRLIST_IN_PROCESS": "0"})))
+    nothing = {"CGRLIST": "/none", "CGRLIST_LIBRARY": library}
+    yield "in process, no program is asked", FIRST.splitlines()[0], lambda: last_of(room.run(
+        "tools/latest --plan examples/a.txt --from 1 --to 3 --by 2030-01-01T00:00:15Z", **nothing).out)
+    yield "a program that is named is asked", "status 125", lambda: last_of(room.run(
+        "tools/latest --program /none --plan examples/a.txt --from 1 --to 3 --by 2030-01-01T00:00:15Z", **nothing).all())
+
+
+def the_same(one, other):
+    return "the same" if one == other else (one, other)
+
+
 def a_testers_hour(room):
     """A router's choices for each minute from midnight on. It takes the best route but in three ways: some seconds it keeps contact
     4 after that has ended, some it forgets the last hop, and some it takes the second route, which delivers later."""
-    seconds = [f"2030/01/01-{minute // 60:02}:{minute % 60:02}:00" for minute in range(1000)]
+    tried = functools.cache(lambda: judged_choices(room))
+    yield "a tester's hour: wrong in three ways", ["", "WrongEnd", "hop 1: TooLate"], lambda: sorted(set(tried()[0].values()))
+    yield "a tester's hour: each wrong choice is named, and no other", True, lambda: tried()[0] == tried()[1] or tried()
+    yield "a tester's hour: the counts and the status", True, lambda: (
+        lambda wrong, _, said, status: (said, status) == (wrong_text(wrong), 1) or (said, status))(*tried())
+
+
+def wrong_text(wrong):
+    late = sum(fault == "" for fault in wrong.values())
+    return f"report: of 1000 choices {len(wrong) - late} are no routes, and {late} deliver more than 0 s after the best\n"
+
+
+def judged_choices(room):
+    """The fault of each wrong choice by its line, empty for a late one; those that are named; what is said; and the status."""
+    seconds = [f"{DAY}-{minute // 60:02}:{minute % 60:02}:00" for minute in range(1000)]
     requests = room.file("requests", "".join(f"31 1 {second}\n" for second in seconds))
     told = room.run([room.program], "many --plan examples/relay.txt --count 2 --requests", [requests]).out
     answers = [re.findall(r"delivery (\S+) .* contacts (.*)", part) for part in told.split("request ")[1:]]
@@ -578,13 +621,7 @@ def a_testers_hour(room):
         lines.append(f"{contacts.replace(' ', ',')} 31 1 {second}\n")
     ran = room.ask("report --plan examples/relay.txt --csv --wrong --exit-code --choices", [room.file("thousand", "".join(lines))])
     found = {int(line.split(",")[0]): line.rpartition(",")[2] for line in ran.out.splitlines()[1:]}
-    late = sum(fault == "" for fault in wrong.values())
-    yield "a tester's hour: a thousand choices", 1000, lambda: len(lines)
-    yield "it is wrong in three ways", ["", "WrongEnd", "hop 1: TooLate"], lambda: sorted(set(wrong.values()))
-    yield "each wrong choice is named, and no other", wrong, lambda: found
-    yield "the counts and the status", (
-        f"report: of 1000 choices {len(wrong) - late} are no routes, and {late} deliver more than 0 s after the best\n", 1), lambda: (
-        without_progress(ran.err), ran.status)
+    return wrong, found, without_progress(ran.err), ran.status
 
 
 def plans_compared(room):
@@ -960,4 +997,4 @@ digest {RELAY_DIGEST}"""
 def checks(asked):
     return checks_of("answers", Tools(asked.program("cgrlist")), [
         latest_seconds, versions_and_environments, refusals, reports, reports_that_are_read, times_and_names, hops_and_room, many_routes,
-        a_planners_questions, a_testers_hour, plans_compared, many_requests, hints, programs_of_clones, plans_judged_alike, refused_plans, plans_checked])
+        a_planners_questions, in_process, a_testers_hour, plans_compared, many_requests, hints, programs_of_clones, plans_judged_alike, refused_plans, plans_checked])

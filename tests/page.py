@@ -478,7 +478,7 @@ def mouse(it, _):
     it.wheel(-300)
     near = it.view()
     yield "the wheel zooms", True, lambda: width(near) < width(before) * 0.8
-    it.mouse(700, 500).click_and_hold().move_by_offset(-200, 0).release().perform()
+    it.mouse(700, 440).click_and_hold().move_by_offset(-200, 0).release().perform()
     it.settle()
     moved = it.view()
     shift = 200 / it.run("return plotWidth()") * width(near)
@@ -538,7 +538,7 @@ def keys(it, _):
     it.keys(Keys.ENTER)
     yield from said(it, "Contact 4 lost lander → high relay. 3 h 40 min later. Next is: 2030/01/01-06:27:22")
     it.keys("?")
-    yield "the list of keys", (True, 10), lambda: (it.part("help").is_displayed(), len(it.all("#help dt")))
+    yield "the list of keys", (True, 11), lambda: (it.part("help").is_displayed(), len(it.all("#help dt")))
     it.keys(Keys.ESCAPE)
     yield "Escape closes the list alone", (False, True), lambda: (it.part("help").is_displayed(), it.run("return isLosing()"))
     it.run("chart.focus()")
@@ -608,7 +608,7 @@ def touch(it, _):
     it.touch(*([(500 - 15 * step, 300), (600 + 15 * step, 300)] for step in range(9)))
     yield "a pinch zooms", True, lambda: width(it.view()) < width(before) * 0.6
     before = it.view()
-    it.touch(*([(600 - 20 * step, 500)] for step in range(9)))
+    it.touch(*([(600 - 20 * step, 440)] for step in range(9)))
     yield "a finger moves", True, lambda: it.view()[0] > before[0]
     it.run("showRoutes()")
     it.settle()

@@ -220,7 +220,5 @@ def _second(time):
 
 def _answered(router, requests, count, hops):
     """The answers to some requests."""
-    answers = router.many(requests, count)
-    if answers is None:  # asked one by one, it says which limit or node it refuses
-        answers = [router.first(request, count) for request in requests]
+    answers = router.answers(requests, count)
     return router.with_hops(answers) if hops else answers

@@ -36,17 +36,15 @@ from typing import Optional
 from .. import hints
 from ..choosing import ranks_of
 from ..comparing import Change, contact_changes, route_changes, same_contacts
-from ..errors import PLAN_STATUS, WORDS_STATUS, Refused
+from ..errors import PLAN_STATUS, Refused
 from ..listing import LOOK
-from ..names import Names
 from ..plans import Plan
-from ..requests import requests_of
+from ..requests import requests_in
 from ..routes import Fault, Request, Route
 from ..tables import (JSON, NUMBER, NUMBERS, PATH, TEXT, TIME, WORD, Kind, Spelling, Table, json_of, request_json, request_text)
-from ..times import iso_text, time_text
-from ..tool import kept_file, lines_of, run_tool
+from ..tool import kept_file, run_tool
 from ..version import VERSION
-from ..words import Words, add_further_words, add_request_words, node_word, router_over
+from ..words import Asked, Words, add_further_words, add_request_words, router_over
 
 SVG = "svg"
 LIGHT = Kind(str.rjust, lambda it, how: str(it), lambda it, how: None if it == "-" else it)
@@ -70,7 +68,13 @@ def read_words():
     form.add_argument("--svg", dest="form", action="store_const", const=SVG, help="a picture of both plans")
     parser.add_argument("--exit-code", action="store_true", help="status 1 if something differs")
     add_further_words(parser)
-    words = parser.parse_args()
+    asked = Asked(parser)
+    check_words(parser, asked.words)
+    return asked
+
+
+def check_words(parser, words):
+    """Refuses words without those that they need, and words that take each other's place."""
     request = {f"--{name}": vars(words)[name] for name in ("from", "to", "at")}
     given = [name for name, value in request.items() if value is not None]
     if words.requests and words.form == SVG:
@@ -81,29 +85,13 @@ def read_words():
         parser.error(f"these words are missing: {', '.join(name for name in request if name not in given)}")
     if bool(words.count) != bool(given or words.requests):
         parser.error("a request and --count need each other")
-    return parser, words
 
 
-def requests_asked(parser, words, names):
+def requests_asked(asked):
     """The requests of the words, or of their file."""
-    avoid = words.avoid.split(",") if words.avoid is not None else ()
-    avoid = tuple(sorted(node_word(parser, names, "avoid", text) for text in avoid))
-    limits = {"margin_ppm": words.margin_ppm, "max_hops": words.max_hops, "avoid": avoid}
-    if words.requests:
-        lines = requests_of(lines_of(words.requests), names, limits)
-        if not lines:
-            raise Refused(f"there is no request in {words.requests}", WORDS_STATUS)
-        return [line.request for line in lines]
-    if not words.count:
-        return []
-    ends = [node_word(parser, names, name, vars(words)[name]) for name in ("from", "to")]
-    return [Request(*ends, words.at, **limits)]
-
-
-def answers_of(program, requests, count):
-    """The answers to requests, by one run if the program refuses none of them."""
-    answers = program.many(requests, count) if len(requests) > 1 else None
-    return answers or [program.first(request, count) for request in requests]
+    if asked.words.requests:
+        return [line.request for line in requests_in(asked)]
+    return [asked.request()] if asked.words.count else []
 
 
 # ---- What differs -----------------------------------------------------------------------------------------------
@@ -166,7 +154,7 @@ class Comparison:
 
     def answers(self, requests, count):
         """For each request what differs of its routes."""
-        for request, *answers in zip(requests, *(answers_of(it.router, requests, count) for it in (self.old, self.new))):
+        for request, *answers in zip(requests, *(it.router.answers(requests, count) for it in (self.old, self.new))):
             changes = self.routes(request, answers)
             yield Differing(changes, counted(changes, {it.contacts for it in answers[1].routes}, ROUTE_KINDS), request, answers)
 
@@ -301,11 +289,10 @@ FORMS = {TEXT: whole_text, JSON: whole_json, SVG: picture}
 
 def tool():
     """What differs, in pieces."""
-    parser, words = read_words()
-    names = Names.from_file(words.names)
-    requests = requests_asked(parser, words, names)
-    both = Comparison(*(Side(path, words, names) for path in (words.old, words.new)))
-    how = Spelling(names, iso_text if words.iso else time_text, lambda: [*both.old.plan.contacts, *both.new.plan.contacts])
+    asked = read_words()
+    words, requests = asked.words, requests_asked(asked)
+    both = Comparison(*(Side(path, words, asked.names) for path in (words.old, words.new)))
+    how = Spelling(asked.names, asked.time_text, lambda: [*both.old.plan.contacts, *both.new.plan.contacts])
     contacts, answers = both.contacts(), []
     yield from FORMS[words.form](both, contacts, kept(both.answers(requests, words.count), answers), how)
     if words.exit_code and (any(it.changes for it in answers) if requests else contacts.changes):

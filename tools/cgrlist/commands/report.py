@@ -58,11 +58,11 @@ import sys
 import tempfile
 
 from ..choosing import JUDGING, add_judging_words, choices_text
-from ..errors import WORDS_STATUS, Refused
+from ..errors import Refused
 from ..forms import Form
 from ..listing import add_choice_words, added, check_choice_words, is_counted, listing_of, pages_of, tell_looked
 from ..lost import losses
-from ..requests import parts_of, requests_of
+from ..requests import parts_of, requests_in
 from ..routes import whole_report_of
 from ..tables import NUMBER, NUMBERS, PATH, TIME, Table, about
 from ..tool import Progress, Tool, in_order, lines_of, run_tool, tell
@@ -103,9 +103,7 @@ def tell_how_to_go_on(words, pages):
 
 def answers_of(asked):
     """The answers to the requests of a file, each a request and a listing, in their order and as they come."""
-    lines = requests_of(lines_of(asked.words.requests), asked.names, asked.limits)
-    if not lines:
-        raise Refused(f"there is no request in {asked.words.requests}", WORDS_STATUS)
+    lines = requests_in(asked)
     asked.router.check()  # so that a plan is refused once
     listings, progress = [], Progress()
     for answers in in_order(functools.partial(part_answered, asked), parts_of(lines, is_counted(asked.words))):

@@ -13,6 +13,8 @@ from pathlib import Path
 from ..plans import links_of
 from ..times import iso_text, time_of
 from ..version import VERSION
+from .axis import STEPS
+from .picture import DARK, DASHES, LIGHT
 
 FOLDER = Path(__file__).resolve().parent / "html"
 # In the order in which they run.
@@ -69,6 +71,7 @@ class Page:
             "gone": {self._nodes.of(node): self._best_data(route) for node, route in self._told.lost.nodes.items()},
             "begins": [route.rank for route in self._told.routes] == [*range(1, len(self._told.routes) + 1)],
             "starts": self._starts_data(),
+            "look": look_data(),
             **self._command_data(),
         }
 
@@ -155,6 +158,12 @@ class Page:
 
     def _second(self, second):
         return second - self._base
+
+
+def look_data():
+    """How a page looks like a picture: the steps of its axis, and the colours and dashes of its routes."""
+    dashes = [[] if it == "none" else [*map(int, it.split())] for it in DASHES]
+    return {"steps": [[it.seconds, it.months] for it in STEPS], "dashes": dashes, "light": LIGHT, "dark": DARK}
 
 
 class Places:
