@@ -142,6 +142,8 @@ def versions_and_environments(room):
     by_environment = {"CGRLIST_PLAN": f"{TOP}/examples/relay.txt", "CGRLIST_NAMES": room.names[1], "CGRLIST": room.program}
     yield ("plan, names and program by the environment", "lander > relay high > 12 > 1", lambda: parts_of("lander.*", room.run(
         f"tools/report --from lander --to 1 --at {DAY}-00:45:00 --count 1", **by_environment).all()))
+    yield "the program of the environment is the one that is asked", "report: there is no program: looked for /none\nstatus 125", lambda: room.run(
+        f"tools/report --from 31 --to 1 --at {DAY}-00:45:00 --count 1", **{**by_environment, "CGRLIST": "/none"}).all()
     yield "words come first", "lander > relay high > 12 > 1", lambda: parts_of("lander.*", room.told(
         "report --plan examples/relay.txt --from lander --to 1 --count 1", f"--at {DAY}-00:45:00", room.names, CGRLIST="/none",
         CGRLIST_PLAN="/none", CGRLIST_NAMES="/none"))
