@@ -8,10 +8,11 @@
     tools/timetable .. --iso         times as 2030-01-01T02:47:22Z
 
 Each line is for the seconds from `from` to `to`, both included, over which one route is the best. A bundle that is at
-the source at the first of them is delivered at `delivery`, and one that is there at the last of them at `last delivery`:
-at the same second, or as many seconds later as it comes later. Where there is no route, a line has no delivery. The lines are
-printed as they are found, and hold for all seconds of the span, though the program isn't asked about each: it is proved that a bundle that is at the
-source later never arrives earlier (ArrivalIsMonotone in docs/proofs.md).
+the source at the first of them is delivered at `delivery`, and one that is there at the last of them at `last
+delivery`: at the same second, or as many seconds later as it comes later. Where there is no route, a line has no
+delivery. The lines are printed as they are found, and hold for all seconds of the span, though the program isn't asked
+about each: it is proved that a bundle that is at the source later never arrives earlier (ArrivalIsMonotone in
+docs/proofs.md).
 
 T is 2031/03/03-01:00:00, 2031-03-03T01:00:00Z, 2031-03-03, now, or now+2h with s, m, h or d. All times are UTC.
 
