@@ -1,10 +1,4 @@
-#!/usr/bin/env python3
-"""Makes the plans of the figures and their questions. The same seed gives the same bytes.
-
-    families.py [--out FOLDER] [--only NAME,..] [--seed N]
-
-Leaves 20 plans and `questions.json`, with 24 questions, in the folder. Of a family's plans, the number is mostly that of
-their contacts; of walkers the first is that of the satellites, of grids that of the nodes on a side, of dense the nodes.
+"""The families of plans: what is drawn, and how. The same name and seed give the same plan.
 
 relay    ground stations, relays and landers at the Moon or at Mars; one question from a lander to the control centre
 walker   satellites on circular orbits with links to their neighbours, and ground stations
@@ -12,65 +6,17 @@ grid     a square grid without light time, whose windows are all open at one tim
 dense    all nodes see each other, without light time, in windows in no order
 line     parallel contacts to one node, and two from there
 sparse   pairs of nodes by lot, in windows by lot
-real     two plans that nobody made up, in real/: windows of satellites from the orbital elements of 22 January 2018 that
-         Debian's gpredict has, reckoned by SGP4, with ten ground stations, and links between satellites in sight of each
-         other; `iridium` has 128 satellites, with links up to 4500 km, and `cube` 437, with links up to 2500 km
+spread   contacts among many nodes, one node for each twenty contacts; each link has at most four contacts in a day,
+         one in each quarter of it, and a light time for each quarter
+hub      all contacts from node 1, to four receivers; each receiver has a quarter of them, minute by minute, and a light
+         time for each minute
+
+Plans of spread and hub have as many ranges as contacts, and their lines stand in no order.
 """
-import argparse
-import json
-import lzma
 import math
-import os
 import random
-import time
 
-HERE = os.path.dirname(os.path.abspath(__file__))
-BEGINS = "2030/01/01-00:00:00"
-BEGIN = 1893456000
-DAY = 86400
-REAL = [("iridium", 1, 2), ("iridium", 6, 10), ("iridium", 3, 8), ("cube", 1, 2), ("cube", 6, 10), ("cube", 3, 8)]
-
-
-class Plan:
-    """The records of a plan, in seconds after its reference, and what is asked of it."""
-
-    def __init__(self, name, seed):
-        self.name, self.dice = name, random.Random(f"{name}/{seed}")
-        self.contacts = []  # start, end, sender, receiver, rate
-        self.ranges = []  # start, end, one, other, light
-        self.asked = (1, 2, 0)  # from, to, second
-
-    def contact(self, start, end, sender, receiver, rate=125000):
-        if int(end) > int(start):
-            self.contacts.append((int(start), int(end), sender, receiver, rate))
-
-    def both(self, start, end, one, other, rate=125000, rate_back=125000):
-        self.contact(start, end, one, other, rate)
-        self.contact(start, end, other, one, rate_back)
-
-    def light(self, start, end, one, other, light):
-        """Holds both ways."""
-        self.ranges.append((start, end, min(one, other), max(one, other), light))
-
-    def cut(self, count):
-        """Keeps the first contacts by start, and of those with one start, sender and receiver the one that ends first."""
-        self.contacts.sort(key=lambda it: (it[0], it[2], it[3], it[1]))
-        kept = {}
-        for contact in self.contacts:
-            kept.setdefault((contact[0], *contact[2:4]), contact)
-        self.contacts = list(kept.values())[:count]
-
-    def drop_unused_ranges(self):
-        last = max(it[0] for it in self.contacts)
-        pairs = {tuple(sorted(it[2:4])) for it in self.contacts}
-        self.ranges = [it for it in self.ranges if it[0] <= last and tuple(sorted(it[2:4])) in pairs]
-
-    def text(self):
-        lines = [f"# {self.name}", f"@ {BEGINS}"]
-        lines += [f"a range +{start} +{end} {one} {other} {light}" for start, end, one, other, light in self.ranges]
-        lines += [f"a contact +{start} +{end} {one} {other} {rate}" for start, end, one, other, rate in self.contacts]
-        return "\n".join([*lines, ""])
-
+from plan import BEGINS, DAY, Plan
 
 # ---- Relays -----------------------------------------------------------------------------------------------------
 
@@ -310,77 +256,58 @@ def sparse(name, seed, count, nodes, horizon):
     return plan
 
 
-# Each plan by its name: how it is made, and what of.
-PLANS = {
-    "relay-moon-500": (relay, 500, 3, 2, 4, False),
-    "relay-mars-500": (relay, 500, 3, 3, 3, True),
-    "relay-moon-2000": (relay, 2000, 4, 4, 8, False),
-    "relay-mars-2000": (relay, 2000, 3, 4, 6, True),
-    "relay-moon-20000": (relay, 20000, 5, 6, 10, False),
-    "relay-mars-20000": (relay, 20000, 5, 6, 10, True),
-    "walker-24-5000": (walker, 5000, 4, 6, 6, 1),
-    "walker-66-5000": (walker, 5000, 6, 11, 10, 0),
-    "walker-66-20000": (walker, 20000, 6, 11, 10, 0),
-    "walker-24-20000": (walker, 20000, 4, 6, 6, 1),
-    "grid-8": (grid, 8, 2),
-    "grid-40": (grid, 40, 3),
-    "dense-20": (dense, 20, 5),
-    "dense-60": (dense, 60, 5),
-    "line-1000": (line, 1000),
-    "line-19998": (line, 19998),
-    "sparse-2000": (sparse, 2000, 200, 40000),
-    "sparse-20000": (sparse, 20000, 1000, 40000),
-}
+# ---- As many ranges as contacts ---------------------------------------------------------------------------------
+
+QUARTER = 6 * 3600
+MINUTE = 60
 
 
-def question(name, plan, source, target, at):
-    return {"name": name, "plan": f"{plan}.txt", "from": source, "to": target, "at": at}
+def shape(name, seed, count, last):
+    """A plan without records, whose question is between node 1 and the last."""
+    plan = Plan(name, seed)
+    plan.asked, plan.dice = (1, last, 0), random.Random(f"{name} {count} {seed}")
+    plan.head = [f"# {name}: {count} contacts and as many ranges, seed {seed}", f"# ask 1 {last} {BEGINS}"]
+    return plan
 
 
-def write_drawn(name, folder, seed):
-    """Writes a plan, and returns its question."""
-    make, *sizes = PLANS[name]
-    plan = make(name, seed, *sizes)
-    source, target, second = plan.asked
-    with open(os.path.join(folder, f"{name}.txt"), "w", encoding="ascii") as file:
-        file.write(plan.text())
-    at = time.strftime("%Y/%m/%d-%H:%M:%S", time.gmtime(BEGIN + second))
-    return question(name, name, source, target, at)
+def shuffled(plan):
+    plan.dice.shuffle(plan.contacts)
+    plan.dice.shuffle(plan.ranges)
+    return plan
 
 
-def write_real(name, folder):
-    """Unpacks a plan of real satellites, and returns its questions."""
-    with lzma.open(os.path.join(HERE, "real", f"{name}.txt.xz")) as packed:
-        text = packed.read()
-    with open(os.path.join(folder, f"{name}.txt"), "wb") as file:
-        file.write(text)
-    ends = [(one, other) for plan, one, other in REAL if plan == name]
-    return [question(f"{name}-{one}-{other}", name, one, other, "2018/01/22-00:10:00") for one, other in ends]
+def links_between(nodes, count, dice):
+    """Pairs of nodes, the lesser first: a line through all nodes, and then pairs by lot."""
+    links = dict.fromkeys([(node, node + 1) for node in range(1, nodes)][:count])
+    while len(links) < count:
+        links[tuple(sorted(dice.sample(range(1, nodes + 1), 2)))] = None
+    return list(links)
 
 
-def write(folder, seed=1, only=()):
-    """Writes the plans, or only those, with their questions, which it returns."""
-    os.makedirs(folder, exist_ok=True)
-    names = [*PLANS, *dict.fromkeys(name for name, _, _ in REAL)]
-    questions = []
-    for name in names:
-        if not only or name in only:
-            questions += [write_drawn(name, folder, seed)] if name in PLANS else write_real(name, folder)
-    with open(os.path.join(folder, "questions.json"), "w", encoding="ascii") as file:
-        json.dump(questions, file, indent=1)
-        file.write("\n")
-    return questions
+def spread(name, seed, count):
+    """From 32 to 20000 contacts."""
+    nodes = max(8, count // 20)
+    plan = shape(name, seed, count, nodes)
+    dice = plan.dice
+    links = links_between(nodes, (count + 3) // 4, dice)
+    for number in range(count):
+        quarter, place = divmod(number, len(links))
+        one, other = links[place]
+        begin = quarter * QUARTER
+        plan.light(begin, begin + QUARTER, one, other, dice.randrange(1, 20))
+        start = begin + dice.randrange(QUARTER - 3600)
+        sender, receiver = (one, other) if dice.random() < 0.5 else (other, one)
+        plan.contact(start, start + dice.randrange(300, 3600), sender, receiver)
+    return shuffled(plan)
 
 
-def main():
-    words = argparse.ArgumentParser(description=__doc__, formatter_class=argparse.RawDescriptionHelpFormatter)
-    words.add_argument("--out", default=os.path.join(HERE, "out"))
-    words.add_argument("--only", type=lambda text: text.split(","), default=[])
-    words.add_argument("--seed", type=int, default=1)
-    given = words.parse_args()
-    for one in write(given.out, given.seed, given.only):
-        print(f"{one['name']:16} {one['from']} to {one['to']} at {one['at']}")
-
-
-if __name__ == "__main__":
-    main()
+def hub(name, seed, count):
+    receivers = range(2, 6)
+    plan = shape(name, seed, count, receivers[-1])
+    for number in range(count):
+        minute, place = divmod(number, len(receivers))
+        begin = minute * MINUTE
+        plan.light(begin, begin + MINUTE, 1, receivers[place], plan.dice.randrange(1, 20))
+        start = begin + plan.dice.randrange(MINUTE // 2)
+        plan.contact(start, start + plan.dice.randrange(10, MINUTE), 1, receivers[place])
+    return shuffled(plan)

@@ -1,239 +1,182 @@
-"""What the scripts share: one timed run, one measured run, the machine, and tables."""
-import contextlib
-import hashlib
+#!/usr/bin/env python3
+"""Measures the program beside the yardstick, a native program, or beside another one. Each part prints a table.
+
+    measure.py [PROGRAM] [--parts NAME,..] [--beside PATH] [--only NAME,..] [--plan FILE ..] [--counts N,N,..] ..
+
+These make the figures of docs/speed.md. Instructions are counted by callgrind; a busy machine has the same as a quiet
+one.
+
+figures       a run of `first`, for 1, 10, 100 and 1000 routes, as multiples of the yardstick's run: its instructions,
+              and its processor time, the best of some runs in turns; --repeats 0 leaves the time out
+limits        the instructions of 1000 routes with a limit on hops, likewise
+long          the instructions of 10000 routes, likewise
+spellings     those of a run for one route over a plan in other spellings, as multiples of that with relative times
+many          those of `many` over drawn pairs of nodes, as multiples of a run for each pair, of which some, the sample,
+              are counted; from the yardstick's runs, its reading is taken off: a run for two nodes that no plan has
+pages         those of `first` for a page and `next` for each further one, 1000 routes in all, as multiples of one `first`
+memory        the peak memory of a run for one route and for 10000, in MB, and the ratio
+library       those of calls of the C library, which library/build makes, beside `first` and `many`: reading a plan and
+              the first question; a best route; a contact deleted and a best route after it; 1000 routes at once, and by
+              pages of 100. What a call takes is the difference of two runs, by the calls that one has more
+tools         those, and the processor time, of `timetable`, `latest` and `report` that ask the C library in process; with
+              callgrind a run takes some fifty times as long
+
+These measure any plans:
+
+listing       the time and memory of `first` for 1 to 10000 routes; a program that runs into the limit of seconds isn't
+              asked for more routes of that plan
+instructions  the instructions of such runs, for 1 and 1000 routes
+reading       the time and memory of reading plans of 1250 to 20000 contacts, in all spellings, and from a pipe in
+              pieces, by asking for routes between two nodes that no plan has
+
+The plans are those of plans.py. --only names plans or questions, and --plan a file, in place of the part's own. What is
+asked over a file are --from, --to and --at, or its line `# ask FROM TO TIME`. If PROGRAM isn't given, it is the one that
+`./cgrlist --prove` makes; the yardstick is built by cargo. Counts of figures, limits, long and instructions are kept in
+the folder of the plans, by the checksums of program and plan. Status 1: a run failed, or two reports differ, byte for
+byte.
+"""
+import argparse
+import functools
 import json
 import os
 import shlex
 import subprocess
 import sys
-import tempfile
-import threading
-import time
 
-TOP = os.path.dirname(os.path.dirname(os.path.abspath(__file__)))
-GNU_TIME = "/usr/bin/time"
+import plans
+from parts import library, lists, many, reading, tools
+from running import TOP, Counted, Program, instructions
+from tables import Machine
 
-
-class Program:
-    """A program to run, with words that come after those of each question."""
-
-    def __init__(self, command):
-        self.path, *self.further = shlex.split(command)
-        self.path = os.path.abspath(self.path)
-        self.name = os.path.basename(self.path)
-        if not os.access(self.path, os.X_OK):
-            raise SystemExit(f"{sys.argv[0]}: there is no program {self.path}")
-
-    def words(self, question):
-        return [self.path, *question, *self.further]
-
-
-class Answer:
-    """How a run ended: its seconds by the clock and of the processor, its status (None: it was stopped), and its text."""
-
-    def __init__(self, seconds, processor, status, text, peak_kb):
-        self.seconds, self.processor, self.status = seconds, processor, status
-        self.text, self.peak_kb = text, peak_kb
-
-    def is_good(self):
-        return self.status == 0
+PARTS = {
+    "figures": lists.figures,
+    "limits": lists.limits,
+    "long": lists.long_lists,
+    "spellings": reading.spellings,
+    "many": many.many,
+    "pages": lists.pages,
+    "memory": lists.memory,
+    "library": library.library,
+    "tools": tools.tools,
+    "listing": lists.listing,
+    "instructions": lists.instructions,
+    "reading": reading.reading,
+}
+FURTHER = ["limits", "long", "spellings", "many", "pages", "memory"]
+YARDSTICK = os.path.join(TOP, "bench", "yardstick")
 
 
-class Pieces:
-    """A file that is given on standard input, by so many bytes at a time."""
-
-    def __init__(self, path, size):
-        self.words = ["dd", f"if={path}", f"bs={size}", "status=none"]
-
-    def __enter__(self):
-        self.giver = subprocess.Popen(self.words, stdin=subprocess.DEVNULL, stdout=subprocess.PIPE)
-        return self.giver.stdout
-
-    def __exit__(self, *_):
-        self.giver.stdout.close()
-        self.giver.wait()
+def built_yardstick():
+    """The path of the yardstick, which is built anew if a source is newer."""
+    subprocess.run(["cargo", "build", "--release", "--quiet"], cwd=YARDSTICK, check=True)
+    return os.path.join(YARDSTICK, "target", "release", "yardstick")
 
 
-def run(words, most_seconds, given=None):
-    """Runs the words once, and stops them after so many seconds. What is given on standard input are pieces."""
-    with tempfile.TemporaryFile() as out, given or contextlib.nullcontext(subprocess.DEVNULL) as source:
-        begin = time.perf_counter()
-        child = subprocess.Popen(words, stdin=source, stdout=out, stderr=subprocess.DEVNULL)
-        guard = threading.Timer(most_seconds, child.kill)
-        guard.start()
-        _, ending, used = os.wait4(child.pid, 0)
-        seconds = time.perf_counter() - begin
-        guard.cancel()
-        child.returncode = os.waitstatus_to_exitcode(ending)
-        status = child.returncode if child.returncode >= 0 else None
-        out.seek(0)
-        return Answer(seconds, used.ru_utime + used.ru_stime, status, out.read(), used.ru_maxrss)
+def built_program():
+    subprocess.run([os.path.join(TOP, "cgrlist"), "--prove"], check=True)
+    return os.path.join(TOP, "crates", "cgrlist", "out", "cgrlist")
 
 
-def peak_kb(words, most_seconds, given=None):
-    """The greatest memory of a run in kilobytes. GNU time starts it from a small process: the kernel counts the memory
-    of the process that starts a program as the program's own, so wait4 alone answers no less than this script takes."""
-    if not os.access(GNU_TIME, os.X_OK):
-        return run(words, most_seconds, given).peak_kb
-    with tempfile.NamedTemporaryFile("r") as told:
-        answer = run([GNU_TIME, "-f", "%M", "-o", told.name, *words], most_seconds, given)
-        lines = told.read().split()
-        return int(lines[-1]) if answer.status is not None and lines else None
+def asked_over(path, given):
+    """What is asked over a file: what is given, or what its own line says."""
+    ends = [given.source, given.target, given.at]
+    with open(path, encoding="ascii", errors="replace") as file:
+        lines = [line.split()[2:] for line in file if line.split()[:2] == ["#", "ask"]]
+    ends = [mine or own for mine, own in zip(ends, lines[0] if lines else [None] * 3)]
+    if None in ends:
+        raise SystemExit(f"{path} has no line '# ask FROM TO TIME': give --from, --to and --at")
+    one = plans.Question(os.path.splitext(os.path.basename(path))[0], path, *ends)
+    return one.with_words(shlex.split(given.words))
 
 
-class Figures:
-    """The best of some runs of one program over one question."""
+class Bench:
+    """What all parts need: the words, the programs, the questions, and the rows of the part for --json."""
 
-    def __init__(self):
-        self.seconds, self.peak_kb, self.status, self.text = None, None, None, None
+    def __init__(self, given):
+        self.given, self.program = given, Program(given.program or built_program())
+        self.counted, self.machine = Counted(given.out), Machine(given.repeats)
+        self.rows, self.all_good = [], True
 
-    def take(self, answer):
-        self.status, self.text = answer.status, answer.text
-        if answer.is_good():
-            self.seconds = answer.seconds if self.seconds is None else min(self.seconds, answer.seconds)
+    @functools.cached_property
+    def programs(self):
+        """The program and the other one, which is called `beside` if both have one name."""
+        other = Program(self.given.beside or built_yardstick())
+        if other.name == self.program.name:
+            other.name = "beside"
+        return [self.program, other]
 
-    def told(self):
-        """What the file of figures keeps."""
-        digest = hashlib.sha256(self.text or b"").hexdigest()
-        return {"seconds": self.seconds, "peak_kb": self.peak_kb, "status": self.status, "sha256": digest}
+    def asked(self, names):
+        """The questions with these names, or over plans with these names, with the further words that are given."""
+        asked = plans.questions(names, self.given.out, self.given.seed)
+        return [it.with_words(shlex.split(self.given.words)) for it in asked]
 
+    def questions(self, own=()):
+        """Those of --plan or --only; else the part's own, or all of the figures."""
+        over = [asked_over(path, self.given) for path in self.given.files]
+        return over or self.asked(self.given.only or own)
 
-def compare(programs, question, repeats, most_seconds, given=None):
-    """The programs take turns; each one's memory comes from a further run."""
-    figures = {program.name: Figures() for program in programs}
-    for _ in range(repeats):
-        for program in programs:
-            mine = figures[program.name]
-            if mine.text is None or mine.status == 0:
-                mine.take(run(program.words(question), most_seconds, given))
-    for program in programs:
-        if figures[program.name].status == 0:
-            figures[program.name].peak_kb = peak_kb(program.words(question), most_seconds, given)
-    return figures
+    def check(self, is_good):
+        self.all_good = self.all_good and is_good
+        return is_good
 
+    def count(self, question):
+        """The instructions of the program's run in millions."""
+        found = instructions(self.program.words(question), self.given.most_seconds)
+        self.check(found is not None)
+        return found
 
-def agree(figures):
-    """Whether all that came to an end did so well, and wrote the same."""
-    ended = [mine for mine in figures.values() if mine.status is not None]
-    return all(mine.status == 0 and mine.text == ended[0].text for mine in ended)
+    def note_turns(self, row, turns):
+        self.rows.append({**row, **{it.name: mine.told() for it, mine in zip(self.programs, turns)}})
 
-
-def processor():
-    try:
-        with open("/proc/cpuinfo", encoding="ascii", errors="replace") as file:
-            names = [line.split(":", 1)[1].strip() for line in file if line.startswith("model name")]
-        return names[0]
-    except (OSError, IndexError):
-        return "unknown processor"
-
-
-def load():
-    return "load " + " ".join(f"{figure:.1f}" for figure in os.getloadavg())
-
-
-def start_seconds():
-    """What it costs to start a program that does nothing."""
-    return min(run(["/bin/true"], 10).seconds for _ in range(20))
-
-
-class Machine:
-    """Where and when the figures were taken, with the machine's load before and after."""
-
-    def __init__(self, repeats):
-        self.told = {
-            "when": time.strftime("%Y-%m-%dT%H:%M:%SZ", time.gmtime()),
-            "processor": processor(),
-            "processors": os.cpu_count(),
-            "repeats": repeats,
-            "start_seconds": start_seconds(),
-            "load_before": os.getloadavg(),
-            "memory_by": "GNU time" if os.access(GNU_TIME, os.X_OK) else "wait4, no less than the script's own",
-        }
-        print(
-            f"{self.told['when']}, {self.told['processor']}, {self.told['processors']} processors, {load()} at the "
-            f"beginning; best of {repeats}; starting a program takes {self.told['start_seconds'] * 1000:.1f} ms"
-        )
-
-    def end(self):
-        self.told["load_after"] = os.getloadavg()
-        print(f"{load()} at the end")
-
-
-def milliseconds(figures):
-    if figures.status is None:
-        return "stopped" if figures.text is not None else "-"
-    if figures.seconds is None:
-        return f"status {figures.status}"
-    return f"{figures.seconds * 1000:.1f}"
-
-
-def megabytes(figures):
-    return "-" if figures.peak_kb is None else f"{figures.peak_kb / 1024:.1f}"
-
-
-def ratio(mine, theirs):
-    if mine.seconds is None or theirs.seconds is None:
-        return "-"
-    return f"{mine.seconds / theirs.seconds:.2f}"
-
-
-def columns(programs):
-    """The heads of the columns that each row has for each program."""
-    heads = [head for program in programs for head in (f"{program.name} ms", "MB")]
-    return heads + (["ratio"] if len(programs) == 2 else [])
-
-
-def cells(programs, figures):
-    row = [cell for program in programs for cell in (milliseconds(figures[program.name]), megabytes(figures[program.name]))]
-    if len(programs) == 2:
-        row.append(ratio(figures[programs[0].name], figures[programs[1].name]))
-    return row
-
-
-def print_row(row, widths):
-    print("| " + " | ".join(str(cell).rjust(width) for cell, width in zip(row, widths)) + " |", flush=True)
-
-
-def print_head(heads):
-    """Prints the head of a table in Markdown, and returns the widths of its columns."""
-    widths = [max(len(head), 8) for head in heads]
-    print_row(heads, widths)
-    print("|" + "|".join("-" * (width + 1) + ":" for width in widths) + "|")
-    return widths
-
-
-def built(crate):
-    """The program that `rt run` builds in a crate's folder."""
-    return os.path.join(TOP, "crates", crate, "out", crate)
-
-
-def add_run_words(words):
-    """The words that say how the runs are timed."""
-    words.add_argument("--repeats", type=int, default=5, help="how often each run is timed; the best is printed")
-    words.add_argument("--most-seconds", type=float, default=60, help="a longer run is stopped")
-    words.add_argument("--json", metavar="FILE", help="writes all figures to this file, too")
+    def end(self, parts):
+        """Writes the figures if they are asked for."""
+        self.machine.end()
+        if self.given.json:
+            with open(self.given.json, "w", encoding="ascii") as file:
+                told = {"machine": self.machine.told, "program": self.program.words([]), "parts": parts}
+                json.dump(told, file, indent=1)
+                file.write("\n")
 
 
 def add_words(words):
-    words.add_argument("program", nargs="?", default=built("cgrlist"), help="with further words, if any; else the built one")
-    words.add_argument("--beside", metavar="PATH", help="a second program, with further words, if any")
-    add_run_words(words)
+    words.add_argument("program", nargs="?", help="with its words, if any; else the one that this clone builds")
+    words.add_argument("--beside", metavar="PATH", help="a program, with its words, in place of the yardstick")
+    parts = plans.names_of("parts", PARTS)
+    words.add_argument("--parts", type=parts, help="joined by commas; without it, those of figures.py and further.py")
+    words.add_argument("--counts", type=plans.numbers, help="of routes, joined by commas, in place of the part's own")
+    words.add_argument("--repeats", type=int, default=9, help="how often each run is timed (9)")
+    words.add_argument("--jobs", type=int, default=os.cpu_count(), help="how many runs are counted at a time")
+    words.add_argument("--most-seconds", type=float, default=600, help="a longer run is stopped (600)")
+    words.add_argument("--words", default="", help="further words of `first`, as '--max-hops 4'")
+    words.add_argument("--json", metavar="FILE", help="writes all figures to this file, too")
+    words.add_argument("--plan", dest="files", action="append", default=[], metavar="FILE")
+    words.add_argument("--from", dest="source")
+    words.add_argument("--to", dest="target")
+    words.add_argument("--at")
 
 
-def programs_of(given):
-    """The programs, each under the name of its file; the second is called `beside` if both have one name."""
-    programs = [Program(command) for command in (given.program, given.beside) if command is not None]
-    if len({program.name for program in programs}) < len(programs):
-        programs[1].name = "beside"
-    return programs
+def add_words_of_parts(words):
+    words.add_argument("--requests", type=int, default=1000, help="many: how many are drawn (1000)")
+    words.add_argument("--sample", type=int, default=24, help="many: how many are also asked one by one (24)")
+    words.add_argument("--memory", type=plans.numbers, help="many: its memory with so many requests, joined by commas")
+    words.add_argument("--pieces", type=plans.numbers, default=[1, 4096, 65536], help="reading: of so many bytes")
+    words.add_argument("--library", metavar="FOLDER", default=os.path.join(TOP, "library", "out"))
+    words.add_argument("--times", type=int, default=100, help="library: the calls whose difference is taken (100)")
 
 
-def end(given, machine, rows, programs=()):
-    """Prints how busy the machine was in the end, and writes the figures if they are asked for."""
-    machine.end()
-    if given.json is None:
-        return
-    told = {"machine": machine.told, "programs": {program.name: program.words([]) for program in programs}, "rows": rows}
-    with open(given.json, "w", encoding="ascii") as file:
-        json.dump(told, file, indent=1)
-        file.write("\n")
+def main(parts):
+    """Measures these parts, if no others are asked for."""
+    words = argparse.ArgumentParser(description=__doc__, formatter_class=argparse.RawDescriptionHelpFormatter)
+    for add in (add_words, plans.add_words, add_words_of_parts):
+        add(words)
+    given = words.parse_args()
+    bench, rows = Bench(given), {}
+    for part in given.parts or parts:
+        bench.rows = rows[part] = []
+        PARTS[part](bench)
+    bench.end(rows)
+    sys.exit(0 if bench.all_good else 1)
+
+
+if __name__ == "__main__":
+    main(["figures", *FURTHER])

@@ -1,198 +1,181 @@
 #!/usr/bin/env python3
-"""Makes contact plans to time programs with. The same words give the same bytes.
+"""Writes the plans that are measured. The same words give the same bytes.
 
-    plans.py [--out FOLDER] [--seed N] [--contacts N,N,..] [--shapes spread,hub] [--spellings WORD,..] [--ranges-last]
+    plans.py [--only NAME,..] [--spellings WORD,..] [--ranges-last] [--seed N] [--out FOLDER]
 
-Each plan has as many ranges as contacts, and each of its contacts has a light time. A plan's comments say how it was
-made, and between which nodes and at which time routes are asked for.
+Without --only, these are the 20 plans of the figures, over which 24 questions are asked. Of a name, the number is
+mostly that of the contacts; of walkers the first is that of the satellites, of grids that of the nodes on a side, of
+dense the nodes. families.py tells what is drawn. `spread-N` and `hub-N` are further plans, for any number N of
+contacts. And two plans, in real/, were made up by nobody: windows of satellites from the orbital elements of 22 January
+2018 that Debian's gpredict has, reckoned by SGP4, with ten ground stations, and links between satellites in sight of
+each other; `iridium` has 128 satellites, with links up to 4500 km, and `cube` 437, with links up to 2500 km.
 
-spread  contacts among many nodes, one node for each twenty contacts; each link has at most four contacts in a day,
-        one in each quarter of it, and a light time for each quarter
-hub     all contacts from node 1, to four receivers; each receiver has a quarter of them, minute by minute, and a light
-        time for each minute
-
-shuffled    the lines of either kind stand in no order; relative times, one space between words
-relative    the same lines, by their start, as planners write them
-absolute    the same order, with absolute times
-aligned     as relative, in columns
-trailing    as relative, with a space at the end of each line
-tabs        as relative, with a tab between words
+relative    as the plan is written; of spread and hub, by their start, as planners write them
+shuffled    the same lines in no order
+absolute    the same lines, with absolute times
+aligned     in columns
+trailing    with a space at the end of each line
+tabs        with a tab between words
 """
 import argparse
-import calendar
+import functools
+import lzma
 import os
-import random
-import time
+from typing import NamedTuple
 
-TIME_TEXT = "%Y/%m/%d-%H:%M:%S"
-DAY_BEGINS = "2030/01/01-00:00:00"
-DAY_SECOND = 1893456000
-QUARTER = 6 * 3600
-MINUTE = 60
-SIZES = (1250, 2500, 5000, 10000, 20000)
+from families import dense, grid, hub, line, relay, sparse, spread, walker
+from plan import BEGINS, SPELLINGS, respelled, second_of, text_of
 
+HERE = os.path.dirname(os.path.abspath(__file__))
 
-def relative(second, _):
-    return f"+{second}"
-
-
-def absolute(second, reference):
-    return time.strftime(TIME_TEXT, time.gmtime(reference + second))
-
-
-def second_of(text):
-    return calendar.timegm(time.strptime(text, TIME_TEXT))
-
-
-def in_columns(words):
-    return " ".join(word.rjust(width) for word, width in zip(words, (1, 7, 8, 8, 6, 6, 8)))
-
-
-# How a time is spelled, and how a line is made of its words.
-SPELLINGS = {
-    "shuffled": (relative, " ".join),
-    "relative": (relative, " ".join),
-    "absolute": (absolute, " ".join),
-    "aligned": (relative, in_columns),
-    "trailing": (relative, lambda words: " ".join(words) + " "),
-    "tabs": (relative, "\t".join),
+# Each drawn plan by its name: how it is made, and what of.
+PLANS = {
+    "relay-moon-500": (relay, 500, 3, 2, 4, False),
+    "relay-mars-500": (relay, 500, 3, 3, 3, True),
+    "relay-moon-2000": (relay, 2000, 4, 4, 8, False),
+    "relay-mars-2000": (relay, 2000, 3, 4, 6, True),
+    "relay-moon-20000": (relay, 20000, 5, 6, 10, False),
+    "relay-mars-20000": (relay, 20000, 5, 6, 10, True),
+    "walker-24-5000": (walker, 5000, 4, 6, 6, 1),
+    "walker-66-5000": (walker, 5000, 6, 11, 10, 0),
+    "walker-66-20000": (walker, 20000, 6, 11, 10, 0),
+    "walker-24-20000": (walker, 20000, 4, 6, 6, 1),
+    "grid-8": (grid, 8, 2),
+    "grid-40": (grid, 40, 3),
+    "dense-20": (dense, 20, 5),
+    "dense-60": (dense, 60, 5),
+    "line-1000": (line, 1000),
+    "line-19998": (line, 19998),
+    "sparse-2000": (sparse, 2000, 200, 40000),
+    "sparse-20000": (sparse, 20000, 1000, 40000),
 }
-
-
-class Plan:
-    """The records of a plan, and the question that is asked of it."""
-
-    def __init__(self, source, destination):
-        self.source, self.destination = source, destination
-        self.contacts = []
-        self.ranges = []
-
-    def contact(self, start, end, sender, receiver, rate):
-        self.contacts.append(("contact", start, end, sender, receiver, rate))
-
-    def range(self, start, end, one, other, light):
-        """Holds both ways if one is the lesser node."""
-        self.ranges.append(("range", start, end, one, other, light))
-
-    def text(self, dice, title, spelling, ranges_last):
-        for records in (self.contacts, self.ranges):
-            dice.shuffle(records)
-            if spelling != "shuffled":
-                records.sort(key=lambda record: record[1])
-        parts = self.contacts + self.ranges if ranges_last else self.ranges + self.contacts
-        head = [f"# {title}", f"# ask {self.source} {self.destination} {DAY_BEGINS}", f"@ {DAY_BEGINS}"]
-        return "".join(line + "\n" for line in head + [spelled(record, spelling) for record in parts])
-
-
-def spelled(record, spelling, reference=DAY_SECOND):
-    """The line of a record, whose times are seconds after the reference."""
-    name, start, end, *numbers = record
-    time_text, line_of = SPELLINGS[spelling]
-    return line_of(["a", name, time_text(start, reference), time_text(end, reference), *map(str, numbers)])
-
-
-def links_between(nodes, count, dice):
-    """Pairs of nodes, the lesser first: a line through all nodes, and then pairs by lot."""
-    links = [(node, node + 1) for node in range(1, nodes)][:count]
-    known = set(links)
-    while len(links) < count:
-        pair = tuple(sorted(dice.sample(range(1, nodes + 1), 2)))
-        if pair not in known:
-            known.add(pair)
-            links.append(pair)
-    return links
-
-
-def spread(contacts, dice):
-    """Contacts among many nodes."""
-    nodes = max(8, contacts // 20)
-    plan = Plan(1, nodes)
-    links = links_between(nodes, (contacts + 3) // 4, dice)
-    for number in range(contacts):
-        quarter, place = divmod(number, len(links))
-        one, other = links[place]
-        begin = quarter * QUARTER
-        plan.range(begin, begin + QUARTER, one, other, dice.randrange(1, 20))
-        start = begin + dice.randrange(QUARTER - 3600)
-        sender, receiver = (one, other) if dice.random() < 0.5 else (other, one)
-        plan.contact(start, start + dice.randrange(300, 3600), sender, receiver, 125000)
-    return plan
-
-
-def hub(contacts, dice):
-    """All contacts from one node."""
-    receivers = range(2, 6)
-    plan = Plan(1, receivers[-1])
-    for number in range(contacts):
-        minute, place = divmod(number, len(receivers))
-        begin = minute * MINUTE
-        plan.range(begin, begin + MINUTE, 1, receivers[place], dice.randrange(1, 20))
-        start = begin + dice.randrange(MINUTE // 2)
-        plan.contact(start, start + dice.randrange(10, MINUTE), 1, receivers[place], 125000)
-    return plan
-
-
+REAL = {"iridium": [(1, 2), (6, 10), (3, 8)], "cube": [(1, 2), (6, 10), (3, 8)]}
 SHAPES = {"spread": spread, "hub": hub}
 
 
-def make(shape, contacts, seed, spelling="shuffled", ranges_last=False):
-    """The text of a plan."""
-    if shape == "spread" and not 32 <= contacts <= 20000:
-        raise SystemExit("plans.py: spread has from 32 to 20000 contacts")
-    dice = random.Random(f"{shape} {contacts} {seed}")
-    plan = SHAPES[shape](contacts, dice)
-    title = f"{shape}: {contacts} contacts and as many ranges, seed {seed}"
-    return plan.text(dice, title, spelling, ranges_last)
+class Question(NamedTuple):
+    """What is asked, over which file, with further words of `first`."""
 
+    name: str
+    path: str
+    source: str
+    target: str
+    at: str
+    further: tuple = ()
 
-def write(folder, shape, contacts, seed, spelling="shuffled", ranges_last=False):
-    """Writes a plan, and returns its file."""
-    os.makedirs(folder, exist_ok=True)
-    name = f"{shape}-{contacts}" if spelling == "shuffled" else f"{shape}-{contacts}-{spelling}"
-    path = os.path.join(folder, f"{name}.txt")
-    with open(path, "w", encoding="ascii") as file:
-        file.write(make(shape, contacts, seed, spelling, ranges_last))
-    return path
+    def plan(self):
+        return os.path.splitext(os.path.basename(self.path))[0]
+
+    def words(self, count):
+        ends = ["--from", self.source, "--to", self.target, "--at", self.at]
+        return ["first", "--plan", self.path, *ends, "--count", str(count), *self.further]
+
+    def with_words(self, further):
+        return self._replace(name=" ".join([self.name, *further]), further=(*self.further, *further))
 
 
 def numbers(text):
     return [int(word) for word in text.split(",")]
 
 
-def known_spellings(text):
-    """Words joined by commas, each of which is a spelling."""
-    spellings = text.split(",")
-    if not set(spellings) <= set(SPELLINGS):
-        raise argparse.ArgumentTypeError(f"the spellings are {','.join(SPELLINGS)}")
-    return spellings
+def names_of(kind, known):
+    """What reads words joined by commas, each of which must be known."""
+
+    def read(text):
+        if not set(text.split(",")) <= set(known):
+            raise argparse.ArgumentTypeError(f"the {kind} are {','.join(known)}")
+        return text.split(",")
+
+    return read
 
 
-def add_words(words, spellings=("shuffled",)):
+def made(name, seed=1):
+    """A plan that is drawn."""
+    shape, _, count = name.partition("-")
+    if name in PLANS:
+        make, *sizes = PLANS[name]
+        return make(name, seed, *sizes)
+    if shape not in SHAPES or not count.isdigit() or (shape == "spread" and not 32 <= int(count) <= 20000):
+        raise SystemExit(f"there is no plan {name}: there are {', '.join([*PLANS, *REAL])}, spread-32 to -20000, hub-N")
+    return SHAPES[shape](shape, seed, int(count))
+
+
+def write_text(folder, name, text):
+    """Writes a plan, and returns its path."""
+    os.makedirs(folder, exist_ok=True)
+    path = os.path.join(folder, f"{name}.txt")
+    with open(path, "w", encoding="ascii") as file:
+        file.write(text)
+    return path
+
+
+@functools.lru_cache(maxsize=None)
+def write(name, folder, seed=1):
+    """Writes a plan, and returns its questions."""
+    if name in REAL:
+        with lzma.open(os.path.join(HERE, "real", f"{name}.txt.xz"), "rt") as packed:
+            path = write_text(folder, name, packed.read())
+        ends = [(str(one), str(other)) for one, other in REAL[name]]
+        return [Question(f"{name}-{one}-{other}", path, one, other, "2018/01/22-00:10:00") for one, other in ends]
+    plan = made(name, seed)
+    source, target, second = plan.asked
+    at = text_of(second_of(BEGINS) + second)
+    return [Question(name, write_text(folder, name, plan.text()), str(source), str(target), at)]
+
+
+def write_spelled(question, spelling, folder):
+    """Writes the plan of a question in another spelling, and returns its path."""
+    with open(question.path, encoding="ascii") as file:
+        return write_text(folder, f"{question.plan()}-{spelling}", respelled(file.read(), spelling))
+
+
+def write_drawn(name, spelling, given):
+    """The same of a plan's name. Of spread and hub, lines stand in no order as they are drawn."""
+    if name.partition("-")[0] not in SHAPES:
+        return write_spelled(write(name, given.out, given.seed)[0], spelling, given.out)
+    plan = made(name, given.seed)
+    if spelling == "shuffled":
+        return write_text(given.out, f"{name}-{spelling}", plan.text(given.ranges_last))
+    for records in (plan.contacts, plan.ranges):
+        records.sort(key=lambda it: it[0])
+    return write_text(given.out, f"{name}-{spelling}", respelled(plan.text(given.ranges_last), spelling))
+
+
+def plan_of(name):
+    """The plan of a question, or of that name."""
+    first = name.partition("-")[0]
+    return first if first in REAL else name
+
+
+def questions(chosen, folder, seed=1):
+    """Writes the plans with these names, or all of the figures, and returns their questions. A name may be a
+    question's."""
+    found = []
+    for name in chosen or [*PLANS, *REAL]:
+        known = [it for it in write(plan_of(name), folder, seed) if name in (plan_of(name), it.name)]
+        if not known:
+            raise SystemExit(f"there is no question {name}")
+        found += known
+    return found
+
+
+def add_words(words):
     """The words that say which plans are made."""
-    here = os.path.dirname(os.path.abspath(__file__))
-    words.add_argument("--out", default=os.path.join(here, "out"), help="the folder for the plans")
-    words.add_argument("--seed", type=int, default=1)
-    words.add_argument("--contacts", type=numbers, default=list(SIZES), help="how many, joined by commas")
-    words.add_argument("--shapes", default=",".join(SHAPES), help="spread, hub, or both joined by a comma")
-    words.add_argument("--spellings", type=known_spellings, default=list(spellings), help="joined by commas")
-    words.add_argument("--ranges-last", action="store_true", help="the ranges come after the contacts")
-
-
-def write_all(given):
-    """Writes each plan that the words name, and returns their files."""
-    return [
-        write(given.out, shape, contacts, given.seed, spelling, given.ranges_last)
-        for shape in given.shapes.split(",")
-        for contacts in given.contacts
-        for spelling in given.spellings
-    ]
+    words.add_argument("--only", type=lambda text: text.split(","), default=[], help="joined by commas")
+    words.add_argument("--spellings", type=names_of("spellings", SPELLINGS), default=[], help="joined by commas")
+    words.add_argument("--ranges-last", action="store_true", help="of spread and hub, ranges come after contacts")
+    words.add_argument("--seed", type=int, default=1, help="of what is drawn")
+    words.add_argument("--out", default=os.path.join(HERE, "out"), help="the folder for the plans")
 
 
 def main():
     words = argparse.ArgumentParser(description=__doc__, formatter_class=argparse.RawDescriptionHelpFormatter)
     add_words(words)
-    for path in write_all(words.parse_args()):
-        print(f"{os.path.getsize(path):>9} bytes  {path}")
+    given = words.parse_args()
+    for one in questions(given.only, given.out, given.seed):
+        print(f"{one.name:16} {one.source} to {one.target} at {one.at}")
+        for spelling in given.spellings:
+            print(write_drawn(one.plan(), spelling, given))
 
 
 if __name__ == "__main__":

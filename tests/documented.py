@@ -16,7 +16,7 @@ import sys
 
 from checking import TOP, Room, checks_of, without_progress
 
-DOCUMENTS = ["README.md", "examples/README.md", "docs/formats.md", "docs/cgrlist.1"]
+DOCUMENTS = ["README.md", "examples/README.md", "examples/scripts.md", "docs/formats.md", "docs/cgrlist.1"]
 NAMED = ["examples", "tools", "docs", "tests", "completions", "install"]  # what commands name of the clone
 SECONDS = 300
 

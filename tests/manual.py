@@ -1,6 +1,6 @@
 """Holds the manual pages to what mandoc asks of them, if mandoc is there. That of the program has each fault and each message
 of the tables in docs/formats.md. That of the library has the functions and the statuses of its header. Those of the tools are
-what tools/manual_pages makes of their help."""
+what tools/manual_pages makes of their help and of the guide."""
 
 import re
 import shutil
@@ -56,8 +56,10 @@ def of_the_tools(room):
         yield f"{name} is what tools/manual_pages makes", page, room.read, name
         lines = "\n".join(line for line in page.splitlines() if '.\\"' not in line)
         yield f"{name} names installed commands", "", parts_of, r"(?:tools/|\.\.?/)[a-z_]+", lines
-        yield (f"{name} has what is asked of a page", "NAME\nSYNOPSIS\nDESCRIPTION\nEXIT STATUS\nSEE ALSO",
-               parts_of, r"^\.Sh (NAME|SYNOPSIS|DESCRIPTION|EXIT STATUS|SEE ALSO)$", page)
+        yield (f"{name} has what is asked of a page", "NAME\nSYNOPSIS\nDESCRIPTION\nEXIT STATUS\nEXAMPLES\nSEE ALSO",
+               parts_of, r"^\.Sh (NAME|SYNOPSIS|DESCRIPTION|EXIT STATUS|EXAMPLES|SEE ALSO)$", page)
+        options = re.findall(r'^\.It Ic "(-[^ "]+)', page, re.M)
+        yield f"{name} explains each option once", sorted(set(options)), lambda: sorted(options)
 
 
 def checks(_):

@@ -168,10 +168,6 @@ def what_the_gate_tries(room):
     tables = (f"{head}| a promise | `{low}/m3.edit` |\n\n{head}| `low::B`: `first`, `last` | `{low}/{{m4,m1}}.edit` |\n\n"
               f"{head}| `low`: `x` | `{low}/m2.edit` |")
     yield "the tables of what they are about", tables, lambda: room.run(f"{room.path}/clone/tools/mutations --tables").all()
-    with open(f"{TOP}/docs/proofs.md", encoding="utf-8") as file:
-        document = file.read()
-    for it, table in enumerate(room.run(f"{TOP}/tools/mutations", ["--tables"]).out.rstrip("\n").split("\n\n"), 1):
-        yield f"docs/proofs.md has table {it}", True, lambda: table in document
 
 
 def what_is_recorded(room):

@@ -4,33 +4,31 @@ In docs/proofs.md a table's row is about the crate that it names first, as `crat
 `proofs/..` and `specs/..` must be files or folders of that crate. A bare name there must be a lemma file of it or of a
 crate that the cell names.
 
-In each of DOCUMENTS, a name in backquotes that begins with a folder of the clone must be a file or a folder, where
-`{a,b}` stands for a and for b. A name `NAME.rt` must be a source of some crate.
+In each Markdown file, a name in backquotes that begins with a folder of the clone must be a file or a folder, where
+`{a,b}` stands for a and for b, and `*` for any name. A name `NAME.rt` must be a source of some crate. A link within the clone must lead to a
+file or a folder, and to a heading of it.
 
-In docs/architecture.md the table of crates must name for each crate the kit's libraries that crates.txt has. A thing of
-'Where to change what' may name words of the sources in its first cell, in backquotes. Its row and those after it that
-have an empty first cell must name each file of `src/` or `specs/` that has such a word in its code or its definitions, and
-not only in comments, imports and contracts.
+In docs/architecture.md the table of crates must name for each crate the kit's libraries that crates.txt has. The words
+that 'Where to change what' searches for must be words of the sources.
 
-docs/definitions.md must name each spec file. What the third cell of its tables has in backquotes must be a word of the
-sources, or a crate.
+tools/reference must print each spec file, with a comment, and each call with a sentence.
 """
 
 import glob
 import os
 import re
+import subprocess
 
 from checking import TOP, Check
 
 PROOFS = "docs/proofs.md"
 ARCHITECTURE = "docs/architecture.md"
-DEFINITIONS = "docs/definitions.md"
-DOCUMENTS = [PROOFS, ARCHITECTURE, DEFINITIONS, "docs/search.md", "CONTRIBUTING.md"]
+DOCUMENTS = ("*.md", "docs/*.md", "examples/*.md", "bench/*.md")
 FOLDERS = ("crates/", "docs/", "tests/", "tools/", "bench/", "examples/", "completions/")
 QUOTED = re.compile(r"`([^`\n]+)`")
 CHANGES = "## Where to change what"
 SOURCES = ("crates/*/src/**/*.rt", "crates/*/specs/**/*.antt")
-NO_CODE = {".rt": ("//", "#", "use ", "pub use ", "ghost ", "requires ", "ensures "), ".antt": ("--", "use ", "pub mod ")}
+LINK = re.compile(r"\]\(([^)\s]*)\)")
 
 
 def read(path):
@@ -107,64 +105,49 @@ def wrong_kit_list(line, crates):
     return "" if told == used else f"says that {crate} uses {told} of the kit, and crates.txt says {used}"
 
 
-def words_of_sources(top):
-    """Each file of the sources, by its place in the clone, with the words of its code or its definitions."""
-    words = {}
-    for place in sorted(it for pattern in SOURCES for it in places_like(pattern, top)):
-        lines = read(f"{top}/{place}").split("\n")
-        code = [line for line in lines if not line.strip().startswith(NO_CODE[os.path.splitext(place)[1]])]
-        words[place] = set(re.findall(r"\w+", "\n".join(code)))
-    return words
-
-
-def rows_of_changes(text):
-    """Each thing of 'Where to change what': its line, its first cell, and all its lines: those after it that have an empty
-    first cell, too."""
-    before, heading, after = text.partition(f"\n{CHANGES}\n")
-    things = []
+def searched_words(text):
+    """Each word that 'Where to change what' searches for, and its line."""
+    before, _, after = text.partition(f"\n{CHANGES}\n")
     for number, line in enumerate(after.partition("\n## ")[0].split("\n"), before.count("\n") + 3):
-        cells = cells_of(line)
-        if cells and cells[0]:
-            things.append((number, cells[0], [line]))
-        elif cells and things:
-            things[-1][2].append(line)
-    return things if heading else []
+        yield from ((number, word) for word in QUOTED.findall(" ".join(cells_of(line)[1:2])))
 
 
-def missing_places(text, top):
-    """Each search word of a thing of 'Where to change what': its line, and what is wrong with the word."""
-    things = rows_of_changes(text)
-    sources = words_of_sources(top) if things else {}
-    for number, first, lines in things:
-        named = {place for _, place in quoted_places("\n".join(lines))}
-        for word in QUOTED.findall(first):
-            places = [place for place, words in sources.items() if word in words]
-            missing = [place for place in places if place not in named]
-            if not places:
-                yield number, f"searches for {word}, which no source has"
-            else:
-                yield number, f"leaves out {', '.join(missing)}, which has {word}" if missing else ""
+def anchors_of(text):
+    """The anchors of a document's headings."""
+    for heading in re.findall(r"^#+ (.*)$", re.sub(r"^```.*?^```$", "", text, flags=re.M | re.S), re.M):
+        yield re.sub(r"[^\w\- ]", "", re.sub(r"\[([^]]*)\]\([^)]*\)", r"\1", heading).lower()).replace(" ", "-")
 
 
-def defined_words(text):
-    """Each word of the third cells of tables that stands in backquotes, and its line."""
+def wrong_links(document, text, top):
+    """Each link of a document within the clone: its line, and what is wrong with it, which is empty if nothing is."""
     for number, line in enumerate(text.split("\n"), 1):
-        for name in QUOTED.findall(" ".join(cells_of(line)[2:3])):
-            yield from ((number, word) for word in re.findall(r"\w+", name) if "/" not in name)
+        for link in LINK.findall(line):
+            if re.match(r"\w+:", link):
+                continue
+            place, _, anchor = link.partition("#")
+            path = os.path.normpath(os.path.join(top, os.path.dirname(document), place)) if place else f"{top}/{document}"
+            if not os.path.exists(path):
+                yield number, f"links to {link}, but there is no {os.path.relpath(path, top)}"
+            else:
+                yield number, f"links to {link}, which has no such heading" if anchor and anchor not in anchors_of(read(path)) else ""
 
 
-def spec_files(top):
-    """The name of each spec file, without those that only list the files beside them."""
-    for place in sorted(places_like(SOURCES[1], top)):
-        file = os.path.splitext(place)[0]
-        if os.path.basename(file) != "Lib" and not os.path.isdir(f"{top}/{file}"):
-            yield os.path.basename(file)
+def missing_reference(top):
+    """Each spec file and each call: what tools/reference lacks of it, which is empty if nothing is."""
+    tool = os.path.join(top, "tools/reference")
+    definitions, contracts = (subprocess.run([tool, it], stdout=subprocess.PIPE, text=True, check=True).stdout for it in
+                              ("definitions", "contracts"))
+    with_comment = set(re.findall(r"^(crates/\S+)\n  \S", definitions, re.M))
+    for place in sorted(it for it in places_like(SOURCES[1], top) if os.path.basename(it) != "Lib.antt"):
+        yield "" if place in with_comment else f"prints no comment of {place}"
+    for call, about in re.findall(r"^    (\w+::\S+): (.*)$", contracts, re.M):
+        yield f"prints no sentence about {call}" if about == "-" else ""
 
 
 def looked_at(top):
     """Whatever is looked at: its document, its line, and what is wrong with it, which is empty if nothing is."""
     crates = crates_of(top)
-    texts = {document: read(f"{top}/{document}") for document in DOCUMENTS}
+    texts = {document: read(f"{top}/{document}") for it in DOCUMENTS for document in sorted(places_like(it, top))}
     sources = {os.path.basename(place) for place in places_like(SOURCES[0], top)}
     for number, crate, cell in rows_of_proofs(texts[PROOFS], crates):
         for name, places in places_of_cell(crate, cell, crates):
@@ -172,23 +155,20 @@ def looked_at(top):
             yield PROOFS, number, "" if there else f"names {name}, but there is no {' nor '.join(places)}"
     for document, text in texts.items():
         for number, place in quoted_places(text):
-            there = os.path.exists(f"{top}/{place}")
-            yield document, number, "" if there else f"names {place}, which isn't there"
+            yield document, number, "" if places_like(place, top) else f"names {place}, which isn't there"
         for number, name in quoted_sources(text):
             yield document, number, "" if name in sources else f"names {name}, which no crate has"
+        for number, wrong in wrong_links(document, text, top):
+            yield document, number, wrong
     for number, line in enumerate(texts[ARCHITECTURE].split("\n"), 1):
         wrong = wrong_kit_list(line, crates)
         if wrong is not None:
             yield ARCHITECTURE, number, wrong
-    for number, wrong in missing_places(texts[ARCHITECTURE], top):
-        yield ARCHITECTURE, number, wrong
     words = {word for pattern in SOURCES for it in places_like(pattern, top) for word in re.findall(r"\w+", read(f"{top}/{it}"))}
-    for number, word in defined_words(texts[DEFINITIONS]):
-        there = word in words or word in crates
-        yield DEFINITIONS, number, "" if there else f"names {word}, which no source has"
-    named = set(re.findall(r"\w+", " ".join(QUOTED.findall(texts[DEFINITIONS]))))
-    for name in spec_files(top):
-        yield DEFINITIONS, 1, "" if name in named else f"doesn't name the spec file {name}"
+    for number, word in searched_words(texts[ARCHITECTURE]):
+        yield ARCHITECTURE, number, "" if word in words else f"searches for {word}, which no source has"
+    for wrong in missing_reference(top):
+        yield "tools/reference", 1, wrong
 
 
 def checks(_):

@@ -8,3 +8,4 @@ pub mod NextPages
 pub mod RunsInTurn
 pub mod StandingPages
 pub mod CallLemmas
+pub mod CallsInTurn

@@ -5,3 +5,4 @@ pub mod RequestLines
 pub mod ListLines
 pub mod RequestsRead
 pub mod BuiltWords
+pub mod NamedWords

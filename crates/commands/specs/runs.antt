@@ -1,5 +1,6 @@
 -- What runs leave on their writers.
 pub mod Runs
+pub mod Files
 pub mod Calls
 pub mod SessionRuns
 pub mod EveryRun
@@ -10,3 +11,4 @@ pub mod PagesLeft
 pub mod Many
 pub mod ManyAsFirst
 pub mod Program
+pub mod CallsInTurn

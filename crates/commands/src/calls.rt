@@ -6,13 +6,13 @@
 ghost use Rattle.std.specs.Prelude.{◌≡◌, IfErr, IfOk, OnErr};
 ghost use Rattle.clap.specs.Matches.{found_of};
 ghost use Rattle.commands.specs.declared.command.CommandName.TheVariants as command;
-ghost use Rattle.commands.specs.runs.Calls.{RunsCheck, RunsExplain, RunsFirst, RunsFollow, RunsMany, RunsNext, RunsVerify, StopsBefore, kept_path, left_after};
+ghost use Rattle.commands.specs.runs.Calls.{RunsCheck, RunsExplain, RunsFirst, RunsFollow, RunsMany, RunsNext, RunsVerify, StopsBefore};
 
 use crate::command::CommandName;
 use crate::failure::Failure;
 use crate::files::{
-    FileSystem, make_session, open_lists, open_plan, open_requests, open_session,
-    remove_unless_done, session_out,
+    FileSystem, keep_if_done, make_session, open_lists, open_plan, open_requests, open_session,
+    session_out,
 };
 use crate::runs::{run_check, run_explain, run_first, run_follow, run_many, run_next, run_verify};
 use crate::status::Status;
@@ -30,9 +30,8 @@ pub fn first<'w, D: FileSystem<'w>, O: Write, E: Write>(
     out: &mut O,
     err: &mut E,
 ) -> Result<Status, Failure>
-    ensures ran { IfOk result (λ s. RunsFirst D.opened D.made (found_of words.now) (O.output out.old) (O.output out.new) (E.output err.old) (E.output err.new) s) }
-    ensures left { IfOk result (λ s. D.left files.new ≡ left_after (kept_path command.First (found_of words.now)) s (D.left files.old)) }
-    ensures stopped { IfErr result (StopsBefore D.refused command.First (found_of words.now)) }
+    ensures ran { IfOk result (λ s. RunsFirst D.rules (found_of words.now) (D.left files.old) (D.left files.new) (O.output out.old) (O.output out.new) (E.output err.old) (E.output err.new) s) }
+    ensures stopped { IfErr result (StopsBefore D.rules command.First (found_of words.now)) }
     ensures not_run { OnErr result ((O.output out.new ≡ O.output out.old) × (E.output err.new ≡ E.output err.old) × (D.left files.new ≡ D.left files.old)) }
 {
     let values = values_of(alloc, CommandName::First, words)?;
@@ -64,7 +63,7 @@ pub fn first<'w, D: FileSystem<'w>, O: Write, E: Write>(
         &mut session,
         err,
     );
-    remove_unless_done(files, status);
+    keep_if_done(files, session, status);
     Ok(status)
 }
 
@@ -76,9 +75,8 @@ pub fn next<'w, D: FileSystem<'w>, O: Write, E: Write>(
     out: &mut O,
     err: &mut E,
 ) -> Result<Status, Failure>
-    ensures ran { IfOk result (λ s. RunsNext D.opened D.made (found_of words.now) (O.output out.old) (O.output out.new) (E.output err.old) (E.output err.new) s) }
-    ensures left { IfOk result (λ s. D.left files.new ≡ left_after (kept_path command.Next (found_of words.now)) s (D.left files.old)) }
-    ensures stopped { IfErr result (StopsBefore D.refused command.Next (found_of words.now)) }
+    ensures ran { IfOk result (λ s. RunsNext D.rules (found_of words.now) (D.left files.old) (D.left files.new) (O.output out.old) (O.output out.new) (E.output err.old) (E.output err.new) s) }
+    ensures stopped { IfErr result (StopsBefore D.rules command.Next (found_of words.now)) }
     ensures not_run { OnErr result ((O.output out.new ≡ O.output out.old) × (E.output err.new ≡ E.output err.old) × (D.left files.new ≡ D.left files.old)) }
 {
     let values = values_of(alloc, CommandName::Next, words)?;
@@ -99,18 +97,9 @@ pub fn next<'w, D: FileSystem<'w>, O: Write, E: Write>(
         );
         return Ok(status);
     };
-    let mut session = make_session(files, path)?;
-    let status = run_next(
-        alloc,
-        &mut plan,
-        &mut old,
-        count,
-        out,
-        true,
-        &mut session,
-        err,
-    );
-    remove_unless_done(files, status);
+    let mut new = make_session(files, path)?;
+    let status = run_next(alloc, &mut plan, &mut old, count, out, true, &mut new, err);
+    keep_if_done(files, new, status);
     Ok(status)
 }
 
@@ -122,8 +111,8 @@ pub fn verify<'w, D: FileSystem<'w>, O: Write, E: Write>(
     out: &mut O,
     err: &mut E,
 ) -> Result<Status, Failure>
-    ensures ran { IfOk result (λ s. RunsVerify D.opened (found_of words.now) (O.output out.old) (O.output out.new) (E.output err.old) (E.output err.new) s) }
-    ensures stopped { IfErr result (StopsBefore D.refused command.Verify (found_of words.now)) }
+    ensures ran { IfOk result (λ s. RunsVerify D.rules (found_of words.now) (O.output out.old) (O.output out.new) (E.output err.old) (E.output err.new) s) }
+    ensures stopped { IfErr result (StopsBefore D.rules command.Verify (found_of words.now)) }
     ensures not_run { OnErr result ((O.output out.new ≡ O.output out.old) × (E.output err.new ≡ E.output err.old)) }
 {
     let mut plan = open_plan(files, words)?;
@@ -139,8 +128,8 @@ pub fn check<'w, D: FileSystem<'w>, O: Write, E: Write>(
     out: &mut O,
     err: &mut E,
 ) -> Result<Status, Failure>
-    ensures ran { IfOk result (λ s. RunsCheck D.opened (found_of words.now) (O.output out.old) (O.output out.new) (E.output err.old) (E.output err.new) s) }
-    ensures stopped { IfErr result (StopsBefore D.refused command.Check (found_of words.now)) }
+    ensures ran { IfOk result (λ s. RunsCheck D.rules (found_of words.now) (O.output out.old) (O.output out.new) (E.output err.old) (E.output err.new) s) }
+    ensures stopped { IfErr result (StopsBefore D.rules command.Check (found_of words.now)) }
     ensures not_run { OnErr result ((O.output out.new ≡ O.output out.old) × (E.output err.new ≡ E.output err.old)) }
 {
     let mut plan = open_plan(files, words)?;
@@ -155,8 +144,8 @@ pub fn explain<'w, D: FileSystem<'w>, O: Write, E: Write>(
     out: &mut O,
     err: &mut E,
 ) -> Result<Status, Failure>
-    ensures ran { IfOk result (λ s. RunsExplain D.opened (found_of words.now) (O.output out.old) (O.output out.new) (E.output err.old) (E.output err.new) s) }
-    ensures stopped { IfErr result (StopsBefore D.refused command.Explain (found_of words.now)) }
+    ensures ran { IfOk result (λ s. RunsExplain D.rules (found_of words.now) (O.output out.old) (O.output out.new) (E.output err.old) (E.output err.new) s) }
+    ensures stopped { IfErr result (StopsBefore D.rules command.Explain (found_of words.now)) }
     ensures not_run { OnErr result ((O.output out.new ≡ O.output out.old) × (E.output err.new ≡ E.output err.old)) }
 {
     let values = values_of(alloc, CommandName::Explain, words)?;
@@ -174,8 +163,8 @@ pub fn many<'w, D: FileSystem<'w>, O: Write, E: Write>(
     out: &mut O,
     err: &mut E,
 ) -> Result<Status, Failure>
-    ensures ran { IfOk result (λ s. RunsMany D.opened (found_of words.now) (O.output out.old) (O.output out.new) (E.output err.old) (E.output err.new) s) }
-    ensures stopped { IfErr result (StopsBefore D.refused command.Many (found_of words.now)) }
+    ensures ran { IfOk result (λ s. RunsMany D.rules (found_of words.now) (O.output out.old) (O.output out.new) (E.output err.old) (E.output err.new) s) }
+    ensures stopped { IfErr result (StopsBefore D.rules command.Many (found_of words.now)) }
     ensures not_run { OnErr result ((O.output out.new ≡ O.output out.old) × (E.output err.new ≡ E.output err.old)) }
 {
     let values = values_of(alloc, CommandName::Many, words)?;
@@ -193,8 +182,8 @@ pub fn follow<'w, D: FileSystem<'w>, O: Write, E: Write>(
     out: &mut O,
     err: &mut E,
 ) -> Result<Status, Failure>
-    ensures ran { IfOk result (λ s. RunsFollow D.opened (found_of words.now) (O.output out.old) (O.output out.new) (E.output err.old) (E.output err.new) s) }
-    ensures stopped { IfErr result (StopsBefore D.refused command.Follow (found_of words.now)) }
+    ensures ran { IfOk result (λ s. RunsFollow D.rules (found_of words.now) (O.output out.old) (O.output out.new) (E.output err.old) (E.output err.new) s) }
+    ensures stopped { IfErr result (StopsBefore D.rules command.Follow (found_of words.now)) }
     ensures not_run { OnErr result ((O.output out.new ≡ O.output out.old) × (E.output err.new ≡ E.output err.old)) }
 {
     let mut plan = open_plan(files, words)?;

@@ -2,7 +2,7 @@
 
 ghost use Rattle.std.specs.Prelude.{◌≡◌, IfErr, IfOk, OnErr, Some};
 ghost use Rattle.clap.specs.Matches.{found_of};
-ghost use Rattle.commands.specs.runs.Calls.{RunsCommand, StopsBefore, kept_path, left_after};
+ghost use Rattle.commands.specs.runs.Calls.{RunsCommand, StopsBefore};
 ghost use Rattle.commands.specs.words.CommandLine.{command_text};
 ghost use Rattle.commands.specs.words.Values.{command_named, has_request, has_session, has_requests, has_lists, has_count, keeps_session, has_contacts};
 
@@ -178,7 +178,7 @@ A list is a line NUMBERS FROM TO TIME, and after it, if need be, PPM, HOPS and N
     }
 
     /// Runs the command over its words and the files that they name. The report goes to `out`, and messages go to `err`.
-    /// If the run isn't done, the file that was made for a session is removed.
+    /// The file that was made for a session is kept if the run is done, and else removed. If that fails, it stays.
     ///
     /// # Errors
     ///
@@ -192,9 +192,8 @@ A list is a line NUMBERS FROM TO TIME, and after it, if need be, PPM, HOPS and N
         out: &mut O,
         err: &mut E,
     ) -> Result<Status, Failure>
-        ensures ran { IfOk result (λ s. RunsCommand self D.opened D.made (found_of words.now) (O.output out.old) (O.output out.new) (E.output err.old) (E.output err.new) s) }
-        ensures left { IfOk result (λ s. D.left files.new ≡ left_after (kept_path self (found_of words.now)) s (D.left files.old)) }
-        ensures stopped { IfErr result (StopsBefore D.refused self (found_of words.now)) }
+        ensures ran { IfOk result (λ s. RunsCommand self D.rules (found_of words.now) (D.left files.old) (D.left files.new) (O.output out.old) (O.output out.new) (E.output err.old) (E.output err.new) s) }
+        ensures stopped { IfErr result (StopsBefore D.rules self (found_of words.now)) }
         ensures not_run { OnErr result ((O.output out.new ≡ O.output out.old) × (E.output err.new ≡ E.output err.old) × (D.left files.new ≡ D.left files.old)) }
     {
         match self {

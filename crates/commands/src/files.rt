@@ -6,7 +6,8 @@ mod system;
 ghost use Rattle.std.specs.Prelude.{◌≡◌, IfErr, IfOk, OnErr, Some, option_map};
 ghost use Rattle.clap.specs.Matches.{first_value, found_of};
 ghost use Rattle.commands.specs.declared.failure.Failure.TheVariants as failure;
-ghost use Rattle.commands.specs.runs.Calls.{left_if_done};
+ghost use Rattle.commands.specs.runs.Calls.{IsUnopened};
+ghost use Rattle.commands.specs.runs.Files.{KeepsIfDone, Makes};
 ghost use Rattle.commands.specs.words.Paths.{lists_word, path_under, plan_word, requests_word, session_out_word, session_word};
 
 use crate::failure::Failure;
@@ -46,8 +47,8 @@ pub fn open_plan<'w, D: FileSystem<'w>>(
     files: &D,
     words: &ArgMatches<'w>,
 ) -> Result<D::File, Failure>
-    ensures opened { IfOk result (λ file. D.opened (path_under (found_of words.now) plan_word) (D.File.input file)) }
-    ensures refused { IfErr result (λ f. (f ≡ failure.CannotOpenPlan) × D.refused (path_under (found_of words.now) plan_word)) }
+    ensures opened { IfOk result (λ file. D.rules.opened (path_under (found_of words.now) plan_word) (D.File.input file)) }
+    ensures refused { IfErr result (λ f. (f ≡ failure.CannotOpenPlan) × IsUnopened D.rules (found_of words.now) plan_word) }
 {
     match files.open(path_under(words, PLAN)) {
         Ok(file) => Ok(file),
@@ -64,8 +65,8 @@ pub fn open_session<'w, D: FileSystem<'w>>(
     files: &D,
     words: &ArgMatches<'w>,
 ) -> Result<D::File, Failure>
-    ensures opened { IfOk result (λ file. D.opened (path_under (found_of words.now) session_word) (D.File.input file)) }
-    ensures refused { IfErr result (λ f. (f ≡ failure.CannotOpenSession) × D.refused (path_under (found_of words.now) session_word)) }
+    ensures opened { IfOk result (λ file. D.rules.opened (path_under (found_of words.now) session_word) (D.File.input file)) }
+    ensures refused { IfErr result (λ f. (f ≡ failure.CannotOpenSession) × IsUnopened D.rules (found_of words.now) session_word) }
 {
     match files.open(path_under(words, SESSION)) {
         Ok(file) => Ok(file),
@@ -82,8 +83,8 @@ pub fn open_requests<'w, D: FileSystem<'w>>(
     files: &D,
     words: &ArgMatches<'w>,
 ) -> Result<D::File, Failure>
-    ensures opened { IfOk result (λ file. D.opened (path_under (found_of words.now) requests_word) (D.File.input file)) }
-    ensures refused { IfErr result (λ f. (f ≡ failure.CannotOpenRequests) × D.refused (path_under (found_of words.now) requests_word)) }
+    ensures opened { IfOk result (λ file. D.rules.opened (path_under (found_of words.now) requests_word) (D.File.input file)) }
+    ensures refused { IfErr result (λ f. (f ≡ failure.CannotOpenRequests) × IsUnopened D.rules (found_of words.now) requests_word) }
 {
     match files.open(path_under(words, REQUESTS)) {
         Ok(file) => Ok(file),
@@ -100,8 +101,8 @@ pub fn open_lists<'w, D: FileSystem<'w>>(
     files: &D,
     words: &ArgMatches<'w>,
 ) -> Result<D::File, Failure>
-    ensures opened { IfOk result (λ file. D.opened (path_under (found_of words.now) lists_word) (D.File.input file)) }
-    ensures refused { IfErr result (λ f. (f ≡ failure.CannotOpenLists) × D.refused (path_under (found_of words.now) lists_word)) }
+    ensures opened { IfOk result (λ file. D.rules.opened (path_under (found_of words.now) lists_word) (D.File.input file)) }
+    ensures refused { IfErr result (λ f. (f ≡ failure.CannotOpenLists) × IsUnopened D.rules (found_of words.now) lists_word) }
 {
     match files.open(path_under(words, LISTS)) {
         Ok(file) => Ok(file),
@@ -121,10 +122,12 @@ pub fn session_out<'w>(words: &ArgMatches<'w>) -> Option<&'w str>
 /// # Errors
 ///
 /// [`Failure::CannotMakeSession`] if it can't be made.
-pub fn make_session<'w, D: FileSystem<'w>>(files: &mut D, path: &'w str) -> Result<D::File, Failure>
-    ensures made { IfOk result (λ file. D.made path.now (D.File.output file)) }
-    ensures left { IfOk result (λ _. D.left files.new ≡ Some path.now) }
-    ensures refused { IfErr result (λ f. (f ≡ failure.CannotMakeSession) × D.refused path.now) }
+pub fn make_session<'w, D: FileSystem<'w>>(
+    files: &mut D,
+    path: &'w str,
+) -> Result<D::NewFile, Failure>
+    ensures made { IfOk result (λ file. Makes D.rules path.now (D.NewFile.output file) (D.left files.old) (D.left files.new)) }
+    ensures refused { IfErr result (λ f. (f ≡ failure.CannotMakeSession) × D.rules.unmade path.now) }
     ensures not_made { OnErr result (D.left files.new ≡ D.left files.old) }
 {
     match files.make(path) {
@@ -133,12 +136,12 @@ pub fn make_session<'w, D: FileSystem<'w>>(files: &mut D, path: &'w str) -> Resu
     }
 }
 
-/// Removes the file of a new session, unless the run that wrote it is done. A failure to remove it changes nothing.
-pub fn remove_unless_done<'w, D: FileSystem<'w>>(files: &mut D, status: Status)
-    ensures { D.left files.new ≡ left_if_done status (D.left files.old) }
+/// Keeps the file of a new session if the run that wrote it is done, and else removes it. If that fails, it stays.
+pub fn keep_if_done<'w, D: FileSystem<'w>>(files: &mut D, file: D::NewFile, status: Status)
+    ensures { KeepsIfDone D.rules status (D.NewFile.output file) (D.left files.old) (D.left files.new) }
 {
     match status {
-        Status::Done => {}
-        _ => files.remove(),
+        Status::Done => files.keep(file),
+        _ => files.remove(file),
     }
 }

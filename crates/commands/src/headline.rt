@@ -1,6 +1,7 @@
 //! The headline, and what it says of single runs and calls. Each is a theorem: the contract of a function that does
 //! nothing.
 
+ghost use Rattle.commands.specs.runs.CallsInTurn.{CallsInTurn};
 ghost use Rattle.commands.specs.runs.EveryRun.{EveryRunFollows};
 ghost use Rattle.commands.specs.runs.ManyAsFirst.{FollowAnswersAsExplain, ManyAnswersAsFirst};
 ghost use Rattle.commands.specs.runs.NextPage.{NextGoesOn};
@@ -33,6 +34,15 @@ pub fn next_goes_on()
 /// before ended.
 pub fn runs_in_turn()
     ensures { RunsInTurn }
+{}
+
+/// Shows that calls of the program list a plan page by page, from their words to the files that they leave. A call
+/// `first` keeps its session, and then each call `next` goes on from the file in which the one before kept its own.
+/// Over a system in which a file reads as what was last written there, the calls that end with
+/// [`Status::Done`](crate::Status::Done) print the reports of the first routes of the list, each from where the one
+/// before ended. At each path they leave the session text of its place.
+pub fn calls_in_turn()
+    ensures { CallsInTurn }
 {}
 
 /// Shows that runs `next` go on page by page from any session text that `verify` accepts, in either version. Their pages

@@ -1,9 +1,9 @@
 //! The program: words, files and the runs over them.
 
-ghost use Rattle.std.specs.Prelude.{map};
+ghost use Rattle.std.specs.Prelude.{IsTrue, is_some, map};
 ghost use Rattle.clap.specs.Simple.{subcommand_rows_of};
 ghost use Rattle.clap.specs.Values.{kind_of};
-ghost use Rattle.commands.specs.runs.Program.{EndsGiven, EndsWords, TellsRefusal};
+ghost use Rattle.commands.specs.runs.Program.{EndsNamed, EndsWords, TellsRefusal, named_in};
 ghost use Rattle.commands.specs.texts.Messages.{TellsText};
 
 use crate::command::command_named;
@@ -22,7 +22,8 @@ use std::alloc::Global;
 ///
 /// The status is [`Status::Usage`] if the words are refused or ask for help, [`Status::Io`] if a file can't be opened
 /// or made, and [`Status::Memory`] if memory was refused before the run. Then nothing is written to `out`. Else the
-/// status is the run's; if that isn't [`Status::Done`], the file that was made for a session is removed.
+/// status is the run's. The file that was made for a session is kept if the status is [`Status::Done`], and else
+/// removed; if that fails, it stays.
 pub fn run_words<'w, D: FileSystem<'w>, O: Write, E: Write>(
     alloc: Global,
     words: &'w [&'w str],
@@ -30,7 +31,7 @@ pub fn run_words<'w, D: FileSystem<'w>, O: Write, E: Write>(
     out: &mut O,
     err: &mut E,
 ) -> Status
-    ensures { EndsWords D.opened D.made D.refused (map (λ w. w.now) words.now) (D.left files.old) (D.left files.new) (O.output out.old) (O.output out.new) (E.output err.old) (E.output err.new) result }
+    ensures { EndsWords D.rules (map (λ w. w.now) words.now) (D.left files.old) (D.left files.new) (O.output out.old) (O.output out.new) (E.output err.old) (E.output err.new) result }
 {
     match parsed(alloc, words) {
         Ok(matches) => run_command(alloc, &matches, files, out, err),
@@ -67,13 +68,14 @@ fn run_command<'w, D: FileSystem<'w>, O: Write, E: Write>(
     out: &mut O,
     err: &mut E,
 ) -> Status
-    ensures { EndsGiven D.opened D.made D.refused (subcommand_rows_of matches.now) (D.left files.old) (D.left files.new) (O.output out.old) (O.output out.new) (E.output err.old) (E.output err.new) result }
+    requires { IsTrue (is_some (named_in (subcommand_rows_of matches.now))) }
+    ensures { EndsNamed D.rules (subcommand_rows_of matches.now) (D.left files.old) (D.left files.new) (O.output out.old) (O.output out.new) (E.output err.old) (E.output err.new) result }
 {
     let Some((name, words)) = matches.subcommand() else {
-        return Status::Usage;
+        unreachable!();
     };
     let Some(command) = command_named(name) else {
-        return Status::Usage;
+        unreachable!();
     };
     match command.run(alloc, words, files, out, err) {
         Ok(status) => status,

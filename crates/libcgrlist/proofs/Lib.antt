@@ -7,6 +7,5 @@ mod FollowLemmas
 mod HopLemmas
 mod LoadLemmas
 mod PlaceValues
-mod TextLemmas
 mod Values
 mod VerifyLemmas

@@ -1,18 +1,16 @@
 //! Opening plans, and closing them.
 
 ghost use Rattle.std.specs.Prelude.{◌≡◌, ◌⊎◌, [], false, true, IsTrue};
-ghost use Rattle.sabr_plan.specs.Feeding.{Answers};
 ghost use Rattle.sabr_plan.specs.Reading.{plan_of};
 ghost use Rattle.libcgrlist.specs.Open.{IsWhole};
 ghost use Rattle.libcgrlist.specs.Reading.{IsPlanAlone, Opens, Reads, Refused};
 ghost use Rattle.libcgrlist.specs.Status.{done, no_memory};
 
-use crate::bytes::Bytes;
 use crate::handle::PlanHandle;
 use crate::opened::Opened;
 use crate::status::{DONE, MEMORY, OPEN, of_line};
 use sabr_model::Plan;
-use sabr_plan::{PlanFault, PlanKind, read_plan};
+use sabr_plan::{PlanKind, parse_plan};
 use std::alloc::Global;
 
 /// Puts a plan behind a closed handle.
@@ -42,14 +40,6 @@ pub extern "C" fn cgrlist_plan_new(alloc: Global, handle: &mut PlanHandle) -> u3
     open(alloc, handle, Plan::new(alloc))
 }
 
-/// Reads the plan that a text spells.
-fn read(alloc: Global, text: &[u8]) -> Result<Plan<Global>, PlanFault>
-    ensures { Answers (plan_of text.now true) result }
-{
-    let mut reader = Bytes::new(text);
-    read_plan(alloc, &mut reader)
-}
-
 /// Opens the plan that a text spells, or gives the number of its first bad line.
 #[unsafe(no_mangle)]
 pub extern "C" fn cgrlist_plan_read(
@@ -67,7 +57,7 @@ pub extern "C" fn cgrlist_plan_read(
     if handle.is_open {
         return OPEN;
     }
-    match read(alloc, text) {
+    match parse_plan(alloc, text) {
         Ok(plan) => open(alloc, handle, plan),
         Err(fault) if fault.kind == PlanKind::NoMemory => MEMORY,
         Err(fault) => {

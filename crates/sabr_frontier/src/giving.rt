@@ -4,6 +4,7 @@ pub mod asker;
 mod divide;
 mod gather;
 pub mod least_keys;
-mod other_way;
+pub mod other_way;
 mod peek;
+pub mod route_front;
 mod take;

@@ -24,30 +24,30 @@ pub record Output : Type 0 where
   -- whether all bytes that were taken were flushed: known after a flush that succeeded, until the next call
   pub flushed : Bool
 
--- whether no byte was given though there was room
+-- whether no byte was returned though there was room
 abbrev pub none_given : ℕ → List ℕ → Bool
 none_given n [] = false
 none_given n (_ ∷ _) = eqb n 0
 
--- whether a read tells the end
+-- whether a read reports the end
 abbrev pub tells_end : {E : Type 0} → Result ℕ E → List ℕ → Bool
 tells_end (Ok n) buf = none_given n buf
 tells_end (Err _) buf = false
 
--- these bytes were given; if the reader knew what was left, it began with them, and they are gone
+-- these bytes were returned; if the reader knew what was left, it began with them, and they are gone
 abbrev pub Gives : Input → List ℕ → Input → Type 0
 Gives old bytes new = (new.given ≡ old.given ++ bytes) × Consumes old.remaining new.remaining bytes
 
--- no byte was given
+-- no byte was returned
 abbrev pub GivesNone : Input → Input → Type 0
 GivesNone old new = (new.given ≡ old.given) × Keeps old.remaining new.remaining
 
--- what a read gives: as many bytes of the buffer as it says, and none at an error
+-- what a read returns: as many bytes of the buffer as its count, and none at an error
 abbrev pub ReadGives : {E : Type 0} → Input → Result ℕ E → List ℕ → Input → Type 0
 ReadGives old (Ok n) buf new = Gives old (take n buf) new
 ReadGives old (Err _) buf new = GivesNone old new
 
--- these bytes were taken; if the writer knew what it held, they stand after that
+-- these bytes were taken; if the writer knew what it held, they come after that
 abbrev pub Takes : Output → List ℕ → Output → Type 0
 Takes old bytes new = (new.taken ≡ old.taken ++ bytes) × Appends old.contents new.contents bytes
 
@@ -55,12 +55,12 @@ Takes old bytes new = (new.taken ≡ old.taken ++ bytes) × Appends old.contents
 abbrev pub TakesNone : Output → Output → Type 0
 TakesNone old new = (new.taken ≡ old.taken) × Keeps old.contents new.contents
 
--- what a write takes: as many bytes of the piece as it says, and none at an error
+-- what a write takes: as many bytes of the slice as its count, and none at an error
 abbrev pub WriteTakes : {E : Type 0} → Output → Result ℕ E → List ℕ → Output → Type 0
 WriteTakes old (Ok n) buf new = Takes old (take n buf) new
 WriteTakes old (Err _) buf new = TakesNone old new
 
--- the last read told the end, and no known byte is left
+-- the last read reported the end, and no known byte is left
 abbrev pub HasEnded : Input → Type 0
 HasEnded new = IsTrue new.ended × IsAtEnd new.remaining
 
@@ -86,12 +86,12 @@ abbrev pub call_faults : {A E : Type 0} → Result A E → ℕ
 call_faults (Ok _) = 0
 call_faults (Err _) = 1
 
--- 1 if nothing was taken of a piece that is not empty
+-- 1 if no byte was taken of a slice that is not empty
 abbrev pub stall_faults : ℕ → List ℕ → ℕ
 stall_faults n [] = 0
 stall_faults n (_ ∷ _) = cond (eqb n 0) 1 0
 
--- 1 for an error, and for a write that takes nothing of a piece that is not empty
+-- 1 for an error, and for a write that takes no byte of a slice that is not empty
 abbrev pub write_faults : {E : Type 0} → Result ℕ E → List ℕ → ℕ
 write_faults (Ok n) buf = stall_faults n buf
 write_faults (Err _) _ = 1

@@ -36,7 +36,7 @@ pub record IsListOfCandidates (n : ℕ) : Type 0 where
 abbrev pub CandidatesAreListed : Type 0
 CandidatesAreListed = (n : ℕ) → IsListOfCandidates n
 
--- the list of all routes holds exactly the routes, each once, and their keys rise strictly
+-- the list of all routes holds exactly the routes, each once, and their keys are strictly ascending
 pub record IsListOfRoutes (p : ContactPlan) (r : RouteRequest) : Type 0 where
   pub members : (s : List ℕ) → Contains (routes p r) s ↔ IsTrue (is_route p r s)
   pub once : IsTrue (none_twice same_numbers (routes p r))
@@ -54,7 +54,7 @@ pub record LeavesNoWayOut (p : ContactPlan) (r : RouteRequest) : Type 0 where
   pub travelled : (s : List ℕ) → Contains (routes p r) s → IsJourney p r s (delivery_of p r s) × MeetsNoneTwice p r s
   -- no journey ends before the first route delivers, and there is none at all if no route is listed
   pub first : (s : List ℕ) (d : ℕ) → IsJourney p r s d → FirstDeliversBy p r d
-  -- whoever is at the source later never arrives earlier
+  -- from a later second at the source, no bundle arrives earlier
   pub later : (t d : ℕ) → r.at ≤ t → FirstDeliversBy p (asked_at r t) d → FirstDeliversBy p r d
 
 -- the same, for every contact plan, and every request between two nodes

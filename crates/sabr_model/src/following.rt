@@ -123,7 +123,7 @@ impl<'a, A: Allocator + Copy> Follower<'a, A> {
         requires reached { IsReachedBy self.now.plan.now.plan self.now.request.now (take first numbers.now) here }
         requires marks { AreMarked marks.old (receivers self.now.plan.now.plan (take first numbers.now)) }
 
-        // It comes to the end of a path, or tells the first fault.
+        // It comes to the end of a path, or returns the first fault.
         ensures path { IfOk result (λ _. IsTrue (is_path self.now.plan.now.plan self.now.request.now numbers.now)) }
         ensures reached { IfOk result (IsReachedBy self.now.plan.now.plan self.now.request.now numbers.now) }
         ensures marks { OnOk result (AreMarked marks.new (receivers self.now.plan.now.plan numbers.now)) }
@@ -163,12 +163,12 @@ impl<'a, A: Allocator + Copy> Follower<'a, A> {
 /// Returns the best-case delivery time of the route that the contacts of these numbers make, in seconds since
 /// 1970-01-01T00:00:00Z (CCSDS 734.3-B-1: best-case delivery time).
 ///
-/// It takes no memory. It reads each contact, and the contacts before it, to see that no node is visited twice. Its
-/// time grows with the square of the number of hops before the first fault.
+/// It doesn't allocate. It reads each contact once, and also those before a contact whose receiver may be visited
+/// twice. So its time can grow with the square of the number of hops before the first fault.
 ///
 /// # Errors
 ///
-/// If the list is no route of the request over the plan: the fault of the least place that has one, and of one place
+/// If the list is no route of the request over the plan: the fault of the first hop that has one. If a hop has several,
 /// the first of [`HopFault::NoSuchContact`], [`HopFault::NotChained`], [`HopFault::NodeAgain`], [`HopFault::NoLight`],
 /// [`HopFault::TooLate`], [`HopFault::AvoidedNode`], [`HopFault::TooManyHops`]. [`HopFault::Empty`] for the empty list.
 /// [`HopFault::WrongEnd`] if no hop has a fault and the last receiver isn't the destination.
@@ -197,11 +197,12 @@ pub fn follow<A: Allocator + Copy>(
 /// Returns where a path and one more number lead. `here` is where the path leads; the empty path leads to the source,
 /// where the bundle is.
 ///
-/// It reads the contact with that number, and those of the prefix, to see that no node is visited twice.
+/// It reads the contact with that number. It searches the receivers of the prefix only if one of them may be visited
+/// twice.
 ///
 /// # Errors
 ///
-/// The fault of the number.
+/// The fault of the hop that the number adds, in the order of [`follow`].
 pub fn follow_hop<A: Allocator + Copy>(
     plan: &Plan<A>,
     request: &Request,
@@ -231,7 +232,7 @@ fn mark_receivers<A: Allocator + Copy>(plan: &Plan<A>, marks: &mut [bool; 64], n
 
 /// Returns what [`follow`] returns, for a list whose first `first` numbers are a path that leads to `here`.
 ///
-/// It takes no memory. Of the contacts that were followed before, it reads only the receivers.
+/// It doesn't allocate. Of the contacts that were followed before, it reads only the receivers.
 ///
 /// # Errors
 ///

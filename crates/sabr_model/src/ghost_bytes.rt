@@ -1,11 +1,11 @@
-//! A log of bytes that only proofs see: of those that a reader gave, or of those that a writer took.
+//! A log of bytes that only proofs see: of those that a reader returned, or of those that a writer took.
 
 ghost use Rattle.std.specs.Prelude.{◌≡◌, ℕ, List, [], ◌++◌};
 ghost use Rattle.std.specs.Borrow.{ftrue};
 
 use std::marker::Model;
 
-/// A log of bytes that only proofs see. It takes no bytes and has no greatest length.
+/// A log of bytes that only proofs see. It has no size at run time and no largest length.
 #[derive(Drop)]
 pub struct GhostBytes {
     pub ghost bytes: { List ℕ },

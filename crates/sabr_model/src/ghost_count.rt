@@ -1,11 +1,11 @@
-//! A count that only proofs see: of a device's failures, or of a finder's calls.
+//! A count that only proofs see: of a device's failures, or of a search's calls.
 
 ghost use Rattle.std.specs.Prelude.{◌≡◌, ℕ, ◌+◌};
 ghost use Rattle.std.specs.Borrow.{ftrue};
 
 use std::marker::Model;
 
-/// A count that only proofs see. It takes no bytes and has no upper bound.
+/// A count that only proofs see. It has no size at run time and no upper bound.
 #[derive(Drop)]
 pub struct GhostCount {
     pub ghost count: { ℕ },

@@ -5,7 +5,7 @@ ghost use Rattle.std.specs.Borrow.{ftrue};
 
 use std::marker::Model;
 
-/// A flag that only proofs see. It takes no bytes.
+/// A flag that only proofs see. It has no size at run time.
 #[derive(Drop)]
 pub struct GhostFlag {
     pub ghost is_up: { Bool },

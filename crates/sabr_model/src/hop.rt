@@ -5,7 +5,8 @@ ghost use Rattle.sabr_model.specs.routes.Hops.{IsSmall, hop_arrival};
 
 use crate::request::Request;
 
-/// What a search reads of a contact: its window, its receiver and its light time.
+/// What a search reads of a contact: its window, its receiver and its light time. Times are seconds since
+/// 1970-01-01T00:00:00Z.
 #[derive(Clone, Copy)]
 pub struct Hop {
     /// The first second at which the contact can be used.
@@ -19,8 +20,8 @@ pub struct Hop {
 }
 
 impl Hop {
-    /// Returns the second at which a bundle arrives that is at the sender at `at`. None if it is too late or no light
-    /// time is known.
+    /// Returns the second at which a bundle that is at the sender at `at` arrives at the receiver. `None` if the
+    /// contact has ended by the second at which the bundle could be sent, or if no light time is known.
     pub fn arrive(&self, request: &Request, at: u64) -> Option<u64>
         requires { IsSmall self.now }
         ensures { result ≡ hop_arrival request.now.margin at self.now }

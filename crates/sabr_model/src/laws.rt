@@ -7,12 +7,12 @@ pub fn law1()
     ensures { ArrivalIsMonotone }
 {}
 
-/// States that no route is a beginning of another.
+/// States that no route is a prefix of another.
 pub fn law2()
     ensures { NoRouteBeginsAnother }
 {}
 
-/// States that the list of all routes holds exactly the routes, each once, and that their keys rise strictly.
+/// States that the list of all routes holds exactly the routes, each once, and that their keys are strictly ascending.
 pub fn law3()
     ensures { RoutesAreListed }
 {}
@@ -28,10 +28,10 @@ pub fn faults_tell_routes()
     ensures { FaultsTellRoutes }
 {}
 
-/// States that the list of all routes leaves no way out. If a bundle can travel over contacts that come to no node twice,
-/// within the limits, and wait at each node as long as it likes, these contacts are a listed route, which delivers no later;
-/// each listed route is the way of such a journey. No bundle at all arrives before the first route delivers, even one that
-/// comes to a node again, or is at the source later.
+/// States that no route is missing from the list of all routes. If a bundle can travel over contacts that visit no node
+/// twice, within the limits, and wait at each node as long as it likes, these contacts are a listed route, which
+/// delivers no later. Each listed route is that of such a journey. No bundle arrives before the first route delivers,
+/// even one that visits a node twice, or is at the source later.
 pub fn every_way_is_listed()
     ensures { EveryWayIsListed }
 {}

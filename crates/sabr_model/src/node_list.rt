@@ -6,7 +6,8 @@ use crate::limits::MOST_AVOIDED;
 use arrayvec::ArrayVec;
 use std::marker::Model;
 
-/// At most 16 nodes, the most that a request avoids (this project's profile). It holds no memory.
+/// A list of at most 16 nodes, the largest number that a request avoids (this project's profile). It owns no heap
+/// memory.
 #[derive(Drop)]
 pub struct NodeList {
     nodes: ArrayVec<u64, MOST_AVOIDED>,
@@ -30,7 +31,7 @@ impl NodeList {
         }
     }
 
-    /// Makes the list of these nodes, if there is room.
+    /// Makes the list of these nodes. `None` if there are more than 16.
     pub fn of(nodes: &[u64]) -> Option<NodeList>
         ensures { MatchOption result (16 < length nodes.now) (λ list. list ≡ nodes.now) }
     {
@@ -49,7 +50,7 @@ impl NodeList {
         self.nodes.as_slice()
     }
 
-    /// Adds a node at the end, if there is room.
+    /// Adds a node at the end, unless there are 16.
     pub fn push(&mut self, node: u64) -> Option<()>
         ensures pushed { IfSome result (λ _. self.new ≡ self.old ++ node ∷ []) }
         ensures limit { IfSome result (λ _. length self.new ≤ 16) }

@@ -14,14 +14,14 @@ use indexmap::IndexMap;
 use std::alloc::{AllocError, Allocator};
 use std::hash::{BuildHasherDefault, FoldHasher};
 
-/// So many indexes are guessed, each for the nodes of one remainder. To vary it: `bench/figures.py --counts 1 --only
+/// The number of guessed indexes, each for the nodes of one remainder. To vary it: `bench/figures.py --counts 1 --only
 /// walker-66-20000,grid-40,sparse-20000,cube`.
 const GUESSES: usize = 2048;
 
-/// For each node, the rising numbers of the contacts that it sends.
+/// For each node, the numbers of the contacts that it sends, in ascending order.
 pub type NodeTable<A> = IndexMap<u64, Vec<u32, A>, BuildHasherDefault<FoldHasher>, A>;
 
-/// Returns true if the node stands at a place of the table. This takes no hash.
+/// Returns true if the node has this index in the table. It computes no hash.
 fn stands_at<A: Allocator + Copy>(table: &NodeTable<A>, node: u64, place: usize) -> bool
     ensures index { IsTrue result → slice_get (keys table.now) place ≡ Some node }
     ensures found { IsTrue result → IsTrue (is_some (get nat_eq table.now node)) }
@@ -41,16 +41,16 @@ fn add_number<A: Allocator + Copy>(
 ) -> Result<usize, AllocError>
     requires { IsUnique nat_eq table.old }
 
-    // The node has the number, and each node keeps its place.
+    // The node has the number, and each node keeps its index.
     ensures ok { OnOk result ((q : ℕ) → list_at table.new q ≡ with_number (list_at table.old q) (q == node) number) }
     ensures index { IfOk result (λ i. slice_get (keys table.new) i ≡ Some node) }
     ensures places { OnOk result (KeepsPlaces (keys table.old) (keys table.new)) }
 
-    // A refusal changes no list and no node.
+    // An error changes no list and no node.
     ensures err { OnErr result ((q : ℕ) → list_at table.new q ≡ list_at table.old q) }
     ensures err_nodes { OnErr result (keys table.new ≡ keys table.old) }
 
-    // Each node stands once, and at most one place is used up.
+    // Each node is there once, and at most one spare entry is used.
     ensures unique { IsUnique nat_eq table.new }
     ensures room { spare table.old ≤ spare table.new + 1 }
 {
@@ -96,16 +96,16 @@ fn add_node<A: Allocator + Copy>(
 ) -> Result<usize, AllocError>
     requires { IsUnique nat_eq table.old }
 
-    // The node is there, and each node keeps its place.
+    // The node is there, and each node keeps its index.
     ensures ok { OnOk result ((q : ℕ) → list_at table.new q ≡ with_node (list_at table.old q) (q == node)) }
     ensures index { IfOk result (λ i. slice_get (keys table.new) i ≡ Some node) }
     ensures places { OnOk result (KeepsPlaces (keys table.old) (keys table.new)) }
 
-    // A refusal changes no list and no node.
+    // An error changes no list and no node.
     ensures err { OnErr result ((q : ℕ) → list_at table.new q ≡ list_at table.old q) }
     ensures err_nodes { OnErr result (keys table.new ≡ keys table.old) }
 
-    // Each node stands once. With room to spare it succeeds.
+    // Each node is there once. With a spare entry it succeeds.
     ensures unique { IsUnique nat_eq table.new }
     ensures succeeds { 0 < spare table.old → IsOk result }
 {
@@ -119,9 +119,9 @@ fn add_node<A: Allocator + Copy>(
     }
 }
 
-/// Notes a contact that is to be added after the others, and returns the indexes of its nodes. Unless both are as guessed,
-/// each is looked up.
-#[inline(always)] // Else a program that also adds contacts by itself takes 5 percent longer to read a plan.
+/// Notes a contact that is to be added after the others, and returns the indexes of its nodes. Unless both are as
+/// guessed, each is looked up.
+#[inline(always)] // Otherwise a program that also adds contacts takes 5 percent longer to read a plan.
 pub fn note_contact<A: Allocator + Copy>(
     alloc: A,
     table: &mut NodeTable<A>,
@@ -135,7 +135,7 @@ pub fn note_contact<A: Allocator + Copy>(
     ensures ends { IfOk result (λ e. AreEndsOf (keys table.new) contact.now (record { from = e.0; to = e.1 })) }
     ensures places { OnOk result (KeepsPlaces (keys table.old) (keys table.new)) }
 
-    // A refusal changes no list and no node.
+    // An error changes no list and no node.
     ensures err { OnErr result ((q : ℕ) → list_at table.new q ≡ list_at table.old q) }
     ensures err_nodes { OnErr result (keys table.new ≡ keys table.old) }
     ensures unique { IsUnique nat_eq table.new }
@@ -179,7 +179,7 @@ pub fn table_of<A: Allocator + Copy>(
     Ok((table, ends))
 }
 
-/// Where a node may stand in the table.
+/// Returns a guess of the index of a node in the table.
 fn guess_of(guesses: &[u32], node: u64) -> usize {
     match guesses.get(node as usize % GUESSES) {
         Some(guess) => *guess as usize,
@@ -187,7 +187,7 @@ fn guess_of(guesses: &[u32], node: u64) -> usize {
     }
 }
 
-/// Notes where a node stands in the table, as a guess for it, unless that was guessed.
+/// Notes the index of a node as the guess for it, unless that was the guess.
 fn note_guess(guesses: &mut [u32], node: u64, guess: usize, index: usize) {
     let place = node as usize % GUESSES;
     if guess != index && place < guesses.len() {

@@ -5,7 +5,7 @@ ghost use Rattle.std.specs.Prelude.{◌≡◌, ◌==◌, length};
 use std::alloc::{Allocator, Global};
 use std::marker::Model;
 
-/// Contact numbers in a row. Contracts see the list.
+/// A list of contact numbers. Contracts see the list.
 #[derive(Debug, Drop)]
 pub struct Numbers<A: Allocator + Copy = Global> {
     items: Vec<u32, A>,
@@ -20,14 +20,14 @@ impl<A: Allocator + Copy> Model for Numbers<A> {
 }
 
 impl<A: Allocator + Copy> Numbers<A> {
-    /// Makes the list that a vector holds. It takes no memory.
+    /// Makes the list that a vector holds. It doesn't allocate.
     pub fn new(items: Vec<u32, A>) -> Numbers<A>
         ensures { result ≡ items.items }
     {
         Numbers { items }
     }
 
-    /// Gives back the vector that holds the list, which takes no memory.
+    /// Returns the vector that holds the list. It doesn't allocate.
     pub fn into_vec(self) -> Vec<u32, A>
         ensures { result.items ≡ self }
     {
@@ -42,14 +42,14 @@ impl<A: Allocator + Copy> Numbers<A> {
         self.items.as_slice()
     }
 
-    /// The number of entries.
+    /// The number of contact numbers.
     pub fn len(&self) -> usize
         ensures { result ≡ length self.now }
     {
         self.items.len()
     }
 
-    /// Returns true if the list has no number.
+    /// Returns true if the list is empty.
     pub fn is_empty(&self) -> bool
         ensures { result ≡ (length self.now == 0) }
     {

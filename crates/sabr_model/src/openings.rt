@@ -1,4 +1,4 @@
-//! The openings of contacts, in a set in which a duplicate is found in one step.
+//! The openings of contacts, in a hash set in which a duplicate is found in one step.
 
 ghost use Rattle.std.specs.Prelude.{◌≡◌, List, [], false};
 ghost use Rattle.std.specs.List.{list_any};
@@ -12,17 +12,17 @@ use indexmap::IndexSet;
 use std::alloc::{AllocError, Allocator};
 use std::hash::{BuildHasherDefault, FoldHasher};
 
-/// The openings of contacts, or nothing if they weren't kept from the first contact on.
+/// The openings of all contacts, or nothing if they weren't stored from the first contact on.
 #[derive(Drop)]
 pub struct Openings<A: Allocator + Copy> {
-    /// What no two contacts share.
+    /// The openings, of which no two are equal.
     pub set: IndexSet<Opening, BuildHasherDefault<FoldHasher>, A>,
-    /// Whether the set is kept.
+    /// Whether the set has all openings.
     pub kept: bool,
 }
 
 impl<A: Allocator + Copy> Openings<A> {
-    /// Makes the openings of no contact. It takes no memory.
+    /// Makes the openings of no contact. It doesn't allocate.
     pub fn new(alloc: A) -> Openings<A>
         ensures { result.set.keys ≡ [] }
     {
@@ -32,7 +32,7 @@ impl<A: Allocator + Copy> Openings<A> {
         }
     }
 
-    /// Makes no set, for contacts that are there already. It takes no memory.
+    /// Makes no set, for contacts that are there already. It doesn't allocate.
     pub fn without_set(alloc: A) -> Openings<A>
         ensures { result.kept ≡ false }
     {
@@ -42,7 +42,8 @@ impl<A: Allocator + Copy> Openings<A> {
         }
     }
 
-    /// Returns true if one of the contacts has this sender, receiver and start. It takes one step if the set is kept.
+    /// Returns true if one of the contacts has this sender, receiver and start. It is O(1) if the set has all openings,
+    /// and a pass over the contacts otherwise.
     pub fn has(&self, contacts: &[Contact], from: u64, to: u64, start: u64) -> bool
         requires { KnowsOpenings self.now.kept self.now.set.keys contacts.now }
         ensures { result ≡ list_any (opens from to start) contacts.now }
@@ -55,7 +56,7 @@ impl<A: Allocator + Copy> Openings<A> {
         }
     }
 
-    /// Reserves room for one more.
+    /// Reserves room for one more opening.
     pub fn reserve(&mut self) -> Result<(), AllocError>
         ensures kept { self.new.kept ≡ self.old.kept }
         ensures set { self.new.set.keys ≡ self.old.set.keys }
@@ -66,7 +67,7 @@ impl<A: Allocator + Copy> Openings<A> {
         Ok(())
     }
 
-    /// Adds that of a contact that comes after the others.
+    /// Adds the opening of a contact that comes after the others.
     pub fn note(&mut self, contact: &Contact)
         ensures { KnowOneMore self.old.kept self.old.set.keys contact.now self.new.kept self.new.set.keys }
     {
@@ -81,7 +82,7 @@ impl<A: Allocator + Copy> Openings<A> {
         };
     }
 
-    /// Removes that of the contact with this sender, receiver and start. It takes no memory.
+    /// Removes the opening with this sender, receiver and start. It doesn't allocate.
     pub fn forget(&mut self, from: u64, to: u64, start: u64)
         ensures { (contacts : List Contact) → KnowsOpenings self.old.kept self.old.set.keys contacts → KnowsOpenings self.new.kept self.new.set.keys (closed from to start contacts) }
     {

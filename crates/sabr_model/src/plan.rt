@@ -30,24 +30,25 @@ use std::marker::Model;
 
 /// A contact plan (CCSDS 734.3-B-1): contacts by number, ranges by pair of nodes and start, and the table of nodes.
 ///
-/// Which contacts and ranges a plan accepts is this project's profile of ionrc(5); see `add_contact` and `add_range`.
+/// Which contacts and ranges a plan accepts is this project's profile of ionrc(5); see
+/// [`add_contact`](Plan::add_contact) and [`add_range`](Plan::add_range).
 #[derive(Drop)]
 pub struct Plan<A: Allocator + Copy = Global> {
     /// The allocator of the tables.
     alloc: A,
-    /// The standing contacts by number.
+    /// The standing contacts, by ascending number.
     contacts: Vec<Contact, A>,
-    /// The standing ranges by pair and start.
+    /// The standing ranges, in ascending order of pair and start.
     ranges: Vec<Range, A>,
     /// The nodes, each with the numbers of the contacts that it sends.
     table: NodeTable<A>,
-    /// The greatest number ever assigned.
+    /// The largest number ever assigned.
     greatest: u32,
-    /// The sender, receiver and start of contacts, as far as they are kept; no two contacts have all three in common.
+    /// The sender, receiver and start of each contact, if they are stored. No two contacts have all three in common.
     openings: Openings<A>,
-    /// For the first contacts the indexes of their nodes.
+    /// The indexes of the nodes of each contact, or an empty list.
     ends: Vec<Ends, A>,
-    /// For the first contacts their light times.
+    /// The light time of each contact, or an empty list.
     lights: LightTimes<A>,
 }
 
@@ -66,7 +67,7 @@ impl<A: Allocator + Copy> Model for Plan<A> {
 }
 
 impl<A: Allocator + Copy> Plan<A> {
-    /// Makes an empty plan. It takes no memory.
+    /// Makes an empty plan. It doesn't allocate.
     pub fn new(alloc: A) -> Plan<A>
         ensures { result ≡ record { plan = record { contacts = []; ranges = []; greatest = 0 }; table = [] } }
     {

@@ -2,7 +2,7 @@
 
 use crate::node_list::NodeList;
 
-/// The values of a request, which may be refused. It holds no memory.
+/// The values of a request, which [`Request`](crate::Request) may refuse. It owns no heap memory.
 #[derive(Drop)]
 pub struct RequestValues {
     /// The source.
@@ -13,7 +13,7 @@ pub struct RequestValues {
     pub at: u64,
     /// The margin on light times, in parts per million.
     pub margin_ppm: u32,
-    /// The most contacts that a route may have.
+    /// The largest number of contacts that a route may have.
     pub max_hops: u32,
     /// The nodes that no route passes.
     pub avoid: NodeList,

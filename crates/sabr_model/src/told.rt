@@ -1,4 +1,4 @@
-//! What the record of a route holds besides its numbers and its delivery.
+//! The summary of a list of contacts: its earliest end and its entry node.
 
 ghost use Rattle.std.specs.Prelude.{◌≡◌, ◌∷◌, ◌++◌, []};
 ghost use Rattle.sabr_model.specs.routes.Telling.{told_of};
@@ -9,17 +9,18 @@ use crate::plan::Plan;
 use crate::route::Route;
 use std::alloc::Allocator;
 
-/// What the record of a list of numbers holds besides them and their delivery.
+/// The summary of a list of contacts, which can be updated contact by contact. With the numbers and their delivery it
+/// makes the record of a route.
 #[derive(Clone, Copy)]
 pub struct Told {
-    /// The termination time: the least end of the contacts.
+    /// The termination time: the earliest end of the contacts, in seconds since 1970-01-01T00:00:00Z.
     pub until: u64,
     /// The entry node: the receiver of the first contact; 0 if there is none.
     pub entry: u64,
 }
 
 impl Told {
-    /// Finds the least end and the entry node of these numbers.
+    /// Finds the earliest end and the entry node of the contacts with these numbers.
     pub fn of<A: Allocator + Copy>(plan: &Plan<A>, numbers: &[u32]) -> Told
         ensures { result ≡ told_of plan.now.plan numbers.now }
     {
@@ -33,7 +34,8 @@ impl Told {
         told
     }
 
-    /// Extends those of a prefix, which are `self`, by one more number. It reads only the contact with that number.
+    /// Returns the summary of a longer list: `self` is that of a prefix, which one more number extends. It reads only
+    /// the contact with that number.
     pub fn extended<A: Allocator + Copy>(self, plan: &Plan<A>, prefix: &[u32], number: u32) -> Told
         requires { self ≡ told_of plan.now.plan prefix.now }
         ensures { result ≡ told_of plan.now.plan (prefix.now ++ number ∷ []) }
@@ -54,7 +56,7 @@ impl Told {
         }
     }
 
-    /// Makes the record of the list that `self` belongs to, with this delivery. It takes no memory.
+    /// Makes the record of the list that `self` summarizes, with this delivery. It doesn't allocate.
     pub fn route<A: Allocator + Copy>(self, numbers: Vec<u32, A>, delivery: u64) -> Route<A>
         ensures { result ≡ record { contacts = numbers.items; delivery = delivery; until = self.until; entry = self.entry } }
     {

@@ -1,3 +1,8 @@
+pub mod ChainedPlaces
+pub mod Gathers
+pub mod LastRanges
+pub mod SortedRanges
+pub mod GatheredOpenings
 pub mod Digits
 pub mod SpelledNumbers
 pub mod FirstWords

@@ -1,5 +1,5 @@
 -- What reading leaves, call by call.
-use Rattle.std.proofs.Common.{◌≡◌, ℕ, ◌+◌, Bool, true, List, [], ◌++◌, ◌⊎◌, inl, inr, sym, ap, ◌∙◌, append_assoc, Result, Ok, Err, IfErr}
+use Rattle.std.proofs.Common.{◌≡◌, ℕ, ◌+◌, Bool, true, List, [], ◌++◌, ◌⊎◌, inl, inr, sym, ap, subst, ◌∙◌, append-nil, append_assoc, Result, Ok, Err, IfErr}
 use Rattle.sabr_model.specs.Devices.{Input, Gives, HasEnded}
 use Rattle.sabr_model.specs.plan.Plan.{TabledPlan}
 use Rattle.sabr_plan.specs.declared.fault.PlanFault.{PlanFault}
@@ -64,3 +64,16 @@ read_failed old (Err f) new reads = λ e.
       | inr (inr (fine, inl memory)) ↦ absurd cc
       | inr (inr (fine, inr refused)) ↦ absurd (ended_not_read (reads.given ++ []) f (refused [] true) e)
     ]
+
+-- a text that is one piece
+one_piece : (feed : Fed) (text : List ℕ) → feed ≡ nothing_fed → plan_of text true ≡ outcome feed (text ++ []) true
+one_piece feed text e = ap (λ w. plan_of w true) (sym (append-nil text)) ∙ plan_of-outcome (text ++ []) true ∙ ap (λ s. outcome s (text ++ []) true) (sym e)
+
+-- it was read
+pub all_was_read : (feed next : Fed) (text : List ℕ) (answer : Result TabledPlan PlanFault) → feed ≡ nothing_fed → ((more : List ℕ) (ended : Bool) → outcome feed (text ++ more) ended ≡ outcome next more ended) → Answers (outcome next [] true) answer → Answers (plan_of text true) answer
+all_was_read feed next text answer e same h = subst (λ w. Answers w answer) (sym (one_piece feed text e ∙ same [] true)) h
+
+-- it is refused
+pub all_is_refused : (feed : Fed) (text : List ℕ) (f : PlanFault) → feed ≡ nothing_fed → (f.kind ≡ kind.NoMemory) ⊎ ((more : List ℕ) (ended : Bool) → outcome feed (text ++ more) ended ≡ Err f) → Answers (plan_of text true) (Err f)
+all_is_refused feed text f e (inl memory) = inl memory
+all_is_refused feed text f e (inr refused) = inr (one_piece feed text e ∙ refused [] true)

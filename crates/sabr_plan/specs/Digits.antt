@@ -12,11 +12,11 @@ is_digit b = nat_le 48 b && nat_le b 57
 abbrev pub are_digits : List ℕ → Bool
 are_digits word = nat_lt 0 (length word) && list_all is_digit word
 
--- the number that digits stand for
+-- the value of digits
 unfoldable pub digits_value : List ℕ → ℕ
 digits_value word = fold (λ n b. n * 10 + (b - 48)) 0 word
 
--- at most nineteen digits, which stand for this number
+-- at most nineteen digits, which have this value
 pub record SpellsNumber (word : List ℕ) (value : ℕ) : Type 0 where
   pub few : length word ≤ 19
   pub digits : IsTrue (list_all is_digit word)

@@ -1,4 +1,4 @@
--- A plan text that is read in pieces: what was read so far, and what comes of the text.
+-- A plan text that is read in chunks: what was read so far, and what the text comes to.
 use Rattle.std.specs.Prelude.{◌≡◌, ℕ, ◌+◌, ◌-◌, ◌*◌, Bool, List, [], ◌++◌, length, ◌≤◌, IsTrue, OnOk, OnErr, Result, Ok, Err, ◌⊎◌}
 use Rattle.sabr_model.specs.plan.Plan.{ContactPlan, TabledPlan}
 use Rattle.sabr_plan.specs.Steps.{and_then}
@@ -15,11 +15,11 @@ pub record Fed : Type 0 where
   pub reading : Reading
   pub held : List ℕ
 
--- after so many lines, the bytes are a beginning of one more, and none if there may be no more
+-- after this number of lines, the bytes are a beginning of one more, and none if there may be no more
 abbrev pub BeginsLine : ℕ → List ℕ → Type 0
 BeginsLine lines held = (lines ≤ most_lines) × (length held ≤ most_line_bytes * (most_lines - lines)) × (length held ≤ most_line_bytes) × IsTrue (is_one_line held)
 
--- before the first piece
+-- before the first chunk
 abbrev pub nothing_fed : Fed
 nothing_fed = record { lines = 0; reading = nothing_read; held = [] }
 
@@ -29,7 +29,7 @@ outcome s bytes ended =
     let text = lines_of (s.held ++ bytes) in
     and_then (read_lines (s.lines + 1) s.reading text.ended) (last_line ended (s.lines + 1 + length text.ended) text.open_line)
 
--- a piece was fed: whatever follows it, the text comes to the same
+-- a chunk was fed: for all bytes after it, the text comes to the same
 abbrev pub IsFed : {U : Type 0} → Fed → List ℕ → Result U PlanFault → Fed → Type 0
 IsFed old piece (Ok _) new = (more : List ℕ) (ended : Bool) → outcome old (piece ++ more) ended ≡ outcome new more ended
 IsFed old piece (Err f) new = (f.kind ≡ NoMemory) ⊎ ((more : List ℕ) (ended : Bool) → outcome old (piece ++ more) ended ≡ Err f)
@@ -50,7 +50,7 @@ weight s = 256 * s.lines + length s.held
 abbrev pub most_weight : ℕ
 most_weight = 256 * most_lines
 
--- the plan, its refusal, or that of memory
+-- the plan, its fault, or a failed allocation
 abbrev pub Answers : Result ContactPlan PlanFault → Result TabledPlan PlanFault → Type 0
 Answers wanted (Ok p) = wanted ≡ Ok p.plan
 Answers wanted (Err f) = (f.kind ≡ NoMemory) ⊎ (wanted ≡ Err f)

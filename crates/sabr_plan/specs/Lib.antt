@@ -1,3 +1,5 @@
+pub mod ChainedPlaces
+pub mod Gathering
 pub mod Steps
 pub mod Digits
 pub mod Numbers

@@ -1,11 +1,11 @@
--- Numbers that a text spells.
+-- Numbers in decimal digits.
 use Rattle.std.specs.Prelude.{ℕ, nat_le, ◌&&◌, List, decimal, if◌then◌else◌}
 use Rattle.std.specs.Str.{bytes_eq}
 use Rattle.std.specs.Str.Parse.{digits_value}
 use Rattle.std.specs.declared.option.Option.{Option}
 use Rattle.std.specs.declared.option.Option.TheVariants.{Some, None}
 
--- the number that the text spells, decimal without a sign or leading zero, if it is within these bounds
+-- the value of the text, decimal without a sign or leading zero, if it is within these bounds
 unfoldable pub number_within : ℕ → ℕ → List ℕ → Option ℕ
 number_within low high text =
     let n = digits_value 10 text in

@@ -32,7 +32,7 @@ time_at reference word = elim (relative_of word) [ Some seconds ↦ after_refere
 abbrev pub node_of : List ℕ → Result ℕ PlanKind
 node_of word = ok_or (number_within 1 18446744073709551615 word) BadNode
 
--- the greatest rate of a contact, in bytes per second, or the greatest light time of a range, in seconds
+-- the largest rate of a contact, in bytes per second, or the largest light time of a range, in seconds
 abbrev pub greatest_value : Target → ℕ
 greatest_value Contact = 18446744073709551615
 greatest_value Range = most_light

@@ -16,13 +16,13 @@ abbrev pub BreaksText : Input → List ℕ → Result TabledPlan PlanFault → I
 BreaksText old given (Ok p) new = ⊥
 BreaksText old given (Err f) new = (new.failures ≡ old.failures + 1) × (f.kind ≡ Read) × (plan_of given false ≡ Err f)
 
--- these bytes are refused whatever follows them, or memory was
+-- these bytes are refused for all bytes after them, or an allocation failed
 abbrev pub RefusesText : Input → List ℕ → Result TabledPlan PlanFault → Input → Type 0
 RefusesText old given (Ok p) new = ⊥
 RefusesText old given (Err f) new =
     (new.failures ≡ old.failures) × ((f.kind ≡ NoMemory) ⊎ ((more : List ℕ) (ended : Bool) → plan_of (given ++ more) ended ≡ Err f))
 
--- these bytes were read, and the answer is that of their text
+-- these bytes were read, and the result is that of their text
 pub record ReadsPlan (old : Input) (answer : Result TabledPlan PlanFault) (new : Input) : Type 0 where
   pub given : List ℕ
   pub gives : Gives old given new

@@ -1,4 +1,4 @@
--- The plan that a text spells, or its first bad line.
+-- The plan of a text, or its first bad line.
 use Rattle.std.specs.Prelude.{ℕ, ◌+◌, nat_lt, ◌&&◌, Bool, is_some, List, [], ◌∷◌, length, Result, Ok, Err, if◌then◌else◌}
 use Rattle.std.specs.List.{list_any}
 use Rattle.std.specs.declared.option.Option.{Option}
@@ -75,7 +75,7 @@ most_lines = 1000000
 abbrev pub most_line_bytes : ℕ
 most_line_bytes = 255
 
--- line n is read if it is one of so many, and has at most so many bytes
+-- line n is read if n and its length are within the limits
 unfoldable pub limited : ℕ → Reading → List ℕ → Result Reading PlanKind
 limited n r line = if nat_lt most_lines n then Err kind.TooMany else if nat_lt most_line_bytes (length line) then Err kind.LineTooLong else judged r line
 

@@ -5,7 +5,7 @@ use Rattle.sabr_model.specs.plan.Plan.{last_time}
 use Rattle.sabr_plan.specs.Times.{CalendarDay, day_after_epoch, two_digits, pair_at}
 use Rattle.sabr_plan.specs.declared.time.TimeFields.{TimeFields}
 
--- whether there are two digits from place i on
+-- whether there are two digits from index i on
 abbrev pub is_pair : List ℕ → ℕ → Bool
 is_pair word i = is_digit (slice_index word i) && is_digit (slice_index word (i + 1))
 
@@ -16,7 +16,7 @@ has_shape word =
     && (slice_index word 7 == 47) && is_pair word 8 && (slice_index word 10 == 45) && is_pair word 11
     && (slice_index word 13 == 58) && is_pair word 14 && (slice_index word 16 == 58) && is_pair word 17
 
--- the fields that the pairs stand for
+-- the values of the pairs as fields
 abbrev pub fields_at : List ℕ → TimeFields
 fields_at word = record {
   year = pair_at word 0 * 100 + pair_at word 2;
@@ -36,7 +36,7 @@ pub record HasWidth (f : TimeFields) : Type 0 where
   pub minute : f.minute < 100
   pub second : f.second < 100
 
--- the spelling of a day
+-- the 10 bytes of a day, `yyyy/mm/dd`
 abbrev pub date_text : CalendarDay → List ℕ
 date_text d = two_digits (d.year / 100) ++ two_digits (d.year % 100) ++ 47 ∷ two_digits d.month ++ 47 ∷ two_digits d.day
 
@@ -44,7 +44,7 @@ date_text d = two_digits (d.year / 100) ++ two_digits (d.year % 100) ++ 47 ∷ t
 abbrev pub clock_text : ℕ → List ℕ
 clock_text s = 45 ∷ two_digits (s / 3600) ++ 58 ∷ two_digits (s % 3600 / 60) ++ 58 ∷ two_digits (s % 60)
 
--- these bytes spell the day that begins with this second
+-- these bytes are the date of the day that begins with this second
 pub record IsDate (date : List ℕ) (begin : ℕ) : Type 0 where
   pub spelled : date ≡ date_text (day_after_epoch (begin / 86400))
   pub whole : begin % 86400 ≡ 0

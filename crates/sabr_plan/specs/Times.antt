@@ -1,4 +1,4 @@
--- Absolute times: UTC without leap seconds, spelled in 19 bytes as `yyyy/mm/dd-hh:mm:ss`.
+-- Absolute times: UTC without leap seconds, written in 19 bytes as `yyyy/mm/dd-hh:mm:ss`.
 use Rattle.std.specs.Prelude.{ℕ, zero, suc, ◌+◌, ◌-◌, ◌*◌, ◌/◌, ◌%◌, pos, unsigned_abs, nat_lt, nat_le, ◌&&◌, List, [], ◌∷◌, ◌++◌, slice_index, if◌then◌else◌}
 use Rattle.std.specs.Str.{bytes_eq}
 use Rattle.std.specs.declared.option.Option.{Option}
@@ -42,15 +42,15 @@ spelled f =
     two_digits (f.year / 100) ++ two_digits (f.year % 100) ++ 47 ∷ two_digits f.month ++ 47 ∷ two_digits f.day
     ++ 45 ∷ two_digits f.hour ++ 58 ∷ two_digits f.minute ++ 58 ∷ two_digits f.second
 
--- the last second that has a spelling, the last of the year 9999
+-- the last second that has a text, the last of the year 9999
 abbrev pub last_spelled : ℕ
 last_spelled = 253402300799
 
--- the spelling of a second, up to that one
+-- the text of a second, up to that one
 unfoldable pub time_text_of : ℕ → List ℕ
 time_text_of t = spelled (fields_of t)
 
--- the number that two digits from place i on stand for
+-- the value of the two digits from index i on
 abbrev pub pair_at : List ℕ → ℕ → ℕ
 pair_at word i = (slice_index word i - 48) * 10 + (slice_index word (i + 1) - 48)
 
@@ -60,7 +60,7 @@ second_named word =
     unsigned_abs (days_from_civil (pos (pair_at word 0 * 100 + pair_at word 2)) (pair_at word 5) (pair_at word 8)) * 86400
     + pair_at word 11 * 3600 + pair_at word 14 * 60 + pair_at word 17
 
--- a word is a time if it is the spelling of the second that its digits name
+-- a word is a time if it is the text of the second of its digits
 unfoldable pub time_of : List ℕ → Option ℕ
 time_of word =
     let t = second_named word in

@@ -18,7 +18,7 @@ is_comment line = slice_index line 0 == 35
 abbrev pub has_bytes : List ℕ → Bool
 has_bytes word = nat_lt 0 (length word)
 
--- the words of a line: the pieces between blanks
+-- the words of a line: the parts between blanks
 unfoldable pub words_of : List ℕ → List (List ℕ)
 words_of line = filter has_bytes (slice_split is_blank line)
 

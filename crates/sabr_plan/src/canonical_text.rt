@@ -18,10 +18,15 @@ const FIRST_LINE: &[u8] = b"cgr-plan 1\n";
 const LAST_LINE: &[u8] = b"end\n";
 
 /// Writes the canonical text of a plan: a line for each standing contact by number, and one for each standing range by
-/// pair of nodes and start, between a first and a last line.
+/// pair of nodes and start, between a first and a last line. The text is this project's profile. Its time grows with
+/// the number of records.
 ///
-/// If the writer fails, a beginning of the text was written. It takes no memory and doesn't flush. The text is this
-/// project's profile.
+///
+/// It doesn't allocate or flush.
+///
+/// # Errors
+///
+/// [`WriteFault`] if the writer failed. Then a prefix of the text was written.
 pub fn canonical<W: Write, A: Allocator + Copy>(
     plan: &Plan<A>,
     writer: &mut W,
@@ -54,7 +59,8 @@ fn write_ranges<W: Write>(ranges: &[Range], writer: &mut W) -> Result<(), WriteF
     Ok(())
 }
 
-/// Returns the digest of a plan: SHA-256 of its canonical text, which is fed line by line. It takes no memory.
+/// Returns the digest of a plan: the SHA-256 of its canonical text (this project's profile), which is hashed line by
+/// line. Plans with the same contacts in the same order and the same ranges have the same digest. It doesn't allocate.
 pub fn digest<A: Allocator + Copy>(plan: &Plan<A>) -> [u8; 32]
     ensures { result ≡ digest_of plan.now.plan }
 {

@@ -8,14 +8,15 @@ use crate::fault::PlanKind;
 use crate::operand::{Reference, absolute_time, both_of, node_of, time_at, value_of};
 use crate::words::{five_words, is_comment, is_plain, is_word, next_word, one_word, three_words};
 
-/// What a command adds or deletes.
+/// The kind of record that a command adds or deletes.
 #[derive(Clone, Copy)]
 pub enum Target {
     Contact,
     Range,
 }
 
-/// The operands of `a contact` and `a range`: times in seconds, two nodes, and a rate or a light time.
+/// The operands of `a contact` and `a range`: times in seconds since 1970-01-01T00:00:00Z, two nodes, and a rate or a
+/// light time.
 #[derive(Clone, Copy)]
 pub struct Addition {
     /// The first second.
@@ -94,7 +95,7 @@ fn reference_of(text: &[u8]) -> Result<Command, PlanKind>
     }
 }
 
-/// Returns what the word after `a` or `d` names.
+/// Returns the kind of record that the word after `a` or `d` names.
 fn target_of(word: &[u8]) -> Option<Target>
     ensures { result ≡ target_of word.now }
 {

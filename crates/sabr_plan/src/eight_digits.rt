@@ -11,7 +11,7 @@ use core::dec2flt::read_digits;
 /// The byte `0`, eight times.
 const ZEROS: u64 = 0x3030_3030_3030_3030;
 
-/// Returns the first eight bytes as one number, the first of them lowest.
+/// Returns the first eight bytes as one number, of which the first byte is the lowest.
 #[inline(always)]
 #[tactic(auto, using(core::proofs::dec2flt::Eight::word_at))]
 pub fn first_eight(text: &[u8]) -> u64
@@ -23,7 +23,7 @@ pub fn first_eight(text: &[u8]) -> u64
     ])
 }
 
-/// Returns a word whose lowest set bit is the highest of the first byte that is at least 10, or 0 if there is no such
+/// Returns a number whose lowest set bit is the highest of the first byte that is at least 10, or 0 if there is no such
 /// byte. Only that byte and those after it carry into the next one.
 #[inline(always)]
 fn mark_from_ten(word: u64) -> u64
@@ -32,8 +32,8 @@ fn mark_from_ten(word: u64) -> u64
     (word.wrapping_add(0x7676_7676_7676_7676) | word) & 0x8080_8080_8080_8080
 }
 
-/// Returns the number that seven digits stand for, each a byte from 0 to 9, the first of them lowest. The eighth byte may
-/// be any.
+/// Returns the value of seven decimal digits, each a byte from 0 to 9, of which the first is the lowest byte. The
+/// eighth byte is ignored.
 #[inline(always)]
 fn value_of_seven(word: u64) -> u64
     ensures { (ds : List ℕ) → IsEightDigits ds → word * 256 % 2 ^ 64 ≡ number_l 256 ds → result ≡ number_from_digits 10 ds }
@@ -43,8 +43,8 @@ fn value_of_seven(word: u64) -> u64
     (fours >> 16) % 65536 * 10_000 + (fours >> 48)
 }
 
-/// Returns how many digits a text begins with, and the number that they stand for. No digits if there are more than 19.
-/// It is kept apart, since most numbers are shorter than eight digits, and the text goes on.
+/// Returns the number of digits that a text begins with, and their value. Both are 0 if there are more than 19. It is a
+/// function of its own, since most numbers are shorter than eight digits, with more text after them.
 #[cold]
 #[inline(never)]
 #[tactic(auto, unfolding(crate::specs::Digits::digits_value))]
@@ -59,7 +59,8 @@ fn count_any_digits(text: &[u8]) -> (usize, u64)
     (count, value)
 }
 
-/// The same.
+/// Returns the number of digits that a text begins with, and their value. Up to seven digits are read from one load of
+/// eight bytes.
 #[inline(always)]
 pub fn count_digits(text: &[u8]) -> (usize, u64)
     ensures range { result.0 ≤ length text.now }
@@ -74,7 +75,7 @@ pub fn count_digits(text: &[u8]) -> (usize, u64)
         return count_any_digits(text);
     }
     let before = others.trailing_zeros();
-    // The digits move up, so that the byte after them is the last.
+    // The digits are shifted up, so that the byte after them is the last.
     let digits = lanes << (63 - before);
     ((before / 8) as usize, value_of_seven(digits))
 }

@@ -2,8 +2,8 @@
 
 use thiserror::Error;
 
-/// What is wrong with a line, or with the reader, in the order in which it is checked. Of one line the first that holds
-/// is reported. All but what ionrc(5) says of the commands is this project's profile.
+/// The fault of a line or of the reader, in the order of checking. The first that applies to a line is reported. The
+/// commands are those of ionrc(5), and all else is this project's profile.
 #[derive(Clone, Copy, Debug, PartialEq, Eq, Error)]
 pub enum PlanKind {
     /// The line has more than 255 bytes without its LF.
@@ -49,7 +49,7 @@ pub enum PlanKind {
     /// The reader failed.
     #[error("reading failed")]
     Read,
-    /// Memory was refused. Which line is named is unspecified.
+    /// An allocation failed. The number of the line is unspecified.
     #[error("out of memory")]
     NoMemory,
     /// There is no standing contact or range to delete.

@@ -1,4 +1,4 @@
-//! A plan text that is read piece by piece. One line at a time is held, in a fixed array.
+//! A plan text that is read chunk by chunk. One line at a time is held, in a fixed array.
 
 ghost use Rattle.std.specs.Prelude.{◌≡◌, ◌≢◌, ◌+◌, ◌-◌, ◌≤◌, ◌<◌, [], ◌∷◌, ◌++◌, Ok, Err, OnOk, IfOk, IfErr, IsTrue, IsFalse, length, take, slice_index, MatchOption, false, true};
 ghost use Rattle.sabr_plan.specs.Words.{is_one_line};
@@ -15,18 +15,18 @@ use sabr_model::{NoMemory, Plan};
 use std::alloc::Allocator;
 use std::marker::Model;
 
-/// The most bytes of a line without its LF.
+/// The largest number of bytes of a line without its LF (this project's profile).
 const MOST_LINE_BYTES: usize = 255;
 
-/// The most lines of a text.
+/// The largest number of lines of a text (this project's profile).
 const MOST_LINES: u32 = 1000000;
 
-/// The plan that the lines so far make, how many there are, and the bytes of the line after them.
+/// The plan that the lines so far build, the number of these lines, and the bytes of the line after them.
 #[derive(Drop)]
 pub struct PlanFeed<A: Allocator + Copy> {
-    /// How many lines LF has ended.
+    /// The number of lines that LF has ended.
     lines: u32,
-    /// The plan that they make.
+    /// The plan that they build.
     reading: PlanReading<A>,
     /// The bytes of the line after them.
     held: ArrayVec<u8, MOST_LINE_BYTES>,
@@ -42,7 +42,7 @@ impl<A: Allocator + Copy> Model for PlanFeed<A> {
     ghost invariant = { λ f. BeginsLine f.lines f.held.items };
 }
 
-/// Returns the place of the first LF.
+/// Returns the index of the first LF. `None` if there is none. Its time grows with the index.
 pub fn line_end(text: &[u8]) -> Option<usize>
     ensures { MatchOption result (IsTrue (is_one_line text.now)) (λ end. (end < length text.now) × (slice_index text.now end ≡ 10) × IsTrue (is_one_line (take end text.now))) }
 {
@@ -62,7 +62,7 @@ fn first_line(text: &[u8]) -> (&[u8], &[u8])
     (line, &back[1..])
 }
 
-/// Returns the lines of a piece with their LF, and the bytes after the last LF.
+/// Returns the lines of a chunk with their LF, and the bytes after the last LF.
 fn ended_lines(piece: &[u8]) -> (&[u8], &[u8])
     ensures parts { piece.now ≡ result.0.now ++ result.1.now }
     ensures ended { 0 < length result.0.now → slice_index result.0.now (length result.0.now - 1) ≡ 10 }
@@ -78,7 +78,7 @@ impl<A: Allocator + Copy> PlanFeed<A> {
     ghost use Rattle.sabr_plan.specs.Reading.{most_line_bytes, most_lines, limited, ended_line, broken_line};
     ghost use Rattle.sabr_plan.specs.Feeding.{Fed, nothing_fed, outcome, EndsLine, IsFed, weight, most_weight, Answers};
 
-    /// Starts before the first piece.
+    /// Returns the feed before the first chunk.
     pub fn new(alloc: A) -> PlanFeed<A>
         ensures { result ≡ nothing_fed }
     {
@@ -89,7 +89,7 @@ impl<A: Allocator + Copy> PlanFeed<A> {
         }
     }
 
-    /// Takes the next piece of the text.
+    /// Reads the next chunk of the text.
     pub fn feed(&mut self, piece: &[u8]) -> Result<(), PlanFault>
         ensures fed { IsFed self.old piece.now result self.new }
         ensures grows { OnOk result (weight self.old + length piece.now ≤ weight self.new) }
@@ -116,7 +116,7 @@ impl<A: Allocator + Copy> PlanFeed<A> {
         ensures ended { EndsLine self.old result.0.now result.2 self.new }
     {
         if self.held.is_empty() {
-            if let Some((command, rest)) = self.reading.swift_addition(text) {
+            if let Some((command, rest)) = self.reading.fast_addition(text) {
                 let (line, _) = text.split_at(text.len() - rest.len() - 1);
                 let ended = self.end_known_line(line, command);
                 return (line, rest, ended);
@@ -139,7 +139,7 @@ impl<A: Allocator + Copy> PlanFeed<A> {
         }
     }
 
-    /// Ends what is held as a line, if there is a byte.
+    /// Ends the held bytes as a line, if there are any.
     fn end_text(&mut self) -> Result<(), PlanFault>
         ensures value { LeavesAt (ended_line (self.old.lines + 1) self.old.reading self.old.held) result self.new.reading }
         ensures held { IsTrue (is_one_line self.old.held) }
@@ -153,7 +153,7 @@ impl<A: Allocator + Copy> PlanFeed<A> {
         Ok(())
     }
 
-    /// Returns the plan that the lines make.
+    /// Returns the plan that the lines build.
     fn into_plan(self) -> Result<Plan<A>, NoMemory>
         ensures { IfOk result (λ p. p.plan ≡ self.reading.plan) }
     {
@@ -186,7 +186,7 @@ impl<A: Allocator + Copy> PlanFeed<A> {
         }
     }
 
-    /// Ends the line that goes on with these bytes.
+    /// Ends the held line with these bytes.
     #[cold]
     #[inline(never)]
     fn end_line(&mut self, back: &[u8]) -> Result<(), PlanKind>
@@ -204,7 +204,7 @@ impl<A: Allocator + Copy> PlanFeed<A> {
         }
     }
 
-    /// Ends this line, whose command is known. Nothing else is held.
+    /// Ends this line, whose command was read. No other byte is held.
     #[inline(always)]
     fn end_known_line(&mut self, line: &[u8], command: Command) -> Result<(), PlanKind>
         requires line { IsTrue (is_one_line line.now) }
@@ -222,7 +222,7 @@ impl<A: Allocator + Copy> PlanFeed<A> {
         Ok(())
     }
 
-    /// Judges the line that goes on with these bytes, if it is within the limits.
+    /// Reads the held line with these bytes at its end, if it is within the limits.
     fn judge_line(&mut self, back: &[u8]) -> Result<(), PlanKind>
         requires { IsTrue (is_one_line back.now) }
         ensures value { Leaves (limited (self.old.lines + 1) self.old.reading (self.old.held ++ back.now)) result self.new.reading }
@@ -251,7 +251,7 @@ impl<A: Allocator + Copy> PlanFeed<A> {
         };
     }
 
-    /// Holds what comes after the last LF of a piece.
+    /// Holds the bytes after the last LF of a chunk.
     fn hold(&mut self, bytes: &[u8]) -> Result<(), PlanFault>
         requires { IsTrue (is_one_line bytes.now) }
         ensures ok { OnOk result (self.new ≡ record { lines = self.old.lines; reading = self.old.reading; held = self.old.held ++ bytes.now }) }

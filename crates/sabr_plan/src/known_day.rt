@@ -1,4 +1,5 @@
-//! The day of the last absolute start or end. If the next one has the same date, only its time of day is read.
+//! A cache of one day: that of the last absolute start or end. If the next one has the same date, only its time of day
+//! is read.
 
 ghost use Rattle.std.specs.Prelude.{◌≡◌, ◌<◌, ◌≤◌, IfSome, IsTrue, length};
 ghost use Rattle.sabr_model.specs.plan.Plan.{last_time};
@@ -7,7 +8,7 @@ ghost use Rattle.sabr_plan.specs.TimeShape.{clock_text, IsDate};
 
 use crate::time::{is_pair, pair_at, parse_time};
 
-/// The seconds of a day.
+/// The number of seconds of a day.
 const DAY_SECONDS: u64 = 86400;
 
 /// A day: the bytes `yyyy/mm/dd`, and its first second.
@@ -18,7 +19,7 @@ pub struct KnownDay {
     ghost known: { IsDate date begin },
 }
 
-/// Returns the second of a day that the text after its date names, which is `-hh:mm:ss`.
+/// Returns the second of the day of the text after a date, `-hh:mm:ss`.
 #[inline(always)]
 fn clock_of(text: &[u8]) -> Option<u64>
     requires { length text.now ≡ 9 }
@@ -40,7 +41,7 @@ fn clock_of(text: &[u8]) -> Option<u64>
 }
 
 impl KnownDay {
-    /// Knows the first day that a time may have.
+    /// Returns the cache of the first day that a time may have.
     #[tactic(auto, unfolding(crate::specs::Times::day_after_epoch))]
     pub fn new() -> KnownDay {
         KnownDay {
@@ -49,7 +50,7 @@ impl KnownDay {
         }
     }
 
-    /// Returns the second of a text of 19 bytes. None says nothing about the text.
+    /// Returns the second of a text of 19 bytes. `None` means: use the general reader.
     #[inline(always)]
     pub fn second_of(&mut self, text: &[u8]) -> Option<u64>
         requires { length text.now ≡ 19 }
@@ -63,7 +64,7 @@ impl KnownDay {
         Some(self.begin + second)
     }
 
-    /// Returns the second of a text with another date, and knows that date from then on.
+    /// Returns the second of a text with another date, and caches that date.
     #[cold]
     #[inline(never)]
     #[tactic(auto, using(crate::proofs::KnownDays::date_of))]

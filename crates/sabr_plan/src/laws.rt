@@ -2,7 +2,7 @@
 
 ghost use Rattle.sabr_plan.specs.Laws.{SpelledPlansObey};
 
-/// States that the plan that a text spells obeys the rules of a plan.
+/// States that the plan of a text obeys the rules of plans.
 pub fn spelled_plans_obey()
     ensures { SpelledPlansObey }
 {}

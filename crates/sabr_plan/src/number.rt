@@ -15,7 +15,7 @@ fn push_digit(value: u64, byte: u8) -> Option<u64>
     value.checked_mul(10)?.checked_add((byte - b'0') as u64)
 }
 
-/// Returns the number that digits stand for. None for a word that isn't digits, or a number of 2^64 or more.
+/// Returns the value of a word of digits. `None` for an empty word, another byte, or a value of 2^64 or more.
 pub fn digits_value(word: &[u8]) -> Option<u64>
     ensures { result ≡ (if are_digits word.now && nat_lt (digits_value word.now) 18446744073709551616 then Some (digits_value word.now) else None) }
 {
@@ -39,8 +39,8 @@ pub fn leads_with_zero(word: &[u8]) -> bool
     word.len() > 1 && word[0] == b'0'
 }
 
-/// Returns the number that the text spells, from `low` to `high`: decimal, without a sign or leading zero (this
-/// project's profile). Its time grows with the text's length.
+/// Returns the value of a text of decimal digits without a sign or leading zero (this project's profile). `None` for
+/// any other text, or if the value is below `low` or above `high`. Its time grows with the text's length.
 pub fn number_within(text: &[u8], low: u64, high: u64) -> Option<u64>
     ensures value { result ≡ number_within low high text.now }
     ensures range { IfSome result (λ n. (low ≤ n) × (n ≤ high)) }
@@ -52,8 +52,8 @@ pub fn number_within(text: &[u8], low: u64, high: u64) -> Option<u64>
     Some(value)
 }
 
-/// Returns the number that the digits at the front of a text stand for, those digits, and the text after them. It takes
-/// no digits if there are more than 19.
+/// Returns the value of the digits at the front of a text, those digits, and the text after them. There are no digits
+/// if the text begins with more than 19.
 #[inline(always)]
 pub fn leading_digits(text: &[u8]) -> (u64, &[u8], &[u8])
     ensures parts { text.now ≡ result.1.now ++ result.2.now }
@@ -64,7 +64,7 @@ pub fn leading_digits(text: &[u8]) -> (u64, &[u8], &[u8])
     (value, digits, rest)
 }
 
-/// Returns false only if a word, whose digits stand for this value, has a digit and no leading zero.
+/// Returns false only if a word of digits with this value has a digit and no leading zero.
 fn starts_amiss(word: &[u8], value: u64) -> bool
     requires { 0 < value → 0 < length word.now }
     ensures { IsFalse result → (0 < length word.now) × (leads_with_zero word.now ≡ false) }
@@ -76,8 +76,9 @@ fn starts_amiss(word: &[u8], value: u64) -> bool
     }
 }
 
-/// Returns the number from `low` to `high` that the digits at the front of a text spell, those digits, and the text
-/// after them. The digits are at most 19, without a leading zero. None says nothing about the text.
+/// Returns the value of the digits at the front of a text, those digits, and the text after them. There are 1 to 19
+/// digits without a leading zero, and the value is from `low` to `high`. `None` means: use [`number_within`], which
+/// also accepts 20 digits.
 #[inline(always)]
 pub fn leading_number(text: &[u8], low: u64, high: u64) -> Option<(u64, &[u8], &[u8])>
     ensures parts { IfSome result (λ r. text.now ≡ r.1.now ++ r.2.now) }

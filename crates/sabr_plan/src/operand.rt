@@ -15,7 +15,7 @@ use std::marker::Model;
 #[derive(Drop)]
 pub struct Reference {
     second: u64,
-    /// How many times there are from it on, up to the last. None if no line has set it.
+    /// The number of seconds from it up to the latest time, both included. `None` if no line has set it.
     room: u64,
 }
 
@@ -32,14 +32,14 @@ impl Model for Reference {
 }
 
 impl Reference {
-    /// No line has set it.
+    /// Returns the reference before any line has set it.
     pub fn new() -> Reference
         ensures { result ≡ None }
     {
         Reference { second: 0, room: 0 }
     }
 
-    /// A line has set it to this second.
+    /// Returns the reference that a line has set to this second.
     pub fn at(second: u64) -> Reference
         requires { second ≤ last_time }
         ensures { result ≡ Some second }
@@ -100,7 +100,7 @@ pub fn node_of(word: &[u8]) -> Result<u64, PlanKind>
     number_within(word, 1, u64::MAX).ok_or(PlanKind::BadNode)
 }
 
-/// Returns the greatest rate of a contact, in bytes per second, or the greatest light time of a range, in seconds.
+/// Returns the largest rate of a contact, in bytes per second, or the largest light time of a range, in seconds.
 pub fn greatest_value(target: Target) -> u64
     ensures { result ≡ greatest_value target }
 {
@@ -117,7 +117,7 @@ pub fn value_of(target: Target, word: &[u8]) -> Result<u64, PlanKind>
     number_within(word, 0, greatest_value(target)).ok_or(PlanKind::BadNumber)
 }
 
-/// Returns both values, or the refusal that comes first: `BadTime` before any other.
+/// Returns both values, or the first fault: `BadTime` before any other.
 pub fn both_of(
     first: Result<u64, PlanKind>,
     second: Result<u64, PlanKind>,

@@ -1,22 +1,25 @@
 //! Reading a plan.
 
-ghost use Rattle.std.specs.Prelude.{◌≡◌, ◌+◌, IfErr};
+ghost use Rattle.std.specs.Prelude.{◌≡◌, ◌+◌, IfErr, true};
 ghost use Rattle.sabr_plan.specs.declared.fault.PlanKind.TheVariants as kind;
+ghost use Rattle.sabr_plan.specs.Feeding.{Answers};
 ghost use Rattle.sabr_plan.specs.PlanRead.{ReadsPlan};
+ghost use Rattle.sabr_plan.specs.Reading.{plan_of};
 
 use crate::fault::PlanFault;
 use crate::feed::PlanFeed;
 use sabr_model::{Failed, Plan, Read};
 use std::alloc::Allocator;
 
-/// Reads the plan that a text spells, to the text's end or up to its first bad line.
+/// Reads a plan, to the text's end or up to its first bad line.
 ///
-/// The text is that of ionrc(5), as far as this project's profile goes. It takes one pass over the text.
+/// The text has the format of ionrc(5), as far as this project's profile goes. It is one pass over the text, in chunks
+/// of 8192 bytes.
 ///
 /// # Errors
 ///
-/// The first bad line, and of that line the first kind that holds. `Read` only if the reader failed, and `NoMemory`
-/// only if an allocation was refused. How many bytes after a bad line were taken from the reader is unspecified.
+/// The first bad line, and of that line the first kind that applies. `Read` only if the reader failed, and `NoMemory`
+/// only if an allocation failed. The number of bytes after a bad line that were taken from the reader is unspecified.
 pub fn read_plan<R: Read, A: Allocator + Copy>(
     alloc: A,
     reader: &mut R,
@@ -33,4 +36,17 @@ pub fn read_plan<R: Read, A: Allocator + Copy>(
             Err(Failed) => return Err(feed.failed()),
         }
     }
+}
+
+/// Reads a plan from a text in memory, as [`read_plan`] reads it, without a copy of the text.
+///
+/// # Errors
+///
+/// The first bad line, and of that line the first kind that applies. `NoMemory` only if an allocation failed.
+pub fn parse_plan<A: Allocator + Copy>(alloc: A, text: &[u8]) -> Result<Plan<A>, PlanFault>
+    ensures { Answers (plan_of text.now true) result }
+{
+    let mut feed = PlanFeed::new(alloc);
+    feed.feed(text)?;
+    feed.finish()
 }

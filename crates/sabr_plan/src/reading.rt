@@ -1,4 +1,4 @@
-//! The plan that the lines of a text make, one after another.
+//! The plan that the lines of a text build, one after another.
 
 ghost use Rattle.std.specs.Prelude.{◌≡◌, None, [], Ok, Err, IsOk, IfOk, MatchResult, IfSome, IsFalse};
 ghost use Rattle.sabr_plan.specs.Commands.{line_command, HasBounds};
@@ -10,11 +10,11 @@ ghost use Rattle.sabr_plan.specs.declared.command.Command.TheVariants.{Add, Dele
 ghost use Rattle.sabr_plan.specs.declared.command.Target.TheVariants as target;
 
 use crate::command::{Addition, Command, Deletion, Target, line_command};
+use crate::fast_line::fast_addition;
 use crate::fault::PlanKind;
+use crate::gathering::{GatheredContacts, GatheredRanges, gathered_plan};
 use crate::known_day::KnownDay;
 use crate::operand::Reference;
-use crate::swift_line::swift_addition;
-use sabr_gathering::{GatheredContacts, GatheredRanges, gathered_plan};
 use sabr_model::{AddFault, NoMemory, Plan};
 use std::alloc::Allocator;
 use std::marker::Model;
@@ -28,7 +28,7 @@ pub struct PlanReading<A: Allocator + Copy> {
     contacts: GatheredContacts<A>,
     /// The ranges so far.
     ranges: GatheredRanges<A>,
-    /// The second from which relative times count.
+    /// The second from which relative times count, if an `@` line has set it.
     reference: Reference,
     /// The day of the last absolute start.
     start_day: KnownDay,
@@ -44,7 +44,7 @@ impl<A: Allocator + Copy> Model for PlanReading<A> {
     ghost view = { λ r. record { plan = record { contacts = r.contacts.contacts; ranges = r.ranges; greatest = r.contacts.greatest }; reference = r.reference } };
 }
 
-/// Returns the answer to a change of the plan as that to a line.
+/// Returns the result of a change of the plan as that of a line.
 #[inline(always)]
 fn answered<X: Copy>(answer: Result<X, AddFault>) -> Result<(), PlanKind>
     ensures { MatchResult answer (λ _. IsOk result) (λ f. result ≡ Err (kind_of f)) }
@@ -55,7 +55,7 @@ fn answered<X: Copy>(answer: Result<X, AddFault>) -> Result<(), PlanKind>
     }
 }
 
-/// Returns a refusal of the plan as the fault of a line.
+/// Returns an error of the plan as the fault of a line.
 fn kind_of(fault: AddFault) -> PlanKind
     ensures { result ≡ kind_of fault }
 {
@@ -73,7 +73,7 @@ fn kind_of(fault: AddFault) -> PlanKind
 impl<A: Allocator + Copy> PlanReading<A> {
     ghost use Rattle.sabr_plan.specs.Reading.{nothing_read, obeyed, judged};
 
-    /// Starts before the first line.
+    /// Returns the reading before the first line.
     pub fn new(alloc: A) -> PlanReading<A>
         ensures { result ≡ nothing_read }
     {
@@ -87,7 +87,7 @@ impl<A: Allocator + Copy> PlanReading<A> {
         }
     }
 
-    /// Returns the plan that the lines make.
+    /// Returns the plan that the lines build.
     pub fn into_plan(self) -> Result<Plan<A>, NoMemory>
         ensures { IfOk result (λ p. p.plan ≡ self.plan) }
     {
@@ -102,15 +102,15 @@ impl<A: Allocator + Copy> PlanReading<A> {
         gathered_plan(alloc, contacts, ranges)
     }
 
-    /// Returns the command of a text's first line, if it is quick to read, and the text after the line's LF. None says
-    /// nothing.
+    /// Returns the command of a text's first line, if it is an addition in the usual form, and the text after the
+    /// line's LF. `None` means: use the general reader.
     #[inline(always)]
-    pub fn swift_addition<'a>(&mut self, text: &'a [u8]) -> Option<(Command, &'a [u8])>
+    pub fn fast_addition<'a>(&mut self, text: &'a [u8]) -> Option<(Command, &'a [u8])>
         requires { IsFalse (is_one_line text.now) }
         ensures same { self.new ≡ self.old }
         ensures value { IfSome result (λ r. BeginsWithLine (λ line. line_command self.old.reference line ≡ Ok r.0) text.now r.1.now) }
     {
-        swift_addition(
+        fast_addition(
             &self.reference,
             &mut self.start_day,
             &mut self.end_day,
@@ -118,7 +118,7 @@ impl<A: Allocator + Copy> PlanReading<A> {
         )
     }
 
-    /// Reads a line without its LF, and does what it says.
+    /// Reads a line without its LF, and executes its command.
     #[cold]
     #[inline(never)]
     #[tactic(auto, using(crate::proofs::SpelledPlans::line_bounds), unfolding(crate::specs::Reading::judged))]
@@ -129,7 +129,7 @@ impl<A: Allocator + Copy> PlanReading<A> {
         self.obey(command)
     }
 
-    /// Does what a line says, whose command is known.
+    /// Executes the command of a line, which was read.
     #[inline(always)]
     #[tactic(auto, using(crate::proofs::SpelledPlans::line_bounds), unfolding(crate::specs::Reading::judged))]
     pub fn judge_known(&mut self, line: &[u8], command: Command) -> Result<(), PlanKind>
@@ -139,7 +139,7 @@ impl<A: Allocator + Copy> PlanReading<A> {
         self.obey(command)
     }
 
-    /// Does what a line says.
+    /// Executes the command of a line.
     #[inline(always)]
     #[tactic(auto, unfolding(crate::specs::Reading::obeyed))]
     fn obey(&mut self, command: Command) -> Result<(), PlanKind>

@@ -46,8 +46,8 @@ fn fields_of(second: u64) -> TimeFields
     }
 }
 
-/// Returns the number of days from 1970/01/01 to a day of the calendar. None if the calendar doesn't have that day, or
-/// if it is earlier.
+/// Returns the number of days from 1970/01/01 to a day of the calendar. `None` if the calendar doesn't have that day,
+/// or if it is earlier.
 fn day_number(year: u16, month: u8, day: u8) -> Option<u32>
     requires year { year < 10000 }
     requires month { month < 100 }
@@ -62,7 +62,8 @@ fn day_number(year: u16, month: u8, day: u8) -> Option<u32>
     if days < 0 { None } else { Some(days as u32) }
 }
 
-/// Returns the second with these calendar and clock fields. None if there is no such second up to the greatest time.
+/// Returns the second with these calendar and clock fields. `None` if there is no such second up to the latest time,
+/// the last second of the year 9998.
 fn second_of(fields: TimeFields) -> Option<u64>
     requires { HasWidth fields }
     ensures some { IfSome result (λ t. (fields_of t ≡ fields) × (t ≤ last_time)) }
@@ -80,7 +81,7 @@ fn second_of(fields: TimeFields) -> Option<u64>
     Some(second)
 }
 
-/// Returns true if there are two digits from a place on.
+/// Returns true if there are two digits from an index on.
 pub fn is_pair(text: &[u8], at: usize) -> bool
     requires { at + 1 < length text.now }
     ensures { result ≡ is_pair text.now at }
@@ -88,7 +89,7 @@ pub fn is_pair(text: &[u8], at: usize) -> bool
     text[at].is_ascii_digit() && text[at + 1].is_ascii_digit()
 }
 
-/// Returns the number that two digits stand for.
+/// Returns the value of two digits.
 pub fn pair_at(text: &[u8], at: usize) -> u8
     requires room { at + 1 < length text.now }
     requires digits { IsTrue (is_pair text.now at) }
@@ -98,7 +99,7 @@ pub fn pair_at(text: &[u8], at: usize) -> u8
     (text[at] - b'0') * 10 + (text[at + 1] - b'0')
 }
 
-/// Returns true if the text has pairs of digits, and other bytes, where a time has them.
+/// Returns true if the text has digits and separators where a time has them.
 fn has_shape(text: &[u8]) -> bool
     ensures { result ≡ has_shape text.now }
 {
@@ -135,7 +136,8 @@ fn fields_at(text: &[u8]) -> TimeFields
 }
 
 /// Returns the second of a text of exactly 19 bytes `yyyy/mm/dd-hh:mm:ss`, of the years 1970 to 9998, in seconds since
-/// 1970-01-01T00:00:00Z. Each day has 86400 seconds. None for any other text.
+/// 1970-01-01T00:00:00Z. Each day has 86400 seconds (ionrc(5), absolute times; the years are this project's profile).
+/// `None` for any other text. It is O(1).
 pub fn parse_time(text: &[u8]) -> Option<u64>
     ensures some { IfSome result (λ t. (text.now ≡ time_text_of t) × (t ≤ last_time)) }
     ensures all { (t : ℕ) → t ≤ last_time → text.now ≡ time_text_of t → result ≡ Some t }
@@ -156,7 +158,7 @@ fn digit(value: u8) -> u8
 }
 
 /// Returns the 19 bytes `yyyy/mm/dd-hh:mm:ss` of a second since 1970-01-01T00:00:00Z. The second is at most
-/// 253402300799, the last of the year 9999.
+/// 253402300799, the last of the year 9999. It is O(1).
 #[tactic(auto, using(crate::proofs::Seconds::fields_of_width), unfolding(crate::specs::Times::time_text_of))]
 pub fn time_text(second: u64) -> [u8; 19]
     requires { second ≤ last_spelled }
@@ -165,7 +167,7 @@ pub fn time_text(second: u64) -> [u8; 19]
     spelled(fields_of(second))
 }
 
-/// Spells the fields in full width.
+/// Writes the fields in full width.
 fn spelled(fields: TimeFields) -> [u8; 19]
     requires { HasWidth fields }
     ensures { result ≡ spelled fields }

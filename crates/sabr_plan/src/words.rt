@@ -45,7 +45,7 @@ pub fn is_word(word: &[u8], text: &[u8]) -> bool
     word == text
 }
 
-/// Returns the text from its first word on.
+/// Returns the text without the blanks at its front.
 fn skip_blanks(text: &[u8]) -> &[u8]
     ensures words { words_of result.now ≡ words_of text.now }
     ensures start { 0 < length result.now → is_blank (slice_index result.now 0) ≡ false }
@@ -82,7 +82,7 @@ pub fn next_word(text: &[u8]) -> Option<(&[u8], &[u8])>
     }
 }
 
-/// Returns the word of a text that has exactly one.
+/// Returns the word of a text that has exactly one, and `None` otherwise.
 pub fn one_word(text: &[u8]) -> Option<&[u8]>
     ensures { MatchOption result (length (words_of text.now) ≢ 1) (λ w. words_of text.now ≡ w.now ∷ []) }
 {
@@ -95,7 +95,7 @@ pub fn one_word(text: &[u8]) -> Option<&[u8]>
     }
 }
 
-/// Returns the words of a text that has exactly three.
+/// Returns the words of a text that has exactly three, and `None` otherwise.
 pub fn three_words(text: &[u8]) -> Option<(&[u8], &[u8], &[u8])>
     ensures { MatchOption result (length (words_of text.now) ≢ 3) (λ w. words_of text.now ≡ w.0.now ∷ w.1.now ∷ w.2.now ∷ []) }
 {
@@ -110,7 +110,7 @@ pub fn three_words(text: &[u8]) -> Option<(&[u8], &[u8], &[u8])>
     }
 }
 
-/// Returns the words of a text that has exactly five.
+/// Returns the words of a text that has exactly five, and `None` otherwise.
 pub fn five_words(text: &[u8]) -> Option<(&[u8], &[u8], &[u8], &[u8], &[u8])>
     ensures { MatchOption result (length (words_of text.now) ≢ 5) (λ w. words_of text.now ≡ w.0.now ∷ w.1.now ∷ w.2.now ∷ w.3.now ∷ w.4.now ∷ []) }
 {

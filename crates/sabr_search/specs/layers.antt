@@ -10,6 +10,5 @@ pub mod Deadlines
 pub mod Picks
 pub mod Reach
 pub mod Since
-pub mod Seconds
 pub mod Latest
 pub mod Level

@@ -1,9 +1,7 @@
-//! From the goal backward: layers by hops, the last seconds, and the least numbers that they leave.
+//! From the goal backward: layers by hops, and the last seconds.
 
 pub mod deadlines;
 pub mod from_goal;
 pub mod latest;
 pub mod nearest;
-pub mod pick;
-pub mod seconds;
 pub mod since;

@@ -11,7 +11,8 @@ use crate::backward::deadlines::Deadlines;
 use crate::backward::from_goal::Aim;
 use crate::bound::Bound;
 use crate::forward::layers::Layers;
-use crate::found::{Found, FoundWay};
+use crate::found::Found;
+use crate::level::walk::{Walk, Walked};
 use sabr_index::Looks;
 use sabr_model::NoMemory;
 use std::alloc::Allocator;
@@ -23,6 +24,8 @@ pub struct LayerSearch<A: Allocator + Copy> {
     forward: Layers<A>,
     /// Layers backward, for the least way with a delivery.
     backward: Deadlines<A>,
+    /// A pick by these or by layers for one delivery.
+    pub walk: Walk<A>,
 }
 
 impl<A: Allocator + Copy> LayerSearch<A> {
@@ -31,6 +34,7 @@ impl<A: Allocator + Copy> LayerSearch<A> {
         LayerSearch {
             forward: Layers::new(alloc),
             backward: Deadlines::new(alloc),
+            walk: Walk::new(alloc),
         }
     }
 
@@ -66,14 +70,14 @@ impl<A: Allocator + Copy> LayerSearch<A> {
                 hops: most,
             }));
         }
-        let picked = self.backward.pick(aim, looks, layer)?;
-        let Some(numbers) = picked else {
-            return Ok(Found::GaveUp);
-        };
-        Ok(Found::Way(FoundWay {
-            numbers,
-            delivery: aim.delivery,
-        }))
+        self.walk.begin(aim.delivery);
+        let walked = self.walk.pick(&self.backward, aim.task, looks, layer + 1)?;
+        match walked {
+            Walked::Picked => {}
+            Walked::None => unreachable!(),
+            Walked::GaveUp => return Ok(Found::GaveUp),
+        }
+        Ok(Found::Way(self.walk.way(self.backward.alloc)?))
     }
 
     /// Returns the least way of at most so many hops, if it is up to a bound; else that each is above it. No way delivers sooner

@@ -6,15 +6,15 @@
 pub mod spending;
 pub mod walk;
 
-ghost use Rattle.std.specs.Prelude.{◌≡◌, ℕ, ◌+◌, ◌-◌, ◌≤◌, ◌<◌, [], Some, min, IsTrue, OnOk, length, slice_get, slice_index};
+ghost use Rattle.std.specs.Prelude.{◌≡◌, ◌<◌, [], IsTrue};
 ghost use Rattle.sabr_model.specs.plan.Plan.{TabledPlan};
 ghost use Rattle.sabr_model.specs.routes.Arrival.{RouteRequest};
-ghost use Rattle.sabr_search.specs.layers.Level.{AreChained, HasLayers, IsDeadEnd, IsLatestWithin, IsLevel, IsLevelOf, IsMadeFor};
+ghost use Rattle.sabr_search.specs.layers.Level.{IsDeadEnd, IsLevel, IsLevelOf, IsMadeFor};
 ghost use Rattle.sabr_search.specs.questions.FirstSteps.{tabled_of};
 ghost use Rattle.sabr_search.specs.questions.Task.{IsAsked, IsTask};
 ghost use Rattle.sabr_search.specs.layers.Reach.{AreSoonFor};
 
-use crate::backward::deadlines::{Deadline, Deadlines};
+use crate::backward::deadlines::Deadlines;
 use crate::backward::from_goal::Aim;
 use crate::backward::since::Since;
 use crate::course::Course;
@@ -24,17 +24,13 @@ use sabr_index::{CountedPlan, Looks};
 use sabr_model::{NoMemory, Request};
 use std::alloc::Allocator;
 
-/// Layers for one delivery, and by node where its entries stand.
+/// Layers for one delivery.
 #[derive(Drop)]
 pub struct Level<A: Allocator + Copy> {
     /// The delivery that they are made for; 0 if there are none.
     pub delivery: u64,
     /// The layers.
-    layers: Deadlines<A>,
-    /// By node where its chain begins: the place after its entry of most hops; 0 if it has none.
-    heads: Vec<usize, A>,
-    /// By entry the place after the one of the same node with the next fewer hops; 0 if there is none.
-    fewer: Vec<usize, A>,
+    pub layers: Deadlines<A>,
 }
 
 impl<A: Allocator + Copy> Level<A> {
@@ -45,8 +41,6 @@ impl<A: Allocator + Copy> Level<A> {
         Level {
             delivery: 0,
             layers: Deadlines::new(alloc),
-            heads: Vec::new(alloc),
-            fewer: Vec::new(alloc),
         }
     }
 
@@ -110,70 +104,22 @@ impl<A: Allocator + Copy> Level<A> {
         if !whole {
             return Ok(());
         }
-        self.chain(task.shut().len())?;
         self.delivery = delivery;
         Ok(())
-    }
-
-    /// Finds by node and by entry where the entries of a node stand.
-    fn chain(&mut self, nodes: usize) -> Result<(), NoMemory>
-        requires { (p : ℕ) (e : Deadline) → slice_get self.old.layers.entries.items p ≡ Some e → e.node < nodes }
-        ensures layers { self.new.layers ≡ self.old.layers }
-        ensures delivery { self.new.delivery ≡ self.old.delivery }
-        ensures nodes { OnOk result (length self.new.heads.items ≡ nodes) }
-        ensures chained { OnOk result (AreChained self.new.layers.entries.items self.new.heads.items self.new.fewer.items) }
-    {
-        self.heads.clear();
-        self.heads.resize(nodes, 0)?;
-        self.fewer.clear();
-        for place in 0..self.layers.entries.len() {
-            let node = self.layers.entries[place].node;
-            self.fewer.push(self.heads[node])?;
-            self.heads[node] = place + 1;
-        }
-        Ok(())
-    }
-
-    /// Returns the place after the entries of at most so many hops.
-    #[inline(always)]
-    pub fn end_of(&self, hops: usize) -> usize
-        requires { HasLayers self.now }
-        ensures { result ≡ slice_index self.now.layers.ends.items (min (length self.now.layers.ends.items - 1) (hops + 1)) }
-    {
-        let last = self.layers.ends.len() - 1;
-        self.layers.ends[hops.saturating_add(1).min(last)]
-    }
-
-    /// Returns the first second that is too late at a node by its entries before this place; 0 if it has none there.
-    #[inline(always)]
-    pub fn before(&self, node: usize, end: usize) -> u64
-        requires layers { HasLayers self.now }
-        requires node { node < length self.now.heads.items }
-        ensures latest { IsLatestWithin self.now.layers.entries.items node end result }
-        ensures met { 0 < result → (p : ℕ) × (p < end) × (slice_get self.now.layers.entries.items p ≡ Some (record { node = node; before = result })) }
-    {
-        let mut place = self.heads[node];
-        while place > end {
-            place = self.fewer[place - 1];
-        }
-        if place == 0 {
-            return 0;
-        }
-        self.layers.entries[place - 1].before
     }
 
     /// Returns true if the layers tell that the start of a question is too late for so many hops. They tell nothing of the
     /// source, which is shut in them.
     pub fn is_late(&self, task: &Task<'_, A>, hops: usize) -> bool
         requires task { IsTask task.now }
-        requires level { IsLevelOf task.now self.now }
+        requires level { IsLevelOf task.now self.now.delivery hops self.now.layers }
         ensures { IsTrue result → IsDeadEnd task.now self.now.delivery task.now.start task.now.at hops }
     {
         let start = task.start();
-        if self.heads[start] == 0 {
+        if self.layers.head(start) == 0 {
             return false;
         }
-        let end = self.end_of(hops);
-        self.before(start, end) <= task.at()
+        let end = self.layers.end_of(hops);
+        self.layers.before(start, end) <= task.at()
     }
 }

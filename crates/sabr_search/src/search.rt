@@ -13,10 +13,10 @@ use crate::backward::from_goal::Aim;
 use crate::backward::since::Since;
 use crate::bound::Bound;
 use crate::forward::settling::{Forward, Settling};
-use crate::found::{Found, FoundWay};
+use crate::found::Found;
 use crate::layer_search::LayerSearch;
 use crate::level::Level;
-use crate::level::walk::{Walk, Walked};
+use crate::level::walk::Walked;
 use crate::reach::Reach;
 use crate::task::Task;
 use crate::visit::Visit;
@@ -31,7 +31,7 @@ use std::alloc::Allocator;
 const TRIES: u32 = 16;
 
 /// How many of them it must answer. With 4, the same eight took 0.4 percent more, and with 12 they took 0.1.
-const LEAST: u32 = 8;
+const LEAST: u64 = 8;
 
 /// How many such questions begin with layers forward otherwise. With 256, dense-60 took 4 percent more; with 4096 nothing
 /// changed.
@@ -50,8 +50,6 @@ pub struct Search<A: Allocator + Copy> {
     settles: Payoff,
     /// Layers by hops, forward within a limit and backward.
     layers: LayerSearch<A>,
-    /// A pick by layers for one delivery.
-    walk: Walk<A>,
 }
 
 impl<A: Allocator + Copy> Search<A> {
@@ -63,7 +61,6 @@ impl<A: Allocator + Copy> Search<A> {
             settling: Settling::new(alloc),
             settles: Payoff::new(TRIES, LEAST, PAUSE),
             layers: LayerSearch::new(alloc),
-            walk: Walk::new(alloc),
         }
     }
 
@@ -78,24 +75,21 @@ impl<A: Allocator + Copy> Search<A> {
         bound: Bound,
     ) -> Result<Found<A>, NoMemory>
         requires task { IsTask task.now }
-        requires level { IsLevelOf task.now level.now }
+        requires level { IsLevelOf task.now level.now.delivery hops level.now.layers }
         requires nodes { hops ≤ most_nodes }
         requires floor { IsNoneSooner task.now hops level.now.delivery }
         ensures found { IfOk result (IsFound task.now hops) }
     {
         let delivery = level.delivery;
         let most = bound.hops_at(delivery, hops);
-        self.walk.begin();
+        self.layers.walk.begin(delivery);
         for count in 1..most + 1 {
             if level.is_late(task, count) {
                 continue;
             }
-            let walked = self.walk.pick(level, task, looks, count)?;
+            let walked = self.layers.walk.pick(&level.layers, task, looks, count)?;
             match walked {
-                Walked::Picked => {
-                    let numbers = self.walk.numbers(self.alloc)?;
-                    return Ok(Found::Way(FoundWay { numbers, delivery }));
-                }
+                Walked::Picked => return Ok(Found::Way(self.layers.walk.way(self.alloc)?)),
                 Walked::None => {}
                 Walked::GaveUp => return Ok(Found::GaveUp),
             }
@@ -175,7 +169,7 @@ impl<A: Allocator + Copy> Search<A> {
             return Ok(Found::GaveUp);
         };
         if best.hops == 0 {
-            self.settles.win();
+            self.settles.win(1);
             return Ok(Found::Beyond(bound.at_any_hops()));
         }
         let since = Since {
@@ -194,7 +188,7 @@ impl<A: Allocator + Copy> Search<A> {
         if best.hops > hops {
             return self.layers.least_within(&aim, looks, hops, bound);
         }
-        self.settles.win();
+        self.settles.win(1);
         self.layers.least_up_to(&aim, looks, hops, bound)
     }
 }

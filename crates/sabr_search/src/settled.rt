@@ -96,8 +96,11 @@ impl<A: Allocator + Copy> Search<A> {
         let hops = asked.hops_left();
         let before = looks.left();
         let found = self.run(&wide, &kept.reach, looks, hops, asked.bound_left())?;
-        kept.spending.search(before.saturating_sub(looks.left()));
-        let Some(place) = kept.answers.keep(&wide, hops, &found, breadth) else {
+        let spent = before.saturating_sub(looks.left());
+        let place = kept.answers.keep(&wide, hops, &found, breadth);
+        kept.spending.search(spent);
+        kept.widening.count_search(breadth, spent);
+        let Some(place) = place else {
             return Ok(None);
         };
         Ok(kept.answers.recall_at(place, asked, looks))
@@ -201,7 +204,9 @@ impl<A: Allocator + Copy> Search<A> {
         }
         let before = looks.left();
         let found = self.find_own(asked, &kept.reach, looks)?;
-        kept.spending.search(before.saturating_sub(looks.left()));
+        let spent = before.saturating_sub(looks.left());
+        kept.spending.search(spent);
+        kept.widening.count_search(Breadth::Own, spent);
         let answer = asked.answer(self.alloc, looks, &found)?;
         kept.answers.keep_after(asked, &found);
         Ok(answer)
@@ -312,6 +317,38 @@ impl<A: Allocator + Copy> Settled<A> {
         kept.course = Some(course);
         answer
     }
+
+    /// Finds the least route of a part, whatever it is.
+    fn find_whole(
+        &mut self,
+        kept: &mut Kept<A>,
+        index: &CountedPlan<'_, A>,
+        request: &Request,
+        prefix: &[u32],
+        excluded: Excluded<'_>,
+    ) -> Result<Option<Route<A>>, NoMemory>
+        requires fits { IsTrue (is_prefix index.now.plan request.now prefix.now) }
+        requires few { looks_taken self.old.looks ≤ length index.now.plan.contacts }
+        requires kept { IsKept index.now request.now kept.old }
+        ensures least { IfOk result (IsLeast index.now.plan request.now prefix.now excluded.entry.numbers.now) }
+        ensures bound { looks_taken self.new.looks ≤ (3 * node_count index.now.plan.contacts + 1) * length index.now.plan.contacts }
+        ensures counted { IfOk result (λ answer. hops_told answer ≤ looks_taken self.new.looks) }
+        ensures calls { self.new.calls ≡ self.old.calls }
+        ensures kept { IsKept index.now request.now kept.new }
+        ensures cut { IfOk result (IsCut index.now.plan request.now.max_hops prefix.now (looks_taken self.new.looks)) }
+    {
+        let whole = BoundedPart {
+            prefix,
+            excluded,
+            bound: Bound::none(),
+            floor: 0,
+        };
+        match self.find(kept, index, request, whole)? {
+            Sought::Route(route) => Ok(Some(route)),
+            Sought::None => Ok(None),
+            Sought::Beyond => unreachable!(),
+        }
+    }
 }
 
 impl<A: Allocator + Copy> BestOf<A> for Settled<A> {
@@ -337,17 +374,29 @@ impl<A: Allocator + Copy> BestOf<A> for Settled<A> {
             return Err(NoMemory);
         };
         let mut kept = Kept::new(self.alloc);
-        let whole = BoundedPart {
-            prefix: part.prefix,
-            excluded: Excluded::of(part.excluded),
-            bound: Bound::none(),
-            floor: 0,
-        };
-        match self.find(&mut kept, index.counted(), request, whole)? {
-            Sought::Route(route) => Ok(Some(route)),
-            Sought::None => Ok(None),
-            Sought::Beyond => unreachable!(),
-        }
+        let excluded = Excluded::of(part.excluded);
+        self.find_whole(&mut kept, index.counted(), request, part.prefix, excluded)
+    }
+
+    fn best_beside(
+        &mut self,
+        kept: &mut Kept<A>,
+        index: &Index<'_, A>,
+        request: &Request,
+        prefix: &[u32],
+        excluded: Excluded<'_>,
+    ) -> Result<Option<Route<A>>, NoMemory>
+        requires fits { IsTrue (is_prefix index.now.plan request.now prefix.now) }
+        requires kept { IsKept index.now request.now kept.old }
+        ensures least { IfOk result (IsLeast index.now.plan request.now prefix.now excluded.entry.numbers.now) }
+        ensures bound { looks_taken self.new.looks ≤ (3 * node_count index.now.plan.contacts + 1) * length index.now.plan.contacts }
+        ensures counted { IfOk result (λ answer. hops_told answer ≤ looks_taken self.new.looks) }
+        ensures called { self.new.calls.count ≡ self.old.calls.count + 1 }
+        ensures kept { IsKept index.now request.now kept.new }
+        ensures cut { IfOk result (IsCut index.now.plan request.now.max_hops prefix.now (looks_taken self.new.looks)) }
+    {
+        self.begin(Looks::many());
+        self.find_whole(kept, index.counted(), request, prefix, excluded)
     }
 
     fn best_up_to(

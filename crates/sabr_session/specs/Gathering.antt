@@ -24,7 +24,7 @@ module _ {W : Type 0} (output : W → Output) where
     pub same_writer : new.writer.ghost_name ≡ old.writer.ghost_name
     pub stopped : WrittenInPart (output old.writer.now) bytes (output new.writer.now)
 
-  -- the text stands after the bytes held, or the writer failed in both
+  -- the text comes after the bytes held, or the writer failed in both
   abbrev pub Puts : {A E : Type 0} → TextBuffer W → List ℕ → Result A E → TextBuffer W → Type 0
   Puts old text (Ok _) new = HasPut old text new
   Puts old text (Err _) new = StopsIn old (old.held.items ++ text) new

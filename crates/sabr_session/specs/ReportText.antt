@@ -5,11 +5,11 @@ use Rattle.sabr_model.specs.routes.Record.{RouteRecord}
 use Rattle.sabr_plan.specs.Times.{last_spelled, time_text_of}
 use Rattle.sabr_session.specs.SpacedNumbers.{spaced_by}
 
--- both times of a route can be spelled, since they lie before the end of year 9999
+-- both times of a route have a text, since they are before the end of year 9999
 abbrev pub HasSpelledTimes : RouteRecord → Type 0
 HasSpelledTimes r = (r.delivery ≤ last_spelled) × (r.until ≤ last_spelled)
 
--- a route's line up to the numbers of its contacts, in pieces
+-- a route's line up to the numbers of its contacts, in slices
 abbrev pub figure_pieces : RouteRecord → List (List ℕ)
 figure_pieces r =
     codes "delivery " ∷ time_text_of r.delivery

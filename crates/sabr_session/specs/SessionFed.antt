@@ -1,4 +1,4 @@
--- A session text that is read in pieces: what was read so far, and what comes of the text.
+-- A session text that is read in chunks: what was read so far, and what the text comes to.
 use Rattle.std.specs.Prelude.{◌≡◌, ◌≢◌, ℕ, ◌+◌, ◌*◌, nat_lt, ◌&&◌, ◌||◌, Bool, true, false, List, [], ◌++◌, length, Result, Ok, Err, ◌⊎◌}
 use Rattle.sabr_model.specs.plan.Plan.{ContactPlan, TabledPlan}
 use Rattle.sabr_plan.specs.Canonical.{digest_of}
@@ -15,7 +15,7 @@ pub record SessionFed : Type 0 where
   pub said : Said
   pub held : List ℕ
 
--- before the first piece
+-- before the first chunk
 abbrev pub nothing_fed : SessionFed
 nothing_fed = record { lines = 0; said = nothing_said; held = [] }
 
@@ -25,7 +25,7 @@ outcome p h s bytes ended =
     let text = lines_of (s.held ++ bytes) in
     and_then (read_lines p h (s.lines + 1) s.said text.ended) (last_line ended (s.lines + 1 + length text.ended) text.open_line)
 
--- the beginning of line n that is refused whatever follows it: it has too many bytes, or a byte after `end`
+-- the beginning of line n that is refused for all bytes after it: it has too many bytes, or a byte after `end`
 abbrev pub is_bad_front : ℕ → Said → List ℕ → Bool
 is_bad_front n s front = (is_after n s && has_bytes front) || nat_lt most_bytes (length front)
 
@@ -35,7 +35,7 @@ pub record OpenText : Type 0 where
   pub calls : ℕ
   pub fed : SessionFed
 
--- before the first piece, over a plan
+-- before the first chunk, over a plan
 abbrev pub opened_over : TabledPlan → ℕ → OpenText
 opened_over plan calls = record { plan = plan; calls = calls; fed = nothing_fed }
 
@@ -43,8 +43,8 @@ opened_over plan calls = record { plan = plan; calls = calls; fed = nothing_fed 
 abbrev pub outcome_of : OpenText → List ℕ → Bool → Result Said SessionFault
 outcome_of t bytes ended = outcome t.plan.plan (digest_of t.plan.plan) t.fed bytes ended
 
--- a piece continues a text: the line after the last LF is held, and no more; whatever follows, the text comes to the
--- same; and if the reader fails there, Read is the answer
+-- a chunk continues a text: the line after the last LF is held, and no more; for all bytes after it the text comes to
+-- the same; and if the reader fails there, Read is the result
 pub record GoesOn (old : OpenText) (piece : List ℕ) (new : OpenText) : Type 0 where
   pub plan : new.plan ≡ old.plan
   pub calls : new.calls ≡ old.calls
@@ -52,16 +52,16 @@ pub record GoesOn (old : OpenText) (piece : List ℕ) (new : OpenText) : Type 0 
   pub same : (more : List ℕ) (ended : Bool) → outcome_of old (piece ++ more) ended ≡ outcome_of new more ended
   pub fine : outcome_of new [] false ≡ Err Read
 
--- a piece is refused: out of memory, or for this fault, whatever follows it
+-- a chunk is refused: a failed allocation, or this fault for all bytes after it
 abbrev pub IsRefusedPiece : OpenText → List ℕ → SessionFault → Type 0
 IsRefusedPiece t piece f = (f ≡ NoMemory) ⊎ ((f ≢ Read) × ((more : List ℕ) (ended : Bool) → outcome_of t (piece ++ more) ended ≡ Err f))
 
--- more bytes aren't held: out of memory, or no line begins with those held and them
+-- more bytes aren't held: a failed allocation, or no line begins with those held and them
 abbrev pub IsRefusedFront : OpenText → List ℕ → SessionFault → Type 0
 IsRefusedFront t bytes f =
     (f ≡ NoMemory) ⊎ ((f ≡ misspelled (t.fed.lines + 1)) × (is_bad_front (t.fed.lines + 1) t.fed.said (t.fed.held ++ bytes) ≡ true))
 
--- a piece was fed to a text: the text goes on, or is refused; a text that was refused before is refused again
+-- a chunk was fed to a text: the text goes on, or is refused; a text that was refused before is refused again
 abbrev pub IsFed : {U : Type 0} → Result OpenText SessionFault → List ℕ → Result U SessionFault → Result OpenText SessionFault → Type 0
 IsFed (Ok t) piece (Ok _) (Ok new) = GoesOn t piece new
 IsFed (Ok t) piece (Ok _) (Err g) = ⊥
@@ -89,7 +89,7 @@ abbrev pub weight_of : Result OpenText SessionFault → ℕ
 weight_of (Ok t) = weight t
 weight_of (Err f) = 0
 
--- the session of what a text says, without former states or a search; or the text's fault, or out of memory
+-- the session of what a text says, without former states or a search; or the text's fault, or a failed allocation
 abbrev pub IsSessionFrom : TabledPlan → Result Said SessionFault → Result Seen SessionFault → Type 0
 IsSessionFrom plan said (Ok s) =
     (s ≡ session_over plan s.request s.state s.calls) × ComesTo plan.plan said (Ok (s.request, s.state))

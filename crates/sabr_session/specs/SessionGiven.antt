@@ -22,13 +22,13 @@ abbrev pub BreaksText : TabledPlan → Input → List ℕ → Result Seen Sessio
 BreaksText plan old given (Ok s) new = ⊥
 BreaksText plan old given (Err f) new = (new.failures ≡ old.failures + 1) × (f ≡ Read) × (said_over plan given false ≡ Err f)
 
--- these bytes are refused whatever follows them, or memory was
+-- these bytes are refused for all bytes after them, or an allocation failed
 abbrev pub RefusesText : TabledPlan → Input → List ℕ → Result Seen SessionFault → Input → Type 0
 RefusesText plan old given (Ok s) new = ⊥
 RefusesText plan old given (Err f) new =
     (new.failures ≡ old.failures) × ((f ≡ NoMemory) ⊎ ((f ≢ Read) × ((more : List ℕ) (ended : Bool) → said_over plan (given ++ more) ended ≡ Err f)))
 
--- these bytes were read, and the answer is that of their text
+-- these bytes were read, and the result is that of their text
 pub record ReadsSession (plan : TabledPlan) (old : Input) (answer : Result Seen SessionFault) (new : Input) : Type 0 where
   pub given : List ℕ
   pub gives : Gives old given new

@@ -13,7 +13,7 @@ use Rattle.sabr_session.specs.declared.reading.first_lines.Version.{Version}
 use Rattle.sabr_session.specs.declared.reading.first_lines.Version.TheVariants.{One, Two}
 use Rattle.sabr_model.specs.declared.request_values.RequestValues.{RequestValues}
 
--- what stands after the label, if the text begins with it
+-- the text after the label, if the text begins with it
 unfoldable pub after_label : List ℕ → List ℕ → Option (List ℕ)
 after_label label text = if bytes_eq (take (length label) text) label then Some (drop (length label) text) else None
 

@@ -1,4 +1,4 @@
--- The pieces that make up a session's text.
+-- The slices that make up a session's text.
 use Rattle.std.specs.Prelude.{ℕ, List, [], ◌∷◌, length, decimal, codes}
 use Rattle.std.specs.Option.{option_map}
 use Rattle.sabr_model.specs.routes.Arrival.{RouteRequest}

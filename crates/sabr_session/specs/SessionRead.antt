@@ -1,4 +1,4 @@
--- The request and the state that a session text spells over a plan, or its first fault.
+-- The request and the state of a session text over a plan, or its first fault.
 use Rattle.std.specs.Prelude.{◌≡◌, ℕ, ◌+◌, ◌==◌, true, nat_lt, not, ◌&&◌, ◌||◌, ◌⊎◌, Bool, is_some, List, [], ◌∷◌, ◌++◌, length, map, Result, Ok, Err, if◌then◌else◌}
 use Rattle.std.specs.Option.{option_map_or}
 use Rattle.std.specs.Str.{bytes_eq}
@@ -37,11 +37,11 @@ pub record Said : Type 0 where
 abbrev pub nothing_said : Said
 nothing_said = record { version = Two; request = unlimited 0 0 0 0; emitted = 0; last_route = []; count = 0; parts = [] }
 
--- line n isn't spelled as it has to be
+-- line n is malformed
 abbrev pub misspelled : ℕ → SessionFault
 misspelled n = if n == 1 then BadHeader else BadLine n
 
--- what line n says, if it is spelled so
+-- the value of line n, or its fault if it is malformed
 abbrev pub spelled_at : {A : Type 0} → ℕ → Option A → Result A SessionFault
 spelled_at n None = Err (misspelled n)
 spelled_at n (Some x) = Ok x
@@ -70,7 +70,7 @@ comes_after parts q = option_map_or (λ t. numbers_before t.prefix q) (last_item
 abbrev pub may_carry : ContactPlan → RouteRequest → PartState → Bool
 may_carry p r t = option_map_or (in_part p r t.prefix t.excluded) t.carried true
 
--- a part, on line n, after the others: its excluded numbers rise, its prefix is above the one before, and what it
+-- a part, on line n, after the others: its excluded numbers ascend, its prefix is above the one before, and what it
 -- carries is a route of it
 abbrev pub placed : ContactPlan → ℕ → Said → PartState → Result Said SessionFault
 placed p n s t =
@@ -124,7 +124,7 @@ line_said p h n s line =
 abbrev pub most_bytes : ℕ
 most_bytes = 660008
 
--- line n, which has at most so many bytes
+-- line n, which has at most the largest number of bytes
 abbrev pub read_line : ContactPlan → List ℕ → ℕ → Said → List ℕ → Result Said SessionFault
 read_line p h n s line = if nat_lt most_bytes (length line) then Err (misspelled n) else line_said p h n s line
 
@@ -137,7 +137,7 @@ read_lines p h n s (line ∷ lines) = and_then (read_line p h n s line) (λ s₁
 abbrev pub is_after : ℕ → Said → Bool
 is_after n s = nat_lt (7 + s.count) n
 
--- after the last LF these bytes of line n stand: the text may end, or its reader fail, after the LF of `end` alone;
+-- after the last LF these are the bytes of line n: the text may end, or its reader fail, after the LF of `end` alone;
 -- any byte there is a fault, and so is an unfinished line if the text ends or the line is too long
 abbrev pub last_line : Bool → ℕ → List ℕ → Said → Result Said SessionFault
 last_line ended n line s =
@@ -151,7 +151,7 @@ said_of p h bytes ended =
     let text = lines_of bytes in
     and_then (read_lines p h 1 nothing_said text.ended) (last_line ended (length text.ended + 1) text.open_line)
 
--- the state that the lines spell
+-- the state of the lines
 abbrev pub state_of : Said → State
 state_of s = record { emitted = s.emitted; last = s.last_route; parts = s.parts }
 
@@ -172,6 +172,6 @@ abbrev pub ComesTo : ContactPlan → Result Said SessionFault → Result (RouteR
 ComesTo p (Ok s) answer = Judges p s answer
 ComesTo p (Err f) answer = answer ≡ Err f
 
--- the answer to a text over a plan of digest h: the request and the state that it spells, or its first fault
+-- the result of a text over a plan of digest h: its request and its state, or its first fault
 abbrev pub IsSessionOf : ContactPlan → List ℕ → List ℕ → Bool → Result (RouteRequest × State) SessionFault → Type 0
 IsSessionOf p h bytes ended answer = ComesTo p (said_of p h bytes ended) answer

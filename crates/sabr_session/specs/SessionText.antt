@@ -1,4 +1,4 @@
--- Session text: the one spelling of a plan's digest, of a request and of a state of its listing, in each version.
+-- Session text: the one text of a plan's digest, of a request and of a state of its listing, in each version.
 use Rattle.std.specs.Prelude.{◌≡◌, ℕ, ◌≤◌, List, [], ◌∷◌, ◌++◌, length, decimal, codes, flat_map, unwrap_or}
 use Rattle.std.specs.List.{concat}
 use Rattle.hex.specs.Hex.{encode_lower}
@@ -65,7 +65,7 @@ old_text_of h r s = codes "cgr-session 1\n" ++ (plan_line h ++ (old_request_line
 abbrev pub text_of_session : Seen → List ℕ
 text_of_session s = text_of (digest_of s.plan.plan) s.request s.state
 
--- a state has a text if its number of parts is at most the greatest that a text can name
+-- a state has a text if its number of parts is at most the largest that a text can have
 abbrev pub HasText : State → Type 0
 HasText s = length s.parts ≤ 18446744073709551615
 
@@ -73,7 +73,7 @@ HasText s = length s.parts ≤ 18446744073709551615
 abbrev pub IsUnlimited : RouteRequest → Type 0
 IsUnlimited r = r ≡ unlimited r.source r.destination r.at r.margin
 
--- the text of the place i in the list of all routes
+-- the text after i routes of the list of all routes
 abbrev pub session_text : ContactPlan → RouteRequest → ℕ → List ℕ
 session_text p r i = text_of (digest_of p) r (state_at p r i)
 

@@ -1,4 +1,4 @@
--- What the words of a session text spell.
+-- What the words of a session text mean.
 use Rattle.std.specs.Prelude.{ℕ, ◌==◌, nat_lt, nat_le, ◌&&◌, Bool, false, List, [], ◌∷◌, length, codes, option_map, option_and_then, map, if◌then◌else◌}
 use Rattle.std.specs.List.{slice_split}
 use Rattle.std.specs.Str.{bytes_eq}
@@ -26,7 +26,7 @@ all_of [] = Some []
 all_of (None ∷ os) = None
 all_of (Some n ∷ os) = option_map (λ ns. n ∷ ns) (all_of os)
 
--- one or more, and at most so many
+-- one or more, and at most this number
 abbrev pub counted : ℕ → Option (List ℕ) → Option (List ℕ)
 counted most found = option_and_then (λ ns. if nat_lt 0 (length ns) && nat_le (length ns) most then Some ns else None) found
 
@@ -36,11 +36,11 @@ is_dash [] = false
 is_dash (w ∷ []) = bytes_eq w (codes "-")
 is_dash (w ∷ v ∷ ws) = false
 
--- a list: `-` for the empty one, or numbers within these bounds, one or more and at most so many
+-- a list: `-` for the empty one, or numbers within these bounds, one or more and at most this number
 unfoldable pub list_within : ℕ → ℕ → ℕ → List (List ℕ) → Option (List ℕ)
 list_within most low high words = if is_dash words then Some [] else counted most (all_of (map (number_within low high) words))
 
--- the greatest number of 32 bits, as a contact, a margin and a limit on hops have
+-- the largest number of 32 bits, the type of contact numbers, margins and limits on hops
 abbrev pub most_number : ℕ
 most_number = 4294967295
 
@@ -48,7 +48,7 @@ most_number = 4294967295
 abbrev pub contact_numbers : List (List ℕ) → Option (List ℕ)
 contact_numbers words = all_of (map (number_within 1 most_number) words)
 
--- the greatest number of nodes that a request avoids
+-- the largest number of nodes that a request avoids
 abbrev pub most_avoided : ℕ
 most_avoided = 16
 

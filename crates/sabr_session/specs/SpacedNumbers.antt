@@ -1,7 +1,7 @@
 -- The text of a list of numbers.
 use Rattle.std.specs.Prelude.{ℕ, List, [], ◌∷◌, ◌++◌, decimal, codes}
 
--- each number after a space, spelled so
+-- each number after a space, in decimal digits
 abbrev pub spaced_by : {N : Type 0} → (N → List ℕ) → List N → List ℕ
 spaced_by spelled [] = []
 spaced_by spelled (n ∷ ns) = (32 ∷ spelled n) ++ spaced_by spelled ns

@@ -34,7 +34,7 @@ pub record TextsTell (p : ContactPlan) : Type 0 where
 abbrev pub TextsTellSessions : Type 0
 TextsTellSessions = (p : ContactPlan) → IsPlan p → TextsTell p
 
--- at most one answer is that of a text
+-- a text has at most one result
 abbrev pub HasOneAnswer : Type 0
 HasOneAnswer =
     (p : ContactPlan) (h bytes : List ℕ) (ended : Bool) (a b : Result (RouteRequest × State) SessionFault)

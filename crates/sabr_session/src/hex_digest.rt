@@ -5,7 +5,7 @@ ghost use Rattle.hex.specs.Hex.{encode_lower};
 
 use hex::encode_to_slice;
 
-/// Spells a digest as hex digits, two for each byte, the letters in lower case.
+/// Returns a digest as 64 hexadecimal digits, two for each byte, with letters in lower case.
 pub fn digest_text(digest: &[u8; 32]) -> [u8; 64]
     ensures { result ≡ encode_lower digest.now }
 {

@@ -3,34 +3,36 @@
 use sabr_model::NoMemory;
 use thiserror::Error;
 
-/// The first fault of a session text. Lines are counted from 1.
+/// The first fault of a session text. Lines are counted from 1. The format of the text and its faults are this
+/// project's own.
 #[derive(Clone, Copy, Debug, PartialEq, Eq, Error)]
 pub enum SessionFault {
     /// The first line isn't that of a session text, is missing, or is unfinished.
     #[error("the first line is not that of a session text")]
     BadHeader,
-    /// Another line is misspelled, missing or unfinished, or stands after the last.
+    /// Another line is malformed, missing or unfinished, or comes after the last.
     #[error("line {0} is not spelled as it has to be")]
     BadLine(u128),
     /// The text was written over another plan.
     #[error("the text was written over another plan")]
     OtherPlan,
-    /// The values of line 3 make no request.
+    /// The values of line 3 are refused as a request (see [`RequestError`](sabr_model::RequestError)).
     #[error("the request is refused")]
     BadRequest,
-    /// The parts aren't closed: they aren't those that are left after some routes were given.
+    /// The parts aren't closed: they aren't those that are left after some routes were emitted.
     #[error("the parts are not closed")]
     NotClosed,
-    /// A part carries a list that is no route of it.
+    /// The route of a part is no route that belongs to it.
     #[error("line {0} carries a list that is no route of its part")]
     BadRoute(u128),
-    /// The parts are closed, and the count isn't that of their leaves, or the last route isn't one of them.
+    /// The parts are closed, but the count isn't the number of emitted routes that they imply, or the last route isn't
+    /// one of these.
     #[error("the count or the last route is wrong")]
     BadCount,
     /// The reader failed.
     #[error("reading failed")]
     Read,
-    /// Memory was refused.
+    /// An allocation failed.
     #[error("out of memory")]
     NoMemory,
 }

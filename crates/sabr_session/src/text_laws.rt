@@ -9,13 +9,13 @@ pub fn law7()
     ensures { TextsTellSessions }
 {}
 
-/// States that bytes have one answer: the request and the state that they spell, or one fault.
+/// States that bytes have one meaning: a request and a state, or one fault.
 pub fn one_answer()
     ensures { HasOneAnswer }
 {}
 
-/// States that the pieces fed to a [`SessionFeed`](crate::SessionFeed) are one text. Each piece is answered as all
-/// bytes so far are if a reader fails after them, and the end as all bytes are.
+/// States that the chunks fed to a [`SessionFeed`](crate::SessionFeed) are one text. The result for a chunk is that of
+/// a reader that fails after all bytes so far. The result at the end is that of all bytes.
 pub fn pieces_are_one_text()
     ensures { PiecesAreOneText }
 {}

@@ -1,4 +1,4 @@
-//! Whether bytes are the text of a place in the list of all routes.
+//! Whether bytes are the text of a session that has listed the first routes.
 
 ghost use Rattle.std.specs.Prelude.{◌≡◌};
 ghost use Rattle.sabr_plan.specs.Canonical.{digest_of};
@@ -10,17 +10,18 @@ use sabr_model::{Plan, Read};
 use sabr_search::BestOf;
 use std::alloc::Allocator;
 
-/// Verifies that the bytes are the text of a place in the list of all routes: that
-/// [`write_session`](crate::write_session) would have written precisely them over this plan, for some request and after
-/// some number of its first routes, or the same in version 1. The text's author isn't trusted.
+/// Verifies that the bytes are the text of a session after some number of the first routes: that
+/// [`write_session`](crate::write_session) would have written precisely these bytes over this plan, for some request
+/// and after some number of its best routes, or that the bytes are the same text in version 1. The author of the text
+/// isn't trusted.
 ///
-/// The digest is that of the plan. The answer is no as soon as the bytes read begin no such text, and then more of the
-/// reader's bytes may have been read. It takes a search for each part, and a pass over the routes given.
+/// The digest is that of the plan. The result is false as soon as the bytes so far are no prefix of such a text. Then
+/// more of the reader's bytes may have been read. It costs a search for each part, and a pass over the emitted routes.
 ///
 /// # Errors
 ///
-/// [`SessionFault::Read`] if the reader failed after bytes that may begin such a text. [`SessionFault::NoMemory`] if a
-/// growth was refused. No other error occurs. The finder is dropped.
+/// [`SessionFault::Read`] if the reader failed after a prefix of such a text. [`SessionFault::NoMemory`] if an
+/// allocation failed. No other error occurs. The finder is dropped.
 pub fn verify<R: Read, B: BestOf<A>, A: Allocator + Copy>(
     alloc: A,
     reader: &mut R,

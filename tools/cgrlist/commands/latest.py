@@ -13,7 +13,7 @@ T is 2031/03/03-01:00:00, 2031-03-03T01:00:00Z, 2031-03-03, now, or now+2h with 
 
 The program is asked for the best route at hundreds of seconds, four or five times, each time between the last one that is
 in time and the first one that is too late. This misses none: it is proved that a bundle that is at the source later never
-arrives earlier (EveryWayIsListed in docs/proofs.md).
+arrives earlier (EveryWayIsListed in docs/proved.md of the sources).
 
 Hints on standard error name what may be mistyped. They change neither the answer nor the status.
 

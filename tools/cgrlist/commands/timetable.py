@@ -1,4 +1,4 @@
-"""Tells for each second at which a bundle may be at the source when it is delivered at best, and by which route.
+"""Shows for each second at which a bundle may be at the source when it is delivered at the earliest, and by which route.
 
     tools/timetable --plan F --from N --to N --between T T [--margin-ppm P] [--max-hops H] [--avoid LIST]
     tools/timetable .. --csv         comma-separated values; --json: JSON
@@ -7,12 +7,11 @@
     tools/timetable .. --names FILE  nodes by their names, which can be given in place of numbers, too
     tools/timetable .. --iso         times as 2030-01-01T02:47:22Z
 
-Each line is for the seconds from `from` to `to`, both included, over which one route is the best. A bundle that is at
-the source at the first of them is delivered at `delivery`, and one that is there at the last of them at `last
-delivery`: at the same second, or as many seconds later as it comes later. Where there is no route, a line has no
-delivery. The lines are printed as they are found, and hold for all seconds of the span, though the program isn't asked
-about each: it is proved that a bundle that is at the source later never arrives earlier (ArrivalIsMonotone in
-docs/proofs.md).
+A line covers a span of seconds, from column `from` to column `to` inclusive, over which the same route is best. A bundle
+that is at the source at the first second is delivered at `delivery`, and at the last second at `last delivery`: the same
+time, or as many seconds later as it comes later. Where there is no route, a line has no delivery. Lines are printed as
+they are found, and hold for all seconds of the span, though the program isn't asked about each: it is proved that a
+bundle that is at the source later never arrives earlier (EveryWayIsListed in docs/proved.md of the sources).
 
 T is 2031/03/03-01:00:00, 2031-03-03T01:00:00Z, 2031-03-03, now, or now+2h with s, m, h or d. All times are UTC.
 

@@ -1,5 +1,6 @@
 -- Why a command ends before its run, the values of commands that have none, and what is left of files.
-use Rattle.std.proofs.Common.{◌≡◌, ◌⊎◌, ℕ, List, [], IfOk, IsTrue, Result, Ok, Err, Option, None, Some, Box, box_value, option_map, inr, refl, ap, ◌∙◌}
+use Rattle.std.proofs.Common.{◌≡◌, ℕ, List, [], ◌∷◌, IfOk, IsTrue, Result, Ok, Err, Option, None, Some, Box, box_value, option_map, inr, refl, ap, subst}
+use Rattle.sabr_model.specs.Devices.{Output}
 use Rattle.clap.specs.Words.{subcommand_name_of, subcommand_rows, subcommand_rows_of}
 use Rattle.clap.specs.declared.parser.matches.ArgMatches.{ArgMatches}
 use Rattle.clap.specs.declared.parser.matches.ArgMatches.TheViews.{out-ArgMatches, out-SubCommand}
@@ -10,9 +11,11 @@ use Rattle.commands.specs.declared.command.CommandName.TheVariants as command
 use Rattle.commands.specs.declared.failure.Failure.{Failure}
 use Rattle.commands.specs.declared.failure.Failure.TheVariants as failure
 use Rattle.commands.specs.declared.status.Status.{Status}
-use Rattle.commands.specs.runs.Calls.{FailsAtFile, StopsBefore, left_after, left_if_done}
+use Rattle.commands.specs.declared.status.Status.TheVariants as status
+use Rattle.commands.specs.runs.Calls.{FailsAtFile, IsUnopened, Opens, StopsBefore}
+use Rattle.commands.specs.runs.Files.{FileRules, KeepsIfDone, Left, LeavesFile, unwritten}
 use Rattle.commands.specs.runs.Program.{Given, named_in}
-use Rattle.commands.specs.words.Paths.{lists_word, path_under, plan_word, session_word}
+use Rattle.commands.specs.words.Paths.{lists_word, plan_word, session_word}
 use Rattle.commands.specs.words.Values.{ValuesRead, command_named, has_lists, has_session, values_of}
 
 -- no value at all
@@ -32,32 +35,43 @@ unfolding values_of
 follow_values found = refl
 
 -- a file is refused
-pub stops_at_file : (refused : List ℕ → Type 0) (name : CommandName) (found : Found) (values : ValuesRead) (f : Failure)
-    → values_of name found ≡ Ok values → FailsAtFile refused name found f → StopsBefore refused name found f
-stops_at_file refused name found values f given fails = inr (inr (values, given, fails))
+pub stops_at_file : (rules : FileRules) (name : CommandName) (found : Found) (values : ValuesRead) (f : Failure)
+    → values_of name found ≡ Ok values → FailsAtFile rules name found f → StopsBefore rules name found f
+stops_at_file rules name found values f given fails = inr (inr (values, given, fails))
 
-pub fails_at_plan : (refused : List ℕ → Type 0) (name : CommandName) (found : Found) (f : Failure)
-    → (f ≡ failure.CannotOpenPlan) × refused (path_under found plan_word) → FailsAtFile refused name found f
-fails_at_plan refused name found f (is, shut) = rw is shut
+pub fails_at_plan : (rules : FileRules) (name : CommandName) (found : Found) (f : Failure)
+    → (f ≡ failure.CannotOpenPlan) × IsUnopened rules found plan_word → FailsAtFile rules name found f
+fails_at_plan rules name found f (is, shut) = rw is shut
 
-pub fails_at_session : (refused : List ℕ → Type 0) (name : CommandName) (found : Found) (f : Failure)
-    → IsTrue (has_session name) → (f ≡ failure.CannotOpenSession) × refused (path_under found session_word) → FailsAtFile refused name found f
-fails_at_session refused name found f has (is, shut) = rw is (has, shut)
+pub fails_at_session : (rules : FileRules) (name : CommandName) (found : Found) (f : Failure) → IsTrue (has_session name) → Opens rules found plan_word
+    → (f ≡ failure.CannotOpenSession) × IsUnopened rules found session_word → FailsAtFile rules name found f
+fails_at_session rules name found f has opens (is, shut) = rw is (has, opens, shut)
 
-pub fails_at_lists : (refused : List ℕ → Type 0) (name : CommandName) (found : Found) (f : Failure)
-    → IsTrue (has_lists name) → (f ≡ failure.CannotOpenLists) × refused (path_under found lists_word) → FailsAtFile refused name found f
-fails_at_lists refused name found f has (is, shut) = rw is (has, shut)
+pub fails_at_lists : (rules : FileRules) (name : CommandName) (found : Found) (f : Failure) → IsTrue (has_lists name) → Opens rules found plan_word
+    → (f ≡ failure.CannotOpenLists) × IsUnopened rules found lists_word → FailsAtFile rules name found f
+fails_at_lists rules name found f has opens (is, shut) = rw is (has, opens, shut)
 
 -- what is left after a command
-pub left_nothing_kept : (kept : Option (List ℕ)) (ended : Status) (left : Option (List ℕ)) → kept ≡ None → left ≡ left_after kept ended left
-left_nothing_kept kept ended left is = rw is refl
+pub leaves_none : (rules : FileRules) (kept : Option (List ℕ)) (ended : Status) (x : Output) (left : Left) → kept ≡ None → LeavesFile rules kept ended x left left
+leaves_none rules kept ended x left is = rw is refl
 
-pub left_if_kept : (kept : Option (List ℕ)) (path : List ℕ) (ended : Status) (left made left₁ : Option (List ℕ)) → kept ≡ Some path → made ≡ Some path → left₁ ≡ left_if_done ended made → left₁ ≡ left_after kept ended left
-left_if_kept kept path ended left made left₁ is there leaves = rw is (leaves ∙ ap (left_if_done ended) there)
+module _ (rules : FileRules) (path : List ℕ) (x : Output) (left left₁ : Left) where
+  leaves : (ended : Status) → KeepsIfDone rules ended x ((path, unwritten) ∷ left) left₁ → LeavesFile rules (Some path) ended x left left₁
+  leaves status.Done h = h
+  leaves status.No h = h
+  leaves status.Usage h = h
+  leaves status.Plan h = h
+  leaves status.Session h = h
+  leaves status.Io h = h
+  leaves status.Memory h = h
 
-pub left_alone : {E : Type 0} (r : Result Status E) (left : Option (List ℕ)) → IfOk r (λ ended. left ≡ left_after None ended left)
-left_alone (Ok s) left = refl
-left_alone (Err e) left = tt
+  pub leaves_made : (kept : Option (List ℕ)) (ended : Status) (made : Left) → kept ≡ Some path → made ≡ (path, unwritten) ∷ left → KeepsIfDone rules ended x made left₁ → LeavesFile rules kept ended x left left₁
+  leaves_made kept ended made is there keeps = rw is (leaves ended (subst (λ m. KeepsIfDone rules ended x m left₁) there keeps))
+
+-- a run that makes no file
+pub with_none_left : {E : Type 0} (r : Result Status E) (left : Left) (Runs : Status → Type 0) → IfOk r Runs → IfOk r (λ ended. (left ≡ left) × Runs ended)
+with_none_left (Ok s) left Runs runs = (refl, runs)
+with_none_left (Err e) left Runs runs = tt
 
 -- what clap's clauses on a subcommand say of what was given
 pub named_by : (given : Given) (name : List ℕ) → option_map (λ g. g.0) given ≡ Some name → named_in given ≡ command_named name

@@ -1,6 +1,6 @@
 -- Building the command line: words that are added to a command, and commands to the program.
 use Rattle.std.proofs.Common.{◌≡◌, ◌≢◌, Bool, true, false, List, [], ◌∷◌, ◌++◌, ◌||◌, refl, sym, ap, ap₂, subst, subst₂, ◌∙◌, append-nil, append_assoc, inl, inr, Result, Ok, Err, IfOk}
-use Rattle.clap.specs.Words.{AddsArg, AddsSubcommand, App, HasKind, IsAmong, Kinds, Rule, Shape, app_of, is_simple, is_simple_and_free, kind_of, rule_of, shape_of, with_rule, with_subcommand}
+use Rattle.clap.specs.Words.{AddsArg, AddsSubcommand, App, HasKind, IsAmong, Kinds, Rule, Shape, app_of, is_simple, is_simple_and_free, kind_of, rule_of, with_rule, with_subcommand}
 use Rattle.clap.specs.declared.builder.arg.Arg.{Arg}
 use Rattle.clap.specs.declared.builder.command.Command.{Command}
 use Rattle.clap.specs.declared.builder.command.Command.TheViews.{out-Command}

@@ -1,9 +1,8 @@
 -- The command line, in the words of clap's definitions.
 use Rattle.std.specs.Prelude.{◌≡◌, ℕ, Bool, true, false, List, [], ◌∷◌, ◌++◌, codes, if◌then◌else◌}
 use Rattle.std.specs.declared.option.Option.{Option}
-use Rattle.std.specs.declared.option.Option.TheVariants.{Some, None}
-use Rattle.clap.specs.Facts.{args_of}
-use Rattle.clap.specs.Simple.{App, Shape, app_of, new_app, new_rule, new_shape, subcommand_of}
+use Rattle.std.specs.declared.option.Option.TheVariants.{Some}
+use Rattle.clap.specs.Simple.{App, Shape, app_of, new_rule, new_shape, subcommand_of}
 use Rattle.clap.specs.Walk.{Row, Rule, rule_of}
 use Rattle.clap.specs.declared.builder.action.ArgAction.TheVariants.{Set}
 use Rattle.clap.specs.declared.builder.arg.Arg.{Arg}

@@ -1,5 +1,5 @@
 -- The words that name files, and the paths that they give.
-use Rattle.std.specs.Prelude.{ℕ, List, [], Option, unwrap_or, codes}
+use Rattle.std.specs.Prelude.{ℕ, List, [], unwrap_or, codes}
 use Rattle.clap.specs.Matches.{first_value}
 use Rattle.clap.specs.declared.parser.matches.Found.{Found}
 

@@ -1,95 +1,89 @@
 //! The files of the machine that runs the program.
 
-ghost use Rattle.std.specs.Prelude.{◌≡◌, ⊤, None, Some, option_map};
+ghost use Rattle.std.specs.Prelude.{◌≡◌, ⊤, [], false};
+ghost use Rattle.commands.specs.runs.Files.{unwritten};
 
 use crate::files::system::FileSystem;
-use sabr_model::{Device, Failed, Read, Write};
+use sabr_model::{Device, Failed, Write};
+use std::fs;
 use std::fs::File;
 use std::rt::Files;
-use std::{fs, io};
 
-/// A file, with the path at which it was opened or made.
+/// A file that was made: its path, and its writer once that was given back.
 #[derive(Drop)]
-pub struct FileAt<'w, F> {
-    device: Device<F>,
+struct Made<'w, F> {
     path: &'w str,
+    writer: Option<Device<F>>,
 }
 
-impl<'w, F: io::Read> Read for FileAt<'w, F> {
-    ghost input = { λ file. ⟦<Device<F> as Read>⟧.input file.device };
-
-    fn read(&mut self, buf: &mut [u8]) -> Result<usize, Failed> {
-        self.device.read(buf)
-    }
-}
-
-impl<'w, F: io::Write> Write for FileAt<'w, F> {
-    ghost output = { λ file. ⟦<Device<F> as Write>⟧.output file.device };
-
-    fn write(&mut self, buf: &[u8]) -> Result<usize, Failed> {
-        self.device.write(buf)
-    }
-
-    fn flush(&mut self) -> Result<(), Failed> {
-        self.device.flush()
-    }
-}
-
-/// The files of the machine, by the runtime. It makes one file at most, and knows its path, to remove it.
+/// The files of the machine, by the runtime. It makes one file at most, and remembers its path, to remove it.
 #[derive(Drop)]
-pub struct Disk<'r, 'w, R> {
+pub struct Disk<'r, 'w, R: Files> {
     rt: &'r R,
-    made: Option<&'w str>,
+    made: Option<Made<'w, R::File>>,
 }
 
 impl<'r, 'w, R: Files> Disk<'r, 'w, R> {
     /// The files by this runtime. None was made.
     pub fn new(rt: &'r R) -> Disk<'r, 'w, R>
-        ensures { result.made ≡ None }
+        ensures { ⟦<Disk<'r, 'w, R> as FileSystem<'w>>⟧.left result ≡ [] }
     {
         Disk { rt, made: None }
     }
 }
 
 impl<'r, 'w, R: Files> FileSystem<'w> for Disk<'r, 'w, R> {
-    ghost use Rattle.commands.specs.declared.files.disk.FileAt.{FileAt};
+    ghost use Rattle.std.specs.Prelude.{◌∷◌, Option, None, Some};
+    ghost use Rattle.std.specs.Option.{option_map_or};
 
-    type File = FileAt<'w, R::File>;
+    type File = Device<R::File>;
 
-    ghost opened = { λ path seen. (file : FileAt R.File) × (file.path.now ≡ path) × (⟦<FileAt<'w, R::File> as Read>⟧.input file ≡ seen) };
+    type NewFile = Device<R::File>;
 
-    ghost made = { λ path seen. (file : FileAt R.File) × (file.path.now ≡ path) × (⟦<FileAt<'w, R::File> as Write>⟧.output file ≡ seen) };
+    ghost rules = { record {
+      opened = λ _ x. (x.given ≡ []) × (x.ended ≡ false) × (x.failures ≡ 0);
+      unopened = λ _. ⊤;
+      made = λ _ x. (x.taken ≡ []) × (x.failures ≡ 0);
+      unmade = λ _. ⊤;
+      unremoved = λ _. ⊤;
+    } };
 
-    ghost refused = { λ _. ⊤ };
+    ghost left = { λ disk. option_map_or (λ made. (made.path.now, option_map_or ⟦<Device<R::File> as Write>⟧.output made.writer unwritten) ∷ []) disk.made [] };
 
-    ghost left = { λ disk. option_map (λ path. path.now) disk.made };
-
-    fn open(&self, path: &'w str) -> Result<FileAt<'w, R::File>, Failed> {
+    fn open(&self, path: &'w str) -> Result<Device<R::File>, Failed> {
         match fs::open(self.rt, path) {
-            Ok(file) => Ok(FileAt {
-                device: Device::new(file),
-                path,
-            }),
+            Ok(file) => Ok(Device::new(file)),
             Err(_) => Err(Failed),
         }
     }
 
-    fn make(&mut self, path: &'w str) -> Result<FileAt<'w, R::File>, Failed> {
+    fn make(&mut self, path: &'w str) -> Result<Device<R::File>, Failed> {
+        if self.made.is_some() {
+            return Err(Failed);
+        }
         match File::create_new(self.rt, path) {
             Ok(file) => {
-                self.made = Some(path);
-                Ok(FileAt {
-                    device: Device::new(file),
-                    path,
-                })
+                self.made = Some(Made { path, writer: None });
+                Ok(Device::new(file))
             }
             Err(_) => Err(Failed),
         }
     }
 
-    fn remove(&mut self) {
-        if let Some(path) = self.made.take() {
-            let _ = fs::remove_file(self.rt, path);
+    fn keep(&mut self, file: Device<R::File>) {
+        if let Some(made) = &mut self.made {
+            made.writer = Some(file);
+        }
+    }
+
+    fn remove(&mut self, file: Device<R::File>) {
+        let Some(made) = self.made.take() else {
+            return;
+        };
+        let path = made.path;
+        if fs::remove_file(self.rt, path).is_err() {
+            let writer = Some(file);
+            self.made = Some(Made { path, writer });
         }
     }
 }

@@ -1,43 +1,46 @@
 //! The files of a system, as a trait: contracts see the path at which a file was opened or made, and what is left.
 
-ghost use Rattle.std.specs.Prelude.{◌≡◌, List, ℕ, Option, None, Some, IfErr, IfOk, OnErr};
-ghost use Rattle.sabr_model.specs.Devices.{Input, Output};
+ghost use Rattle.std.specs.Prelude.{◌≡◌, IfErr, IfOk, OnErr};
+ghost use Rattle.commands.specs.runs.Files.{FileRules, Keeps, Left, Makes, Removes};
 
 use sabr_model::{Failed, Read, Write};
 
 /// The files of a system.
 ///
-/// What a path names is up to the system. A contract sees no more than at which path a file was opened or made, or
-/// refused. So a call that is proved for any system takes each file from its own path.
+/// What a path names is up to the system. A contract sees at which path a file was opened or made, or couldn't be, and
+/// which of the files that were made are left, each with its path and with what its writer shows. So a call that is
+/// proved for any system reads each file from its own path, and leaves what it writes at the path that it is given.
 pub trait FileSystem<'w> {
-    /// An opened file.
-    type File: Read + Write + Drop;
+    /// A file that was opened, to read it.
+    type File: Read + Drop;
 
-    /// A file that was opened at this path reads so.
-    ghost opened: { List ℕ → Input → Type 0 };
+    /// A file that was made, to write it.
+    type NewFile: Write + Drop;
 
-    /// A file that was made at this path takes so.
-    ghost made: { List ℕ → Output → Type 0 };
+    /// How the files read and take that are opened or made at a path, and which calls fail there.
+    ghost rules: { FileRules };
 
-    /// No file can be opened, or made, at this path.
-    ghost refused: { List ℕ → Type 0 };
-
-    /// The path of the file that was made and not removed, if there is one.
-    ghost left: { Self → Option (List ℕ) };
+    /// The files that were made and not removed, the last one first.
+    ghost left: { Self → Left };
 
     /// Opens the file at a path, to read it.
     fn open(&self, path: &'w str) -> Result<Self::File, Failed>
-        ensures gives { IfOk result (λ file. opened path.now (Self.File.input file)) }
-        ensures fails { IfErr result (λ _. refused path.now) };
+        ensures gives { IfOk result (λ file. rules.opened path.now (Self.File.input file)) }
+        ensures fails { IfErr result (λ _. rules.unopened path.now) };
 
-    /// Makes a new file at a path, to write it. A file that exists stays as it is, and refuses the call.
-    fn make(&mut self, path: &'w str) -> Result<Self::File, Failed>
-        ensures gives { IfOk result (λ file. made path.now (Self.File.output file)) }
-        ensures leaves { IfOk result (λ _. left self.new ≡ Some path.now) }
-        ensures fails { IfErr result (λ _. refused path.now) }
+    /// Makes a new file at a path, to write it. A file that exists stays as it is, and refuses the call. The new one
+    /// stays when its writer is gone; what was written to it is left once the writer is given back to
+    /// [`keep`](FileSystem::keep).
+    fn make(&mut self, path: &'w str) -> Result<Self::NewFile, Failed>
+        ensures makes { IfOk result (λ file. Makes rules path.now (Self.NewFile.output file) (left self.old) (left self.new)) }
+        ensures fails { IfErr result (λ _. rules.unmade path.now) }
         ensures stays { OnErr result (left self.new ≡ left self.old) };
 
-    /// Removes the file that was made. A failure to remove it changes nothing.
-    fn remove(&mut self)
-        ensures { left self.new ≡ None };
+    /// Keeps the file that was made last, whose writer this is, with all that it took.
+    fn keep(&mut self, file: Self::NewFile)
+        ensures { Keeps (Self.NewFile.output file) (left self.old) (left self.new) };
+
+    /// Removes the file that was made last, whose writer this is. If that fails, the file stays, with all that it took.
+    fn remove(&mut self, file: Self::NewFile)
+        ensures { Removes rules (Self.NewFile.output file) (left self.old) (left self.new) };
 }

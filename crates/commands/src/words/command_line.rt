@@ -1,11 +1,12 @@
 //! The words of the command line, as one level of subcommands with texts as values.
 
-ghost use Rattle.std.specs.Prelude.{◌≡◌, [], ◌∷◌, ◌++◌, IfOk, false, map};
+ghost use Rattle.std.specs.Prelude.{◌≡◌, [], ◌∷◌, ◌++◌, IfOk, IsTrue, false, is_some, map};
 ghost use Rattle.clap.specs.Simple.{app_of, subcommand_rows_of};
 ghost use Rattle.clap.specs.Walk.{rule_of};
 ghost use Rattle.clap.specs.Faults.{fault_of};
 ghost use Rattle.clap.specs.Kinds.{FailsBy};
 ghost use Rattle.commands.specs.declared.words.value_name.ValueName.TheVariants as name;
+ghost use Rattle.commands.specs.runs.Program.{named_in};
 ghost use Rattle.commands.specs.words.CommandLine.{AddsCommand, AddsWords, IsCommand, IsProgram, IsWord, end_rules, given_by, limit_rules, option_rule, program_app, required_rule, rules_for, rules_where, shape_for};
 ghost use Rattle.commands.specs.words.Paths.{lists_word, plan_word, requests_word, session_out_word, session_word};
 ghost use Rattle.commands.specs.words.Values.{name_text};
@@ -246,13 +247,14 @@ or a line of requests or lists is refused, 5 a file can't be opened, read, made 
 }
 
 /// Parses the words after the program's name. A call for help or for the version is a refusal, too, with the answer as
-/// its text.
+/// its text. Words that are taken name a command.
 ///
 /// # Errors
 ///
 /// The error of clap, with the reason as its text; of the kind `OutOfMemory` if memory was refused.
 pub fn parsed<'a>(alloc: Global, words: &'a [&'a str]) -> Result<ArgMatches<'a>, Error>
     ensures given { IfOk result (λ m. subcommand_rows_of m ≡ given_by (map (λ w. w.now) words.entry.now)) }
+    ensures named { IfOk result (λ m. IsTrue (is_some (named_in (subcommand_rows_of m)))) }
     ensures fault { FailsBy (fault_of program_app (map (λ w. w.now) words.entry.now)) result }
 {
     program(alloc)?.try_get_matches_from(words)

@@ -1,14 +1,15 @@
 //! Telling without a search that a route may go on otherwise than by its last number.
 
-ghost use Rattle.std.specs.Prelude.{◌≡◌, ◌∷◌, ◌++◌, [], false, IfOk, IfSome, IsTrue};
-ghost use Rattle.sabr_model.specs.plan.Plan.{has};
-ghost use Rattle.sabr_model.specs.routes.Following.{IsReachedBy};
-ghost use Rattle.sabr_model.specs.routes.Route.{is_path};
+ghost use Rattle.std.specs.Prelude.{◌≡◌, ◌≢◌, ◌∷◌, ◌++◌, ◌+◌, ◌-◌, ◌*◌, ◌<◌, ◌≤◌, ℕ, [], false, drop, length, take, IfOk, IfSome, IsTrue};
+ghost use Rattle.sabr_model.specs.plan.Plan.{IsPlan, has};
+ghost use Rattle.sabr_model.specs.routes.Route.{is_route};
+ghost use Rattle.sabr_frontier.specs.giving.Detours.{ArePassesBetween, ArrivesBy, IsPassBetween, IsRouteEnd, detour_looks, most_links};
 ghost use Rattle.sabr_frontier.specs.tree.Left.{GoesOtherwise, IsOtherWay};
 
-use crate::lists::{holds, longer};
-use sabr_index::{Index, Link, Links, Looks, Pass};
-use sabr_model::{HopFault, NoMemory, Plan, Reached, Request, follow_hop};
+use crate::giving::route_front::{Place, follow_front};
+use crate::lists::holds;
+use sabr_index::{CountedPlan, Link, Links, Looks, Pass};
+use sabr_model::{NoMemory, Request};
 use std::alloc::Allocator;
 
 /// How many links of the last contact's sender are looked at for a detour, so that little is lost where there is none.
@@ -20,209 +21,253 @@ use std::alloc::Allocator;
 /// --counts 1`.
 const MOST_LINKS: usize = 64;
 
-/// The numbers of a route before its last one, where they lead, the last, and numbers that may not take its place.
+/// The numbers of a route before its last one, where they lead, the nodes that are shut after them, the index of the
+/// destination, the last number, and numbers that may not take its place.
 #[derive(Clone, Copy)]
-struct RouteEnd<'a> {
-    front: &'a [u32],
-    here: Reached,
-    last: u32,
-    excluded: &'a [u32],
+pub struct RouteEnd<'a> {
+    pub front: &'a [u32],
+    pub here: Place,
+    pub shut: &'a [bool],
+    pub to: usize,
+    pub last: u32,
+    pub excluded: &'a [u32],
 }
 
-/// The links of the last contact's sender, and the index of the destination.
+/// A contact by which a path goes on, and the second of the arrival over it.
 #[derive(Clone, Copy)]
-struct Ways<'a> {
-    sent: Links<'a>,
+pub struct Onward {
+    pub number: u32,
+    pub at: u64,
+}
+
+/// The contacts from one node to another, by start, and the index of the receiver.
+#[derive(Clone, Copy)]
+struct Leg<'a> {
     to: usize,
+    passes: &'a [Pass],
 }
 
-/// Two numbers that may take the last one's place: one to another node, and one from there to the destination.
-#[derive(Clone, Copy)]
-struct Detour {
-    first: u32,
-    second: u32,
-}
-
-/// Returns where a path leads.
-fn follow_path<A: Allocator + Copy>(
-    plan: &Plan<A>,
-    request: &Request,
-    path: &[u32],
-) -> Result<Reached, HopFault>
-    ensures path { IfOk result (λ _. IsTrue (is_path plan.now.plan request.now path.now)) }
-    ensures reached { IfOk result (IsReachedBy plan.now.plan request.now path.now) }
+/// The passes of a link.
+fn passes_of<'a>(sent: Links<'a>, link: &Link) -> &'a [Pass]
+    requires ordered { link.now.first ≤ link.now.end }
+    requires within { link.now.end ≤ length sent.passes.now }
+    ensures { result.now ≡ take (link.now.end - link.now.first) (drop link.now.first sent.entry.passes.now) }
 {
-    let mut here = Reached {
-        node: request.from(),
-        at: request.at(),
-    };
-    for place in 0..path.len() {
-        here = follow_hop(plan, request, &path[..place], here, path[place])?;
-    }
-    Ok(here)
+    &sent.passes[link.first as usize..link.end as usize]
 }
 
-/// Returns where the front and this number lead, if it may take the place of the last one.
-fn follow_other<A: Allocator + Copy>(
-    plan: &Plan<A>,
-    request: &Request,
-    end: RouteEnd<'_>,
-    number: u32,
-) -> Option<Reached>
-    requires path { IsTrue (is_path plan.now.plan request.now end.front.now) }
-    requires reached { IsReachedBy plan.now.plan request.now end.front.now end.here }
-    ensures other { IfSome result (λ _. number ≡ end.entry.last → ⊥) }
-    ensures free { IfSome result (λ _. has number end.entry.excluded.now ≡ false) }
-    ensures path { IfSome result (λ _. IsTrue (is_path plan.now.plan request.now (end.entry.front.now ++ number ∷ []))) }
-    ensures reached { IfSome result (IsReachedBy plan.now.plan request.now (end.entry.front.now ++ number ∷ [])) }
+/// A link of a node, by its place among them; none if it has fewer.
+fn leg_at<'a, A: Allocator + Copy>(
+    plan: &'a CountedPlan<'_, A>,
+    from: usize,
+    place: usize,
+) -> Option<Leg<'a>>
+    requires { from < length plan.now.table }
+    ensures receiver { IfSome result (λ l. l.to < length plan.now.table) }
+    ensures passes { IfSome result (λ l. ArePassesBetween plan.now from l.to l.passes.now) }
 {
-    if number == end.last || holds(end.excluded, number) {
+    let sent = plan.links(from);
+    if place >= sent.links.len() {
         return None;
     }
-    let Ok(reached) = follow_hop(plan, request, end.front, end.here, number) else {
-        return None;
-    };
-    Some(reached)
+    let link = &sent.links[place];
+    Some(Leg {
+        to: link.receiver as usize,
+        passes: passes_of(sent, link),
+    })
 }
 
-/// Returns true if the route may end on this number in place of its last one.
+/// The last contact from one node to another, by their indexes. That links stand in the order of their receivers need
+/// not be proved: if one isn't found, no detour is.
+fn last_pass<'a, A: Allocator + Copy>(
+    plan: &'a CountedPlan<'_, A>,
+    from: usize,
+    to: usize,
+) -> Option<&'a Pass>
+    requires { from < length plan.now.table }
+    ensures { IfSome result (λ x. IsPassBetween plan.now from to x.now) }
+{
+    let place = plan
+        .links(from)
+        .links
+        .partition_point(|link| (link.receiver as usize) < to);
+    let leg = leg_at(plan, from, place)?;
+    if leg.to != to {
+        return None;
+    }
+    leg.passes.last()
+}
+
+/// Goes on by a contact from a second on: one look. None if that is too late.
+fn arrive_by<A: Allocator + Copy>(
+    plan: &CountedPlan<'_, A>,
+    looks: &mut Looks,
+    request: &Request,
+    at: u64,
+    pass: &Pass,
+) -> Option<Onward>
+    requires few { 0 < looks.old.left }
+    requires rules { IsPlan plan.now.plan }
+    requires pass { (from to : ℕ) × IsPassBetween plan.now from to pass.now }
+    ensures counted { looks.old.left ≡ looks.new.left + 1 }
+    ensures arrives { IfSome result (ArrivesBy plan.now request.now at pass.now) }
+{
+    plan.contacts();
+    let contact = pass.look(looks);
+    let Some(arrived) = request.arrive_over(at, contact.start(), contact.end(), contact.light())
+    else {
+        return None;
+    };
+    Some(Onward {
+        number: contact.number(),
+        at: arrived,
+    })
+}
+
+/// Returns true if a number may take the place of the last one.
+fn is_other(end: RouteEnd<'_>, number: u32) -> bool
+    ensures other { IsTrue result → number ≢ end.entry.last }
+    ensures free { IsTrue result → has number end.entry.excluded.now ≡ false }
+{
+    number != end.last && !holds(end.excluded, number)
+}
+
+/// Returns true if the route may end on this contact in place of its last one.
 fn ends_on<A: Allocator + Copy>(
-    plan: &Plan<A>,
+    plan: &CountedPlan<'_, A>,
+    looks: &mut Looks,
     request: &Request,
     end: RouteEnd<'_>,
-    number: u32,
+    pass: &Pass,
 ) -> bool
-    requires path { IsTrue (is_path plan.now.plan request.now end.front.now) }
-    requires reached { IsReachedBy plan.now.plan request.now end.front.now end.here }
-    ensures { IsTrue result → IsOtherWay plan.now.plan request.now end.entry.front.now end.entry.last end.entry.excluded.now }
+    requires few { 0 < looks.old.left }
+    requires end { IsRouteEnd plan.now request.now end }
+    requires pass { IsPassBetween plan.now end.here.node end.to pass.now }
+    ensures counted { looks.old.left ≡ looks.new.left + 1 }
+    ensures yes { IsTrue result → IsOtherWay plan.now.plan request.now end.entry.front.now end.entry.last end.entry.excluded.now }
 {
-    let Some(reached) = follow_other(plan, request, end, number) else {
+    let Some(onward) = arrive_by(plan, looks, request, end.here.at, pass) else {
         return false;
     };
-    reached.node == request.to()
+    is_other(end, onward.number)
 }
 
-/// Returns true if the route may take the detour in place of its last number.
+/// Returns true if the route may go on by a contact of this leg in place of its last one, and end on one more. Of the first
+/// only the first that hasn't ended is tried, and of the others the last.
 fn takes_detour<A: Allocator + Copy>(
-    alloc: A,
-    plan: &Plan<A>,
+    plan: &CountedPlan<'_, A>,
+    looks: &mut Looks,
     request: &Request,
     end: RouteEnd<'_>,
-    detour: Detour,
-) -> Result<bool, NoMemory>
-    requires path { IsTrue (is_path plan.now.plan request.now end.front.now) }
-    requires reached { IsReachedBy plan.now.plan request.now end.front.now end.here }
-    ensures { IfOk result (λ yes. IsTrue yes → IsOtherWay plan.now.plan request.now end.entry.front.now end.entry.last end.entry.excluded.now) }
+    leg: Leg<'_>,
+) -> bool
+    requires few { 2 ≤ looks.old.left }
+    requires end { IsRouteEnd plan.now request.now end }
+    requires room { length end.front.now + 1 < request.now.max_hops }
+    requires receiver { leg.to < length plan.now.table }
+    requires passes { ArePassesBetween plan.now end.here.node leg.to leg.passes.now }
+    ensures most { looks.old.left ≤ looks.new.left + 2 }
+    ensures fewer { looks.new.left ≤ looks.old.left }
+    ensures yes { IsTrue result → IsOtherWay plan.now.plan request.now end.entry.front.now end.entry.last end.entry.excluded.now }
 {
-    let Some(there) = follow_other(plan, request, end, detour.first) else {
-        return Ok(false);
+    if leg.to == end.to || end.shut[leg.to] {
+        return false;
+    }
+    let at = end.here.at;
+    let open = leg.passes.partition_point(|pass| pass.latest_end <= at);
+    if open >= leg.passes.len() {
+        return false;
+    }
+    let Some(second) = last_pass(plan, leg.to, end.to) else {
+        return false;
     };
-    let path = longer(alloc, end.front, detour.first)?;
-    let Ok(reached) = follow_hop(plan, request, path.as_slice(), there, detour.second) else {
-        return Ok(false);
+    let Some(first) = arrive_by(plan, looks, request, at, &leg.passes[open]) else {
+        return false;
     };
-    Ok(reached.node == request.to())
+    if !is_other(end, first.number) {
+        return false;
+    }
+    arrive_by(plan, looks, request, first.at, second).is_some()
 }
 
 /// Returns true if the route may take a detour over one of the first links in place of its last number.
 fn detours<A: Allocator + Copy>(
-    alloc: A,
-    index: &Index<'_, A>,
+    plan: &CountedPlan<'_, A>,
+    looks: &mut Looks,
     request: &Request,
     end: RouteEnd<'_>,
-    ways: Ways<'_>,
-) -> Result<bool, NoMemory>
-    requires path { IsTrue (is_path index.now.plan request.now end.front.now) }
-    requires reached { IsReachedBy index.now.plan request.now end.front.now end.here }
-    ensures { IfOk result (λ yes. IsTrue yes → IsOtherWay index.now.plan request.now end.entry.front.now end.entry.last end.entry.excluded.now) }
+) -> bool
+    requires few { 2 * most_links ≤ looks.old.left }
+    requires end { IsRouteEnd plan.now request.now end }
+    ensures most { looks.old.left ≤ looks.new.left + 2 * most_links }
+    ensures fewer { looks.new.left ≤ looks.old.left }
+    ensures yes { IsTrue result → IsOtherWay plan.now.plan request.now end.entry.front.now end.entry.last end.entry.excluded.now }
 {
-    for link in ways.sent.links.iter().take(MOST_LINKS) {
-        if let Some(detour) = detour_over(index, ways, link, end.here.at) {
-            if takes_detour(alloc, index.plan(), request, end, detour)? {
-                return Ok(true);
-            }
+    if end.front.len() + 1 >= request.max_hops() as usize {
+        return false;
+    }
+    for place in 0..MOST_LINKS {
+        let Some(leg) = leg_at(plan, end.here.node, place) else {
+            return false;
+        };
+        if takes_detour(plan, looks, request, end, leg) {
+            return true;
         }
     }
-    Ok(false)
+    false
 }
 
-/// A detour over a link that is open at a second: by its first pass that hasn't ended, and by the last from its receiver to
-/// the destination. That it is one need not be proved, since it is followed as any list is. Nor need be what finds it: that
-/// links stand in the order of their receivers, and that these are in the table.
-fn detour_over<A: Allocator + Copy>(
-    index: &Index<'_, A>,
-    ways: Ways<'_>,
-    link: &Link,
-    at: u64,
-) -> Option<Detour> {
-    let relay = link.receiver as usize;
-    if link.bounds.latest_end <= at || relay == ways.to || relay >= index.plan().nodes() {
-        return None;
-    }
-    let second = passes_to(index.links(relay), ways.to).last()?;
-    let passes = passes_over(ways.sent, link);
-    let first = passes.get(passes.partition_point(|pass| pass.latest_end <= at))?;
-    Some(Detour {
-        first: number_of(first),
-        second: number_of(second),
-    })
-}
-
-/// The passes of the link to a node, by its index; none if there is no such link.
-fn passes_to<'a>(sent: Links<'a>, to: usize) -> &'a [Pass] {
-    let place = sent
-        .links
-        .partition_point(|link| (link.receiver as usize) < to);
-    match sent.links.get(place) {
-        Some(link) if link.receiver as usize == to => passes_over(sent, link),
-        _ => &[],
-    }
-}
-
-/// The passes of a link.
-fn passes_over<'a>(sent: Links<'a>, link: &Link) -> &'a [Pass] {
-    let passes = link.first as usize..link.end as usize;
-    sent.passes.get(passes).unwrap_or(&[])
-}
-
-/// The number of a pass. This is no search: the look that it takes isn't told.
-fn number_of(pass: &Pass) -> u32 {
-    let mut looks = Looks::many();
-    pass.look(&mut looks).number()
+/// A route, and numbers that may not take the place of its last one.
+#[derive(Clone, Copy)]
+pub struct Ending<'a> {
+    pub route: &'a [u32],
+    pub excluded: &'a [u32],
 }
 
 /// Returns true if a route may go on otherwise than by its last number: by one that isn't excluded, on which it ends, or
 /// after which one more leads to the destination. Of the first only the last pass of the link is tried.
+///
+/// It takes a look for each contact of the route, and at most two for each link that is tried.
+///
+/// # Errors
+///
+/// [`NoMemory`] if a growth was refused.
 pub fn goes_otherwise<A: Allocator + Copy>(
     alloc: A,
-    index: &Index<'_, A>,
+    plan: &CountedPlan<'_, A>,
+    looks: &mut Looks,
     request: &Request,
-    route: &[u32],
-    excluded: &[u32],
+    ending: Ending<'_>,
 ) -> Result<bool, NoMemory>
-    ensures { IfOk result (λ yes. IsTrue yes → GoesOtherwise index.now.plan request.now route.now excluded.now) }
+    requires route { IsTrue (is_route plan.now.plan request.now ending.route.now) }
+    requires few { detour_looks (length ending.route.now) ≤ looks.old.left }
+    ensures most { looks.old.left ≤ looks.new.left + detour_looks (length ending.entry.route.now) }
+    ensures fewer { looks.new.left ≤ looks.old.left }
+    ensures yes { IfOk result (λ yes. IsTrue yes → GoesOtherwise plan.now.plan request.now ending.entry.route.now ending.entry.excluded.now) }
 {
-    let plan = index.plan();
-    let Some((last, front)) = route.split_last() else {
+    plan.tell_rules();
+    plan.nodes();
+    let Some((last, front)) = ending.route.split_last() else {
         return Ok(false);
     };
-    let Ok(here) = follow_path(plan, request, front) else {
+    let Some(to) = plan.node_index(request.to()) else {
         return Ok(false);
     };
-    let (Some(from), Some(to)) = (plan.node_index(here.node), plan.node_index(request.to())) else {
+    let Some(led) = follow_front(alloc, plan, looks, request, front)? else {
         return Ok(false);
     };
-    let sent = index.links(from);
     let end = RouteEnd {
         front,
-        here,
+        here: led.here,
+        shut: led.shut.as_slice(),
+        to,
         last: *last,
-        excluded,
+        excluded: ending.excluded,
     };
-    if let Some(pass) = passes_to(sent, to).last() {
-        if ends_on(plan, request, end, number_of(pass)) {
+    if let Some(pass) = last_pass(plan, led.here.node, to) {
+        if ends_on(plan, looks, request, end, pass) {
             return Ok(true);
         }
     }
-    detours(alloc, index, request, end, Ways { sent, to })
+    Ok(detours(plan, looks, request, end))
 }

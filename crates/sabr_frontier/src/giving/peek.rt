@@ -4,6 +4,7 @@ ghost use Rattle.std.specs.Prelude.{◌≡◌, ◌+◌, ◌≤◌, ◌<◌, ◌+
 ghost use Rattle.sabr_model.specs.plan.Plan.{IsPlan};
 ghost use Rattle.sabr_model.specs.routes.Route.{is_route};
 ghost use Rattle.sabr_frontier.specs.listing.Listing.{next_route, searches_in};
+ghost use Rattle.sabr_frontier.specs.giving.Detours.{detour_looks};
 ghost use Rattle.sabr_frontier.specs.tree.Asking.{best_for, records_for, steps_for};
 ghost use Rattle.sabr_frontier.specs.tree.Floors.{CarriesOnlyLeast, IsFloorAfter, IsFloorOf};
 ghost use Rattle.sabr_frontier.specs.tree.Left.{longer_go_on, others_carry, part_goes_on, some_carry};
@@ -14,9 +15,10 @@ ghost use Rattle.sabr_frontier.specs.tree.Undo.{IsRoomy};
 
 use crate::giving::asker::Asker;
 use crate::giving::divide::{ask_after, numbers};
-use crate::giving::other_way::goes_otherwise;
+use crate::giving::other_way::{Ending, goes_otherwise};
 use crate::giving::take::floor_of;
 use crate::tree::{Node, NodeId, Tree};
+use sabr_index::Looks;
 use sabr_model::{NoMemory, Route};
 use sabr_search::BestOf;
 use std::alloc::Allocator;
@@ -71,24 +73,29 @@ fn part_goes_on<B: BestOf<A>, A: Allocator + Copy>(
     part: &Node<A>,
     route: &[u32],
     floor: u64,
+    looks: &mut Looks,
 ) -> Result<bool, NoMemory>
     requires route { IsTrue (is_route asker.old.asked.plan.plan asker.old.asked.request route.now) }
     requires next { CanExclude part.now route.now }
     requires floor { IsFloorOf asker.old.asked.plan.plan asker.old.asked.request route.now floor part.now }
+    requires few { detour_looks asker.old.asked.request.max_hops ≤ looks.old.left }
     requires unbounded { asker.old.asked.bound ≡ None }
     ensures ok { IfOk result (λ yes. yes ≡ part_goes_on (best_for asker.old.asked) part.now route.now) }
     ensures no_fewer { asker.old.calls ≤ asker.new.calls }
     ensures at_most { asker.new.calls + part.now.length ≤ asker.old.calls + length route.now }
+    ensures looks { looks.old.left ≤ looks.new.left + detour_looks asker.old.asked.request.max_hops }
     ensures same { asker.new.asked ≡ asker.old.asked }
 {
     asker.plan().tell_rules();
+    let request = asker.request();
     let excluded = part.excluded.as_slice();
+    let ending = Ending { route, excluded };
     if goes_otherwise(
         asker.alloc(),
-        asker.index(),
-        asker.request(),
-        route,
-        excluded,
+        asker.index().counted(),
+        looks,
+        request,
+        ending,
     )? {
         return Ok(true);
     }
@@ -109,21 +116,24 @@ impl<A: Allocator + Copy> Tree<A> {
         node: NodeId,
         route: &[u32],
         floor: u64,
+        looks: &mut Looks,
     ) -> Result<bool, NoMemory>
         requires in_range { node.0 < length self.now.nodes.items }
         requires route { IsTrue (is_route asker.old.asked.plan.plan asker.old.asked.request route.now) }
         requires next { OfNode self.now.nodes.items node (λ n. CanExclude n route.now) }
         requires floor { OfNode self.now.nodes.items node (IsFloorOf asker.old.asked.plan.plan asker.old.asked.request route.now floor) }
+        requires few { detour_looks asker.old.asked.request.max_hops ≤ looks.old.left }
         requires unbounded { asker.old.asked.bound ≡ None }
         ensures ok { IfOk result (λ yes. OfNode self.now.nodes.items node (λ n. yes ≡ (others_carry self.now.nodes.items node || part_goes_on (best_for asker.old.asked) n route.now))) }
         ensures no_fewer { asker.old.calls ≤ asker.new.calls }
         ensures at_most { OfNode self.now.nodes.items node (λ n. asker.new.calls + n.length ≤ asker.old.calls + length route.now) }
+        ensures looks { looks.old.left ≤ looks.new.left + detour_looks asker.old.asked.request.max_hops }
         ensures same { asker.new.asked ≡ asker.old.asked }
     {
         if others_carry(self.nodes.as_slice(), node) {
             return Ok(true);
         }
-        part_goes_on(asker, &self.nodes[node.0], route, floor)
+        part_goes_on(asker, &self.nodes[node.0], route, floor, looks)
     }
 
     /// Puts the least route that a node carries after others, and tells whether a route would be left once it is given.
@@ -133,8 +143,10 @@ impl<A: Allocator + Copy> Tree<A> {
         asker: &mut Asker<'_, B, A>,
         routes: &mut Vec<Route<A>, A>,
         sure: bool,
+        looks: &mut Looks,
     ) -> Result<bool, NoMemory>
         requires plan { IsPlan asker.old.asked.plan.plan }
+        requires few { detour_looks asker.old.asked.request.max_hops ≤ looks.old.left }
         requires unbounded { asker.old.asked.bound ≡ None }
         requires tree { IsTree asker.old.asked.plan.plan asker.old.asked.request (shape_of self.now) }
         requires room { IsRoomy self.now }
@@ -147,6 +159,7 @@ impl<A: Allocator + Copy> Tree<A> {
         // It takes no more searches than the step would. The question stays.
         ensures no_fewer { asker.old.calls ≤ asker.new.calls }
         ensures at_most { asker.new.calls ≤ asker.old.calls + searches_in asker.old.asked.plan.plan asker.old.asked.request 1 (shown (shape_of self.now)) }
+        ensures looks { looks.old.left ≤ looks.new.left + detour_looks asker.old.asked.request.max_hops }
         ensures same { asker.new.asked ≡ asker.old.asked }
     {
         let Some(node) = self.least() else {
@@ -154,7 +167,7 @@ impl<A: Allocator + Copy> Tree<A> {
         };
         let route = self.copy_carried(asker.alloc(), node)?;
         let floor = floor_of(&route, sure);
-        let more = self.goes_on_after(asker, node, numbers(&route), floor)?;
+        let more = self.goes_on_after(asker, node, numbers(&route), floor, looks)?;
         routes.push(route)?;
         Ok(more)
     }

@@ -6,6 +6,7 @@ ghost use Rattle.sabr_model.specs.routes.Asking.{IsRequest};
 ghost use Rattle.sabr_frontier.specs.listing.Listing.{most_routes, next_route, searches_in};
 ghost use Rattle.sabr_frontier.specs.session.LastPage.{IsLastPage};
 ghost use Rattle.sabr_frontier.specs.session.Session.{IsSound, started};
+ghost use Rattle.sabr_frontier.specs.giving.Detours.{detour_looks};
 ghost use Rattle.sabr_frontier.specs.tree.Asking.{records_for, steps_for};
 ghost use Rattle.sabr_frontier.specs.tree.Shape.{shape_of, shown};
 ghost use Rattle.sabr_frontier.specs.tree.Cut.{ShowsCut};
@@ -18,7 +19,7 @@ use crate::giving::asker::Asker;
 use crate::giving::least_keys::LeastKeys;
 use crate::session::Session;
 use crate::tree::{Entry, Tree};
-use sabr_index::Index;
+use sabr_index::{Index, Looks};
 use sabr_model::{NoMemory, Request, Route};
 use sabr_search::BestOf;
 use std::alloc::{Allocator, Global};
@@ -35,6 +36,8 @@ pub struct LastPage<'p, B: BestOf<A>, A: Allocator + Copy = Global> {
     routes: Vec<Route<A>, A>,
     /// Whether a route is left after them.
     more: bool,
+    /// The looks that telling it took, besides those of the finder's calls.
+    detour_looks: u64,
 }
 
 impl<'p, B: BestOf<A>, A: Allocator + Copy> Model for LastPage<'p, B, A> {
@@ -42,7 +45,7 @@ impl<'p, B: BestOf<A>, A: Allocator + Copy> Model for LastPage<'p, B, A> {
 
     ghost Value = { LastSeen };
 
-    ghost view = { λ l. record { plan = l.asker.asked.plan; routes = l.routes.items; more = l.more; calls = l.asker.calls } };
+    ghost view = { λ l. record { plan = l.asker.asked.plan; routes = l.routes.items; more = l.more; calls = l.asker.calls; detour_looks = l.detour_looks } };
 }
 
 impl<'p, B: BestOf<A>, A: Allocator + Copy> Session<'p, B, A> {
@@ -65,11 +68,13 @@ impl<'p, B: BestOf<A>, A: Allocator + Copy> Session<'p, B, A> {
             is_sure,
         } = self;
         let mut routes = Vec::new(asker.alloc());
-        let more = tree.give_last(&mut asker, count, &mut routes, is_sure)?;
+        let mut looks = Looks::many();
+        let more = tree.give_last(&mut asker, count, &mut routes, is_sure, &mut looks)?;
         Ok(LastPage {
             asker,
             routes,
             more,
+            detour_looks: looks.taken(),
         })
     }
 }
@@ -84,8 +89,10 @@ impl<A: Allocator + Copy> Tree<A> {
         count: u32,
         routes: &mut Vec<Route<A>, A>,
         sure: bool,
+        looks: &mut Looks,
     ) -> Result<bool, NoMemory>
         requires plan { IsPlan asker.old.asked.plan.plan }
+        requires few { detour_looks asker.old.asked.request.max_hops ≤ looks.old.left }
         requires unbounded { asker.old.asked.bound ≡ None }
         requires limits { IsRequest asker.old.asked.request }
         requires count { count ≤ most_routes }
@@ -100,6 +107,7 @@ impl<A: Allocator + Copy> Tree<A> {
         // It takes no more searches than the steps would. The question stays.
         ensures no_fewer { OnOk result (asker.old.calls ≤ asker.new.calls) }
         ensures at_most { OnOk result (asker.new.calls ≤ asker.old.calls + searches_in asker.old.asked.plan.plan asker.old.asked.request count (shown (shape_of self.old))) }
+        ensures looks { OnOk result (looks.old.left ≤ looks.new.left + detour_looks asker.old.asked.request.max_hops) }
         ensures same { asker.new.asked ≡ asker.old.asked }
     {
         if count == 0 {
@@ -108,7 +116,7 @@ impl<A: Allocator + Copy> Tree<A> {
         let gathered = self.gather_up_to(asker, count - 1, routes, sure);
         asker.ask_up_to(None);
         gathered?;
-        self.peek(asker, routes, sure)
+        self.peek(asker, routes, sure, looks)
     }
 
     /// Gives the next `count` routes, or all that are left if they are fewer. Of the parts that they make, it looks for no
@@ -181,6 +189,14 @@ impl<'p, B: BestOf<A>, A: Allocator + Copy> LastPage<'p, B, A> {
         self.more
     }
 
+    /// How many looks the page took besides those of the finder's calls: fetches of contacts' records that told without a
+    /// search that a route is left.
+    pub fn detour_looks(&self) -> u64
+        ensures { result ≡ self.now.detour_looks }
+    {
+        self.detour_looks
+    }
+
     /// Starts a session over the same plan for another request, as [`start`](Session::start) does, with this one's index
     /// and finder.
     ///
@@ -204,6 +220,7 @@ impl<'p, B: BestOf<A>, A: Allocator + Copy> LastPage<'p, B, A> {
             asker,
             routes: _,
             more: _,
+            detour_looks: _,
         } = self;
         let (asker, index) = asker.pause();
         (index, asker.into_finder())

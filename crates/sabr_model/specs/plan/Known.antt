@@ -9,25 +9,25 @@ use Rattle.sabr_model.specs.plan.Plan.{TabledPlan}
 use Rattle.sabr_model.specs.plan.Light.{light_of}
 use Rattle.sabr_model.specs.plan.ContactEnds.{AreEndsOf}
 
--- beside the first contacts stand their ends
+-- the first contacts have their ends, in the same order
 abbrev pub BeginEnds : List ℕ → List Contact → List Ends → Type 0
 BeginEnds table contacts ends = (k : ℕ) (d : Contact) (e : Ends) → k < length ends → AreEndsOf table (slice_index_or contacts k d) (slice_index_or ends k e)
 
--- the light time that a kept word tells: none if it is the greatest of 32 bits
+-- the light time of a stored number: none if it is the largest of 32 bits
 abbrev pub light_of_word : ℕ → Option ℕ
 light_of_word word = if word == 4294967295 then None else Some word
 
--- beside the first contacts stand their light times
+-- the first contacts have their light times, in the same order
 abbrev pub BeginLights : List Range → List Contact → List (Option ℕ) → Type 0
 BeginLights ranges contacts lights =
     (k : ℕ) (d : Contact) (t : Option ℕ) → k < length lights → slice_index_or lights k t ≡ light_of (record { contacts = []; ranges = ranges; greatest = 0 }) (slice_index_or contacts k d)
 
--- beside each contact stands its light time
+-- each contact has its light time, in the same order
 pub record AreLights (ranges : List Range) (contacts : List Contact) (lights : List (Option ℕ)) : Type 0 where
   pub as_many : length lights ≡ length contacts
   pub each : BeginLights ranges contacts lights
 
--- the ends and the light times that are kept are right
+-- the ends and the light times that are stored are right
 pub record IsKnown (p : TabledPlan) (known_ends : List Ends) (known_lights : List (Option ℕ)) : Type 0 where
   pub ends : BeginEnds p.table p.plan.contacts known_ends
   pub lights : BeginLights p.plan.ranges p.plan.contacts known_lights

@@ -12,7 +12,7 @@ use Rattle.sabr_model.specs.plan.Plan.{ContactPlan}
 abbrev pub is_within : ℕ → ℕ → ℕ → Bool
 is_within start end t = nat_le start t && nat_lt t end
 
--- whether a range is written from the lesser node, so that it holds both ways
+-- whether a range is written from the smaller node, so that it holds both ways
 abbrev pub is_rising : Range → Bool
 is_rising r = nat_lt r.one r.other
 
@@ -26,7 +26,7 @@ or_else (Some x) other = Some x
 or_else None other = other
 
 -- The light time in force at the contact's start: that of the range from its sender to its receiver. If there is none
--- and the sender is the greater node, that of the range from its receiver to its sender, which holds both ways.
+-- and the sender is the larger node, that of the range from its receiver to its sender, which holds both ways.
 abbrev pub light_of : ContactPlan → Contact → Option ℕ
 light_of p c =
     or_else (light_of_pair p.ranges c.from c.to c.start)

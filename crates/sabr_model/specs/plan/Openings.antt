@@ -13,7 +13,7 @@ opening_of c = record { from = c.from; to = c.to; start = c.start }
 abbrev pub openings_of : List Contact → List Opening
 openings_of contacts = map (λ c. record { from = c.from; to = c.to; start = c.start }) contacts
 
--- where the set is kept, it has what no two of the contacts share
+-- if the set is stored, it has the openings of the contacts
 abbrev pub KnowsOpenings : Bool → List Opening → List Contact → Type 0
 KnowsOpenings kept known contacts = kept ≡ true → known ≡ openings_of contacts
 

@@ -8,7 +8,7 @@ use Rattle.sabr_model.specs.Order.{by_numbers}
 use Rattle.sabr_model.specs.declared.contact.Contact.{Contact}
 use Rattle.sabr_model.specs.declared.contact.Range.{Range}
 
--- the standing contacts and ranges, and the greatest number ever assigned to a contact, 0 at first
+-- the standing contacts and ranges, and the largest number ever assigned to a contact, 0 at first
 pub record ContactPlan : Type 0 where
   pub contacts : List Contact
   pub ranges : List Range
@@ -20,7 +20,7 @@ pub record TabledPlan : Type 0 where
   pub plan : ContactPlan
   pub table : List ℕ
 
--- the greatest time, 9998-12-31T23:59:59Z in seconds since 1970-01-01T00:00:00Z
+-- the latest time, 9998-12-31T23:59:59Z in seconds since 1970-01-01T00:00:00Z
 abbrev pub last_time : ℕ
 last_time = 253370764799
 
@@ -28,7 +28,7 @@ last_time = 253370764799
 abbrev pub most_records : ℕ
 most_records = 20000
 
--- the greatest light time, in seconds
+-- the largest light time, in seconds
 abbrev pub most_light : ℕ
 most_light = 1000000
 
@@ -36,7 +36,7 @@ most_light = 1000000
 abbrev pub contact_named : ContactPlan → ℕ → Option Contact
 contact_named p n = find (λ c. c.number == n) p.contacts
 
--- the place is that of the contact with this number, or no contact has it
+-- the index is that of the contact with this number, or no contact has it
 abbrev pub IsPlaceOf : List Contact → ℕ → Option ℕ → Type 0
 IsPlaceOf contacts n None = find (λ c. c.number == n) contacts ≡ None
 IsPlaceOf contacts n (Some k) = (k < length contacts) × (find (λ c. c.number == n) contacts ≡ slice_get contacts k)
@@ -55,7 +55,7 @@ abbrev pub are_different : List ℕ → Bool
 are_different [] = true
 are_different (x ∷ xs) = not (has x xs) && are_different xs
 
--- from a start up to, and without, an end that is after it and not above the greatest time
+-- from a start up to, and without, an end that is after it and not above the latest time
 abbrev pub IsWindow : ℕ → ℕ → Type 0
 IsWindow start end = (start < end) × (end ≤ last_time)
 
@@ -88,7 +88,7 @@ none_twice same (x ∷ xs) = not (list_any (same x) xs) && none_twice same xs
 abbrev pub range_key : Range → List ℕ
 range_key r = r.one ∷ r.other ∷ r.start ∷ []
 
--- what holds for every plan: valid windows and nodes, numbers that rise up to the greatest assigned, no two contacts
+-- what holds for every plan: valid windows and nodes, ascending numbers up to the largest assigned, no two contacts
 -- with one opening, ranges in order that don't overlap, and the limits (this project's profile of ionrc(5))
 pub record IsPlan (p : ContactPlan) : Type 0 where
   pub contact_windows : AllByRecursion (λ c. IsWindow c.start c.end) p.contacts

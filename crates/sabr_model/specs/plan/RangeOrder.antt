@@ -3,7 +3,7 @@ use Rattle.std.specs.Prelude.{◌≡◌, ℕ, ◌+◌, ◌*◌, ◌^◌, ◌<◌
 use Rattle.sabr_model.specs.declared.contact.Range.{Range}
 use Rattle.sabr_model.specs.plan.Plan.{overlap}
 
--- a range's pair and start as one number: the lesser node comes first, then the other, then the start
+-- a range's pair and start as one number: the smaller node comes first, then the other, then the start
 abbrev pub place_number : ℕ → ℕ → ℕ → ℕ
 place_number one other start = (one * 2 ^ 64 + other) * 2 ^ 64 + start
 

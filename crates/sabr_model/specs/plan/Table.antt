@@ -26,11 +26,11 @@ ends_of contacts = flat_map (λ c. c.from ∷ c.to ∷ []) contacts
 abbrev pub node_count : List Contact → ℕ
 node_count contacts = distinct_count nat_eq (ends_of contacts)
 
--- the rising numbers that the table has for a node
+-- the numbers that the table has for a node, in ascending order
 abbrev pub list_at : {S A : Type 0} → IndexMap ℕ (Vec ℕ A) S → ℕ → Option (List ℕ)
 list_at table node = option_map (λ v. v.items) (get nat_eq table node)
 
--- a node's rising list after a contact with this number was added, if the node is its sender
+-- a node's ascending list after a contact with this number was added, if the node is its sender
 abbrev pub with_number : Option (List ℕ) → Bool → ℕ → Option (List ℕ)
 with_number o is_from number = if is_from then Some (unwrap_or o [] ++ number ∷ []) else o
 
@@ -42,7 +42,7 @@ with_node o is_to = if is_to then Some (unwrap_or o []) else o
 abbrev pub with_ends : Option (List ℕ) → Bool → Bool → ℕ → Option (List ℕ)
 with_ends o is_from is_to number = with_node (with_number o is_from number) is_to
 
--- each node of a list is at the same place of another list
+-- each node of a list is at the same index of another list
 abbrev pub KeepsPlaces : List ℕ → List ℕ → Type 0
 KeepsPlaces old new = (k n : ℕ) → slice_get old k ≡ Some n → slice_get new k ≡ Some n
 

@@ -12,7 +12,7 @@ pub record IsTabled (p : TabledPlan) : Type 0 where
   pub nodes : (node : ℕ) → has node p.table ≡ has node (ends_of p.plan.contacts)
   pub once : IsTrue (are_different p.table)
 
--- the hop is the contact's: its window, its receiver's place in the table, and its light time
+-- the hop is the contact's: its window, its receiver's index in the table, and its light time
 pub record IsHopOf (p : TabledPlan) (c : Contact) (h : Hop) : Type 0 where
   pub start : h.start ≡ c.start
   pub end : h.end ≡ c.end

@@ -8,11 +8,11 @@ use Rattle.sabr_model.specs.declared.fault.RequestError.TheVariants.{SameNode, B
 use Rattle.sabr_model.specs.plan.Plan.{IsNode, last_time, rises_above, has}
 use Rattle.sabr_model.specs.routes.Arrival.{RouteRequest}
 
--- the greatest limit on hops
+-- the largest limit on hops
 abbrev pub most_hops : ℕ
 most_hops = 20000
 
--- the greatest margin, in parts per million
+-- the largest margin, in parts per million
 abbrev pub most_margin : ℕ
 most_margin = 1000000
 
@@ -25,7 +25,7 @@ request_refusal from to at margin =
     else if nat_lt most_margin margin then Some BadMargin
     else None
 
--- at most 16 rising nodes, neither end among them
+-- at most 16 ascending nodes, neither end among them
 abbrev pub may_avoid : ℕ → ℕ → List ℕ → Bool
 may_avoid source destination avoided =
     nat_le (length avoided) 16 && rises_above 0 avoided && not (has source avoided) && not (has destination avoided)

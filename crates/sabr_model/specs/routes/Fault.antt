@@ -1,5 +1,5 @@
--- Why a list of numbers is no route: the fault of the least place that has one. (The faults and their order
--- are this project's profile.)
+-- Why a list of numbers is no route: the fault of the first hop that has one. (The faults and their order are this
+-- project's profile.)
 use Rattle.std.specs.Prelude.{ℕ, ◌+◌, false, not, ◌==◌, nat_le, is_none, List, [], ◌∷◌, ◌++◌, length, if◌then◌else◌}
 use Rattle.std.specs.Option.{option_map_or, option_and_then}
 use Rattle.std.specs.declared.option.Option.{Option}
@@ -12,7 +12,7 @@ use Rattle.sabr_model.specs.plan.Light.{light_of}
 use Rattle.sabr_model.specs.routes.Arrival.{RouteRequest, arrival, arrival_after}
 use Rattle.sabr_model.specs.routes.Route.{receivers, chain_end, ends_at}
 
--- the first fault, in this order, of a contact that follows the list `front`, which has none; places count from 1
+-- the first fault, in this order, of a contact that follows the list `front`, which has none; positions count from 1
 abbrev pub contact_fault : ContactPlan → RouteRequest → List ℕ → Contact → Option HopFault
 contact_fault p r front c =
     let place = length front + 1 in

@@ -11,7 +11,7 @@ use Rattle.sabr_model.specs.routes.Arrival.{cost}
 abbrev pub hop_arrival : ℕ → ℕ → Hop → Option ℕ
 hop_arrival margin t h = if nat_lt (max t h.start) h.end then option_map (λ l. max t h.start + cost margin l) h.light else None
 
--- the hop ends by the last second, and its light time is at most the greatest
+-- the hop ends by the last second, and its light time is at most the largest
 pub record IsSmall (h : Hop) : Type 0 where
   pub ends : h.end ≤ last_time
   pub near : IfSome h.light (λ l. l ≤ most_light)

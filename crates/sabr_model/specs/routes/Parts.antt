@@ -25,6 +25,6 @@ goes_on prefix excluded s = option_map_or (λ n. not (has n excluded)) (number_a
 abbrev pub in_part : ContactPlan → RouteRequest → List ℕ → List ℕ → List ℕ → Bool
 in_part p r prefix excluded s = is_route p r s && goes_on prefix excluded s
 
--- the least route of the part: the first of the listing that is in it, or none
+-- the best route of the part: the first of the listing that is in it, or none
 unfoldable pub least_in : ContactPlan → RouteRequest → List ℕ → List ℕ → Option (List ℕ)
 least_in p r prefix excluded = find (goes_on prefix excluded) (routes p r)

@@ -10,14 +10,14 @@ use std::io;
 
 /// A reader or writer of std. Every error of std becomes `Failed`.
 ///
-/// Proofs see a log of the bytes that std's calls gave and took, also of files and of standard streams, of which std
-/// tells no bytes.
+/// Proofs see a log of the bytes that std's calls returned and took. They see it for files and standard streams, too,
+/// whose bytes std's contracts don't mention.
 #[derive(Drop)]
 pub struct Device<T> {
     inner: T,
-    /// The bytes that std's `read` gave.
+    /// The bytes that std's `read` returned.
     given: GhostBytes,
-    /// Whether the last of these calls told the end.
+    /// Whether the last of these calls reported the end.
     ended: GhostFlag,
     /// The bytes that std's `write` took.
     taken: GhostBytes,
@@ -27,7 +27,7 @@ pub struct Device<T> {
 }
 
 impl<T> Device<T> {
-    /// Wraps a reader or writer that has given and taken nothing, with no failure and no flush so far.
+    /// Wraps a reader or writer that has returned and taken no byte, with no failure and no flush so far.
     pub fn new(inner: T) -> Device<T>
         ensures inner { result.inner ≡ inner }
         ensures given { result.given.bytes ≡ [] }

@@ -4,11 +4,16 @@ ghost use Rattle.sabr_model.specs.Devices.{WritesText};
 
 use crate::devices::traits::Write;
 
-/// A writer failed. What it took before is a beginning of the text.
+/// A writer failed. The bytes that it took before are a prefix of the text.
 #[derive(Clone, Copy, Debug, PartialEq, Eq)]
 pub struct WriteFault;
 
-/// Writes the whole text. Fails at the writer's first failure. It doesn't flush.
+/// Writes the whole text, with as many calls of the writer as that takes. It doesn't flush.
+///
+/// # Errors
+///
+/// [`WriteFault`] at the writer's first failure, which may be a call that took no byte. The writer has then taken a
+/// prefix of the text.
 pub fn write_text<W: Write>(writer: &mut W, text: &[u8]) -> Result<(), WriteFault>
     ensures { WritesText (W.output writer.old) text.now result (W.output writer.new) }
 {

@@ -10,16 +10,16 @@ pub struct Failed;
 
 /// A reader of bytes.
 ///
-/// A contract sees all bytes that were given, whether the last read told the end, and the count of the reader's
+/// A contract sees all bytes that were returned, whether the last read reported the end, and the count of the reader's
 /// failures. It also sees the bytes that are left, if the reader knows them.
 pub trait Read {
     /// What a contract sees of the reader.
     ghost input: { Self → Input };
 
-    /// Reads bytes to the front of the buffer and returns their number. It is 0 only at the end, or if the buffer has
-    /// no room.
+    /// Reads bytes to the front of the buffer and returns their number. The number is 0 only at the end, or if the
+    /// buffer is empty.
     ///
-    /// `Failed` moves no byte and counts as one failure; nothing else counts.
+    /// `Failed` moves no byte and counts as one failure. Nothing else counts.
     fn read(&mut self, buf: &mut [u8]) -> Result<usize, Failed>
         ensures bound { IfOk result (λ n. n ≤ length buf.new) }
         ensures bytes { ReadGives (input self.old) result buf.new (input self.new) }
@@ -36,9 +36,9 @@ pub trait Write {
     /// What a contract sees of the writer. `flushed` is known after a `flush` that returned `Ok`, until the next call.
     ghost output: { Self → Output };
 
-    /// Takes bytes from the front of the piece and returns their number.
+    /// Takes bytes from the front of the slice and returns their number.
     ///
-    /// `Failed` moves no byte and counts as one failure. So does taking no byte of a piece that isn't empty; nothing
+    /// `Failed` moves no byte and counts as one failure. So does taking no byte of a slice that isn't empty. Nothing
     /// else counts.
     fn write(&mut self, buf: &[u8]) -> Result<usize, Failed>
         ensures bound { IfOk result (λ n. n ≤ length buf.now) }

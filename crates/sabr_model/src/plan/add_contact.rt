@@ -29,7 +29,7 @@ impl<A: Allocator + Copy> Plan<A> {
         requires end { end ≤ last_time }
         requires accepted { contact_refusal self.old.plan from to start end ≡ None }
 
-        // It has the next number. A refusal changes nothing.
+        // It has the next number. An error changes nothing.
         ensures number { IfOk result (λ n. n ≡ self.old.plan.greatest + 1) }
         ensures ok { OnOk result (self.new.plan ≡ with_contact self.old.plan (next_contact self.old.plan from to start end rate)) }
         ensures err { OnErr result (self.new ≡ self.old) }
@@ -54,16 +54,17 @@ impl<A: Allocator + Copy> Plan<A> {
         Ok(number)
     }
 
-    /// Adds a contact, and returns its number: one more than the greatest number ever assigned.
+    /// Adds a contact, and returns its number: one more than the largest number ever assigned.
     ///
-    /// Times are seconds since 1970-01-01T00:00:00Z; the rate is in bytes per second. A refusal leaves the plan as it
-    /// was.
+    /// Times are seconds since 1970-01-01T00:00:00Z, and `end` is at most 253370764799. The rate is in bytes per
+    /// second. An error leaves the plan as it was. It is O(1) on average for a plan that was built with this call, and
+    /// a pass over the contacts for a plan that was read.
     ///
     /// # Errors
     ///
-    /// The first that holds: `EmptyWindow` if the contact does not start before its end, `SelfPair` if sender and
+    /// The first that applies: `EmptyWindow` if the contact does not start before its end, `SelfPair` if sender and
     /// receiver are the same, `DuplicateContact` if a standing contact has this sender, receiver and start, `TooMany`
-    /// if 20000 numbers were assigned, and `NoMemory`.
+    /// if 20000 numbers were assigned, and `NoMemory` if an allocation failed.
     pub fn add_contact(
         &mut self,
         from: u64,
@@ -76,11 +77,11 @@ impl<A: Allocator + Copy> Plan<A> {
         requires to { 0 < to }
         requires end { end ≤ last_time }
 
-        // The first reason to refuse it is the answer. Without one, only memory can be refused.
+        // The first reason to refuse it is returned. Without one, only an allocation can fail.
         ensures refused { (f : AddFault) → contact_refusal self.old.plan from to start end ≡ Some f → result ≡ Err f }
         ensures accepted { contact_refusal self.old.plan from to start end ≡ None → IsOkUnless result NoMemory }
 
-        // It has the next number. A refusal changes nothing.
+        // It has the next number. An error changes nothing.
         ensures number { IfOk result (λ n. n ≡ self.old.plan.greatest + 1) }
         ensures ok { OnOk result (self.new.plan ≡ with_contact self.old.plan (next_contact self.old.plan from to start end rate)) }
         ensures err { OnErr result (self.new ≡ self.old) }

@@ -21,7 +21,7 @@ impl<A: Allocator + Copy> Plan<A> {
         requires light { range.light ≤ most_light }
         requires accepted { range_refusal self.old.plan range ≡ None }
 
-        // It stands among the ranges. A refusal changes nothing.
+        // It is among the ranges. An error changes nothing.
         ensures ok { OnOk result (self.new ≡ record { plan = with_range self.old.plan range; table = self.old.table }) }
         ensures err { OnErr result (self.new ≡ self.old) }
     {
@@ -31,16 +31,17 @@ impl<A: Allocator + Copy> Plan<A> {
         Ok(())
     }
 
-    /// Adds a range: the one-way light time, 0 to 1000000 seconds, from `start` on and before `end`.
+    /// Adds a range: the one-way light time, 0 to 1000000 seconds, from `start` until before `end`. Both are seconds
+    /// since 1970-01-01T00:00:00Z, and `end` is at most 253370764799.
     ///
-    /// With `one < other` it holds both ways, with `one > other` only from `one` to `other`. A refusal leaves the plan
-    /// as it was.
+    /// With `one < other` it holds both ways, with `one > other` only from `one` to `other` (this project's profile of
+    /// ionrc(5)). An error leaves the plan as it was. It is a binary search, and moves the ranges that come after it.
     ///
     /// # Errors
     ///
-    /// The first that holds: `EmptyWindow` if the range does not start before its end, `SelfPair` if both nodes are the
-    /// same, `RangeOverlap` if a standing range of this ordered pair overlaps it, `TooMany` if there are 20000
-    /// standing ranges, and `NoMemory`.
+    /// The first that applies: `EmptyWindow` if the range does not start before its end, `SelfPair` if both nodes are
+    /// the same, `RangeOverlap` if a standing range of this ordered pair overlaps it, `TooMany` if there are 20000
+    /// standing ranges, and `NoMemory` if an allocation failed.
     pub fn add_range(
         &mut self,
         one: u64,
@@ -54,11 +55,11 @@ impl<A: Allocator + Copy> Plan<A> {
         requires end { end ≤ last_time }
         requires light { light ≤ most_light }
 
-        // The first reason to refuse it is the answer. Without one, only memory can be refused.
+        // The first reason to refuse it is returned. Without one, only an allocation can fail.
         ensures refused { (f : AddFault) → range_refusal self.old.plan (new_range one other start end light) ≡ Some f → result ≡ Err f }
         ensures accepted { range_refusal self.old.plan (new_range one other start end light) ≡ None → IsOkUnless result NoMemory }
 
-        // It stands among the ranges. A refusal changes nothing.
+        // It is among the ranges. An error changes nothing.
         ensures ok { OnOk result (self.new ≡ record { plan = with_range self.old.plan (new_range one other start end light); table = self.old.table }) }
         ensures err { OnErr result (self.new ≡ self.old) }
     {

@@ -10,8 +10,8 @@ use crate::request::Request;
 use std::alloc::Allocator;
 
 /// Returns the second at which a bundle that is at the contact's sender at `t` arrives at its receiver (CCSDS
-/// 734.3-B-1: earliest transmission time, one-way light time and margin). None if it is too late or no light time is
-/// known.
+/// 734.3-B-1: earliest transmission time, one-way light time and margin). `None` if the contact has ended by the second
+/// at which the bundle could be sent, or if no light time is known.
 pub fn arrive<A: Allocator + Copy>(
     plan: &Plan<A>,
     request: &Request,

@@ -16,12 +16,14 @@ use std::alloc::Allocator;
 
 impl<A: Allocator + Copy> Plan<A> {
     /// Deletes the contact with this sender, receiver and start, and returns its number, which is never assigned again.
+    /// The start is in seconds since 1970-01-01T00:00:00Z.
     ///
-    /// It takes no memory.
+    /// It doesn't allocate. Its time grows with the number of records. Afterwards reading a light time is a binary
+    /// search.
     ///
     /// # Errors
     ///
-    /// `NothingToDelete` if there is no such standing contact; then the plan stays as it was.
+    /// `NothingToDelete` if there is no such standing contact. Then the plan stays as it was.
     pub fn delete_contact(&mut self, from: u64, to: u64, start: u64) -> Result<u32, AddFault>
         ensures value { result ≡ ok_or (number_of_opening self.old.plan from to start) NothingToDelete }
         ensures ok { OnOk result (self.new.plan ≡ without_contact self.old.plan from to start) }
@@ -39,13 +41,14 @@ impl<A: Allocator + Copy> Plan<A> {
         Ok(contact.number)
     }
 
-    /// Deletes the range of this ordered pair that begins at this start.
+    /// Deletes the range of this ordered pair that begins at this start, in seconds since 1970-01-01T00:00:00Z.
     ///
-    /// It takes no memory.
+    /// It doesn't allocate. Its time grows with the number of records. Afterwards reading a light time is a binary
+    /// search.
     ///
     /// # Errors
     ///
-    /// `NothingToDelete` if there is no such standing range; then the plan stays as it was.
+    /// `NothingToDelete` if there is no such standing range. Then the plan stays as it was.
     pub fn delete_range(&mut self, one: u64, other: u64, start: u64) -> Result<(), AddFault>
         ensures deleted { IsOk result ↔ IsTrue (list_any (begins one other start) self.old.plan.ranges) }
         ensures fault { IfErr result (λ f. f ≡ NothingToDelete) }

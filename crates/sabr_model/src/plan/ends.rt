@@ -18,14 +18,14 @@ pub struct Ends {
 }
 
 impl<A: Allocator + Copy> Plan<A> {
-    /// The ends of the first contacts by number, as far as the plan keeps them: of all or of none.
+    /// The indexes of the nodes of each contact, by number. The list is empty if the plan hasn't stored them.
     pub fn known_ends(&self) -> &[Ends]
         ensures { BeginEnds self.now.table self.now.plan.contacts result.now }
     {
         &self.ends
     }
 
-    /// Returns the index of the receiver of the contact at a place.
+    /// Returns the index of the receiver of the contact at an index.
     #[inline(always)]
     pub(super) fn receiver_at(&self, place: usize, contact: &Contact) -> usize
         requires within { place < length self.now.plan.contacts }

@@ -12,11 +12,11 @@ use crate::contact::{Contact, Range};
 use std::alloc::Allocator;
 
 impl<A: Allocator + Copy> Plan<A> {
-    /// Returns the one-way light time in seconds, 0 to 1000000, in force at the contact's start. None if no range
+    /// Returns the one-way light time in seconds, 0 to 1000000, in force at the contact's start. `None` if no range
     /// states one.
     ///
-    /// A range from the greater node to the lesser holds only that way, and there takes precedence over one that holds
-    /// both ways (this project's profile). It takes one or two binary searches of the ranges.
+    /// A range from the larger node to the smaller holds only that way, and there takes precedence over one that holds
+    /// both ways (this project's profile). It is one or two binary searches of the ranges.
     pub fn light(&self, contact: &Contact) -> Option<u32>
         ensures value { result ≡ light_of self.now.plan contact.now }
         ensures limit { IfSome result (λ l. l ≤ most_light) }
@@ -24,7 +24,8 @@ impl<A: Allocator + Copy> Plan<A> {
         light_of_contact(&self.ranges, contact)
     }
 
-    /// Returns the standing contact with this number, and its light time. It reads no range if the plan keeps light times.
+    /// Returns the standing contact with this number, and its light time. `None` if there is no such contact. It reads
+    /// no range if the plan has stored the light times.
     pub(crate) fn contact_with_light(&self, number: u32) -> Option<(&Contact, Option<u32>)>
         ensures contact { MatchOption result (contact_named self.now.plan number ≡ None) (λ x. contact_named self.now.plan number ≡ Some x.0.now) }
         ensures light { IfSome result (λ x. x.1 ≡ light_of self.now.plan x.0.now) }
@@ -35,7 +36,7 @@ impl<A: Allocator + Copy> Plan<A> {
         Some((contact, self.light_at(place, contact)))
     }
 
-    /// Returns the light time of the contact at a place.
+    /// Returns the light time of the contact at an index.
     #[inline(always)]
     pub(super) fn light_at(&self, place: usize, contact: &Contact) -> Option<u32>
         requires within { place < length self.now.plan.contacts }

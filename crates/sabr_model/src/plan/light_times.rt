@@ -1,4 +1,4 @@
-//! A list of light times, in a word each.
+//! A list of light times, in 32 bits each.
 
 ghost use Rattle.std.specs.Prelude.{◌≡◌, ◌≤◌, ◌<◌, ◌∷◌, ◌++◌, [], IfOk, IfSome, MatchOption, length, slice_index_or};
 ghost use Rattle.sabr_model.specs.plan.Plan.{most_light};
@@ -6,7 +6,7 @@ ghost use Rattle.sabr_model.specs.plan.Plan.{most_light};
 use std::alloc::{AllocError, Allocator};
 use std::marker::Model;
 
-/// The word that stands for no light time. It is above the greatest light time.
+/// The number that means "no light time". It is above the largest light time.
 const NO_LIGHT: u32 = u32::MAX;
 
 /// Light times, each of which may be missing. They take 4 bytes each.
@@ -26,7 +26,7 @@ impl<A: Allocator + Copy> Model for LightTimes<A> {
 }
 
 impl<A: Allocator + Copy> LightTimes<A> {
-    /// Makes an empty list. It takes no memory.
+    /// Makes an empty list. It doesn't allocate.
     pub fn new(alloc: A) -> LightTimes<A>
         ensures items { result ≡ [] }
     {
@@ -35,7 +35,7 @@ impl<A: Allocator + Copy> LightTimes<A> {
         }
     }
 
-    /// Reserves room for so many more.
+    /// Reserves room for `count` more.
     pub fn reserve(&mut self, count: usize) -> Result<(), AllocError>
         ensures { self.new ≡ self.old }
     {
@@ -51,7 +51,7 @@ impl<A: Allocator + Copy> LightTimes<A> {
         Ok(())
     }
 
-    /// Returns the light time at a place. None if the list ends before it.
+    /// Returns the light time at an index. `None` if the list ends before it.
     #[inline(always)]
     pub fn get(&self, place: usize) -> Option<Option<u32>>
         ensures { MatchOption result (length self.now ≤ place) (λ l. (place < length self.now) × (l ≡ slice_index_or self.now place l)) }
@@ -60,7 +60,7 @@ impl<A: Allocator + Copy> LightTimes<A> {
         Some(if word == NO_LIGHT { None } else { Some(word) })
     }
 
-    /// Forgets all of them.
+    /// Removes all light times.
     pub fn clear(&mut self)
         ensures items { self.new ≡ [] }
     {

@@ -12,16 +12,17 @@ use super::ranges::{light_of_range, light_until, ranges_until};
 use crate::contact::{Contact, Range};
 use std::alloc::{AllocError, Allocator};
 
-/// So many slots have guesses for each range. With 4, walker-24 has 195 wrong guesses, each of which costs a binary search.
-/// To vary it and the next: `bench/figures.py --counts 1 --only walker-24-5000,walker-24-20000,cube`.
+/// The number of slots with guesses for each range. With 4, walker-24 has 195 wrong guesses, each of which costs a
+/// binary search. To vary it and the next: `bench/figures.py --counts 1 --only walker-24-5000,walker-24-20000,cube`.
 const SLOTS_OF_RANGE: usize = 8;
 
-/// The guesses of more ranges than this share the slots of so many. With half as many slots, cube has 990 more wrong guesses.
+/// The largest number of ranges for which slots are made. More ranges share these slots. With half as many slots, cube
+/// has 990 more wrong guesses.
 const MOST_RANGES: usize = 8192;
 
 /// Returns the light time of each contact. A pair's first range is guessed first, and then the range of the pair's last
-/// contact. It takes a few steps for a contact with the range that is guessed, or with the one before, and a binary search
-/// of the ranges or two for others.
+/// contact. It takes a few steps for a contact whose range is the guessed one or the one before it, and one or two
+/// binary searches of the ranges for others.
 pub fn lights_of<A: Allocator + Copy>(
     alloc: A,
     contacts: &[Contact],
@@ -42,7 +43,7 @@ pub fn lights_of<A: Allocator + Copy>(
     Ok(lights)
 }
 
-/// Returns for each pair of nodes the place of its first range, as a guess. Pairs may share a slot.
+/// Returns for each pair of nodes the index of its first range, as a guess. Pairs may share a slot.
 fn guesses_of<A: Allocator + Copy>(alloc: A, ranges: &[Range]) -> Result<Vec<u32, A>, AllocError> {
     let mut guesses = Vec::new(alloc);
     let slots = (ranges.len().min(MOST_RANGES) * SLOTS_OF_RANGE).next_power_of_two();
@@ -61,7 +62,7 @@ fn slot_of(guesses: &[u32], one: u64, other: u64) -> usize {
     one.wrapping_mul(509).wrapping_add(other) as usize & guesses.len().saturating_sub(1)
 }
 
-/// Notes the place of a range in a slot.
+/// Notes the index of a range in a slot.
 #[inline(always)]
 fn note_guess(guesses: &mut [u32], slot: usize, place: usize) {
     if slot < guesses.len() {
@@ -69,15 +70,15 @@ fn note_guess(guesses: &mut [u32], slot: usize, place: usize) {
     }
 }
 
-/// Returns true if each range is written from the lesser node, so that it holds both ways.
+/// Returns true if each range is written from the smaller node, so that it holds both ways.
 fn are_rising(ranges: &[Range]) -> bool
     ensures { result ≡ list_all is_rising ranges.now }
 {
     ranges.iter().all(|r| r.one < r.other)
 }
 
-/// Returns the light time that these ranges state for a contact. `rising` says that each is
-/// written from the lesser node.
+/// Returns the light time that these ranges state for a contact. `rising` means that each is written from the smaller
+/// node.
 fn light_of_contact_near(
     ranges: &[Range],
     contact: &Contact,
@@ -101,8 +102,8 @@ fn light_of_contact_near(
     light_near(ranges, to, from, start, guesses)
 }
 
-/// Returns the light time of the range of this ordered pair that is in force at `t`. The place of a range is guessed for the
-/// pair, which may share its slot with others; a wrong guess costs a binary search.
+/// Returns the light time of the range of this ordered pair that is in force at `t`. The index of the range is guessed
+/// for the pair, which may share its slot with others. A wrong guess costs a binary search.
 #[inline(always)]
 fn light_near(ranges: &[Range], one: u64, other: u64, t: u64, guesses: &mut [u32]) -> Option<u32>
     requires { IsRangeList ranges.now }
@@ -122,7 +123,8 @@ fn light_near(ranges: &[Range], one: u64, other: u64, t: u64, guesses: &mut [u32
     light
 }
 
-/// The same, looked for first at a place. Returns where a later light time of the pair may be found, too.
+/// Returns the light time of the range of this ordered pair that is in force at `t`. The range at a guessed index is
+/// tried first. Also returns the index where a later light time of the pair may be found.
 fn light_behind(
     ranges: &[Range],
     one: u64,
@@ -144,7 +146,7 @@ fn light_behind(
     )
 }
 
-/// Returns the light time of the range at a place, if it is of this ordered pair and in force at `t`.
+/// Returns the light time of the range at an index, if it is of this ordered pair and in force at `t`.
 #[inline(always)]
 fn light_at(ranges: &[Range], place: usize, one: u64, other: u64, t: u64) -> Option<u32>
     requires { IsRangeList ranges.now }

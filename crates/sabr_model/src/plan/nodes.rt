@@ -12,7 +12,7 @@ use crate::hop::Hop;
 use std::alloc::Allocator;
 
 impl<A: Allocator + Copy> Plan<A> {
-    /// The number of nodes that send or receive some standing contact.
+    /// The number of nodes that send or receive a standing contact, at most 40000.
     pub fn nodes(&self) -> usize
         ensures value { result ≡ node_count self.now.plan.contacts }
         ensures table { result ≡ length self.now.table }
@@ -22,7 +22,8 @@ impl<A: Allocator + Copy> Plan<A> {
         self.table.len()
     }
 
-    /// The rising numbers of the standing contacts that the node sends; none for a node that sends none.
+    /// The numbers of the standing contacts that the node sends, in ascending order. The list is empty for a node that
+    /// sends none. It is O(1).
     pub fn from_node(&self, node: u64) -> &[u32]
         ensures { result.now ≡ sent_by self.now.plan.contacts node }
     {
@@ -32,15 +33,21 @@ impl<A: Allocator + Copy> Plan<A> {
         }
     }
 
-    /// Returns the index of a node that sends or receives some standing contact.
+    /// Returns the index of a node in the table of nodes, from 0. `None` if the node sends and receives no standing
+    /// contact. It is O(1).
+    ///
+    /// Adding a record keeps all indexes, and deleting a contact may change them.
     pub fn node_index(&self, node: u64) -> Option<usize>
         ensures { MatchOption result (IsFalse (has node self.now.table)) (λ k. slice_get self.now.table k ≡ Some node) }
     {
         self.table.get_index_of(&node)
     }
 
-    /// Returns the standing contact with this number, as a search reads it. This is O(1) for a plan that was read and
-    /// not changed since.
+    /// Returns the window, receiver and light time of the standing contact with this number. `None` if the number was
+    /// never assigned, or its contact was deleted.
+    ///
+    /// It is O(1) for a plan that was read from lines without deletions, and not changed since. Otherwise it is up to
+    /// three binary searches: one of the contacts, and two of the ranges.
     #[inline(always)]
     pub fn hop(&self, number: u32) -> Option<Hop>
         ensures { MatchOption result (contact_named self.now.plan number ≡ None) (IsHopNamed self.now number) }
@@ -49,7 +56,11 @@ impl<A: Allocator + Copy> Plan<A> {
         Some(self.hop_of(place, &self.contacts[place]))
     }
 
-    /// Returns the number of the contact at a place, and the contact as a search reads it.
+    /// Returns the number of the contact at an index of [`contacts`](Plan::contacts), and its window, receiver and
+    /// light time. The index is below the number of standing contacts.
+    ///
+    /// It is O(1) for a plan that was read and not changed since, and one or two binary searches of the ranges
+    /// otherwise.
     #[inline(always)]
     pub fn hop_at(&self, place: usize) -> (u32, Hop)
         requires { place < length self.now.plan.contacts }
@@ -60,7 +71,7 @@ impl<A: Allocator + Copy> Plan<A> {
         (contact.number, self.hop_of(place, contact))
     }
 
-    /// Returns the contact at a place as a search reads it.
+    /// Returns the window, receiver and light time of the contact at an index.
     #[inline(always)]
     fn hop_of(&self, place: usize, contact: &Contact) -> Hop
         requires within { place < length self.now.plan.contacts }

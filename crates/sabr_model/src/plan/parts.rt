@@ -12,10 +12,14 @@ use crate::openings::Openings;
 use std::alloc::Allocator;
 
 impl<A: Allocator + Copy> Plan<A> {
-    /// Makes the plan of these contacts and ranges, where `greatest` is the greatest number ever assigned, or returns
-    /// `NoMemory` if memory for its tables is refused.
+    /// Makes the plan of these contacts and ranges, where `greatest` is the largest number ever assigned.
     ///
-    /// It takes some steps for each contact and range.
+    ///
+    /// Its time grows with the number of contacts and ranges.
+    ///
+    /// # Errors
+    ///
+    /// [`NoMemory`] if an allocation for its tables failed.
     pub fn of_parts(
         alloc: A,
         contacts: Vec<Contact, A>,

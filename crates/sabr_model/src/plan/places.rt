@@ -1,4 +1,4 @@
-//! Finding the place of a contact by its number.
+//! Finding the index of a contact by its number.
 
 ghost use Rattle.std.specs.Prelude.{◌≡◌, ℕ, ◌<◌, ◌≤◌, ◌-◌, ◌==◌, IsTrue, map, find, length, slice_index_or};
 ghost use Rattle.std.specs.Option.{option_copied};
@@ -7,8 +7,8 @@ ghost use Rattle.sabr_model.specs.plan.Plan.{rises_above, IsPlaceOf};
 
 use crate::contact::Contact;
 
-/// Returns the bounds of the places where the contact with this number can stand. Each number without a standing
-/// contact moves the later contacts one place further from their numbers.
+/// Returns the bounds of the indexes where the contact with this number can be. Each deleted contact moves the later
+/// contacts one index further from their numbers.
 fn window_of_number(contacts: &[Contact], number: u32) -> (usize, usize)
     requires { IsTrue (rises_above 0 (map (λ c. c.number) contacts.now)) }
     ensures within { result.1 ≤ length contacts.now }
@@ -24,7 +24,7 @@ fn window_of_number(contacts: &[Contact], number: u32) -> (usize, usize)
     (number.saturating_sub(missing + 1), number.min(count))
 }
 
-/// Returns the number of the contact at a place.
+/// Returns the number of the contact at an index.
 fn number_at(contacts: &[Contact], place: usize) -> u32
     requires { place < length contacts.now }
     ensures { (d : Contact) → result ≡ (slice_index_or contacts.now place d).number }
@@ -32,7 +32,8 @@ fn number_at(contacts: &[Contact], place: usize) -> u32
     contacts[place].number
 }
 
-/// Returns the place of the contact with this number. This is O(1) if no contact was deleted, and else a binary search.
+/// Returns the index of the contact with this number. It is O(1) if no contact was deleted, and a binary search
+/// otherwise.
 pub fn place_of_number(contacts: &[Contact], number: u32) -> Option<usize>
     requires { IsTrue (rises_above 0 (map (λ c. c.number) contacts.now)) }
     ensures { IsPlaceOf contacts.now number result }
@@ -44,7 +45,7 @@ pub fn place_of_number(contacts: &[Contact], number: u32) -> Option<usize>
     }
 }
 
-/// Returns true if the contact with this number stands where it would if no contact before it was deleted.
+/// Returns true if the contact with this number has the index that it would have if no contact before it was deleted.
 fn is_at_own_place(contacts: &[Contact], number: u32) -> bool
     ensures within { IsTrue result → (0 < number) × (number ≤ length contacts.now) }
     ensures there { IsTrue result → (d : Contact) → (slice_index_or contacts.now (number - 1) d).number ≡ number }
@@ -53,7 +54,7 @@ fn is_at_own_place(contacts: &[Contact], number: u32) -> bool
     0 < count && count <= contacts.len() && number_at(contacts, count - 1) == number
 }
 
-/// Finds the place of the contact with this number by binary search.
+/// Finds the index of the contact with this number by binary search.
 fn halved_place(contacts: &[Contact], number: u32) -> Option<usize>
     requires { IsTrue (rises_above 0 (map (λ c. c.number) contacts.now)) }
     ensures { IsPlaceOf contacts.now number result }
@@ -74,7 +75,7 @@ fn halved_place(contacts: &[Contact], number: u32) -> Option<usize>
     None
 }
 
-/// Finds the contact with this number.
+/// Finds the contact with this number, or returns `None`.
 pub fn contact_of_number(contacts: &[Contact], number: u32) -> Option<&Contact>
     requires { IsTrue (rises_above 0 (map (λ c. c.number) contacts.now)) }
     ensures { option_copied result ≡ find (λ c. c.number == number) contacts.now }

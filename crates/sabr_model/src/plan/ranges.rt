@@ -18,7 +18,7 @@ pub fn comes_by(place: (u64, u64, u64), bound: (u64, u64, u64)) -> bool
         || (place.0 == bound.0 && (place.1 < bound.1 || (place.1 == bound.1 && place.2 <= bound.2)))
 }
 
-/// Returns true if the range at a place comes no later than a pair and second, in the order of ranges.
+/// Returns true if the range at an index comes no later than a pair and second, in the order of ranges.
 fn range_comes_by(ranges: &[Range], place: usize, one: u64, other: u64, t: u64) -> bool
     requires { place < length ranges.now }
     ensures { (d : Range) → IsTrue result ↔ (number_of_range (slice_index_or ranges.now place d) ≤ place_number one other t) }
@@ -45,7 +45,7 @@ pub fn ranges_until(ranges: &[Range], one: u64, other: u64, t: u64) -> usize
     low
 }
 
-/// Returns the light time of a range, if it is of this ordered pair and in force at `t`.
+/// Returns the light time of a range if it is of this ordered pair and in force at `t`, and `None` otherwise.
 #[inline(always)]
 pub fn light_of_range(range: &Range, one: u64, other: u64, t: u64) -> Option<u32>
     ensures { result ≡ (if (range.now.one == one) && (range.now.other == other) && is_within range.now.start range.now.end t then Some range.now.light else None) }
@@ -57,7 +57,8 @@ pub fn light_of_range(range: &Range, one: u64, other: u64, t: u64) -> Option<u32
     }
 }
 
-/// The light time at `t` for this ordered pair, by the number of ranges that come by it.
+/// Returns the light time at `t` for this ordered pair, where `count` ranges come no later than the pair and `t`.
+/// `None` if no range of the pair is in force.
 pub fn light_until(ranges: &[Range], count: usize, one: u64, other: u64, t: u64) -> Option<u32>
     requires ranges { IsRangeList ranges.now }
     requires count { IsCountUntil ranges.now (place_number one other t) count }
@@ -69,7 +70,7 @@ pub fn light_until(ranges: &[Range], count: usize, one: u64, other: u64, t: u64)
     light_of_range(&ranges[count - 1], one, other, t)
 }
 
-/// Returns the light time of the range of this ordered pair that is in force at `t`.
+/// Returns the light time of the range of this ordered pair that is in force at `t`, or `None`. It is a binary search.
 pub fn light_in_force(ranges: &[Range], one: u64, other: u64, t: u64) -> Option<u32>
     requires { IsRangeList ranges.now }
     ensures { result ≡ light_of_pair ranges.now one other t }
@@ -104,7 +105,7 @@ impl Range {
             && other.start < self.end
     }
 
-    /// Returns true if this overlaps one of the ranges of its ordered pair. It takes a binary search.
+    /// Returns true if this overlaps one of the ranges of its ordered pair. It is a binary search.
     pub fn overlaps_some(&self, ranges: &[Range]) -> bool
         requires { IsRangeList ranges.now }
         ensures { result ≡ list_any (overlap self.now) ranges.now }

@@ -10,8 +10,9 @@ use crate::limits::MOST_RECORDS;
 use crate::opening::Opening;
 
 impl Opening {
-    /// Returns the first reason to refuse a contact with this opening and end, if there is one other than out of
-    /// memory. `clashes` says whether another contact has this opening, and `given` how many numbers were assigned.
+    /// Returns the first reason to refuse a contact with this opening and end, or `None`. A failed allocation is no
+    /// reason here. `clashes` is whether another contact has this opening, and `given` is the number of contact numbers
+    /// assigned so far.
     pub fn refusal(&self, end: u64, clashes: bool, given: u32) -> Option<AddFault>
         ensures { result ≡ first_refusal self.now.from self.now.to self.now.start end clashes DuplicateContact given }
     {
@@ -22,8 +23,8 @@ impl Opening {
 }
 
 impl Range {
-    /// Returns the first reason to refuse this range, if there is one other than out of memory. `clashes` says whether
-    /// it overlaps one of its ordered pair, and `count` how many ranges there are.
+    /// Returns the first reason to refuse this range, or `None`. A failed allocation is no reason here. `clashes` is
+    /// whether it overlaps a range of its ordered pair, and `count` is the number of ranges.
     pub fn refusal(&self, clashes: bool, count: usize) -> Option<AddFault>
         ensures { result ≡ first_refusal self.now.one self.now.other self.now.start self.now.end clashes RangeOverlap count }
     {
@@ -34,7 +35,7 @@ impl Range {
 }
 
 /// Returns the first reason to refuse a contact or a range between two nodes, over a window. It is `clash` if another
-/// clashes with it, and `TooMany` if the count is at its limit.
+/// record clashes with it, and `TooMany` if the count is at its limit.
 fn refusal(
     nodes: (u64, u64),
     window: (u64, u64),

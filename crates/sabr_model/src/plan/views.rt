@@ -10,7 +10,7 @@ use crate::contact::{Contact, Range};
 use std::alloc::Allocator;
 
 impl<A: Allocator + Copy> Plan<A> {
-    /// The standing contacts by number.
+    /// The standing contacts, by ascending number.
     pub fn contacts(&self) -> &[Contact]
         ensures value { result.now ≡ self.now.plan.contacts }
         ensures rules { IsPlan self.now.plan }
@@ -18,29 +18,31 @@ impl<A: Allocator + Copy> Plan<A> {
         &self.contacts
     }
 
-    /// States that a plan obeys the rules of contact plans, for contracts. It does nothing.
+    /// States that a plan obeys the rules of contact plans, for proofs. It does nothing at run time.
     pub fn tell_rules(&self)
         ensures { IsPlan self.now.plan }
     {
         self.contacts();
     }
 
-    /// The standing ranges by (one, other, start).
+    /// The standing ranges, in ascending order of (one, other, start).
     pub fn ranges(&self) -> &[Range]
         ensures { result.now ≡ self.now.plan.ranges }
     {
         &self.ranges
     }
 
-    /// The greatest number ever assigned to a contact, 0 at first.
+    /// The largest number ever assigned to a contact, 0 at first.
     pub fn greatest(&self) -> u32
         ensures { result ≡ self.now.plan.greatest }
     {
         self.greatest
     }
 
-    /// Returns the standing contact with this number. None if the number was never assigned, or its contact was
+    /// Returns the standing contact with this number. `None` if the number was never assigned, or its contact was
     /// deleted.
+    ///
+    /// It is O(1) if no contact was deleted, and a binary search otherwise.
     pub fn contact(&self, number: u32) -> Option<&Contact>
         ensures { option_copied result ≡ contact_named self.now.plan number }
     {

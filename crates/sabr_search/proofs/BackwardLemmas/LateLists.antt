@@ -5,7 +5,7 @@ use Rattle.std.proofs.lemmas.Grind.{common_steps}
 use Rattle.std.proofs.lemmas.Option.{slice_get_within}
 use Rattle.sabr_search.specs.declared.backward.deadlines.Deadline.{Deadline}
 use Rattle.sabr_search.specs.questions.Task.{SearchTask, Takes, IsTask}
-use Rattle.sabr_search.specs.layers.Late.{InTimeFor, IsLateEntry, AreLate, IsNotedLate, IsToldLate}
+use Rattle.sabr_search.specs.layers.Late.{InTimeFor, IsLateEntry, AreLate, IsToldLate}
 use Rattle.sabr_search.proofs.BackwardLemmas.Backward.{get_set_here, get_set_other, set_other}
 use Rattle.sabr_search.proofs.ForwardLemmas.LayerEntries.{same_below}
 use Rattle.sabr_search.proofs.WayLemmas.RoutesAndWays.{takes_timely, same_some}
@@ -36,13 +36,13 @@ set_cases xs k y p e less at = elim (cases_eq p k) [
   | inr other ↦ inl (other, sym (get_set_other xs k p y other) ∙ at)
 ]
 
-take_set : {X : Type 0} (k : ℕ) (xs : List X) (at : ℕ) (y : X) → k ≤ at → take k (slice_set xs at y) ≡ take k xs
+pub take_set : {X : Type 0} (k : ℕ) (xs : List X) (at : ℕ) (y : X) → k ≤ at → take k (slice_set xs at y) ≡ take k xs
 take_set zero xs at y le = refl
 take_set (suc k) [] at y le = refl
 take_set (suc k) (x ∷ xs) zero y le = absurd (omega arith)
 take_set (suc k) (x ∷ xs) (suc at) y le = ap (λ zs. x ∷ zs) (take_set k xs at y (omega arith))
 
-take_push : {X : Type 0} (k : ℕ) (xs : List X) (y : X) → k ≤ length xs → take k (xs ++ y ∷ []) ≡ take k xs
+pub take_push : {X : Type 0} (k : ℕ) (xs : List X) (y : X) → k ≤ length xs → take k (xs ++ y ∷ []) ≡ take k xs
 take_push zero xs y le = refl
 take_push (suc k) [] y le = absurd (omega arith)
 take_push (suc k) (x ∷ xs) y le = ap (λ zs. x ∷ zs) (take_push k xs y (omega arith))
@@ -103,6 +103,7 @@ module _ (task : SearchTask) (first begin : ℕ) (late place : List ℕ) (entrie
             let away : slice_index place v ≡ slice_index place u → ⊥ = λ same. differs (ap (λ (y : Deadline). y.node) (same_some (sym old ∙ ap (slice_get entries) same ∙ e0_at))) in
             rw keeps (get_set_other entries (slice_index place u) (slice_index place v) f away ∙ old))
       ];
+      goal = λ e at. was.goal e (sym (get_set_other entries (slice_index place u) 0 f (λ same. omega (arith, same, above, was.later))) ∙ at);
       each = λ p e some at. elim (set_cases entries (slice_index place u) f p e at_within at) [
         | inl old ↦ was.each p e some old.1
         | inr here ↦ new_entry e here.1
@@ -161,6 +162,7 @@ module _ (task : SearchTask) (first begin : ℕ) (late place : List ℕ) (entrie
             let old = was.top v less (omega (arith, some, keeps)) in
             rw (keeps, stays) (get_push_before entries f (slice_index place v) (slice_get_within entries (slice_index place v) (record { node = v; before = slice_index late v }) old) ∙ old))
       ];
+      goal = λ e at. was.goal e (sym (get_push_before entries f 0 (omega (arith, was.later, was.begins))) ∙ at);
       each = λ p e some at. elim (push_cases entries f p e at) [
         | inl old ↦ was.each p e some old.1
         | inr here ↦ new_entry e here.1
@@ -197,11 +199,6 @@ module _ (task : SearchTask) (first begin : ℕ) (late place : List ℕ) (entrie
             rw here.1 (s.0, s.1, s.2, s.3, in_time_pushed s.1 s.2 s.4))
       ];
     }
-
-  -- either way, what stood before the layer stays
-  pub late_noted : (place' : List ℕ) (entries' : List Deadline) → IsNotedLate late place entries begin u x place' entries' → AreLate task first begin (slice_set late u x) place' entries' × (take begin entries' ≡ take begin entries)
-  late_noted place' entries' (inl here) = rw (here.2, here.3) (changed_late here.0 here.1, take_set begin entries (slice_index place u) f here.1)
-  late_noted place' entries' (inr new) = rw (new.1, new.2) (pushed_late new.0, take_push begin entries f was.begins)
 
 -- if a link can be left later than before, each second sooner than that has a step in time
 pub sound_back : (task : SearchTask) → IsTask task → (u to latest last before first begin : ℕ) (entries : List Deadline) →

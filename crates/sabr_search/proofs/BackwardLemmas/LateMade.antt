@@ -1,12 +1,10 @@
 -- One layer more, backward from the goal.
 use Rattle.std.proofs.Common.{◌≡◌, ◌≢◌, inl, inr, ℕ, zero, suc, ◌+◌, ◌<◌, ◌≤◌, List, [], ◌∷◌, ◌++◌, length, take, replicate, false, Some, slice_get, slice_index, slice_index_or, refl, ap, sym, ◌∙◌, arith, length-append, add-one}
-use Rattle.std.specs.Prelude.{IfSome}
 use Rattle.std.proofs.lemmas.Bool.{cases_lt, cases_eq}
 use Rattle.std.proofs.lemmas.Option.{slice_get_within}
 use Rattle.sabr_search.specs.declared.backward.deadlines.Deadline.{Deadline}
 use Rattle.sabr_search.specs.questions.Task.{SearchTask, Takes, IsTask}
-use Rattle.sabr_search.specs.layers.Deadlines.{HasDeadline}
-use Rattle.sabr_search.specs.layers.Seconds.{AreNamed}
+use Rattle.sabr_search.specs.layers.Deadlines.{AreLinked, HasDeadline}
 use Rattle.sabr_search.specs.layers.Late.{InTimeFor, AreLate, AreTold, IsToldBy, AreBackLayers, AreLateLayers, IsMet}
 use Rattle.sabr_search.proofs.ForwardLemmas.LayerEntries.{same_below}
 use Rattle.sabr_search.proofs.ForwardLemmas.Forward.{last_or_before}
@@ -14,12 +12,12 @@ use Rattle.sabr_search.proofs.WayLemmas.RoutesAndWays.{same_some}
 use Rattle.sabr_search.proofs.ForwardLemmas.MadeLayers.{index_before, index_at, index_past, layer_of}
 
 -- an entry is the goal's, or one of another open node
-pub open_entry : (task : SearchTask) → IsTask task → (first begin : ℕ) (late place : List ℕ) (entries : List Deadline) → AreLate task first begin late place entries →
-    IfSome (slice_get entries 0) (λ e. e.node ≡ task.goal) → (p : ℕ) (e : Deadline) → slice_get entries p ≡ Some e → (e.node < length task.table) × (slice_index_or task.shut e.node false ≡ false)
-open_entry task is first begin late place entries was goal_first zero e at =
-    let same : e.node ≡ task.goal = rw at at goal_first in
+pub open_entry : (task : SearchTask) → IsTask task → (first begin : ℕ) (late place : List ℕ) (entries : List Deadline) → AreLate task first begin late place entries → (p : ℕ) (e : Deadline) → slice_get entries p ≡ Some e →
+    (e.node < length task.table) × (slice_index_or task.shut e.node false ≡ false)
+open_entry task is first begin late place entries was zero e at =
+    let same : e.node ≡ task.goal = (was.goal e at).0 in
     (omega (arith, is.goal_in), ap (λ k. slice_index_or task.shut k false) same ∙ is.goal_open)
-open_entry task is first begin late place entries was goal_first (suc p) e at = let one = was.each (suc p) e (omega arith) at in (one.inside, one.unshut)
+open_entry task is first begin late place entries was (suc p) e at = let one = was.each (suc p) e (omega arith) at in (one.inside, one.unshut)
 
 -- there is nothing after the end of a list
 pub nothing_past : (task : SearchTask) (first begin first' begin' : ℕ) (late place : List ℕ) (entries : List Deadline) → AreLate task first begin late place entries → begin' ≡ length entries → AreLate task first' begin' late place entries
@@ -29,6 +27,7 @@ nothing_past task first begin first' begin' late place entries was all = record 
   later = omega (arith, was.later, was.begins);
   begins = omega arith;
   top = was.top;
+  goal = was.goal;
   each = was.each;
   by = was.by;
   rising = was.rising;
@@ -194,18 +193,13 @@ all_zero zero k = refl
 all_zero (suc n) zero = refl
 all_zero (suc n) (suc k) = all_zero n k
 
--- and there still is if some are left out, and others added
-pub zeros_taken : (n m k : ℕ) (xs : List ℕ) → ((i : ℕ) → slice_index xs i ≡ 0) → slice_index (take n xs ++ replicate m 0) k ≡ 0
-zeros_taken zero m k xs none = all_zero m k
-zeros_taken (suc n) m k [] none = all_zero m k
-zeros_taken (suc n) m zero (x ∷ xs) none = none 0
-zeros_taken (suc n) m (suc k) (x ∷ xs) none = zeros_taken n m k xs (λ i. none (suc i))
-
--- where nothing is set no node has to be named
-pub named_none : (seconds : List ℕ) → ((k : ℕ) → slice_index seconds k ≡ 0) → AreNamed seconds []
-named_none seconds none = record {
-  named = λ k on. absurd (omega (arith, on, none k));
-  inside = λ p k at. absurd (omega (arith, slice_get_within [] p k at));
+-- the goal's entry is its only one
+pub linked_first : (e : Deadline) → AreLinked (e ∷ []) (0 ∷ [])
+linked_first e = record {
+  many = refl;
+  each = λ p v here.
+      (let first : p ≡ 0 = omega (arith, slice_get_within (e ∷ []) p _ here.1) in
+      rw first (record { within = omega arith; entry = λ some. absurd (omega (arith, some)); none = λ q low high there. omega (arith, high) }));
 }
 
 -- the goal alone
@@ -222,6 +216,7 @@ back_first task is since d ends late place entries ends_is entries_is places pla
           | inl same ↦ rw (same, place_is, late_is) refl
           | inr other ↦ absurd (omega (arith, some, none v other))
         ];
+        goal = λ e at. rw (← same_some at) (refl, omega arith);
         each = λ p e some at. absurd (omega (arith, slice_get_within (record { node = task.goal; before = d + 1 } ∷ []) p e at));
         by = λ p e at.
             (let zero_is : p ≡ 0 = omega (arith, slice_get_within (record { node = task.goal; before = d + 1 } ∷ []) p e at) in

@@ -1,15 +1,16 @@
 -- Dead ends: what they say of other seconds and hops, and what makes a node one.
-use Rattle.std.proofs.Common.{◌≡◌, inl, inr, ℕ, zero, suc, ◌+◌, ◌-◌, ◌<◌, ◌≤◌, false, List, [], ◌∷◌, length, min, slice_index, slice_index_or, add-zero, refl, sym, arith}
+use Rattle.std.proofs.Common.{◌≡◌, inl, inr, ℕ, zero, suc, ◌+◌, ◌-◌, ◌<◌, ◌≤◌, List, [], ◌∷◌, length, min, slice_index, add-zero, refl, sym, arith}
 use Rattle.std.proofs.lemmas.Bool.{cases_lt}
-use Rattle.sabr_search.specs.declared.level.Level.{Level}
+use Rattle.sabr_search.specs.declared.backward.deadlines.Deadlines.{Deadlines}
 use Rattle.sabr_search.specs.questions.Ways.{Leads}
 use Rattle.sabr_search.specs.questions.Task.{SearchTask, IsTask, Takes, HasNodes}
-use Rattle.sabr_search.specs.layers.Level.{IsDeadEnd, IsLastBelow, IsLatestWithin, IsLevelOf}
+use Rattle.sabr_search.specs.layers.Level.{IsDeadEnd, IsLevelOf}
+use Rattle.sabr_search.specs.layers.Deadlines.{IsInTimeWithin, IsLastBelow, IsLatestWithin, end_within}
 use Rattle.sabr_search.proofs.WayLemmas.Ways.{Leads-earlier}
 use Rattle.sabr_search.proofs.WayLemmas.RoutesAndWays.{takes_timely}
 use Rattle.sabr_search.proofs.ForwardLemmas.FirstWays.{goal_other}
 use Rattle.sabr_search.proofs.ForwardLemmas.MadeLayers.{index_past}
-use Rattle.sabr_search.proofs.LevelLemmas.Leaves.{IsInTimeWithin, leaves_out_none, in_time_at_start}
+use Rattle.sabr_search.proofs.LevelLemmas.Leaves.{leaves_out_none, in_time_at_start}
 
 -- a dead end is so later, and in fewer hops
 pub dead_later : (task : SearchTask) (d u t s hops fewer : ℕ) → t ≤ s → fewer ≤ hops → IsDeadEnd task d u t hops → IsDeadEnd task d u s fewer
@@ -34,49 +35,37 @@ rises ends rising j (suc m) within =
     let same : j + suc m ≡ j + m + 1 = omega arith in
     rw same (omega (arith, next, rises ends rising j m (omega arith)))
 
-module _ {A : Type 0} (task : SearchTask) (is : IsTask task) (level : Level A) (over : IsLevelOf task level) where
+module _ {A : Type 0} (task : SearchTask) (is : IsTask task) (d hops : ℕ) (s : Deadlines A) (over : IsLevelOf task d hops s) where
   -- who is in time for an entry of so many hops is in time by a second that none of them exceeds
-  pub latest_later : (u t hops before : ℕ) → IsLatestWithin level.layers.entries.items u (slice_index level.layers.ends.items (min (length level.layers.ends.items - 1) (hops + 1))) before
-      → IsInTimeWithin level.layers.ends.items level.layers.entries.items hops u t → t < before
-  latest_later u t hops before latest entry =
-      let ends = level.layers.ends.items in
+  pub latest_later : (u t before : ℕ) → IsLatestWithin s.entries.items u (end_within s.ends.items hops) before → IsInTimeWithin s.ends.items s.entries.items hops u t → t < before
+  latest_later u t before latest entry =
+      let ends = s.ends.items in
       let i = entry.0 in
       let place = entry.3 in
       let last : ℕ = min (length ends - 1) (hops + 1) in
       elim (cases_lt (i + 1) (length ends)) [
         | inl within ↦
             (let sum : (i + 1) + (last - (i + 1)) ≡ last = omega (arith, entry.2, within) in
-            let rise : slice_index ends (i + 1) ≤ slice_index ends last = rw sum at (rises ends over.made.layers.rising (i + 1) (last - (i + 1)) (omega (arith, sum, within))) in
+            let rise : slice_index ends (i + 1) ≤ slice_index ends last = rw sum at (rises ends over.layers.rising (i + 1) (last - (i + 1)) (omega (arith, sum, within))) in
             omega (arith, entry.4, latest place.0 (record { node = u; before = entry.1 }) (omega (arith, place.2, rise)) place.3 refl))
         | inr past ↦ absurd (omega (arith, place.2, index_past ends (i + 1) past))
       ]
 
-  -- whoever a way of the question leads to a node too late for its entries of so many hops is at a dead end
-  pub dead_out_of_time : (ms : List ℕ) (u t hops : ℕ) → 0 < length ms → Leads (Takes task) task.start task.at ms u t → (IsInTimeWithin level.layers.ends.items level.layers.entries.items hops u t → ⊥) → IsDeadEnd task level.delivery u t hops
-  dead_out_of_time ms u t hops some there late = dead_at task is.nodes level.delivery u t hops (λ ns e within way. elim (cases_lt level.delivery e) [
+  -- whoever a way of the question leads to a node after a second that none of its entries of so many hops exceeds is at a dead
+  -- end
+  pub dead_too_late : (ms : List ℕ) (u t before : ℕ) → 0 < length ms → Leads (Takes task) task.start task.at ms u t → IsLatestWithin s.entries.items u (end_within s.ends.items hops) before → before ≤ t → IsDeadEnd task d u t hops
+  dead_too_late ms u t before some there latest late = dead_at task is.nodes d u t hops (λ ns e within way. elim (cases_lt d e) [
     | inl yes' ↦ yes'
     | inr by ↦
-        (let entry = leaves_out_none task is level over ms ns u t e some there way by in
-        absurd (late (entry.0, entry.1, omega (arith, entry.2, within), entry.3, entry.4)))
+        (let entry = leaves_out_none task is d hops s over ms ns u t e some within there way by in
+        absurd (omega (arith, late, latest_later u t before latest (entry.0, entry.1, omega (arith, entry.2, within), entry.3, entry.4))))
   ])
 
-  -- the same by a second that none of its entries of so many hops exceeds
-  pub dead_too_late : (ms : List ℕ) (u t hops before : ℕ) → 0 < length ms → Leads (Takes task) task.start task.at ms u t
-      → IsLatestWithin level.layers.entries.items u (slice_index level.layers.ends.items (min (length level.layers.ends.items - 1) (hops + 1))) before → before ≤ t → IsDeadEnd task level.delivery u t hops
-  dead_too_late ms u t hops before some there latest late = dead_out_of_time ms u t hops some there (λ entry. omega (arith, late, latest_later u t hops before latest entry))
-
-  -- the start is one if the whole graph leaves it open and it is too late for its entries
-  pub start_out_of_time : (hops : ℕ) → slice_index_or over.whole.shut task.start false ≡ false → (IsInTimeWithin level.layers.ends.items level.layers.entries.items hops task.start task.at → ⊥) → IsDeadEnd task level.delivery task.start task.at hops
-  start_out_of_time hops unshut late = dead_at task is.nodes level.delivery task.start task.at hops (λ ns e within way. elim (cases_lt level.delivery e) [
+  -- the start is at one if it has an entry and is too late for those of so many hops
+  pub start_late : (place before : ℕ) → 0 < place → IsLastBelow s.entries.items task.start (length s.entries.items) place → IsLatestWithin s.entries.items task.start (end_within s.ends.items hops) before → before ≤ task.at → IsDeadEnd task d task.start task.at hops
+  start_late place before some last latest late = dead_at task is.nodes d task.start task.at hops (λ ns e within way. elim (cases_lt d e) [
     | inl yes' ↦ yes'
     | inr by ↦
-        (let entry = in_time_at_start task is level over unshut ns e way by in
-        absurd (late (entry.0, entry.1, omega (arith, entry.2, within), entry.3, entry.4)))
+        (let entry = in_time_at_start task is d hops s over (over.layers.unshut (place - 1) task.start (last.entry some)) ns e within way by in
+        absurd (omega (arith, late, latest_later task.start task.at before latest (entry.0, entry.1, omega (arith, entry.2, within), entry.3, entry.4))))
   ])
-
-  -- so it is if it has an entry and is too late for those of so many hops
-  pub start_late : (hops place before : ℕ) → 0 < place → IsLastBelow level.layers.entries.items task.start (length level.layers.entries.items) place
-      → IsLatestWithin level.layers.entries.items task.start (slice_index level.layers.ends.items (min (length level.layers.ends.items - 1) (hops + 1))) before → before ≤ task.at → IsDeadEnd task level.delivery task.start task.at hops
-  start_late hops place before some last latest late =
-      let entry = last.entry some in
-      start_out_of_time hops (over.made.layers.unshut (place - 1) (record { node = task.start; before = entry.0 }) entry.1) (λ sooner. omega (arith, late, latest_later task.start task.at hops before latest sooner))

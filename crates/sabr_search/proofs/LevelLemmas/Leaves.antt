@@ -7,23 +7,24 @@ use Rattle.std.proofs.lemmas.Grind.{common_steps}
 use Rattle.sabr_model.specs.plan.Plan.{TabledPlan, contact_named, has}
 use Rattle.sabr_model.specs.routes.Arrival.{RouteRequest, arrival}
 use Rattle.sabr_search.specs.declared.level.Level.{Level}
-use Rattle.sabr_search.specs.declared.backward.deadlines.Deadline.{Deadline}
+use Rattle.sabr_search.specs.declared.backward.deadlines.Deadlines.{Deadlines}
 use Rattle.sabr_search.specs.questions.Ways.{Leads}
 use Rattle.sabr_search.specs.questions.Task.{SearchTask, IsTask, IsAsked, Takes, is_closed}
 use Rattle.sabr_search.specs.questions.FirstSteps.{tabled_of}
-use Rattle.sabr_search.specs.layers.Deadlines.{HasDeadline}
+use Rattle.sabr_search.specs.layers.Deadlines.{HasDeadline, IsInTimeWithin}
 use Rattle.sabr_search.specs.layers.Reach.{AreSoonFor}
 use Rattle.sabr_search.specs.layers.Level.{IsMadeFor, IsLevel, IsLevelOf}
 use Rattle.sabr_search.proofs.WayLemmas.Ways.{Leads-append, Leads-later}
 use Rattle.sabr_search.proofs.WayLemmas.RoutesAndWays.{takes_timely}
 use Rattle.sabr_search.proofs.WayLemmas.Prefixes.{prefix_facts}
-use Rattle.sabr_search.proofs.BackwardLemmas.Backward.{way_open}
 use Rattle.sabr_search.proofs.AnswerLemmas.Around.{of_request}
 use Rattle.sabr_search.proofs.AnswerLemmas.Soonest.{stop_of, soon_after, receivers_open}
 
--- whoever is at node u at second t is in time for its entry in a layer of at most so many hops
-abbrev pub IsInTimeWithin : List ℕ → List Deadline → ℕ → ℕ → ℕ → Type 0
-IsInTimeWithin ends entries hops u t = (i : ℕ) × (x : ℕ) × (i ≤ hops) × HasDeadline ends entries i u x × (t < x)
+-- the node at which a way of some hops ends is one that a step takes
+way_ends : (task : SearchTask) (Open : ℕ → Type 0) → ((n u t w b : ℕ) → Takes task n u t w b → Open w) → (ns : List ℕ) (u t v e : ℕ) → Leads (Takes task) u t ns v e → 0 < length ns → Open v
+way_ends task Open each [] u t v e way some = absurd (omega arith)
+way_ends task Open each (n ∷ []) u t v e way some = rw (← way.3.0) (each n u t way.0 way.1 way.2)
+way_ends task Open each (n ∷ m ∷ ns) u t v e way some = way_ends task Open each (m ∷ ns) way.0 way.1 v e way.3 (omega arith)
 
 -- a flag past the end is off
 past_end : (flags : List Bool) (k : ℕ) → length flags ≤ k → slice_index_or flags k false ≡ false
@@ -64,64 +65,83 @@ module _ (whole task : SearchTask) (prefix : List ℕ) (first : IsAsked whole []
   soon_there : (since : List ℕ) → AreSoonFor (tabled_of whole) whole.request since → AreSoonFor (tabled_of task) task.request since
   soon_there since are = subst (λ r. AreSoonFor (tabled_of task) r since) request (subst (λ p. AreSoonFor p whole.request since) plan are)
 
+  -- each step of the question is one of the whole graph
+  whole_step : whole.excluded ≡ [] → (n u t w b : ℕ) → Takes task n u t w b → Takes whole n u t w b
+  whole_step none n u t w b s = record {
+    contact = s.contact;
+    named = ap (λ (p : TabledPlan). contact_named p.plan n) plan ∙ s.named;
+    sender = ap (λ (p : TabledPlan). slice_get p.table u) plan ∙ s.sender;
+    receiver = ap (λ (p : TabledPlan). slice_get p.table w) plan ∙ s.receiver;
+    unshut = opens_there w s.unshut;
+    allowed = λ same. ap (has n) none;
+    arrives = ap (λ (p : TabledPlan). arrival p.plan whole.request t s.contact) plan ∙ ap (λ r. arrival task.plan r t s.contact) request ∙ s.arrives;
+  }
+
 -- layers made for the question after no contact are a level of each question after a prefix
-pub level_of : {A : Type 0} (whole : SearchTask) (level : Level A) → IsAsked whole [] → IsMadeFor whole level → (task : SearchTask) (prefix : List ℕ) → IsAsked task prefix → tabled_of whole ≡ tabled_of task → whole.request ≡ task.request → IsLevelOf task level
-level_of whole level first made task prefix asked same requests =
+pub level_of : {A : Type 0} (whole : SearchTask) (level : Level A) → IsAsked whole [] → IsMadeFor whole level → (task : SearchTask) (prefix : List ℕ) → IsAsked task prefix → tabled_of whole ≡ tabled_of task → whole.request ≡ task.request → (hops : ℕ) → IsLevelOf task level.delivery hops level.layers
+level_of whole level first made task prefix asked same requests hops =
     let are = soon_there whole task prefix first asked same requests made.since made.soon in
     record {
+      most = hops;
+      within = omega arith;
       whole = whole;
-      made = made;
-      plan = same;
-      request = requests;
+      since = made.since;
+      layers = made.layers hops;
+      table = table_is whole task prefix first asked same requests;
       goal = goal_there whole task prefix first asked same requests;
-      opens = opens_there whole task prefix first asked same requests;
+      takes = whole_step whole task prefix first asked same requests made.none;
       soonest = soon_after task prefix (of_request task prefix asked.behind) (prefix_facts task.plan task.request prefix asked.fits) (stop_of task prefix asked.behind) made.since are;
       begins = λ open'. start_soon task prefix asked made.since are (source_closed task) (λ x at. sym (shut_there whole task prefix first asked same requests task.start x at) ∙ open');
     }
 
 -- so they are a level of each that is asked of the plan and the request
 pub is_level : {A : Type 0} (p : TabledPlan) (r : RouteRequest) (whole : SearchTask) (level : Level A) → IsAsked whole [] → tabled_of whole ≡ p → whole.request ≡ r → (0 < level.delivery → IsMadeFor whole level) → IsLevel p r level
-is_level p r whole level first plan request made = λ some task prefix asked same requests. level_of whole level first (made some) task prefix asked (plan ∙ sym same) (request ∙ sym requests)
+is_level p r whole level first plan request made = λ some task prefix asked same requests. record { to = level_of whole level first (made some) task prefix asked (plan ∙ sym same) (request ∙ sym requests) }
 
-module _ {A : Type 0} (task : SearchTask) (is : IsTask task) (level : Level A) (over : IsLevelOf task level) where
-  -- each step of the question is one of the whole graph
-  pub whole_step : (n u t w b : ℕ) → Takes task n u t w b → Takes over.whole n u t w b
-  whole_step n u t w b s = record {
-    contact = s.contact;
-    named = ap (λ (p : TabledPlan). contact_named p.plan n) over.plan ∙ s.named;
-    sender = ap (λ (p : TabledPlan). slice_get p.table u) over.plan ∙ s.sender;
-    receiver = ap (λ (p : TabledPlan). slice_get p.table w) over.plan ∙ s.receiver;
-    unshut = over.opens w s.unshut;
-    allowed = λ same. ap (has n) over.made.none;
-    arrives = ap (λ (p : TabledPlan). arrival p.plan over.whole.request t s.contact) over.plan ∙ ap (λ r. arrival task.plan r t s.contact) over.request ∙ s.arrives;
+module _ {A : Type 0} (task : SearchTask) (is : IsTask task) (d hops : ℕ) (s : Deadlines A) (over : IsLevelOf task d hops s) where
+  -- as far as fewer hops
+  pub level_fewer : (fewer : ℕ) → fewer ≤ hops → IsLevelOf task d fewer s
+  level_fewer fewer le = record {
+    most = over.most;
+    within = omega (arith, le, over.within);
+    whole = over.whole;
+    since = over.since;
+    layers = over.layers;
+    table = over.table;
+    goal = over.goal;
+    takes = over.takes;
+    soonest = over.soonest;
+    begins = over.begins;
   }
 
   -- the goal's entry
-  pub goal_entry : HasDeadline level.layers.ends.items level.layers.entries.items 0 task.goal (level.delivery + 1)
-  goal_entry = (0, omega (arith, over.made.layers.first_end), omega (arith, over.made.layers.second_end), over.made.layers.goal_first ∙ ap (λ g. Some (record { node = g; before = level.delivery + 1 })) over.goal)
+  pub goal_entry : HasDeadline s.ends.items s.entries.items 0 task.goal (d + 1)
+  goal_entry = (0, omega (arith, over.layers.first_end), omega (arith, over.layers.second_end), over.layers.goal_first ∙ ap (λ g. Some (record { node = g; before = d + 1 })) over.goal)
 
-  -- whoever a way leads on to the goal in time is in time for an entry, at the start if the whole graph leaves it open
-  pub in_time : (ns ms : List ℕ) (u t e : ℕ) → slice_index_or over.whole.shut u false ≡ false → slice_index over.made.since u ≤ t → Leads (Takes task) task.start task.at ms u t → Leads (Takes task) u t ns task.goal e → e ≤ level.delivery →
-      IsInTimeWithin level.layers.ends.items level.layers.entries.items (length ns) u t
-  in_time [] ms u t e unshut since there on by = (0, level.delivery + 1, omega arith, rw (on.0) goal_entry, omega (arith, on.1))
-  in_time (n ∷ ns) ms u t e unshut since there on by =
+  -- whoever a way leads on to the goal in time is in time for an entry, at the start if its question leaves it open
+  in_time : (ns ms : List ℕ) (u t e : ℕ) → length ns ≤ hops → slice_index_or over.whole.shut u false ≡ false → slice_index over.since u ≤ t → Leads (Takes task) task.start task.at ms u t → Leads (Takes task) u t ns task.goal e → e ≤ d →
+      IsInTimeWithin s.ends.items s.entries.items (length ns) u t
+  in_time [] ms u t e few unshut since there on by = (0, d + 1, omega arith, rw (on.0) goal_entry, omega (arith, on.1))
+  in_time (n ∷ ns) ms u t e few unshut since there on by =
       let timely = takes_timely task is.nodes in
+      let step = over.takes n u t on.0 on.1 on.2 in
       let next : Leads (Takes task) task.start task.at (ms ++ n ∷ []) on.0 on.1 = Leads-append (Takes task) timely ms (n ∷ []) task.start task.at u t on.0 on.1 there (on.0, on.1, on.2, (refl, refl)) in
       let some : 0 < length (ms ++ n ∷ []) = omega (arith, length-append ms (n ∷ [])) in
-      let open' = over.opens on.0 (way_open task (ms ++ n ∷ []) task.start task.at on.0 on.1 next some) in
-      let r = in_time ns (ms ++ n ∷ []) on.0 on.1 e open' (over.soonest (ms ++ n ∷ []) on.0 on.1 some next) next on.3 by in
+      let r = in_time ns (ms ++ n ∷ []) on.0 on.1 e (omega (arith, few)) step.unshut (over.soonest (ms ++ n ∷ []) on.0 on.1 some next) next on.3 by in
       elim (cases_eq u task.goal) [
-        | inl same ↦ (0, level.delivery + 1, omega arith, rw same goal_entry, omega (arith, Leads-later (Takes task) timely (n ∷ ns) u t task.goal e on))
+        | inl same ↦ (0, d + 1, omega arith, rw same goal_entry, omega (arith, Leads-later (Takes task) timely (n ∷ ns) u t task.goal e on))
         | inr other ↦
-            (let told = over.made.layers.taken r.0 on.0 r.1 n u t on.1 r.3 r.4 (whole_step n u t on.0 on.1 on.2) unshut (λ same. other (same ∙ over.goal)) since in
+            (let told = over.layers.taken r.0 on.0 r.1 n u t on.1 (omega (arith, r.2, few, over.within)) r.3 r.4 step unshut (λ same. other (same ∙ over.goal)) since in
             (told.0, told.1, omega (arith, told.2, r.2), told.3, told.4))
       ]
 
   -- after the start it is open
-  pub leaves_out_none : (ms ns : List ℕ) (u t e : ℕ) → 0 < length ms → Leads (Takes task) task.start task.at ms u t → Leads (Takes task) u t ns task.goal e → e ≤ level.delivery →
-      IsInTimeWithin level.layers.ends.items level.layers.entries.items (length ns) u t
-  leaves_out_none ms ns u t e some there on by = in_time ns ms u t e (over.opens u (way_open task ms task.start task.at u t there some)) (over.soonest ms u t some there) there on by
+  pub leaves_out_none : (ms ns : List ℕ) (u t e : ℕ) → 0 < length ms → length ns ≤ hops → Leads (Takes task) task.start task.at ms u t → Leads (Takes task) u t ns task.goal e → e ≤ d →
+      IsInTimeWithin s.ends.items s.entries.items (length ns) u t
+  leaves_out_none ms ns u t e some few there on by =
+      let unshut = way_ends task (λ v. slice_index_or over.whole.shut v false ≡ false) (λ n v s w b step. (over.takes n v s w b step).unshut) ms task.start task.at u t there some in
+      in_time ns ms u t e few unshut (over.soonest ms u t some there) there on by
 
-  pub in_time_at_start : slice_index_or over.whole.shut task.start false ≡ false → (ns : List ℕ) (e : ℕ) → Leads (Takes task) task.start task.at ns task.goal e → e ≤ level.delivery →
-      IsInTimeWithin level.layers.ends.items level.layers.entries.items (length ns) task.start task.at
-  in_time_at_start unshut ns e on by = in_time ns [] task.start task.at e unshut (over.begins unshut) (refl, refl) on by
+  pub in_time_at_start : slice_index_or over.whole.shut task.start false ≡ false → (ns : List ℕ) (e : ℕ) → length ns ≤ hops → Leads (Takes task) task.start task.at ns task.goal e → e ≤ d →
+      IsInTimeWithin s.ends.items s.entries.items (length ns) task.start task.at
+  in_time_at_start unshut ns e few on by = in_time ns [] task.start task.at e few unshut (over.begins unshut) (refl, refl) on by

@@ -1,27 +1,30 @@
 -- The steps of a pick that goes back, and what they say of the ways that it leaves out.
-use Rattle.std.proofs.Common.{◌≡◌, ◌⊎◌, inl, inr, ℕ, suc, ◌+◌, ◌-◌, ◌<◌, ◌≤◌, List, [], ◌∷◌, ◌++◌, length, map, min, slice_get, slice_index, slice_index_or, false, refl, ap, sym, subst, ◌∙◌, arith, length-append}
-use Rattle.std.specs.Prelude.{IfSome, IfNone}
+use Rattle.std.proofs.Common.{◌≡◌, ◌⊎◌, inl, inr, ℕ, suc, ◌+◌, ◌-◌, ◌*◌, ◌<◌, ◌≤◌, List, [], ◌∷◌, ◌++◌, length, map, min, slice_get, slice_index, slice_index_or, false, refl, ap, sym, subst, ◌∙◌, arith, length-append}
+use Rattle.std.specs.Prelude.{IfSome, IfNone, eqb}
 use Rattle.std.specs.declared.option.Option.{Option}
 use Rattle.std.specs.declared.option.Option.TheVariants.{Some, None}
 use Rattle.std.proofs.lemmas.List.Elements.{All-get_or}
 use Rattle.std.proofs.lemmas.List.{length-map}
+use Rattle.std.proofs.lemmas.List.Sums.{count_by-le-length}
+use Rattle.sabr_search.specs.questions.Steps.{degree, senders}
+use Rattle.sabr_search.proofs.LinkLemmas.StepLists.{senders_length}
 use Rattle.std.proofs.lemmas.Bool.{cases_lt}
 use Rattle.std.proofs.lemmas.Option.{slice_get_within, slice_get-get_or, get_or_from_slice_get, none-some}
 use Rattle.sabr_search.specs.declared.visit.Step.{Step}
-use Rattle.sabr_search.specs.declared.level.Level.{Level}
 use Rattle.sabr_search.specs.declared.level.walk.DeadEnd.{DeadEnd}
-use Rattle.sabr_model.specs.plan.Plan.{TabledPlan}
 use Rattle.sabr_search.specs.declared.backward.deadlines.Deadline.{Deadline}
+use Rattle.sabr_search.specs.declared.backward.deadlines.Deadlines.{Deadlines}
 use Rattle.sabr_search.specs.declared.visit.Visit.{Visit}
 use Rattle.sabr_search.specs.questions.Ways.{Leads}
 use Rattle.sabr_search.specs.questions.Task.{SearchTask, IsTask, Takes}
 use Rattle.sabr_search.specs.layers.Late.{IsNoneSooner}
 use Rattle.sabr_search.specs.layers.NumberOrder.{IsNotAfter}
 use Rattle.sabr_search.specs.layers.Picks.{IsAtMost, IsPicked}
-use Rattle.sabr_search.specs.layers.Level.{AreDeadEnds, IsDeadEnd, IsLevelOf, IsLatestWithin, IsStepOn, last_visit}
+use Rattle.sabr_search.specs.layers.Level.{AreDeadEnds, AreSound, IsDeadEnd, IsLevelOf, IsStepOn, last_visit}
+use Rattle.sabr_search.specs.layers.Deadlines.{IsInTimeWithin, IsLatestWithin, end_within}
 use Rattle.sabr_search.proofs.WayLemmas.Ways.{Leads-append}
 use Rattle.sabr_search.proofs.WayLemmas.RoutesAndWays.{takes_timely, same_some}
-use Rattle.sabr_search.proofs.ForwardLemmas.MadeLayers.{index_past}
+use Rattle.sabr_search.proofs.ForwardLemmas.MadeLayers.{index_past, layer_of, spent_more}
 use Rattle.sabr_search.proofs.LevelLemmas.DeadEnds.{dead_later, dead_too_late}
 
 abbrev pub visit_of : Step → Visit
@@ -132,20 +135,16 @@ module _ (task : SearchTask) (d : ℕ) where
 -- ---- the step of least number at one node
 
 -- what is known of a step that is chosen so far
-abbrev pub IsChosen : SearchTask → ℕ → ℕ → Visit → Step → Type 0
-IsChosen task d hops from s = Takes task s.number from.node from.at s.node s.at × (hops ≡ 0 → (s.node ≡ task.goal) × (s.at ≤ d))
+abbrev pub IsChosen : SearchTask → List ℕ → List Deadline → ℕ → Visit → Step → Type 0
+IsChosen task ends entries hops from s = Takes task s.number from.node from.at s.node s.at × IsInTimeWithin ends entries hops s.node s.at
 
 -- each step from a visit leads to a dead end, or has no lesser number
 abbrev pub IsLeastOn : SearchTask → ℕ → ℕ → Visit → Option Step → Type 0
 IsLeastOn task d hops from least = (n w b : ℕ) → Takes task n from.node from.at w b → IsDeadEnd task d w b hops ⊎ IsAtMost least n
 
-pub step_chosen : (task : SearchTask) (d hops : ℕ) (from : Visit) (least : Option Step) → IfSome least (IsChosen task d hops from) → IsLeastOn task d hops from least → IfSome least (IsStepOn task d hops from)
-step_chosen task d hops from None chosen least = tt
-step_chosen task d hops from (Some s) chosen least = record {
-  step = chosen.0;
-  last = chosen.1;
-  least = λ n w b step lesser. elim (least n w b step) [ inl dead ↦ dead | inr most ↦ absurd (omega (arith, most, lesser)) ];
-}
+pub chosen_in_time : (task : SearchTask) (ends : List ℕ) (entries : List Deadline) (hops : ℕ) (from : Visit) (least : Option Step) → IfSome least (IsChosen task ends entries hops from) → IfSome least (λ s. IsInTimeWithin ends entries hops s.node s.at)
+chosen_in_time task ends entries hops from None chosen = tt
+chosen_in_time task ends entries hops from (Some s) chosen = chosen.1
 
 -- a visit from which each step leads to a dead end is one, unless it is the goal in time
 pub visit_dead : (task : SearchTask) → IsTask task → (d hops : ℕ) (from : Visit) → IsDeadEnd task d from.node from.at 0 → IsLeastOn task d hops from None → IsDeadEnd task d from.node from.at (hops + 1)
@@ -159,42 +158,77 @@ step_missing task is d hops from None here least = visit_dead task is d hops fro
 step_missing task is d hops from (Some s) here least = tt
 
 -- a step that was found over a link before a second
-pub step_over : (task : SearchTask) (d hops : ℕ) (from : Visit) (to before : ℕ) (least : Option Step) → slice_index_or task.shut to false ≡ false → (hops ≡ 0 → 0 < before → (to ≡ task.goal) × (before ≤ d + 1)) →
-    IfSome least (λ s. (s.node ≡ to) × (s.at < before) × (slice_index_or task.shut to false ≡ false → Takes task s.number from.node from.at to s.at)) → IfSome least (IsChosen task d hops from)
-step_over task d hops from to before None unshut last found = tt
-step_over task d hops from to before (Some s) unshut last found =
-    rw found.0 (found.2 unshut, λ none. let there = last none (omega (arith, found.1)) in (there.0, omega (arith, found.1, there.1)))
+pub step_over : (task : SearchTask) (ends : List ℕ) (entries : List Deadline) (hops : ℕ) (from : Visit) (to before : ℕ) (least : Option Step) → slice_index_or task.shut to false ≡ false → ((b : ℕ) → b < before → IsInTimeWithin ends entries hops to b) →
+    IfSome least (λ s. (s.node ≡ to) × (s.at < before) × (slice_index_or task.shut to false ≡ false → Takes task s.number from.node from.at to s.at)) → IfSome least (IsChosen task ends entries hops from)
+step_over task ends entries hops from to before None unshut in_time found = tt
+step_over task ends entries hops from to before (Some s) unshut in_time found = rw found.0 (found.2 unshut, in_time s.at found.1)
 
-module _ {A : Type 0} (task : SearchTask) (is : IsTask task) (level : Level A) (over : IsLevelOf task level) where
-  -- by node the level has a place for each of the question's
-  pub level_nodes : length level.heads.items ≡ length task.table
-  level_nodes = over.made.nodes ∙ ap (λ (p : TabledPlan). length p.table) over.plan
+module _ {A : Type 0} (task : SearchTask) (is : IsTask task) (d hops : ℕ) (layers : Deadlines A) (over : IsLevelOf task d hops layers) where
+  -- by node the layers have a place for each of the question's
+  pub level_nodes : length layers.place.items ≡ length task.table
+  level_nodes = over.layers.nodes ∙ ap length over.table
+
+  -- some layer ends
+  pub some_end : 0 < length layers.ends.items
+  some_end = elim (cases_lt 1 (length layers.ends.items)) [
+    | inl some ↦ omega (arith, some)
+    | inr few ↦ absurd (omega (arith, index_past layers.ends.items 1 few, over.layers.second_end))
+  ]
+
+  -- an entry before the end of those of so many hops
+  pub entry_within : (to before b : ℕ) → (p : ℕ) × (p < end_within layers.ends.items hops) × (slice_get layers.entries.items p ≡ Some (record { node = to; before = before })) → b < before → IsInTimeWithin layers.ends.items layers.entries.items hops to b
+  entry_within to before b has less =
+      let layer = layer_of layers.ends.items has.0 (min (length layers.ends.items - 1) (hops + 1)) over.layers.first_end has.1 in
+      (layer.0, before, omega (arith, layer.1), (has.0, layer.2, layer.3, has.2), less)
 
   -- with no hop left only the goal's entry counts
-  pub last_entry : (hops to before : ℕ) → hops ≡ 0 → (p : ℕ) × (p < slice_index level.layers.ends.items (min (length level.layers.ends.items - 1) (hops + 1))) × (slice_get level.layers.entries.items p ≡ Some (record { node = to; before = before })) → (to ≡ task.goal) × (before ≡ level.delivery + 1)
-  last_entry hops to before none has =
-      let layers = over.made.layers in
-      let ends = level.layers.ends.items in
-      let more : 1 < length ends = elim (cases_lt 1 (length ends)) [
-        | inl some ↦ some
-        | inr few ↦ absurd (omega (arith, index_past ends 1 few, layers.second_end))
-      ] in
-      let at_one : min (length ends - 1) (hops + 1) ≡ 1 = omega (arith, none, more) in
-      let first : has.0 ≡ 0 = omega (arith, has.1, ap (slice_index ends) at_one, layers.second_end) in
-      let same : record { node = to; before = before } ≡ record { node = over.whole.goal; before = level.delivery + 1 } = same_some (sym has.2 ∙ ap (slice_get level.layers.entries.items) first ∙ layers.goal_first) in
-      (ap (λ (e : Deadline). e.node) same ∙ over.goal, ap (λ (e : Deadline). e.before) same)
+  goal_last : (v t : ℕ) → IsInTimeWithin layers.ends.items layers.entries.items hops v t → hops ≡ 0 → (v ≡ task.goal) × (t ≤ d)
+  goal_last v t entry none =
+      let first : entry.0 ≡ 0 = omega (arith, entry.2, none) in
+      let here = entry.3 in
+      let at : here.0 ≡ 0 = omega (arith, here.2, ap (λ k. slice_index layers.ends.items (k + 1)) first, over.layers.second_end) in
+      let same : record { node = v; before = entry.1 } ≡ record { node = over.whole.goal; before = d + 1 } = same_some (sym here.3 ∙ ap (slice_get layers.entries.items) at ∙ over.layers.goal_first) in
+      (ap (λ (e : Deadline). e.node) same ∙ over.goal, omega (arith, entry.4, ap (λ (e : Deadline). e.before) same))
 
-  module _ (ms : List ℕ) (from : Visit) (here : Leads (Takes task) task.start task.at ms from.node from.at) (hops : ℕ) where
+  pub step_chosen : (from : Visit) (least : Option Step) → IfSome least (IsChosen task layers.ends.items layers.entries.items hops from) → IsLeastOn task d hops from least → IfSome least (IsStepOn task d hops from)
+  step_chosen from None chosen least = tt
+  step_chosen from (Some s) chosen least = record {
+    step = chosen.0;
+    last = goal_last s.node s.at chosen.1;
+    least = λ n w b step lesser. elim (least n w b step) [ inl dead ↦ dead | inr most ↦ absurd (omega (arith, most, lesser)) ];
+  }
+
+  module _ (ms : List ℕ) (from : Visit) (here : Leads (Takes task) task.start task.at ms from.node from.at) where
     -- a step after the entries' second leads to a dead end
-    pub step_late : (n w b before : ℕ) → Takes task n from.node from.at w b → IsLatestWithin level.layers.entries.items w (slice_index level.layers.ends.items (min (length level.layers.ends.items - 1) (hops + 1))) before → before ≤ b → IsDeadEnd task level.delivery w b hops
+    pub step_late : (n w b before : ℕ) → Takes task n from.node from.at w b → IsLatestWithin layers.entries.items w (end_within layers.ends.items hops) before → before ≤ b → IsDeadEnd task d w b hops
     step_late n w b before step latest late =
         let there : Leads (Takes task) task.start task.at (ms ++ n ∷ []) w b = Leads-append (Takes task) (takes_timely task is.nodes) ms (n ∷ []) task.start task.at from.node from.at w b here (w, b, step, (refl, refl)) in
-        dead_too_late task is level over (ms ++ n ∷ []) w b hops before (omega (arith, length-append ms (n ∷ []))) there latest late
+        dead_too_late task is d hops layers over (ms ++ n ∷ []) w b before (omega (arith, length-append ms (n ∷ []))) there latest late
 
     -- and so does one that isn't before a known dead end
-    pub step_ended : (ends : List DeadEnd) → AreDeadEnds task level.delivery ends → (n w b deadline before : ℕ) → Takes task n from.node from.at w b → IsLatestWithin level.layers.entries.items w (slice_index level.layers.ends.items (min (length level.layers.ends.items - 1) (hops + 1))) deadline →
-        (before ≡ deadline) ⊎ ((k : ℕ) × (x : DeadEnd) × (slice_get ends k ≡ Some x) × (x.node ≡ w) × (hops ≤ x.hops) × (x.at ≡ before)) → before ≤ b → IsDeadEnd task level.delivery w b hops
+    pub step_ended : (ends : List DeadEnd) → AreDeadEnds task d ends → (n w b deadline before : ℕ) → Takes task n from.node from.at w b → IsLatestWithin layers.entries.items w (end_within layers.ends.items hops) deadline →
+        (before ≡ deadline) ⊎ ((k : ℕ) × (x : DeadEnd) × (slice_get ends k ≡ Some x) × (x.node ≡ w) × (hops ≤ x.hops) × (x.at ≡ before)) → before ≤ b → IsDeadEnd task d w b hops
     step_ended ends are n w b deadline before step latest why late = elim why [
       | inl same ↦ step_late n w b deadline step latest (omega (arith, same, late))
-      | inr known ↦ dead_known task level.delivery ends are known.0 known.1 known.2 w b hops known.3 known.4 (omega (arith, known.5, late))
+      | inr known ↦ dead_known task d ends are known.0 known.1 known.2 w b hops known.3 known.4 (omega (arith, known.5, late))
     ]
+
+-- ---- a pick by layers in which each entry in time leads on
+
+pub degree_at_most : (task : SearchTask) (u : ℕ) → degree task u ≤ length task.plan.contacts
+degree_at_most task u = omega (arith, count_by-le-length (λ k. eqb k u) (senders task), senders_length task)
+
+-- it came to no dead end, and took a look for each contact at each step
+pub record LeadsOn (task : SearchTask) (d hops before left : ℕ) (ends : List DeadEnd) (steps : List Step) : Type 0 where
+  pub none : ends ≡ []
+  pub counted : before ≤ left + length steps * length task.plan.contacts
+  pub met : IsDeadEnd task d (last_visit (start_of task) steps).node (last_visit (start_of task) steps).at (hops - length steps) → ⊥
+
+-- so it is with one more step
+pub leads_more : {A : Type 0} (task : SearchTask) (d hops before left left' more : ℕ) (layers : Deadlines A) (ends : List DeadEnd) (steps : List Step) (s : Step) → AreSound task d layers → LeadsOn task d hops before left ends steps → left ≤ left' + more → more ≤ length task.plan.contacts
+    → IsInTimeWithin layers.ends.items layers.entries.items (hops - length (steps ++ s ∷ [])) s.node s.at → LeadsOn task d hops before left' ends (steps ++ s ∷ [])
+leads_more task d hops before left left' more layers ends steps s sound was looked few entry = record {
+  none = was.none;
+  counted = spent_more before left left' (length steps) (length (steps ++ s ∷ [])) (length task.plan.contacts) (omega (arith, length-append steps (s ∷ []))) was.counted (omega (arith, looked, few));
+  met = λ dead. sound entry.0 s.node entry.1 s.at entry.3 entry.4 (dead_later task d s.node s.at s.at (hops - length (steps ++ s ∷ [])) entry.0 (omega arith) entry.2 (subst (λ (v : Visit). IsDeadEnd task d v.node v.at (hops - length (steps ++ s ∷ []))) (visit_more (start_of task) steps s) dead));
+}

@@ -1,13 +1,9 @@
 -- What the bounds beside the passes of a link say of the steps over them.
 use Rattle.std.proofs.Common.{◌≡◌, ℕ, ◌+◌, ◌-◌, ◌<◌, ◌≤◌, max, ◌⊎◌, inl, inr, zero, suc, List, length, drop, true, false, Some, slice_get, slice_index, slice_index_or, sym, ap, subst, ◌∙◌, arith}
-use Rattle.std.specs.Prelude.{IfSome}
 use Rattle.std.specs.List.Sorted.{IsNonDecreasingBy}
 use Rattle.std.specs.declared.option.Option.{Option}
 use Rattle.std.specs.declared.option.Option.TheVariants.{None}
-use Rattle.sabr_search.specs.declared.backward.deadlines.Deadline.{Deadline}
 use Rattle.sabr_search.specs.declared.visit.Step.{Step}
-use Rattle.sabr_search.specs.layers.Late.{AreOpen}
-use Rattle.sabr_search.specs.layers.Deadlines.{IsInTime}
 use Rattle.sabr_search.specs.layers.Picks.{IsAtMost}
 use Rattle.std.proofs.lemmas.Option.{slice_get-get_or, slice_get_within}
 use Rattle.std.proofs.lemmas.Bool.{both_ways, cases_eq}
@@ -200,16 +196,6 @@ at_most_more (Some s) m n le h = omega (arith, h)
 
 pub same_number : (passes : List Pass) (i k : ℕ) (x y : Pass) → slice_get passes i ≡ Some x → slice_get passes k ≡ Some y → k ≡ i → x.number ≡ y.number
 same_number passes i k x y at_i at_k same = ap (λ (p : Pass). p.number) (same_some (sym at_i ∙ ap (slice_get passes) (sym same) ∙ at_k))
-
--- a step over a link that arrives before its deadline is a step in time
-pub chosen_from : (task : SearchTask) (ends : List ℕ) (entries : List Deadline) (hops : ℕ) → AreOpen task entries → (u t to before : ℕ) → ((b : ℕ) → b < before → IsInTime ends entries hops to b) → (o : Option Step) →
-    IfSome o (λ s. (s.node ≡ to) × (s.at < before) × (slice_index_or task.shut to false ≡ false → Takes task s.number u t to s.at)) →
-    IfSome o (λ s. Takes task s.number u t s.node s.at × IsInTime ends entries hops s.node s.at)
-chosen_from task ends entries hops opens u t to before in_time None h = tt
-chosen_from task ends entries hops opens u t to before in_time (Some s) h =
-    let admits = in_time s.at h.1 in
-    let step = h.2 (opens admits.1.0 (record { node = to; before = admits.0 }) admits.1.3).1 in
-    rw h.0 (step, admits)
 
 -- what comes over a link of a node that is ruled out by what is known of its receiver is known, if the goal's own arrival is
 -- no sooner than the best delivery

@@ -1,7 +1,8 @@
 -- Deadlines of layers that were made backward: the first second that is too late for the rest of a way.
-use Rattle.std.specs.Prelude.{◌≡◌, ℕ, ◌+◌, ◌≤◌, ◌<◌, List, length, slice_get, slice_index}
+use Rattle.std.specs.Prelude.{◌≡◌, ℕ, ◌+◌, ◌-◌, ◌≤◌, ◌<◌, ◌==◌, if◌then◌else◌, min, List, length, slice_get, slice_index}
 use Rattle.std.specs.declared.option.Option.TheVariants.{Some}
 use Rattle.sabr_search.specs.declared.backward.deadlines.Deadline.{Deadline}
+use Rattle.sabr_search.specs.declared.backward.deadlines.Deadlines.{Deadlines}
 use Rattle.sabr_search.specs.layers.Layers.{Entries}
 use Rattle.sabr_search.specs.layers.Lists.{nodes_from}
 
@@ -9,22 +10,48 @@ use Rattle.sabr_search.specs.layers.Lists.{nodes_from}
 abbrev pub HasDeadline : List ℕ → List Deadline → Entries
 HasDeadline ends entries h v x = (p : ℕ) × (slice_index ends h ≤ p) × (p < slice_index ends (h + 1)) × (slice_get entries p ≡ Some (record { node = v; before = x }))
 
--- whoever is at node w at second b is in time for its entry in the layer of so many hops
-abbrev pub IsInTime : List ℕ → List Deadline → ℕ → ℕ → ℕ → Type 0
-IsInTime ends entries hops w b = (x : ℕ) × HasDeadline ends entries hops w x × (b < x)
+-- whoever is at node u at second t is in time for its entry in a layer of at most so many hops
+abbrev pub IsInTimeWithin : List ℕ → List Deadline → ℕ → ℕ → ℕ → Type 0
+IsInTimeWithin ends entries hops u t = (i : ℕ) × (x : ℕ) × (i ≤ hops) × HasDeadline ends entries i u x × (t < x)
 
 -- the layer of so many hops has each node once
 abbrev pub IsApart : List ℕ → List Deadline → ℕ → Type 0
 IsApart ends entries hops =
     (p q : ℕ) (e f : Deadline) → slice_index ends hops ≤ p → slice_index ends hops ≤ q → p < slice_index ends (hops + 1) → q < slice_index ends (hops + 1) → slice_get entries p ≡ Some e → slice_get entries q ≡ Some f → e.node ≡ f.node → p ≡ q
 
--- `place` has a place for the node of each entry
-abbrev pub AreInside : List ℕ → List Deadline → Type 0
-AreInside place entries = (p : ℕ) (e : Deadline) → slice_get entries p ≡ Some e → e.node < length place
+-- the entry at place p is of node v
+abbrev pub IsOf : List Deadline → ℕ → ℕ → Type 0
+IsOf entries p v = (x : ℕ) × (slice_get entries p ≡ Some (record { node = v; before = x }))
 
--- `place` names the entry of each node of the layer of so many hops
-abbrev pub ArePointed : List ℕ → List ℕ → List Deadline → ℕ → Type 0
-ArePointed ends place entries hops = (p : ℕ) (e : Deadline) → slice_index ends hops ≤ p → p < slice_index ends (hops + 1) → slice_get entries p ≡ Some e → slice_index place e.node ≡ p
+-- the place after the last entry of node v before `end`; 0 if there is none
+pub record IsLastBelow (entries : List Deadline) (v end place : ℕ) : Type 0 where
+  pub within : place ≤ end
+  pub entry : 0 < place → IsOf entries (place - 1) v
+  pub none : (p : ℕ) → place ≤ p → p < end → IsOf entries p v → ⊥
+
+-- by entry the place after the one of its node before it
+pub record AreLinked (entries : List Deadline) (fewer : List ℕ) : Type 0 where
+  pub many : length fewer ≡ length entries
+  pub each : (p v : ℕ) → IsOf entries p v → IsLastBelow entries v p (slice_index fewer p)
+
+-- the place after the last entry of node v; 0 if it has none
+abbrev pub head_of : List ℕ → List ℕ → ℕ → ℕ
+head_of late place v = if slice_index late v == 0 then 0 else slice_index place v + 1
+
+-- by node its last entry, and by entry the one of its node before it, which is too late sooner
+pub record AreChained {A : Type 0} (s : Deadlines A) : Type 0 where
+  pub many : length s.late.items ≡ length s.place.items
+  pub linked : AreLinked s.entries.items s.fewer.items
+  pub last : (v : ℕ) → v < length s.place.items → IsLastBelow s.entries.items v (length s.entries.items) (head_of s.late.items s.place.items v)
+  pub later : (p q : ℕ) (e f : Deadline) → p < q → slice_get s.entries.items p ≡ Some e → slice_get s.entries.items q ≡ Some f → e.node ≡ f.node → e.before < f.before
+
+-- no entry of node v before `end` may be left at this second or later
+abbrev pub IsLatestWithin : List Deadline → ℕ → ℕ → ℕ → Type 0
+IsLatestWithin entries v end before = (p : ℕ) (e : Deadline) → p < end → slice_get entries p ≡ Some e → e.node ≡ v → e.before ≤ before
+
+-- where the entries of at most so many hops end
+abbrev pub end_within : List ℕ → ℕ → ℕ
+end_within ends hops = slice_index ends (min (length ends - 1) (hops + 1))
 
 -- the nodes of the entries from place `first` to before `place`
 abbrev pub late_between : List Deadline → ℕ → ℕ → List ℕ

@@ -1,6 +1,6 @@
 -- Layers made backward from the goal: for each node, the first second that is too late so far; and the entries, layer
 -- by layer, the goal's first.
-use Rattle.std.specs.Prelude.{◌≡◌, ◌≢◌, ◌⊎◌, ℕ, ◌+◌, ◌≤◌, ◌<◌, List, [], ◌∷◌, ◌++◌, length, false, slice_get, slice_set, slice_index, slice_index_or}
+use Rattle.std.specs.Prelude.{◌≡◌, ◌≢◌, ◌⊎◌, ℕ, ◌+◌, ◌-◌, ◌≤◌, ◌<◌, List, [], ◌∷◌, ◌++◌, length, false, slice_get, slice_set, slice_index, slice_index_or}
 use Rattle.std.specs.declared.option.Option.TheVariants.{Some}
 use Rattle.sabr_search.specs.declared.backward.deadlines.Deadline.{Deadline}
 use Rattle.sabr_search.specs.declared.backward.deadlines.Deadlines.{Deadlines}
@@ -40,6 +40,7 @@ pub record AreLate (task : SearchTask) (first begin : ℕ) (late place : List �
   pub later : 0 < begin
   pub begins : begin ≤ length entries
   pub top : (v : ℕ) → v < length task.table → 0 < slice_index late v → slice_get entries (slice_index place v) ≡ Some (record { node = v; before = slice_index late v })
+  pub goal : (e : Deadline) → slice_get entries 0 ≡ Some e → (e.node ≡ task.goal) × (0 < e.before)
   pub each : (p : ℕ) (e : Deadline) → 0 < p → slice_get entries p ≡ Some e → IsLateEntry task e
   pub by : (p : ℕ) (e : Deadline) → slice_get entries p ≡ Some e → e.before ≤ slice_index late e.node
   pub rising : (p q : ℕ) (e f : Deadline) → 0 < p → p < q → slice_get entries p ≡ Some e → slice_get entries q ≡ Some f → e.node ≡ f.node → e.before < f.before
@@ -50,11 +51,12 @@ pub record AreLate (task : SearchTask) (first begin : ℕ) (late place : List �
 abbrev pub AreLateAfter : SearchTask → List ℕ → ℕ → List ℕ → List ℕ → List Deadline → Type 0
 AreLateAfter task ends left late place entries = AreLate task (slice_index ends left) (slice_index ends (left + 1)) late place entries
 
--- node u is too late from x on: its entry in the layer that begins at `begin` says so, or a new one does
-abbrev pub IsNotedLate : List ℕ → List ℕ → List Deadline → ℕ → ℕ → ℕ → List ℕ → List Deadline → Type 0
-IsNotedLate late place entries begin u x place' entries' =
-    ((0 < slice_index late u) × (begin ≤ slice_index place u) × (place' ≡ place) × (entries' ≡ slice_set entries (slice_index place u) (record { node = u; before = x })))
-    ⊎ ((0 < slice_index late u → slice_index place u < begin) × (place' ≡ slice_set place u (length entries)) × (entries' ≡ entries ++ record { node = u; before = x } ∷ []))
+-- node u is too late from x on: its entry in the layer that begins at `begin` says so, or a new one does; the place after its
+-- last one is `head`
+abbrev pub IsNotedLate : {A : Type 0} → ℕ → ℕ → ℕ → ℕ → Deadlines A → Deadlines A → Type 0
+IsNotedLate head begin u x s t =
+    ((begin < head) × (t.place.items ≡ s.place.items) × (t.entries.items ≡ slice_set s.entries.items (head - 1) (record { node = u; before = x })) × (t.fewer.items ≡ s.fewer.items))
+    ⊎ ((head ≤ begin) × (t.place.items ≡ slice_set s.place.items u (length s.entries.items)) × (t.entries.items ≡ s.entries.items ++ record { node = u; before = x } ∷ []) × (t.fewer.items ≡ s.fewer.items ++ head ∷ []))
 
 -- what a step from node u at t leaves, if it leads to where there still is time: u is not too late
 abbrev pub IsToldLate : SearchTask → List ℕ → List ℕ → ℕ → ℕ → Type 0
@@ -112,23 +114,6 @@ pub record IsMet (task : SearchTask) (left : ℕ) (ends : List ℕ) (entries : L
   pub step : Takes task n task.start task.at w b
   pub entry : HasDeadline ends entries left w x
   pub in_time : b < x
-
--- layers up to one for which the start is in time; `place` has a place for each node
-pub record AreMet (task : SearchTask) (since : List ℕ) (d left : ℕ) (ends place : List ℕ) (entries : List Deadline) : Type 0 where
-  pub late : List ℕ
-  pub places : List ℕ
-  pub made : AreLateLayers task since d left ends late places entries
-  pub arrivals : AreArrivals task since
-  pub met : IsMet task left ends entries
-  pub flags : length place ≡ length task.table
-
--- so it is with what a search keeps
-abbrev pub StayMet : {A : Type 0} → SearchTask → List ℕ → ℕ → ℕ → Deadlines A → Type 0
-StayMet task since d left s = AreMet task since d left s.ends.items s.place.items s.entries.items
-
--- each entry is of an open node
-abbrev pub AreOpen : SearchTask → List Deadline → Type 0
-AreOpen task entries = (p : ℕ) (e : Deadline) → slice_get entries p ≡ Some e → (e.node < length task.table) × (slice_index_or task.shut e.node false ≡ false)
 
 -- no way of at most so many hops leads to the goal before second d
 abbrev pub IsNoneSooner : SearchTask → ℕ → ℕ → Type 0

@@ -2,12 +2,10 @@
 use Rattle.std.specs.Prelude.{◌≡◌, ℕ, ◌≤◌, ◌<◌, List, length, false, slice_index_or}
 use Rattle.std.specs.declared.option.Option.{Option}
 use Rattle.std.specs.declared.option.Option.TheVariants.{Some, None}
-use Rattle.sabr_search.specs.declared.backward.deadlines.Deadline.{Deadline}
 use Rattle.sabr_search.specs.declared.visit.Step.{Step}
 use Rattle.sabr_search.specs.questions.Ways.{Leads}
 use Rattle.sabr_search.specs.layers.NumberOrder.{IsNotAfter}
 use Rattle.sabr_search.specs.questions.Task.{SearchTask, Takes}
-use Rattle.sabr_search.specs.layers.Deadlines.{IsInTime}
 
 -- there is a step, and its number is at most n
 abbrev pub IsAtMost : Option Step → ℕ → Type 0
@@ -17,12 +15,6 @@ IsAtMost (Some s) n = s.number ≤ n
 -- a step from node u at t that arrives at node w before a second, if that node is open
 abbrev pub IsStepOver : SearchTask → ℕ → ℕ → ℕ → ℕ → Step → Type 0
 IsStepOver task u t w before s = (s.node ≡ w) × (s.at < before) × (slice_index_or task.shut w false ≡ false → Takes task s.number u t w s.at)
-
--- a step in time from node u at t, with the least number
-pub record IsLeastStep (task : SearchTask) (ends : List ℕ) (entries : List Deadline) (hops u t : ℕ) (s : Step) : Type 0 where
-  pub step : Takes task s.number u t s.node s.at
-  pub in_time : IsInTime ends entries hops s.node s.at
-  pub least : (n w b : ℕ) → Takes task n u t w b → IsInTime ends entries hops w b → s.number ≤ n
 
 -- the numbers lead to the goal with this delivery and number of hops, and no others that do come before them
 pub record IsPicked (task : SearchTask) (hops d : ℕ) (s : List ℕ) : Type 0 where

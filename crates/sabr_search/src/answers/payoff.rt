@@ -1,28 +1,30 @@
-//! Whether a try pays.
+//! Whether tries pay.
 
-/// How many tries were made and won of late, and how many go by before the next one.
+/// What tries of late cost and saved, and how many go by before the next one.
 #[derive(Clone, Copy)]
 pub struct Payoff {
-    /// Of so many tries at least `least` must win, or `pause` go by.
+    /// So many tries must save what they cost and `least` more, or `pause` go by.
     tries: u32,
-    least: u32,
+    least: u64,
     pause: u32,
-    /// The tries since they were last counted, and how many of them won.
+    /// The tries since they were last judged, what they cost, and what they saved.
     tried: u32,
-    won: u32,
+    spent: u64,
+    saved: u64,
     /// How many go by before the next one.
     rest: u32,
 }
 
 impl Payoff {
-    /// No try was made. Of so many tries at least `least` must win, or `pause` go by.
-    pub fn new(tries: u32, least: u32, pause: u32) -> Payoff {
+    /// No try was made. So many must save what they cost and `least` more, or `pause` go by.
+    pub fn new(tries: u32, least: u64, pause: u32) -> Payoff {
         Payoff {
             tries,
             least,
             pause,
             tried: 0,
-            won: 0,
+            spent: 0,
+            saved: 0,
             rest: 0,
         }
     }
@@ -34,16 +36,23 @@ impl Payoff {
             return false;
         }
         if self.tried >= self.tries {
-            self.rest = if self.won < self.least { self.pause } else { 0 };
+            let due = self.spent.saturating_add(self.least);
+            self.rest = if self.saved < due { self.pause } else { 0 };
             self.tried = 0;
-            self.won = 0;
+            self.spent = 0;
+            self.saved = 0;
         }
         self.tried = self.tried.saturating_add(1);
         true
     }
 
-    /// Counts a try that won.
-    pub fn win(&mut self) {
-        self.won = self.won.saturating_add(1);
+    /// Counts what a try cost.
+    pub fn pay(&mut self, cost: u64) {
+        self.spent = self.spent.saturating_add(cost);
+    }
+
+    /// Counts what a try saved.
+    pub fn win(&mut self, saved: u64) {
+        self.saved = self.saved.saturating_add(saved);
     }
 }

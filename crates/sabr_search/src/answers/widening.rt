@@ -14,14 +14,13 @@ use crate::task::Task;
 use sabr_model::NoMemory;
 use std::alloc::{Allocator, Global};
 
-/// So many tries must have won as often, or `PAUSE` go by. For wide questions: with 16, the grid took 23 percent more, a
-/// satellite plan 7 percent more and another 4 percent fewer, and a small relay 3 percent fewer; with 256, the grid took 8
-/// percent more and the relay 13. To vary this and the next, see `SLOTS`.
-const TRIES: u32 = 64;
+/// So many tries must save the looks that they take, or `PAUSE` go by. With 64 and 1024, 100 routes took 3 percent more
+/// instructions in the mean of the plans of `bench/figures.py`, and relays up to 16 percent more; 1000 routes as many in the
+/// mean, and `walker-24-5000` 9 percent fewer: in a copy of this design in plain Rust.
+const TRIES: u32 = 16;
 
-/// So many tries go by before one is made again. With 256, the grid took 15 percent more and the relay 4; with 4096 the grid
-/// took 1 percent fewer.
-const PAUSE: u32 = 1024;
+/// So many questions go by before one is tried again.
+const PAUSE: u32 = 256;
 
 /// Which nodes a question shuts: those of its prefix, those that each search from its start shuts, or these and those that an
 /// earlier answer needs shut.
@@ -39,6 +38,9 @@ pub struct Widening<A: Allocator + Copy = Global> {
     wide: Payoff,
     /// Whether those near an answer pay.
     near: Payoff,
+    /// How many questions were searched as they are, and the looks of these searches.
+    searched: u64,
+    looks: u64,
     /// The nodes that the last one shut.
     pub shut: Shut<A>,
 }
@@ -98,8 +100,10 @@ impl<A: Allocator + Copy> Widening<A> {
     /// Has asked no wide question. It takes no memory.
     pub fn new(alloc: A) -> Widening<A> {
         Widening {
-            wide: Payoff::new(TRIES, TRIES, PAUSE),
-            near: Payoff::new(TRIES, TRIES, PAUSE),
+            wide: Payoff::new(TRIES, 0, PAUSE),
+            near: Payoff::new(TRIES, 0, PAUSE),
+            searched: 0,
+            looks: 0,
             shut: Shut::new(alloc),
         }
     }
@@ -142,12 +146,26 @@ impl<A: Allocator + Copy> Widening<A> {
         Ok(Some(Breadth::Near))
     }
 
-    /// Counts a question that has been answered by a kept answer, if that is the answer to a wide one.
+    /// Counts a search that took so many looks.
+    pub fn count_search(&mut self, breadth: Breadth, looks: u64) {
+        match breadth {
+            Breadth::Own => {
+                self.searched = self.searched.saturating_add(1);
+                self.looks = self.looks.saturating_add(looks);
+            }
+            Breadth::Wide => self.wide.pay(looks),
+            Breadth::Near => self.near.pay(looks),
+        }
+    }
+
+    /// Counts a question that has been answered by a kept answer. That of a wide question has saved the looks of a search, in
+    /// the mean.
     pub fn count_win(&mut self, breadth: Breadth) {
+        let looks = self.looks / self.searched.max(1);
         match breadth {
             Breadth::Own => {}
-            Breadth::Wide => self.wide.win(),
-            Breadth::Near => self.near.win(),
+            Breadth::Wide => self.wide.win(looks),
+            Breadth::Near => self.near.win(looks),
         }
     }
 }

@@ -1,9 +1,8 @@
 //! Deadlines of layers that were made backward: for each layer and node, the first second that is too late for the rest.
 
-ghost use Rattle.std.specs.Prelude.{◌≡◌, ◌↔◌, ℕ, ◌+◌, ◌≤◌, ◌<◌, length, slice_index};
-ghost use Rattle.sabr_search.specs.layers.Deadlines.{AreInside, IsInTime, IsApart, ArePointed};
+ghost use Rattle.std.specs.Prelude.{◌≡◌, ℕ, ◌<◌, Some, ◌≤◌, ◌+◌, length, slice_get};
+ghost use Rattle.sabr_search.specs.layers.Deadlines.{AreChained, IsLatestWithin, end_within, head_of};
 
-use crate::backward::seconds::Seconds;
 use std::alloc::Allocator;
 
 /// A node of a layer, and the first second that is too late there: whoever leaves it before is at the goal in time.
@@ -19,11 +18,13 @@ pub struct Deadlines<A: Allocator + Copy> {
     /// The allocator of the buffers.
     pub alloc: A,
     /// For each node, the first second that is too late so far.
-    pub late: Seconds<A>,
-    /// For each node, the place of an entry; any place if it has none.
+    pub late: Vec<u64, A>,
+    /// For each node, the place of its last entry; any place if it has none.
     pub place: Vec<usize, A>,
     /// The entries, layer by layer; the first is the goal's.
     pub entries: Vec<Deadline, A>,
+    /// By entry the place after the one of the same node with the next fewer hops; 0 if there is none.
+    pub fewer: Vec<usize, A>,
     /// Where layers end, after a 0: layer h has the entries from `ends[h]` to before `ends[h + 1]`.
     pub ends: Vec<usize, A>,
 }
@@ -33,45 +34,55 @@ impl<A: Allocator + Copy> Deadlines<A> {
     pub fn new(alloc: A) -> Deadlines<A> {
         Deadlines {
             alloc,
-            late: Seconds::new(alloc),
+            late: Vec::new(alloc),
             place: Vec::new(alloc),
             entries: Vec::new(alloc),
+            fewer: Vec::new(alloc),
             ends: Vec::new(alloc),
         }
     }
 
-    /// Points `place` at the entries of the layer of so many hops.
-    pub fn point_at(&mut self, hops: usize)
-        requires bounded { hops + 1 < length self.old.ends.items }
-        requires ends { slice_index self.old.ends.items (hops + 1) ≤ length self.old.entries.items }
-        requires inside { AreInside self.old.place.items self.old.entries.items }
-        requires apart { IsApart self.old.ends.items self.old.entries.items hops }
-        ensures ends { self.new.ends ≡ self.old.ends }
-        ensures entries { self.new.entries ≡ self.old.entries }
-        ensures many { length self.new.place.items ≡ length self.old.place.items }
-        ensures pointed { ArePointed self.new.ends.items self.new.place.items self.new.entries.items hops }
+    /// Returns the place after a node's last entry; 0 if it has none.
+    #[inline(always)]
+    pub fn head(&self, node: usize) -> usize
+        requires late { node < length self.now.late.items }
+        requires place { node < length self.now.place.items }
+        requires within { head_of self.now.late.items self.now.place.items node ≤ length self.now.entries.items }
+        ensures { result ≡ head_of self.now.late.items self.now.place.items node }
     {
-        let first = self.ends[hops];
-        let end = self.ends[hops + 1];
-        for place in first..end {
-            let node = self.entries[place].node;
-            self.place[node] = place;
-        }
-    }
-
-    /// Returns the first second that is too late at a node with so many hops left; 0 if every second is.
-    pub fn deadline(&self, hops: usize, node: usize) -> u64
-        requires bounded { hops + 1 < length self.now.ends.items }
-        requires node { node < length self.now.place.items }
-        requires ends { slice_index self.now.ends.items (hops + 1) ≤ length self.now.entries.items }
-        requires pointed { ArePointed self.now.ends.items self.now.place.items self.now.entries.items hops }
-        ensures { (b : ℕ) → (b < result) ↔ IsInTime self.now.ends.items self.now.entries.items hops node b }
-    {
-        let place = self.place[node];
-        if place < self.ends[hops] || place >= self.ends[hops + 1] {
+        let late = self.late[node];
+        if late == 0 {
             return 0;
         }
-        let entry = self.entries[place];
-        if entry.node == node { entry.before } else { 0 }
+        let last = self.place[node];
+        last + 1
+    }
+
+    /// Returns the place after the entries of at most so many hops.
+    #[inline(always)]
+    pub fn end_of(&self, hops: usize) -> usize
+        requires { 0 < length self.now.ends.items }
+        ensures { result ≡ end_within self.now.ends.items hops }
+    {
+        let last = self.ends.len() - 1;
+        self.ends[hops.saturating_add(1).min(last)]
+    }
+
+    /// Returns the first second that is too late at a node by its entries before this place; 0 if it has none there.
+    #[inline(always)]
+    pub fn before(&self, node: usize, end: usize) -> u64
+        requires chained { AreChained self.now }
+        requires node { node < length self.now.place.items }
+        ensures latest { IsLatestWithin self.now.entries.items node end result }
+        ensures met { 0 < result → (p : ℕ) × (p < end) × (slice_get self.now.entries.items p ≡ Some (record { node = node; before = result })) }
+    {
+        let mut place = self.head(node);
+        while place > end {
+            place = self.fewer[place - 1];
+        }
+        if place == 0 {
+            return 0;
+        }
+        self.entries[place - 1].before
     }
 }

@@ -5,11 +5,11 @@ ghost use Rattle.std.specs.Prelude.{◌≡◌, ◌≢◌, ℕ, ◌+◌, ◌*◌,
 ghost use Rattle.sabr_search.specs.questions.Task.{IsTask, never};
 ghost use Rattle.sabr_search.specs.questions.Steps.{received};
 ghost use Rattle.sabr_search.specs.questions.Linked.{IsLinkWithin};
-ghost use Rattle.sabr_search.specs.layers.Deadlines.{IsApart};
+ghost use Rattle.sabr_search.specs.layers.Deadlines.{AreLinked, IsApart, head_of};
 ghost use Rattle.sabr_search.specs.questions.FirstSteps.{AreFirstSteps};
 ghost use Rattle.sabr_search.specs.layers.Settling.{AreReal};
-ghost use Rattle.sabr_search.specs.layers.Late.{InTimeFor, AreLateAfter, IsNotedLate, IsToldTo, IsToldOver, IsToldByHead, IsLayerTold, AreArrivals, StayMet, IsNoneWithin};
-ghost use Rattle.sabr_search.specs.layers.Level.{AreWhole};
+ghost use Rattle.sabr_search.specs.layers.Late.{InTimeFor, AreLateAfter, IsNotedLate, IsToldTo, IsToldOver, IsToldByHead, IsLayerTold, AreArrivals, IsNoneWithin};
+ghost use Rattle.sabr_search.specs.layers.Level.{AreMet, AreWhole};
 
 use crate::backward::deadlines::{Deadline, Deadlines};
 use crate::backward::since::Since;
@@ -37,21 +37,23 @@ impl<A: Allocator + Copy> Deadlines<A> {
     /// Notes the first second that is too late at a node, in the layer that begins at `begin`, once for each node.
     fn note_late(&mut self, entry: Deadline, begin: usize) -> Result<(), NoMemory>
         requires place { entry.node < length self.old.place.items }
-        requires late { entry.node < length self.old.late }
-        requires placed { 0 < slice_index self.old.late entry.node → slice_index self.old.place.items entry.node < length self.old.entries.items }
+        requires late { entry.node < length self.old.late.items }
+        requires placed { head_of self.old.late.items self.old.place.items entry.node ≤ length self.old.entries.items }
         ensures ends { self.new.ends ≡ self.old.ends }
-        ensures late { OnOk result (self.new.late ≡ slice_set self.old.late entry.node entry.before) }
-        ensures noted { OnOk result (IsNotedLate self.old.late self.old.place.items self.old.entries.items begin entry.node entry.before self.new.place.items self.new.entries.items) }
+        ensures late { OnOk result (self.new.late.items ≡ slice_set self.old.late.items entry.node entry.before) }
+        ensures noted { OnOk result (IsNotedLate (head_of self.old.late.items self.old.place.items entry.node) begin entry.node entry.before self.old self.new) }
     {
-        let at = self.place[entry.node];
-        if self.late.at(entry.node) > 0 && at >= begin {
-            self.entries[at] = entry;
+        let head = self.head(entry.node);
+        if head > begin {
+            self.entries[head - 1] = entry;
         } else {
             let end = self.entries.len();
             self.entries.push(entry)?;
+            self.fewer.push(head)?;
             self.place[entry.node] = end;
         }
-        self.late.set(entry.node, entry.before)
+        self.late[entry.node] = entry.before;
+        Ok(())
     }
 
     /// Returns true if a link to a node that is left in time before `before` needn't be taken: its sender is in no layer,
@@ -60,15 +62,15 @@ impl<A: Allocator + Copy> Deadlines<A> {
     #[inline(always)]
     fn brings_nothing(&self, aim: &Aim<'_, '_, '_, A>, head: SenderHead, before: u64) -> bool
         requires task { IsTask aim.now.task.now }
-        requires many { length self.now.late ≡ length aim.now.task.now.table }
+        requires many { length self.now.late.items ≡ length aim.now.task.now.table }
         requires arrivals { length aim.now.since.now ≡ length aim.now.task.now.table }
         requires node { head.node < length aim.now.task.now.table }
-        ensures told { IsTrue result → IsToldByHead aim.now.task.now aim.now.since.now self.now.late head before }
+        ensures told { IsTrue result → IsToldByHead aim.now.task.now aim.now.since.now self.now.late.items head before }
         ensures unshut { result ≡ false → slice_index_or aim.now.task.now.shut head.node false ≡ false }
         ensures other { result ≡ false → head.node ≢ aim.now.task.now.goal }
     {
         let node = head.node;
-        let late = self.late.at(node);
+        let late = self.late[node];
         if is_soonest(head.soonest, head.least_light, late, before) {
             return true;
         }
@@ -98,19 +100,21 @@ impl<A: Allocator + Copy> Deadlines<A> {
         requires arrivals { length aim.now.since.now ≡ length aim.now.task.now.table }
         requires few { length from.passes.now ≤ looks.old.left }
         requires given { (b : ℕ) → b < to.before → InTimeFor self.old.entries.items (slice_index self.old.ends.items left) (slice_index self.old.ends.items (left + 1)) to.node b }
-        requires lists { AreLateAfter aim.now.task.now self.old.ends.items left self.old.late self.old.place.items self.old.entries.items }
+        requires lists { AreLateAfter aim.now.task.now self.old.ends.items left self.old.late.items self.old.place.items self.old.entries.items }
+        requires linked { AreLinked self.old.entries.items self.old.fewer.items }
         ensures ends { self.new.ends ≡ self.old.ends }
         ensures looks { looks.old.left ≤ looks.new.left + length from.entry.passes.now }
-        ensures lists { OnOk result (AreLateAfter aim.now.task.now self.old.ends.items left self.new.late self.new.place.items self.new.entries.items) }
+        ensures lists { OnOk result (AreLateAfter aim.now.task.now self.old.ends.items left self.new.late.items self.new.place.items self.new.entries.items) }
+        ensures linked { OnOk result (AreLinked self.new.entries.items self.new.fewer.items) }
         ensures kept { OnOk result (take (slice_index self.old.ends.items (left + 1)) self.new.entries.items ≡ take (slice_index self.old.ends.items (left + 1)) self.old.entries.items) }
-        ensures rises { OnOk result ((k : ℕ) → slice_index self.old.late k ≤ slice_index self.new.late k) }
-        ensures told { OnOk result (IsToldOver aim.now.task.now aim.now.since.now self.new.late from.entry.node from.entry.passes.now to.before) }
+        ensures rises { OnOk result ((k : ℕ) → slice_index self.old.late.items k ≤ slice_index self.new.late.items k) }
+        ensures told { OnOk result (IsToldOver aim.now.task.now aim.now.since.now self.new.late.items from.entry.node from.entry.passes.now to.before) }
     {
         let since = aim.since.at(from.node);
         if from.bounds.latest_end <= since {
             return Ok(());
         }
-        let latest = self.late.at(from.node);
+        let latest = self.late[from.node];
         let link = WalkedLink {
             from: from.node,
             to: to.node,
@@ -144,14 +148,16 @@ impl<A: Allocator + Copy> Deadlines<A> {
         requires receiver { slice_index_or aim.now.task.now.shut to.node false ≡ false }
         requires arrivals { length aim.now.since.now ≡ length aim.now.task.now.table }
         requires given { (b : ℕ) → b < to.before → InTimeFor self.old.entries.items (slice_index self.old.ends.items left) (slice_index self.old.ends.items (left + 1)) to.node b }
-        requires lists { AreLateAfter aim.now.task.now self.old.ends.items left self.old.late self.old.place.items self.old.entries.items }
+        requires lists { AreLateAfter aim.now.task.now self.old.ends.items left self.old.late.items self.old.place.items self.old.entries.items }
+        requires linked { AreLinked self.old.entries.items self.old.fewer.items }
         ensures ends { self.new.ends ≡ self.old.ends }
         ensures counted { looks.old.left ≤ looks.new.left + received aim.now.task.now to.node }
         ensures none { IfOk result (λ whole. whole ≡ false → looks.old.left < received aim.now.task.now to.node) }
-        ensures lists { OnOk result (AreLateAfter aim.now.task.now self.old.ends.items left self.new.late self.new.place.items self.new.entries.items) }
+        ensures lists { OnOk result (AreLateAfter aim.now.task.now self.old.ends.items left self.new.late.items self.new.place.items self.new.entries.items) }
+        ensures linked { OnOk result (AreLinked self.new.entries.items self.new.fewer.items) }
         ensures kept { OnOk result (take (slice_index self.old.ends.items (left + 1)) self.new.entries.items ≡ take (slice_index self.old.ends.items (left + 1)) self.old.entries.items) }
-        ensures rises { OnOk result ((k : ℕ) → slice_index self.old.late k ≤ slice_index self.new.late k) }
-        ensures told { IfOk result (λ whole. IsTrue whole → IsToldTo aim.now.task.now aim.now.since.now self.new.late to) }
+        ensures rises { OnOk result ((k : ℕ) → slice_index self.old.late.items k ≤ slice_index self.new.late.items k) }
+        ensures told { IfOk result (λ whole. IsTrue whole → IsToldTo aim.now.task.now aim.now.since.now self.new.late.items to) }
     {
         let senders = aim.task.senders(to.node);
         for place in 0..senders.len() {
@@ -160,7 +166,7 @@ impl<A: Allocator + Copy> Deadlines<A> {
                 continue;
             }
             let from = senders.at(place);
-            if from.bounds.latest_end <= self.late.at(from.node) {
+            if from.bounds.latest_end <= self.late[from.node] {
                 continue;
             }
             if from.passes.len() as u64 > looks.left() {
@@ -182,15 +188,16 @@ impl<A: Allocator + Copy> Deadlines<A> {
         requires task { IsTask aim.now.task.now }
         requires arrivals { length aim.now.since.now ≡ length aim.now.task.now.table }
         requires bounded { left + 1 < length self.old.ends.items }
-        requires goal { IfSome (slice_get self.old.entries.items 0) (λ e. e.node ≡ aim.now.task.now.goal) }
         requires apart { IsApart self.old.ends.items self.old.entries.items left }
-        requires lists { AreLateAfter aim.now.task.now self.old.ends.items left self.old.late self.old.place.items self.old.entries.items }
+        requires lists { AreLateAfter aim.now.task.now self.old.ends.items left self.old.late.items self.old.place.items self.old.entries.items }
+        requires linked { AreLinked self.old.entries.items self.old.fewer.items }
         ensures ends { self.new.ends ≡ self.old.ends }
         ensures counted { looks.old.left ≤ looks.new.left + length aim.now.task.now.plan.contacts }
         ensures none { IfOk result (λ whole. whole ≡ false → looks.old.left < length aim.now.task.now.plan.contacts) }
-        ensures lists { OnOk result (AreLateAfter aim.now.task.now self.old.ends.items left self.new.late self.new.place.items self.new.entries.items) }
+        ensures lists { OnOk result (AreLateAfter aim.now.task.now self.old.ends.items left self.new.late.items self.new.place.items self.new.entries.items) }
+        ensures linked { OnOk result (AreLinked self.new.entries.items self.new.fewer.items) }
         ensures kept { OnOk result (take (slice_index self.old.ends.items (left + 1)) self.new.entries.items ≡ take (slice_index self.old.ends.items (left + 1)) self.old.entries.items) }
-        ensures told { IfOk result (λ whole. IsTrue whole → IsLayerTold aim.now.task.now aim.now.since.now self.old.ends.items left self.old.entries.items self.new.late) }
+        ensures told { IfOk result (λ whole. IsTrue whole → IsLayerTold aim.now.task.now aim.now.since.now self.old.ends.items left self.old.entries.items self.new.late.items) }
     {
         let first = self.ends[left];
         let begin = self.ends[left + 1];
@@ -210,21 +217,25 @@ impl<A: Allocator + Copy> Deadlines<A> {
         requires early { delivery < never }
         ensures ends { OnOk result (self.new.ends.items ≡ 0 ∷ 1 ∷ []) }
         ensures entries { OnOk result (self.new.entries.items ≡ record { node = task.now.goal; before = delivery + 1 } ∷ []) }
+        ensures linked { OnOk result (self.new.fewer.items ≡ 0 ∷ []) }
         ensures flags { OnOk result (length self.new.place.items ≡ length task.now.shut) }
         ensures place { OnOk result (slice_index self.new.place.items task.now.goal ≡ 0) }
-        ensures many { OnOk result (length self.new.late ≡ length task.now.shut) }
-        ensures late { OnOk result (slice_index self.new.late task.now.goal ≡ delivery + 1) }
-        ensures none { OnOk result ((k : ℕ) → k ≢ task.now.goal → slice_index self.new.late k ≡ 0) }
+        ensures many { OnOk result (length self.new.late.items ≡ length task.now.shut) }
+        ensures late { OnOk result (slice_index self.new.late.items task.now.goal ≡ delivery + 1) }
+        ensures none { OnOk result ((k : ℕ) → k ≢ task.now.goal → slice_index self.new.late.items k ≡ 0) }
     {
         self.place.resize(task.shut().len(), 0)?;
         self.place[task.goal()] = 0;
-        self.late.begin(task.shut().len())?;
-        self.late.set(task.goal(), delivery + 1)?;
+        self.late.clear();
+        self.late.resize(task.shut().len(), 0)?;
+        self.late[task.goal()] = delivery + 1;
         self.entries.clear();
         self.entries.push(Deadline {
             node: task.goal(),
             before: delivery + 1,
         })?;
+        self.fewer.clear();
+        self.fewer.push(0)?;
         self.ends.clear();
         self.ends.push(0)?;
         self.ends.push(1)?;
@@ -233,13 +244,13 @@ impl<A: Allocator + Copy> Deadlines<A> {
 
     /// Returns true if some first step comes in time to a node of the layers so far.
     fn is_met(&self, first: &[Visit]) -> bool
-        requires { (k : ℕ) (s : Visit) → slice_get first.now k ≡ Some s → s.node < length self.now.late }
-        ensures met { IsTrue result → (k : ℕ) × (s : Visit) × (slice_get first.now k ≡ Some s) × (s.at < slice_index self.now.late s.node) }
-        ensures unmet { result ≡ false → (k : ℕ) (s : Visit) → slice_get first.now k ≡ Some s → slice_index self.now.late s.node ≤ s.at }
+        requires { (k : ℕ) (s : Visit) → slice_get first.now k ≡ Some s → s.node < length self.now.late.items }
+        ensures met { IsTrue result → (k : ℕ) × (s : Visit) × (slice_get first.now k ≡ Some s) × (s.at < slice_index self.now.late.items s.node) }
+        ensures unmet { result ≡ false → (k : ℕ) (s : Visit) → slice_get first.now k ≡ Some s → slice_index self.now.late.items s.node ≤ s.at }
     {
         for place in 0..first.len() {
             let step = first[place];
-            if step.at < self.late.at(step.node) {
+            if step.at < self.late[step.node] {
                 return true;
             }
         }
@@ -256,7 +267,7 @@ impl<A: Allocator + Copy> Deadlines<A> {
         requires task { IsTask aim.now.task.now }
         requires arrivals { AreArrivals aim.now.task.now aim.now.since.now }
         requires early { aim.now.delivery < never }
-        ensures whole { IfOk result (λ all. IsTrue all → AreWhole aim.now.task.now aim.now.since.now aim.now.delivery self.new.ends.items self.new.entries.items) }
+        ensures whole { IfOk result (λ all. IsTrue all → (most : ℕ) → AreWhole aim.now.task.now aim.now.since.now aim.now.delivery most self.new) }
     {
         self.first_back(aim.task, aim.delivery)?;
         for left in 0..aim.task.shut().len() {
@@ -290,7 +301,7 @@ impl<A: Allocator + Copy> Deadlines<A> {
         ensures counted { looks.old.left ≤ looks.new.left + hops * length aim.now.task.now.plan.contacts }
         ensures within { IfOk result (λ o. IfSome o (λ left. left ≤ hops)) }
         ensures layers { IfOk result (λ o. IfSome o (λ left. left < hops → looks.old.left ≤ looks.new.left + (left + 1) * length aim.now.task.now.plan.contacts)) }
-        ensures met { IfOk result (λ o. IfSome o (λ left. left < hops → StayMet aim.now.task.now aim.now.since.now aim.now.delivery left self.new)) }
+        ensures met { IfOk result (λ o. IfSome o (λ left. left < hops → AreMet aim.now.task.now aim.now.delivery left self.new)) }
         ensures beyond { IfOk result (λ o. IfSome o (λ left. left ≡ hops → IsNoneWithin aim.now.task.now hops aim.now.delivery)) }
         ensures none { IfOk result (λ o. IfNone o (looks.old.left < hops * length aim.now.task.now.plan.contacts)) }
     {

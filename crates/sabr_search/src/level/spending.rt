@@ -12,17 +12,13 @@ const TIMES: u64 = 32;
 /// percent more. This and the next were varied as `TIMES` was, over seven plans of `bench/figures.py`.
 const FIRST_PRICE: u64 = 64;
 
-/// After layers that didn't pay, the next ones are made after twice as many times, but at most so many. With 32,
-/// `relay-moon-2000` took 3 percent more.
-const MOST_TIMES: u64 = 2048;
-
 /// So many questions are asked of layers before it is counted how many they answered. With 16, `iridium-6-10` took 13 percent
 /// more and `grid-8` 6 fewer, with 0.7 more in the mean of twelve plans; with 64, `relay-moon-2000` took 4 more.
 const TRIES: u32 = 32;
 
 /// If they answered fewer, `PAUSE` questions aren't asked of them. With 0, `relay-moon-2000` took 7 percent more; with 20,
 /// `iridium-6-10` took 20 percent more, and `grid-8` 9 percent fewer.
-const LEAST: u32 = 10;
+const LEAST: u64 = 10;
 
 /// With 1024, `walker-24-5000` took 5 percent more, and `relay-moon-2000` 1 percent fewer.
 const PAUSE: u32 = 128;
@@ -32,17 +28,12 @@ const PAUSE: u32 = 128;
 pub struct Spending {
     /// The floor.
     floor: u64,
-    /// How many questions with it were searched, and their looks.
-    searched: u64,
+    /// The looks of the searches with it.
     spent: u64,
     /// Whether layers were made for it.
     paid: bool,
-    /// How many questions these answered.
-    won: u64,
     /// The looks that the last layers took.
     price: u64,
-    /// How many times that is to be spent: more after layers that didn't pay.
-    times: u64,
     /// Whether questions are answered.
     tries: Payoff,
 }
@@ -52,12 +43,9 @@ impl Spending {
     pub fn new() -> Spending {
         Spending {
             floor: 0,
-            searched: 0,
             spent: 0,
             paid: false,
-            won: 0,
             price: FIRST_PRICE,
-            times: TIMES,
             tries: Payoff::new(TRIES, LEAST, PAUSE),
         }
     }
@@ -67,35 +55,19 @@ impl Spending {
         if floor == self.floor {
             return;
         }
-        if self.paid {
-            self.judge();
-        }
         self.floor = floor;
-        self.searched = 0;
         self.spent = 0;
         self.paid = false;
-        self.won = 0;
-    }
-
-    /// Compares what layers took with what the questions that they answered would have taken.
-    fn judge(&mut self) {
-        let saved = self.won.saturating_mul(self.spent);
-        if saved < self.price.saturating_mul(self.searched) {
-            self.times = self.times.saturating_mul(2).min(MOST_TIMES);
-        } else {
-            self.times = (self.times / 2).max(TIMES);
-        }
     }
 
     /// Counts a question that was searched with so many looks.
     pub fn search(&mut self, looks: u64) {
-        self.searched = self.searched.saturating_add(1);
         self.spent = self.spent.saturating_add(looks);
     }
 
     /// Returns true if there are no layers yet, and as much was spent as is to be before they are made.
     pub fn is_due(&self) -> bool {
-        !self.paid && self.spent >= self.price.saturating_mul(self.times)
+        !self.paid && self.spent >= self.price.saturating_mul(TIMES)
     }
 
     /// Counts the looks that layers took.
@@ -111,7 +83,6 @@ impl Spending {
 
     /// Counts a question that they answered.
     pub fn win(&mut self) {
-        self.won = self.won.saturating_add(1);
-        self.tries.win();
+        self.tries.win(1);
     }
 }

@@ -1,13 +1,15 @@
 //! A pick of the least numbers, by layers that know no shut node and no excluded number, which goes back from dead ends.
 
-ghost use Rattle.std.specs.Prelude.{◌≡◌, ◌⊎◌, ℕ, ◌+◌, ◌≤◌, ◌<◌, Some, [], map, IfOk, IfSome, IfNone, OnOk, List, ◌-◌, length, slice_get};
+ghost use Rattle.std.specs.Prelude.{◌≡◌, ◌⊎◌, ℕ, ◌+◌, ◌*◌, ◌≤◌, ◌<◌, Some, [], map, IfOk, IfSome, IfNone, OnOk, List, ◌-◌, length, slice_get};
 ghost use Rattle.sabr_search.specs.questions.Task.{IsTask, Takes};
 ghost use Rattle.sabr_search.specs.layers.Late.{IsNoneSooner};
 ghost use Rattle.sabr_search.specs.questions.Linked.{AreLinksAt};
-ghost use Rattle.sabr_search.specs.layers.Level.{AreDeadEnds, IsDeadEnd, IsLevelOf, IsStepOn, IsWalked, last_visit};
+ghost use Rattle.sabr_search.specs.layers.Deadlines.{IsInTimeWithin};
+ghost use Rattle.sabr_search.specs.layers.Level.{AreDeadEnds, IsDeadEnd, IsLevelOf, IsStepOn, IsWalked, LeadOn, last_visit};
 ghost use Rattle.sabr_search.specs.questions.Ways.{Leads};
 
-use crate::level::Level;
+use crate::backward::deadlines::Deadlines;
+use crate::found::FoundWay;
 use crate::task::Task;
 use crate::visit::{Step, Visit};
 use sabr_index::{Links, Looks};
@@ -40,6 +42,8 @@ pub enum Walked {
 /// The steps of a pick, and the dead ends that it came to.
 #[derive(Drop)]
 pub struct Walk<A: Allocator + Copy> {
+    /// The delivery of the layers that it goes by.
+    delivery: u64,
     steps: Vec<Step, A>,
     ends: Vec<DeadEnd, A>,
 }
@@ -48,27 +52,34 @@ impl<A: Allocator + Copy> Walk<A> {
     /// Has no step. It takes no memory.
     pub fn new(alloc: A) -> Walk<A> {
         Walk {
+            delivery: 0,
             steps: Vec::new(alloc),
             ends: Vec::new(alloc),
         }
     }
 
-    /// Begins a question: no dead end is known.
-    pub fn begin(&mut self)
-        ensures { self.new.ends.items ≡ [] }
+    /// Begins a question by layers for a delivery: no dead end is known.
+    pub fn begin(&mut self, delivery: u64)
+        ensures delivery { self.new.delivery ≡ delivery }
+        ensures ends { self.new.ends.items ≡ [] }
     {
+        self.delivery = delivery;
         self.ends.clear();
     }
 
-    /// The numbers of the steps.
-    pub fn numbers(&self, alloc: A) -> Result<Vec<u32, A>, NoMemory>
-        ensures { IfOk result (λ v. v.items ≡ map (λ s. s.number) self.now.steps.items) }
+    /// The way of the steps.
+    pub fn way(&self, alloc: A) -> Result<FoundWay<A>, NoMemory>
+        ensures delivery { IfOk result (λ w. w.delivery ≡ self.now.delivery) }
+        ensures numbers { IfOk result (λ w. w.numbers.items ≡ map (λ s. s.number) self.now.steps.items) }
     {
         let mut numbers = Vec::with_capacity(alloc, self.steps.len())?;
         for place in 0..self.steps.len() {
             numbers.push(self.steps[place].number)?;
         }
-        Ok(numbers)
+        Ok(FoundWay {
+            numbers,
+            delivery: self.delivery,
+        })
     }
 
     /// Where the steps lead, and when.
@@ -107,7 +118,7 @@ impl<A: Allocator + Copy> Walk<A> {
     /// the layers and the dead ends tell.
     fn next(
         &self,
-        level: &Level<A>,
+        layers: &Deadlines<A>,
         task: &Task<'_, A>,
         looks: &mut Looks,
         hops: usize,
@@ -115,25 +126,26 @@ impl<A: Allocator + Copy> Walk<A> {
         links: Links<'_>,
     ) -> Option<Step>
         requires task { IsTask task.now }
-        requires level { IsLevelOf task.now level.now }
-        requires ends { AreDeadEnds task.now level.now.delivery self.now.ends.items }
+        requires level { IsLevelOf task.now self.now.delivery hops layers.now }
+        requires ends { AreDeadEnds task.now self.now.delivery self.now.ends.items }
         requires here { (ns : List ℕ) × Leads (Takes task.now) task.now.start task.now.at ns from.node from.at }
         requires links { AreLinksAt task.now from.node links.links.now links.passes.now }
-        requires goal { IsDeadEnd task.now level.now.delivery from.node from.at 0 }
+        requires goal { IsDeadEnd task.now self.now.delivery from.node from.at 0 }
         requires few { length links.passes.now ≤ looks.old.left }
         ensures looks { looks.old.left ≤ looks.new.left + length links.entry.passes.now }
         ensures looked { looks.new.left ≤ looks.old.left }
-        ensures some { IfSome result (IsStepOn task.now level.now.delivery hops from) }
-        ensures none { IfNone result (IsDeadEnd task.now level.now.delivery from.node from.at (hops + 1)) }
+        ensures some { IfSome result (IsStepOn task.now self.now.delivery hops from) }
+        ensures in_time { IfSome result (λ s. IsInTimeWithin layers.now.ends.items layers.now.entries.items hops s.node s.at) }
+        ensures none { IfNone result (IsDeadEnd task.now self.now.delivery from.node from.at (hops + 1)) }
     {
-        let end = level.end_of(hops);
+        let end = layers.end_of(hops);
         let mut least: Option<Step> = None;
         for place in 0..links.links.len() {
             let link = task.link(links, from.node, place);
             if task.shut()[link.to] {
                 continue;
             }
-            let deadline = level.before(link.to, end);
+            let deadline = layers.before(link.to, end);
             if deadline <= from.at {
                 continue;
             }
@@ -144,22 +156,24 @@ impl<A: Allocator + Copy> Walk<A> {
     }
 
     /// Picks the least numbers of so many hops from the start to the goal by the layers' delivery, and goes back from dead
-    /// ends. No way of fewer hops delivers by then.
+    /// ends. No way of fewer hops delivers by then. By a question's own layers it comes to no dead end.
     pub fn pick(
         &mut self,
-        level: &Level<A>,
+        layers: &Deadlines<A>,
         task: &Task<'_, A>,
         looks: &mut Looks,
         hops: usize,
     ) -> Result<Walked, NoMemory>
         requires task { IsTask task.now }
         requires some { 0 < hops }
-        requires level { IsLevelOf task.now level.now }
-        requires floor { IsNoneSooner task.now hops level.now.delivery }
-        requires ends { AreDeadEnds task.now level.now.delivery self.old.ends.items }
-        requires fewer { IsDeadEnd task.now level.now.delivery task.now.start task.now.at (hops - 1) }
-        ensures ends { OnOk result (AreDeadEnds task.now level.now.delivery self.new.ends.items) }
-        ensures walked { IfOk result (IsWalked task.now level.now.delivery hops self.new) }
+        requires level { IsLevelOf task.now self.old.delivery (hops - 1) layers.now }
+        requires floor { IsNoneSooner task.now hops self.old.delivery }
+        requires ends { AreDeadEnds task.now self.old.delivery self.old.ends.items }
+        requires fewer { IsDeadEnd task.now self.old.delivery task.now.start task.now.at (hops - 1) }
+        ensures delivery { self.new.delivery ≡ self.old.delivery }
+        ensures ends { OnOk result (AreDeadEnds task.now self.old.delivery self.new.ends.items) }
+        ensures walked { IfOk result (IsWalked task.now self.old.delivery hops (LeadOn task.now hops layers.now self.old → looks.old.left < hops * length task.now.plan.contacts) self.new) }
+        ensures counted { LeadOn task.now hops layers.now self.old → looks.old.left ≤ looks.new.left + hops * length task.now.plan.contacts }
     {
         self.steps.clear();
         while self.ends.len() < MOST_ENDS {
@@ -169,7 +183,7 @@ impl<A: Allocator + Copy> Walk<A> {
             if links.passes.len() as u64 > looks.left() {
                 return Ok(Walked::GaveUp);
             }
-            if let Some(step) = self.next(level, task, looks, left, from, links) {
+            if let Some(step) = self.next(layers, task, looks, left, from, links) {
                 self.steps.push(step)?;
                 if left == 0 {
                     return Ok(Walked::Picked);

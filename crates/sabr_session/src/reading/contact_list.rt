@@ -8,7 +8,7 @@ use crate::reading::words::{first_number, first_word, is_word};
 use sabr_model::{MOST_RECORDS, NoMemory};
 use std::alloc::Allocator;
 
-/// How a list ends: whether at `/`, and the words after that.
+/// How a list ends: whether at `/`, and the words after it.
 #[derive(Clone, Copy)]
 pub(crate) struct ListEnd<'a> {
     pub(crate) stopped: bool,
@@ -40,7 +40,7 @@ fn dash_to_slash(text: &[u8]) -> Option<ListEnd<'_>>
     }
 }
 
-/// Reads the numbers up to `/` or to the end into the vector, in place of what it holds. `None` if a word is no number,
+/// Reads the numbers up to `/` or to the end into the vector, and replaces its contents. `None` if a word is no number,
 /// or if there are too many.
 fn numbers_to_slash<'a, A: Allocator + Copy>(
     numbers: &mut Vec<u32, A>,
@@ -73,12 +73,12 @@ fn numbers_to_slash<'a, A: Allocator + Copy>(
     }))
 }
 
-/// Reads the list up to `/` or to the end into the vector, in place of what it holds: `-` for the empty list, or 1 to
+/// Reads the list up to `/` or to the end into the vector, and replaces its contents: `-` for the empty list, or 1 to
 /// 20000 numbers from 1 to 4294967295. `None` if that is no list.
 ///
 /// # Errors
 ///
-/// [`NoMemory`] if a growth was refused. Then, and for `None`, what the vector holds is unspecified.
+/// [`NoMemory`] if an allocation failed. Then, and for `None`, the contents of the vector are unspecified.
 pub(crate) fn list_to_slash<'a, A: Allocator + Copy>(
     numbers: &mut Vec<u32, A>,
     text: &'a [u8],
@@ -95,7 +95,7 @@ pub(crate) fn list_to_slash<'a, A: Allocator + Copy>(
     Ok(Some(end))
 }
 
-/// Reads all the words as one list into the vector, in place of what it holds. Returns whether they are a list.
+/// Reads all the words as one list into the vector, and replaces its contents. Returns whether they are a list.
 pub(crate) fn list_to_end<A: Allocator + Copy>(
     numbers: &mut Vec<u32, A>,
     text: &[u8],

@@ -23,7 +23,7 @@ pub(crate) enum Version {
     Two,
 }
 
-/// Returns what stands after the label, if the text begins with it.
+/// Returns the text after the label, if the text begins with it.
 pub(crate) fn after_label<'a>(label: &[u8], text: &'a [u8]) -> Option<&'a [u8]>
     ensures { option_copied result ≡ after_label label.now text.now }
 {

@@ -16,14 +16,14 @@ use sabr_model::{Numbers, Request, RequestValues};
 use std::alloc::Allocator;
 use std::marker::Model;
 
-/// What the first six lines say, except for the request. What no line has said yet is 0 or empty.
+/// The values of the first six lines, except for the request. A value that wasn't read yet is 0 or empty.
 #[derive(Drop)]
 pub(crate) struct Head<A: Allocator + Copy> {
     /// The allocator of the last route.
     alloc: A,
-    /// The version that line 1 names.
+    /// The version in line 1.
     version: Version,
-    /// The number of routes given.
+    /// The number of emitted routes.
     emitted: u128,
     /// The last of these routes.
     last: Numbers<A>,
@@ -131,14 +131,14 @@ impl<A: Allocator + Copy> Head<A> {
         Ok(())
     }
 
-    /// The number of routes given.
+    /// The number of emitted routes.
     pub(crate) fn emitted(&self) -> u128
         ensures { result ≡ self.now.emitted }
     {
         self.emitted
     }
 
-    /// The last route given.
+    /// The last emitted route.
     pub(crate) fn last(&self) -> &[u32]
         ensures { result.now ≡ self.now.last_route }
     {

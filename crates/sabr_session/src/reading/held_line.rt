@@ -8,7 +8,7 @@ use sabr_model::NoMemory;
 use std::alloc::Allocator;
 use std::marker::Model;
 
-/// The most bytes of a line without its LF.
+/// The largest number of bytes of a line without its LF.
 pub(crate) const MOST_BYTES: usize = 660008;
 
 /// At most [`MOST_BYTES`] bytes without LF. Contracts see the bytes.
@@ -30,7 +30,7 @@ impl<A: Allocator + Copy> Model for HeldLine<A> {
 }
 
 impl<A: Allocator + Copy> HeldLine<A> {
-    /// Returns an empty line. It takes no memory.
+    /// Returns an empty line. It doesn't allocate.
     pub(crate) fn new(alloc: A) -> HeldLine<A>
         ensures { result ≡ [] }
     {
@@ -67,7 +67,7 @@ impl<A: Allocator + Copy> HeldLine<A> {
         Ok(())
     }
 
-    /// Removes the bytes, and keeps their memory.
+    /// Removes the bytes, and keeps the allocation.
     pub(crate) fn clear(&mut self)
         ensures { self.new ≡ [] }
     {

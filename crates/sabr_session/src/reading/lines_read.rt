@@ -19,12 +19,12 @@ use std::marker::Model;
 /// The number of lines before and after those of the parts.
 const OTHER_LINES: u128 = 7;
 
-/// The complete lines of a text. Contracts see a text of which no byte is held.
+/// The complete lines of a text. Contracts see a text without an incomplete line.
 #[derive(Drop)]
 pub(crate) struct LinesRead<'p, B: BestOf<A>, A: Allocator + Copy> {
     /// The number of lines.
     lines: u128,
-    /// What the first six lines say, except for the request.
+    /// The values of the first six lines, except for the request.
     head: Head<A>,
     /// The finder, or from line 3 on the loader.
     stage: Stage<'p, B, A>,
@@ -53,12 +53,12 @@ fn read_said<'p, B: BestOf<A>, A: Allocator + Copy>(
     requires request { stage.old.has_request ≡ nat_lt 3 number }
     requires number { 1 ≤ number }
 
-    // The line says what it says, or is refused.
+    // The line is read, or its fault is returned.
     ensures value { Leaves (line_said stage.old.plan.plan digest.now number (said_with head.old stage.old) line.now) result (said_with head.new stage.new) }
     ensures request { OnOk result (stage.new.has_request ≡ nat_lt 2 number) }
     ensures limit { OnOk result (number ≤ most_lines) }
 
-    // The plan and the calls stay. After a refusal all stays.
+    // The plan and the calls are the same. After a fault nothing is changed.
     ensures plan { stage.new.plan ≡ stage.old.plan }
     ensures calls { stage.new.calls ≡ stage.old.calls }
     ensures head { OnErr result (head.new ≡ head.old) }
@@ -93,11 +93,11 @@ fn read_other<'p, B: BestOf<A>, A: Allocator + Copy>(
     requires request { stage.old.has_request ≡ true }
     requires number { 7 ≤ number }
 
-    // The line says what it says, or is refused.
+    // The line is read, or its fault is returned.
     ensures value { Leaves (other_said stage.old.plan.plan number (said_with head.now stage.old) line.now) result (said_with head.now stage.new) }
     ensures limit { OnOk result (number ≤ most_lines) }
 
-    // The plan, the calls and the request stay. After a refusal all stays.
+    // The plan, the calls and the request are the same. After a fault nothing is changed.
     ensures plan { stage.new.plan ≡ stage.old.plan }
     ensures calls { stage.new.calls ≡ stage.old.calls }
     ensures request { stage.new.has_request ≡ true }

@@ -11,7 +11,7 @@ use sabr_model::NoMemory;
 use std::alloc::Allocator;
 use std::marker::Model;
 
-/// The three lists of a part, in memory that is used for each part. The third is empty if the part carries no route.
+/// The three lists of a part, in memory that is used for each part. The third is empty if the part has no route.
 /// Contracts see the part.
 #[derive(Drop)]
 pub(crate) struct PartLine<A: Allocator + Copy> {
@@ -30,7 +30,7 @@ impl<A: Allocator + Copy> Model for PartLine<A> {
 }
 
 impl<A: Allocator + Copy> PartLine<A> {
-    /// Returns three empty lists. It takes no memory.
+    /// Returns three empty lists. It doesn't allocate.
     pub(crate) fn new(alloc: A) -> PartLine<A>
         ensures { result ≡ record { prefix = []; excluded = []; carried = None } }
     {
@@ -41,11 +41,13 @@ impl<A: Allocator + Copy> PartLine<A> {
         }
     }
 
-    /// Reads `part LIST / LIST / LIST` into the lists, in place of what they hold. Returns whether the line is that.
+    /// Reads `part LIST / LIST / LIST` into the lists, and replaces their contents. Returns whether the line has that
+    /// form.
     ///
     /// # Errors
     ///
-    /// [`NoMemory`] if a growth was refused. Then, and if the line isn't a part's, what the lists hold is unspecified.
+    /// [`NoMemory`] if an allocation failed. Then, and if the line isn't a part's, the contents of the lists are
+    /// unspecified.
     #[tactic(auto, unfolding(crate::specs::SessionLines::part_of))]
     pub(crate) fn read(&mut self, line: &[u8]) -> Result<bool, NoMemory>
         ensures { IfOk result (λ found. part_of line.now ≡ (if found then Some self.new else None)) }
@@ -56,7 +58,7 @@ impl<A: Allocator + Copy> PartLine<A> {
         self.read_lists(text)
     }
 
-    /// Reads `LIST / LIST / LIST`, and returns whether the text is that.
+    /// Reads `LIST / LIST / LIST`, and returns whether the text has that form.
     fn read_lists(&mut self, text: &[u8]) -> Result<bool, NoMemory>
         ensures { IfOk result (λ found. lists_of (words_of text.now) ≡ (if found then Some self.new else None)) }
     {
@@ -75,21 +77,21 @@ impl<A: Allocator + Copy> PartLine<A> {
         list_to_end(&mut self.route, after)
     }
 
-    /// The numbers that each route of the part begins with.
+    /// The prefix of the part: each route of the part begins with these numbers.
     pub(crate) fn prefix(&self) -> &[u32]
         ensures { result.now ≡ self.now.prefix }
     {
         self.prefix.as_slice()
     }
 
-    /// The numbers that no route of the part takes right after the prefix.
+    /// The excluded contacts: no route of the part has one of these numbers right after the prefix.
     pub(crate) fn excluded(&self) -> &[u32]
         ensures { result.now ≡ self.now.excluded }
     {
         self.excluded.as_slice()
     }
 
-    /// The numbers of the route that the part carries, if it carries one.
+    /// The numbers of the best route of the part, if it has one.
     pub(crate) fn carried(&self) -> Option<&[u32]>
         ensures { option_copied result ≡ self.now.carried }
     {

@@ -11,7 +11,7 @@ use crate::reading::words::{MOST_NUMBER, first_word, is_word};
 use sabr_model::{MOST_HOPS, NodeList, RequestValues};
 use sabr_plan::{number_within, parse_time};
 
-/// Splits off the first four words, and returns what stands after them, too. `None` if there are fewer.
+/// Returns the first four words, and the text after them. `None` if there are fewer.
 fn four_words(text: &[u8]) -> Option<(&[u8], &[u8], &[u8], &[u8], Option<&[u8]>)>
     ensures { MatchOption result (length (words_of text.now) < 4) (λ w. words_of text.now ≡ w.0.now ∷ w.1.now ∷ w.2.now ∷ w.3.now ∷ words_after (option_copied w.4)) }
 {

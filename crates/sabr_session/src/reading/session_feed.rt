@@ -1,4 +1,4 @@
-//! A session text that is read in pieces.
+//! A session text that is read in chunks.
 
 ghost use Rattle.std.specs.Prelude.{◌≡◌, ◌+◌, ◌<◌, ◌≤◌, length, Ok, MatchResult, IfOk, OnOk};
 ghost use Rattle.sabr_model.specs.routes.Asking.{IsRequest};
@@ -15,9 +15,9 @@ use sabr_search::BestOf;
 use std::alloc::{Allocator, Global};
 use std::marker::Model;
 
-/// A session text over a plan that is read in pieces of any length. It holds one line at a time.
+/// A session text over a plan that is read in chunks of any length. It holds one line at a time.
 ///
-/// Contracts see what was fed, or the fault that refused it.
+/// Contracts see the bytes that were fed, or their fault.
 #[derive(Drop)]
 pub struct SessionFeed<'p, B: BestOf<A>, A: Allocator + Copy = Global> {
     text: Result<TextSoFar<'p, B, A>, SessionFault>,
@@ -34,7 +34,7 @@ impl<'p, B: BestOf<A>, A: Allocator + Copy> Model for SessionFeed<'p, B, A> {
 }
 
 impl<'p, B: BestOf<A>, A: Allocator + Copy> SessionFeed<'p, B, A> {
-    /// Returns a feed before its first piece. The digest is that of the plan. It takes no memory.
+    /// Returns a feed before its first chunk. The digest is that of the plan. It doesn't allocate.
     pub fn new(alloc: A, plan: &'p Plan<A>, digest: &[u8; 32], finder: B) -> SessionFeed<'p, B, A>
         requires { digest.now ≡ digest_of plan.now.plan }
         ensures { result ≡ Ok (opened_over plan.now (B.calls_of finder)) }
@@ -44,18 +44,18 @@ impl<'p, B: BestOf<A>, A: Allocator + Copy> SessionFeed<'p, B, A> {
         }
     }
 
-    /// Takes the next piece of the text, of any length.
+    /// Reads the next chunk of the text, of any length.
     ///
-    /// A part's line costs what [`Loader::add_part`](sabr_frontier::Loader::add_part) does, and each other line time
-    /// that grows with its length.
+    /// A part's line costs what [`Loader::add_part`](sabr_frontier::Loader::add_part) does, and the time of each other
+    /// line grows with its length.
     ///
     /// # Errors
     ///
     /// The first fault in the lines so far: [`SessionFault::BadHeader`], [`BadLine`](SessionFault::BadLine),
     /// [`OtherPlan`](SessionFault::OtherPlan), [`BadRequest`](SessionFault::BadRequest) or
-    /// [`BadRoute`](SessionFault::BadRoute). A line is judged once LF ends it, at its byte 660009, and after `end` at
-    /// its first byte. [`NoMemory`](SessionFault::NoMemory) if a growth was refused. Each later call returns the same
-    /// error. The finder and what was read are dropped.
+    /// [`BadRoute`](SessionFault::BadRoute). The fault of a line is found at its LF, at its byte 660009 or, after
+    /// `end`, at its first byte. [`NoMemory`](SessionFault::NoMemory) if an allocation failed. Each later call returns
+    /// the same error. The finder and what was read are dropped.
     pub fn feed(&mut self, piece: &[u8]) -> Result<(), SessionFault>
         ensures fed { IsFed self.old piece.now result self.new }
         ensures grows { OnOk result (weight_of self.old + length piece.now ≤ weight_of self.new) }
@@ -72,15 +72,15 @@ impl<'p, B: BestOf<A>, A: Allocator + Copy> SessionFeed<'p, B, A> {
         Err(fault)
     }
 
-    /// Ends the text, and makes its session. It runs no search, and no page of the session can be taken back.
+    /// Ends the text, and makes its session. It runs no search, and no page of the session can be undone.
     ///
     /// # Errors
     ///
-    /// The error of an earlier [`feed`](SessionFeed::feed), if there was one. Else [`SessionFault::BadHeader`] or
-    /// [`BadLine`](SessionFault::BadLine) if a line is missing or unfinished, else
-    /// [`NotClosed`](SessionFault::NotClosed) if the parts aren't closed, else [`BadCount`](SessionFault::BadCount) if
-    /// the count or the last route is wrong. [`NoMemory`](SessionFault::NoMemory) if a growth was refused. The finder
-    /// is dropped.
+    /// The error of an earlier [`feed`](SessionFeed::feed), if there was one. Otherwise the first that applies:
+    /// [`SessionFault::BadHeader`] or [`BadLine`](SessionFault::BadLine) if a line is missing or unfinished,
+    /// [`NotClosed`](SessionFault::NotClosed) if the parts aren't closed, [`BadCount`](SessionFault::BadCount) if the
+    /// count or the last route is wrong. [`NoMemory`](SessionFault::NoMemory) if an allocation failed. The finder is
+    /// dropped.
     pub fn finish(self) -> Result<Session<'p, B, A>, SessionFault>
         ensures finished { IsFinished self.entry result }
         ensures calls { IfOk self.entry (λ t. IfOk result (λ s. s.calls ≡ t.calls)) }

@@ -14,20 +14,20 @@ use sabr_model::{Failed, Plan, Read};
 use sabr_search::BestOf;
 use std::alloc::Allocator;
 
-/// The size of the buffer that the reader fills, in bytes. Not varied in measurements. To vary it: `bench/sessions.py`.
+/// The size of the buffer that the reader fills, in bytes. Not varied in measurements.
 const PIECE_BYTES: usize = 4096;
 
-/// Reads the session that a text spells over a plan, to the end of the text or to its first fault.
+/// Reads the session of a text over a plan, to the end of the text or to its first fault.
 ///
-/// The digest is that of the plan. It runs no search, so the routes of the text need not be the least: a stranger's
-/// text may leave routes out. Whatever the text says, the state is well formed, and later pages give only routes that
-/// the text doesn't count as given. After a fault, more of the reader's bytes may have been read.
+/// The digest is that of the plan. It runs no search, so the routes of the text need not be the best: a text that was
+/// changed may leave routes out. For any text the state is well formed, and later pages list only routes that the text
+/// doesn't count as emitted. After a fault, more of the reader's bytes may have been read.
 ///
 /// # Errors
 ///
 /// The errors of [`SessionFeed::feed`], as soon as the bytes that show them were read. [`SessionFault::Read`] if the
-/// reader failed after bytes without a fault. At the end of the text, the errors of [`SessionFeed::finish`]. The finder
-/// is dropped.
+/// reader failed after bytes without a fault. At the end of the text, those of [`SessionFeed::finish`]. The finder is
+/// dropped.
 pub fn read_session<'p, R: Read, B: BestOf<A>, A: Allocator + Copy>(
     alloc: A,
     reader: &mut R,

@@ -1,4 +1,4 @@
-//! What the lines of a session text lead to: a loader, once there is a request.
+//! The state of reading a session text: a loader, once there is a request.
 
 ghost use Rattle.std.specs.Prelude.{◌≡◌, ◌≤◌, [], true, false, Some, None, IfOk, IfErr, OnOk, OnErr};
 ghost use Rattle.sabr_frontier.specs.listing.Listing.{IsState};

@@ -1,4 +1,4 @@
-//! A session text that hasn't been refused yet.
+//! A session text without a fault so far.
 
 ghost use Rattle.std.specs.Prelude.{◌≡◌, ◌+◌, ◌<◌, ◌≤◌, [], ◌++◌, length, true, false, IsTrue, IfOk, IfErr, OnOk, OnErr};
 ghost use Rattle.sabr_plan.specs.Canonical.{digest_of};
@@ -39,7 +39,7 @@ impl<'p, B: BestOf<A>, A: Allocator + Copy> Model for TextSoFar<'p, B, A> {
     ghost invariant = { λ t. (t.digest ≡ digest_of t.lines.plan.plan) × ((is_after (t.lines.fed.lines + 1) t.lines.fed.said && has_bytes t.held) ≡ false) × IsTrue (is_one_line t.held) };
 }
 
-/// Returns the fault of a misspelled line of this number.
+/// Returns the fault of a malformed line of this number.
 fn misspelled(number: u128) -> SessionFault
     ensures { result ≡ misspelled number }
 {
@@ -51,7 +51,7 @@ fn misspelled(number: u128) -> SessionFault
 }
 
 impl<'p, B: BestOf<A>, A: Allocator + Copy> TextSoFar<'p, B, A> {
-    /// Returns an empty text. It takes no memory.
+    /// Returns an empty text. It doesn't allocate.
     pub(crate) fn new(
         alloc: A,
         plan: &'p Plan<A>,
@@ -76,7 +76,7 @@ impl<'p, B: BestOf<A>, A: Allocator + Copy> TextSoFar<'p, B, A> {
         self.held.len()
     }
 
-    /// Reads the next piece of the text.
+    /// Reads the next chunk of the text.
     pub(crate) fn take_in(&mut self, piece: &[u8]) -> Result<(), SessionFault>
         ensures ok { OnOk result (GoesOn self.old piece.now self.new) }
         ensures err { IfErr result (IsRefusedPiece self.old piece.now) }
@@ -96,13 +96,13 @@ impl<'p, B: BestOf<A>, A: Allocator + Copy> TextSoFar<'p, B, A> {
     fn end_line(&mut self, back: &[u8]) -> Result<(), SessionFault>
         requires { IsTrue (is_one_line back.now) }
 
-        // The line says what it says, or is refused.
+        // The line is read, or its fault is returned.
         ensures value { Leaves (read_line self.old.plan.plan (digest_of self.old.plan.plan) (self.old.fed.lines + 1) self.old.fed.said (self.old.fed.held ++ back.now)) result self.new.fed.said }
         ensures rest { OnOk result ((self.new.fed.lines ≡ self.old.fed.lines + 1) × (self.new.fed.held ≡ [])) }
         ensures fits { OnOk result (length self.old.fed.held + length back.now ≤ most_bytes) }
         ensures held { IsTrue (is_one_line self.old.fed.held) }
 
-        // The plan and the calls stay.
+        // The plan and the calls are the same.
         ensures plan { self.new.plan ≡ self.old.plan }
         ensures calls { self.new.calls ≡ self.old.calls }
     {
@@ -119,7 +119,7 @@ impl<'p, B: BestOf<A>, A: Allocator + Copy> TextSoFar<'p, B, A> {
         answer
     }
 
-    /// Holds the bytes after the last LF of a piece.
+    /// Holds the bytes after the last LF of a chunk.
     fn hold(&mut self, bytes: &[u8]) -> Result<(), SessionFault>
         requires { IsTrue (is_one_line bytes.now) }
         ensures ok { OnOk result (self.new ≡ record self.old { fed = record self.old.fed { held = self.old.fed.held ++ bytes.now } }) }

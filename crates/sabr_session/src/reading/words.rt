@@ -9,7 +9,7 @@ ghost use Rattle.sabr_session.specs.SessionWords.{is_space, words_of, words_afte
 
 use sabr_plan::{leading_number, number_within};
 
-/// The greatest number of 32 bits, as a contact, a margin and a limit on hops have.
+/// The largest number of 32 bits, the type of contact numbers, margins and limits on hops.
 pub(crate) const MOST_NUMBER: u64 = u32::MAX as u64;
 
 /// Finds the first space.
@@ -19,7 +19,7 @@ fn first_space(text: &[u8]) -> Option<usize>
     text.iter().position(|b| *b == b' ')
 }
 
-/// Splits off the first word. With it comes what stands after its space, if there is one.
+/// Returns the first word, and the text after its space, if there is one.
 pub(crate) fn first_word(text: &[u8]) -> (&[u8], Option<&[u8]>)
     ensures words { words_of text.now ≡ result.0.now ∷ words_after (option_copied result.1) }
     ensures shorter { IfSome result.1 (λ rest. length rest.now < length text.now) }
@@ -37,8 +37,8 @@ pub(crate) fn is_word(word: &[u8], text: &[u8]) -> bool
     word == text
 }
 
-/// Reads the first word in one pass, if it is a plainly spelled number from 1 to 4294967295: returns the word, the
-/// number, and what stands after its space. `None` says nothing about the word.
+/// Reads the first word in one pass, if it has 1 to 19 digits without a leading zero, with a value from 1 to
+/// 4294967295. Returns the word, the number, and the text after its space. `None` means: use the general reader.
 #[inline(always)]
 fn plain_number(text: &[u8]) -> Option<(&[u8], u64, Option<&[u8]>)>
     ensures words { IfSome result (λ r. words_of text.now ≡ r.0.now ∷ words_after (option_copied r.2)) }
@@ -53,8 +53,8 @@ fn plain_number(text: &[u8]) -> Option<(&[u8], u64, Option<&[u8]>)>
     Some((word, value, Some(rest)))
 }
 
-/// Splits off the first word, with the number from 1 to 4294967295 that it spells, and what stands after its space, if
-/// there is one. A plainly spelled number is read in one pass.
+/// Returns the first word, its value if that is a number from 1 to 4294967295, and the text after its space, if there
+/// is one. A number of up to 19 digits is read in one pass.
 #[inline(always)]
 pub(crate) fn first_number(text: &[u8]) -> (&[u8], Option<u64>, Option<&[u8]>)
     ensures words { words_of text.now ≡ result.0.now ∷ words_after (option_copied result.2) }

@@ -1,4 +1,4 @@
-//! Lists put into a text: pieces in turn, and lists of numbers in the form of session texts.
+//! Lists put into a text: slices in turn, and lists of numbers in the format of session texts.
 
 ghost use Rattle.std.specs.Prelude.{◌++◌, map};
 ghost use Rattle.std.specs.List.{concat};
@@ -10,11 +10,11 @@ use crate::writing::text_buffer::TextBuffer;
 use itoa::Integer;
 use sabr_model::{Write, WriteFault};
 
-/// Puts the pieces in turn.
+/// Puts the slices in turn.
 ///
 /// # Errors
 ///
-/// [`WriteFault`] if the writer failed. Then a beginning of the bytes held and the pieces was written.
+/// [`WriteFault`] if the writer failed. Then a prefix of the bytes held and the slices was written.
 pub fn put_pieces<W: Write>(
     text: &mut TextBuffer<'_, W>,
     pieces: &[&[u8]],

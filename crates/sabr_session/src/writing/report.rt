@@ -15,13 +15,14 @@ use sabr_model::{Route, Write, WriteFault};
 use sabr_plan::time_text;
 use std::alloc::Allocator;
 
-/// Writes a line for each route, with ranks counting up from the first one, and then `more` or `end`.
+/// Writes a line for each route, with ranks counting up from the first one, and then `more` if another route follows,
+/// or `end`.
 ///
-/// It takes no memory and doesn't flush.
+/// It doesn't allocate or flush.
 ///
 /// # Errors
 ///
-/// [`WriteFault`] if the writer failed. Then a beginning of the report was written.
+/// [`WriteFault`] if the writer failed. Then a prefix of the report was written.
 pub fn write_report<W: Write, A: Allocator + Copy>(
     routes: &[Route<A>],
     first_rank: u128,
@@ -40,11 +41,11 @@ pub fn write_report<W: Write, A: Allocator + Copy>(
 
 /// Writes the line of one route, without a rank.
 ///
-/// It takes no memory and doesn't flush.
+/// It doesn't allocate or flush.
 ///
 /// # Errors
 ///
-/// [`WriteFault`] if the writer failed. Then a beginning of the line was written.
+/// [`WriteFault`] if the writer failed. Then a prefix of the line was written.
 pub fn write_route<W: Write, A: Allocator + Copy>(
     route: &Route<A>,
     writer: &mut W,
@@ -106,7 +107,7 @@ fn put_route<W: Write, A: Allocator + Copy>(
 ///
 /// # Errors
 ///
-/// [`WriteFault`] if the writer failed. Then a beginning of the bytes held and the line was written.
+/// [`WriteFault`] if the writer failed. Then a prefix of the bytes held and the line was written.
 pub fn put_route_line<W: Write>(
     text: &mut TextBuffer<'_, W>,
     contacts: &[u32],
@@ -151,7 +152,7 @@ fn put_figures<W: Write>(
     put_pieces(text, &pieces)
 }
 
-/// Puts `more` if the listing goes on, and else `end`.
+/// Puts `more` if another route follows, and `end` otherwise.
 fn put_last_line<W: Write>(text: &mut TextBuffer<'_, W>, more: bool) -> Result<(), WriteFault>
     ensures { Puts W.output text.old (last_line more) result text.new }
 {

@@ -22,14 +22,15 @@ use sabr_plan::time_text;
 use sabr_search::BestOf;
 use std::alloc::Allocator;
 
-/// Writes the text of the session: the digest, which is that of its plan, its request, the number of routes given, the
-/// last of them, and each part, those without a route among them. It is the one spelling of these in version 2.
+/// Writes the text of the session: the digest, which is that of its plan, its request, the number of emitted routes,
+/// the last of them, and each part, also those without a route. There is one text for these values, in version 2.
 ///
-/// It takes no memory and doesn't flush. The form of the text is this project's own.
+/// It doesn't allocate or flush. The format of the text is this project's own. Its time grows with the length of the
+/// text.
 ///
 /// # Errors
 ///
-/// [`WriteFault`] if the writer failed. Then a beginning of the text was written.
+/// [`WriteFault`] if the writer failed. Then a prefix of the text was written.
 pub fn write_session<W: Write, B: BestOf<A>, A: Allocator + Copy>(
     session: &Session<'_, B, A>,
     digest: &[u8; 32],
@@ -45,7 +46,7 @@ pub fn write_session<W: Write, B: BestOf<A>, A: Allocator + Copy>(
     text.send()
 }
 
-/// Shows that a text can spell the number of parts of a session. It does nothing.
+/// Shows that the number of parts of a session fits a text. It does nothing at run time.
 fn tell_count<B: BestOf<A>, A: Allocator + Copy>(session: &Session<'_, B, A>)
     ensures { HasText session.now.state }
 {
@@ -120,7 +121,7 @@ fn put_state<W: Write, B: BestOf<A>, A: Allocator + Copy>(
     text.put(b"end\n")
 }
 
-/// Puts the number of routes given, the last of them, and the number of parts.
+/// Puts the number of emitted routes, the last of them, and the number of parts.
 fn put_counts<W: Write, B: BestOf<A>, A: Allocator + Copy>(
     text: &mut TextBuffer<'_, W>,
     session: &Session<'_, B, A>,
@@ -159,7 +160,7 @@ fn put_part<W: Write, A: Allocator + Copy>(
     text.put(b"\n")
 }
 
-/// The numbers of the route that a part carries, or no number if it carries none.
+/// The numbers of the best route of a part, or no number if it has none.
 fn numbers_in<'a, A: Allocator + Copy>(route: Option<&'a Route<A>>) -> &'a [u32]
     ensures { result.now ≡ unwrap_or (option_map numbers_of (option_copied route.entry)) [] }
 {

@@ -1,14 +1,14 @@
-//! A text on its way to a writer, gathered in a fixed array so that the writer is called seldom.
+//! A buffered writer with a fixed array, so that the writer is called seldom.
 
 ghost use Rattle.sabr_session.specs.Gathering.{IsEmptyBefore, Puts, Sends};
 
 use arrayvec::ArrayVec;
 use sabr_model::{Write, WriteFault, write_text};
 
-/// The most bytes that are gathered. Not varied in measurements. To vary it: `bench/sessions.py`.
+/// The size of the array, in bytes. Not varied in measurements.
 const CAPACITY: usize = 4096;
 
-/// A writer, and the bytes of a text that it wasn't handed yet. It takes no memory beyond its array.
+/// A writer, and the bytes of a text that weren't passed to it yet. It doesn't allocate.
 #[derive(Drop)]
 pub struct TextBuffer<'w, W> {
     writer: &'w mut W,
@@ -26,12 +26,12 @@ impl<'w, W: Write> TextBuffer<'w, W> {
         }
     }
 
-    /// Puts the text after the bytes held. If it doesn't fit, these are sent first; a text longer than the buffer then goes
-    /// straight to the writer.
+    /// Puts the text after the bytes held. If it doesn't fit, these are written first. A text longer than the buffer is
+    /// then written directly.
     ///
     /// # Errors
     ///
-    /// [`WriteFault`] if the writer failed. Then a beginning of the bytes held and the text was written.
+    /// [`WriteFault`] if the writer failed. Then a prefix of the bytes held and the text was written.
     pub fn put(&mut self, text: &[u8]) -> Result<(), WriteFault>
         ensures { Puts W.output self.old text.now result self.new }
     {
@@ -47,11 +47,11 @@ impl<'w, W: Write> TextBuffer<'w, W> {
         Ok(())
     }
 
-    /// Hands all the bytes held to the writer, and doesn't flush.
+    /// Passes all the bytes held to the writer, and doesn't flush.
     ///
     /// # Errors
     ///
-    /// [`WriteFault`] if the writer failed. Then a beginning of them was written.
+    /// [`WriteFault`] if the writer failed. Then a prefix of them was written.
     pub fn send(&mut self) -> Result<(), WriteFault>
         ensures { Sends W.output self.old result self.new }
     {

@@ -1,10 +1,41 @@
-use Rattle.std.proofs.Common.{sym}
-use Rattle.commands.proofs.RunLemmas.CallLemmas.{left_if_kept, left_nothing_kept}
+use Rattle.std.proofs.Common.{◌≡◌, Some, is_some, sym, subst}
+use Rattle.clap.specs.Matches.{found_of}
+use Rattle.commands.specs.declared.command.CommandName.TheVariants as command
+use Rattle.commands.specs.words.Values.{seen_values}
+use Rattle.commands.specs.runs.Calls.{IsMadeWhereKept, kept_path}
+use Rattle.commands.specs.runs.SessionRuns.{WritesNextPage, place_of}
+use Rattle.commands.proofs.RunLemmas.CallLemmas.{leaves_made}
 use Rattle.commands.proofs.calls.next.Goals as goal
 
-pub returns-in_default-clause-left : goal.returns-in_default-clause-left
-returns-in_default-clause-left g c = left_nothing_kept _ _ _ (sym (rw c.in_default.is at c.session_out.ensures))
-
-pub returns-clause-left : goal.returns-clause-left
-returns-clause-left g c =
-    left_if_kept _ _ _ _ _ _ (sym (rw c.in-Some.is at c.session_out.ensures)) c.in_ok-session.ensures.left c.remove_unless_done.ensures
+pub returns-clause-ran : goal.returns-clause-ran
+returns-clause-ran g c =
+    let rules = g.D.FileSystem.rules in
+    let run = c.run_next-status-2 in
+    let is : kept_path command.Next (found_of c.args.words.now) ≡ Some c.in-Some.path.now = sym (rw c.in-Some.is at c.session_out.ensures) in
+    let (planned, (resumed, (end, reads, reads_old, writes, tells, ends))) = run.ensures in
+    let session = g.D.NewFile.Write.output c.in_ok-new.new in
+    let session₁ = g.D.NewFile.Write.output run.new.session in
+    record {
+      values = seen_values c.in_ok-values.values;
+      count = c.unwrap-count.result;
+      given = c.in_ok-values.ensures.ok;
+      counted = c.unwrap-count.ensures;
+      plan = g.D.File.Read.input c.in_ok-plan.plan;
+      plan₁ = g.D.File.Read.input run.new.plan;
+      old = g.D.File.Read.input c.in_ok-old.old;
+      old₁ = g.D.File.Read.input run.new.old;
+      session = session;
+      session₁ = session₁;
+      planned = planned;
+      resumed = resumed;
+      end = end;
+      opens = c.in_ok-plan.ensures.opened;
+      opens_old = c.in_ok-old.ensures.opened;
+      makes = subst (λ kept. IsMadeWhereKept rules kept session) (sym is) c.in_ok-new.ensures.made.0;
+      reads = reads;
+      reads_old = reads_old;
+      writes = subst (λ kept. WritesNextPage planned (place_of resumed) (is_some kept) c.unwrap-count.result end (g.O.Write.output c.args.out.now) (g.O.Write.output run.new.out) session session₁) (sym is) writes;
+      leaves = leaves_made rules _ _ _ _ _ _ _ is c.in_ok-new.ensures.made.1 c.keep_if_done.ensures;
+      tells = tells;
+      ends = ends;
+    }

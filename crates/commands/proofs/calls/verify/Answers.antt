@@ -8,13 +8,13 @@ use Rattle.commands.proofs.calls.verify.Goals as goal
 pub returns-in_err-plan-clause-stopped : goal.returns-in_err-plan-clause-stopped
 returns-in_err-plan-clause-stopped g c =
     let (f, is, same) = err_from_is_err_and c.from_residual.result c.from_residual.ensures.1 in
-    let refused = g.D.FileSystem.refused in
+    let rules = g.D.FileSystem.rules in
     let found = found_of c.args.words.now in
-    rw is (stops_at_file refused command.Verify found no_values f (verify_values found) (fails_at_plan refused command.Verify found f (rw same c.in_err-plan.ensures.refused)))
+    rw is (stops_at_file rules command.Verify found no_values f (verify_values found) (fails_at_plan rules command.Verify found f (rw same c.in_err-plan.ensures.refused)))
 
 pub returns-in_err-old-clause-stopped : goal.returns-in_err-old-clause-stopped
 returns-in_err-old-clause-stopped g c =
     let (f, is, same) = err_from_is_err_and c.from_residual-in_err-old.result c.from_residual-in_err-old.ensures.1 in
-    let refused = g.D.FileSystem.refused in
+    let rules = g.D.FileSystem.rules in
     let found = found_of c.args.words.now in
-    rw is (stops_at_file refused command.Verify found no_values f (verify_values found) (fails_at_session refused command.Verify found f refl (rw same c.in_err-old.ensures.refused)))
+    rw is (stops_at_file rules command.Verify found no_values f (verify_values found) (fails_at_session rules command.Verify found f refl (_, c.in_ok-plan.ensures.opened) (rw same c.in_err-old.ensures.refused)))

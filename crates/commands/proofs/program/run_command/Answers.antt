@@ -9,20 +9,20 @@ pub returns-in-Ok : goal.returns-in-Ok
 returns-in-Ok g c =
     let named : named_in (subcommand_rows_of c.args.matches.now) ≡ command_named c.in-Some.name.now =
     named_by _ _ (name_given _ ∙ sym (rw c.in-Some.is at c.subcommand.ensures.name)) in
-    inl (record {
+    record {
       name = c.in-Some-command_named.command;
       found = found_of c.in-Some.words.now;
       named = named ∙ sym c.command_named.ensures ∙ c.in-Some-command_named.is;
       rows = sym (rw c.in-Some.is at c.subcommand.ensures.rows);
-      does = inl (record { runs = c.in-Ok.ensures.ran; leaves = c.in-Ok.ensures.left });
-    })
+      does = inl c.in-Ok.ensures.ran;
+    }
 
 pub returns-in-Err : goal.returns-in-Err
 returns-in-Err g c =
     let named : named_in (subcommand_rows_of c.args.matches.now) ≡ command_named c.in-Some.name.now =
     named_by _ _ (name_given _ ∙ sym (rw c.in-Some.is at c.subcommand.ensures.name)) in
     let (out, err, left) = c.in-Err.ensures.not_run in
-    inl (record {
+    record {
       name = c.in-Some-command_named.command;
       found = found_of c.in-Some.words.now;
       named = named ∙ sym c.command_named.ensures ∙ c.in-Some-command_named.is;
@@ -35,4 +35,4 @@ returns-in-Err g c =
         tells = rw err at c.tell.ensures.message;
         ends = c.tell.ensures.status;
       });
-    })
+    }

@@ -1,17 +1,17 @@
-use Rattle.commands.proofs.RunLemmas.CallLemmas.{left_alone}
+use Rattle.commands.proofs.RunLemmas.CallLemmas.{with_none_left}
 use Rattle.commands.proofs.command.CommandName.run.Goals as goal
 
-pub returns-in-Verify-clause-left : goal.returns-in-Verify-clause-left
-returns-in-Verify-clause-left g c = rw c.in-Verify.is (left_alone c.verify.result _)
+pub returns-in-Verify-clause-ran : goal.returns-in-Verify-clause-ran
+returns-in-Verify-clause-ran g c = rw c.in-Verify.is (with_none_left c.verify.result _ _ c.verify.ensures.ran)
 
-pub returns-in-Check-clause-left : goal.returns-in-Check-clause-left
-returns-in-Check-clause-left g c = rw c.in-Check.is (left_alone c.check.result _)
+pub returns-in-Check-clause-ran : goal.returns-in-Check-clause-ran
+returns-in-Check-clause-ran g c = rw c.in-Check.is (with_none_left c.check.result _ _ c.check.ensures.ran)
 
-pub returns-in-Explain-clause-left : goal.returns-in-Explain-clause-left
-returns-in-Explain-clause-left g c = rw c.in-Explain.is (left_alone c.explain.result _)
+pub returns-in-Explain-clause-ran : goal.returns-in-Explain-clause-ran
+returns-in-Explain-clause-ran g c = rw c.in-Explain.is (with_none_left c.explain.result _ _ c.explain.ensures.ran)
 
-pub returns-in-Many-clause-left : goal.returns-in-Many-clause-left
-returns-in-Many-clause-left g c = rw c.in-Many.is (left_alone c.many.result _)
+pub returns-in-Many-clause-ran : goal.returns-in-Many-clause-ran
+returns-in-Many-clause-ran g c = rw c.in-Many.is (with_none_left c.many.result _ _ c.many.ensures.ran)
 
-pub returns-in-Follow-clause-left : goal.returns-in-Follow-clause-left
-returns-in-Follow-clause-left g c = rw c.in-Follow.is (left_alone c.follow.result _)
+pub returns-in-Follow-clause-ran : goal.returns-in-Follow-clause-ran
+returns-in-Follow-clause-ran g c = rw c.in-Follow.is (with_none_left c.follow.result _ _ c.follow.ensures.ran)

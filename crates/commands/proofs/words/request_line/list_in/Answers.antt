@@ -1,5 +1,4 @@
-use Rattle.std.proofs.Common.{arith, sym, ap, ◌∙◌, ◌≡◌, not, true}
-use Rattle.std.specs.Option.{option_map}
+use Rattle.std.proofs.Common.{arith, sym, ◌∙◌}
 use Rattle.commands.specs.words.Values.{texts_given}
 use Rattle.commands.proofs.WordLemmas.ListLines.{too_long, not_texts, not_contacts, not_request, asks}
 use Rattle.commands.proofs.words.request_line.list_in.Goals as goal

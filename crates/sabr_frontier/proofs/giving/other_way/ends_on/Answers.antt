@@ -1,16 +1,12 @@
-use Rattle.std.proofs.Common.{◌∷◌, ◌++◌, [], ◌∙◌}
-use Rattle.std.proofs.lemmas.Bool.{eqb-true}
-use Rattle.sabr_model.proofs.RouteLemmas.Follows.{ends_there, some_behind}
+use Rattle.std.proofs.Common.{[]}
+use Rattle.sabr_frontier.proofs.GivingLemmas.Detours.{ends_so}
 use Rattle.sabr_frontier.proofs.giving.other_way.ends_on.Goals as goal
 
-pub returns : goal.returns
-returns g c there =
-    let s = c.args.end.front.now in
-    let n = c.args.number in
-    record {
-      n = n;
-      rest = [];
-      route = ends_there c.args.plan.now.plan c.args.request.now (s ++ n ∷ []) c.in-Some.reached (some_behind s n) c.in-Some.ensures.path c.in-Some.ensures.reached (eqb-true _ _ there ∙ c.to.ensures.value);
-      other = c.in-Some.ensures.other;
-      free = c.in-Some.ensures.free;
-    }
+pub returns-clause-yes : goal.returns-clause-yes
+returns-clause-yes g c so = record {
+  n = c.in-Some.onward.number;
+  rest = [];
+  route = ends_so c.args.plan.now c.args.request.now c.args.end c.requires.end c.args.pass.now c.requires.pass c.in-Some.onward (c.in-Some.ensures {u = tt}).arrives;
+  other = c.is_other.ensures.other so;
+  free = c.is_other.ensures.free so;
+}

@@ -1,9 +1,13 @@
-use Rattle.std.proofs.Common.{◌≡◌, ◌+◌, ◌||◌, false, arith, slice_index, take, drop, subst, sym, ap, ◌∙◌}
-use Rattle.std.specs.Prelude.{IfOk, is_some}
+use Rattle.std.proofs.Common.{◌≡◌, ℕ, List, ◌+◌, ◌≤◌, ◌||◌, false, arith, length, slice_index, take, drop, subst, sym, ap, ◌∙◌}
+use Rattle.std.specs.Prelude.{IfOk, IsTrue, is_some}
 use Rattle.std.specs.Cmp.{nat_cmp_total}
 use Rattle.std.specs.List.Sorted.{IsStrictlyIncreasing}
-use Rattle.sabr_model.specs.plan.Plan.{IsPlan, TabledPlan}
+use Rattle.sabr_model.specs.plan.Plan.{ContactPlan, IsPlan, TabledPlan}
+use Rattle.sabr_model.specs.routes.Arrival.{RouteRequest}
+use Rattle.sabr_model.specs.routes.Route.{is_route}
+use Rattle.sabr_model.proofs.RouteLemmas.Paths.{path_facts, route_is_path}
 use Rattle.sabr_search.specs.questions.Bounded.{IsFloor}
+use Rattle.sabr_frontier.specs.giving.Detours.{detour_looks}
 use Rattle.sabr_frontier.specs.tree.Asking.{best_for}
 use Rattle.sabr_frontier.specs.tree.Best.{best_up_to}
 use Rattle.sabr_frontier.specs.tree.Left.{GoesOtherwise, longer_go_on, part_goes_on}
@@ -14,15 +18,52 @@ use Rattle.sabr_frontier.proofs.TreeLemmas.TestBoundaries.{increasing}
 use Rattle.sabr_frontier.proofs.TreeLemmas.OtherWays.{goes_on_otherwise}
 use Rattle.sabr_frontier.proofs.giving.peek.part_goes_on.Goals as goal
 
+pub goes_otherwise-requires-clause-route : goal.goes_otherwise-requires-clause-route
+goes_otherwise-requires-clause-route g c =
+    let p = c.args.asker.now.asked.plan in
+    let s = c.args.route.now in
+    subst (λ (t : TabledPlan). IsTrue (is_route t.plan c.request-request.result.now s)) (sym (c.counted.ensures ∙ c.index.ensures))
+    (subst (λ q. IsTrue (is_route p.plan q s)) (sym c.request-request.ensures) c.requires.route)
+
+pub goes_otherwise-requires-clause-few : goal.goes_otherwise-requires-clause-few
+goes_otherwise-requires-clause-few g c =
+    let p = c.args.asker.now.asked.plan.plan in
+    let r = c.args.asker.now.asked.request in
+    let s = c.args.route.now in
+    let within : length s ≤ r.max_hops = (path_facts p r s (route_is_path p r s c.requires.route)).within in
+    omega (arith, within, c.requires.few)
+
+-- a route takes no more looks than one of as many hops as the request allows
+few_looks : (p : ContactPlan) (r : RouteRequest) (s : List ℕ) → IsTrue (is_route p r s) → (old new : ℕ) → old ≤ new + detour_looks (length s) → old ≤ new + detour_looks r.max_hops
+few_looks p r s route old new most = let within = (path_facts p r s (route_is_path p r s route)).within in omega (arith, within, most)
+
+pub returns-in_err-goes_otherwise-clause-looks : goal.returns-in_err-goes_otherwise-clause-looks
+returns-in_err-goes_otherwise-clause-looks g c = few_looks _ _ c.args.route.now c.requires.route _ _ c.goes_otherwise.ensures.most
+
+pub returns-then-branch-clause-looks : goal.returns-then-branch-clause-looks
+returns-then-branch-clause-looks g c = few_looks _ _ c.args.route.now c.requires.route _ _ c.goes_otherwise.ensures.most
+
+pub returns-in_err-excluded-clause-looks : goal.returns-in_err-excluded-clause-looks
+returns-in_err-excluded-clause-looks g c = few_looks _ _ c.args.route.now c.requires.route _ _ c.goes_otherwise.ensures.most
+
+pub returns-in_err-found-clause-looks : goal.returns-in_err-found-clause-looks
+returns-in_err-found-clause-looks g c = few_looks _ _ c.args.route.now c.requires.route _ _ c.goes_otherwise.ensures.most
+
+pub returns-then-is_some-clause-looks : goal.returns-then-is_some-clause-looks
+returns-then-is_some-clause-looks g c = few_looks _ _ c.args.route.now c.requires.route _ _ c.goes_otherwise.ensures.most
+
+pub returns-clause-looks : goal.returns-clause-looks
+returns-clause-looks g c = few_looks _ _ c.args.route.now c.requires.route _ _ c.goes_otherwise.ensures.most
+
 pub returns-then-branch-clause-ok : goal.returns-then-branch-clause-ok
 returns-then-branch-clause-ok g c =
     let p = c.args.asker.now.asked.plan in
     let r = c.args.asker.now.asked.request in
     let s = c.args.route.now in
     let good : IsPlan p.plan = subst (λ (t : TabledPlan). IsPlan t.plan) c.plan.ensures c.tell_rules.ensures in
-    let over : GoesOtherwise p.plan c.request.result.now s c.as_slice-excluded.result.now =
-    subst (λ (t : TabledPlan). GoesOtherwise t.plan c.request.result.now s c.as_slice-excluded.result.now) c.index.ensures (c.in_ok-goes_otherwise.ensures c.if-branch.true) in
-    let of : GoesOtherwise p.plan r s c.as_slice-excluded.result.now = subst (λ q. GoesOtherwise p.plan q s c.as_slice-excluded.result.now) c.request.ensures over in
+    let over : GoesOtherwise p.plan c.request-request.result.now s c.as_slice-excluded.result.now =
+    subst (λ (t : TabledPlan). GoesOtherwise t.plan c.request-request.result.now s c.as_slice-excluded.result.now) (c.counted.ensures ∙ c.index.ensures) (c.in_ok-goes_otherwise.ensures.yes c.if-branch.true) in
+    let of : GoesOtherwise p.plan r s c.as_slice-excluded.result.now = subst (λ q. GoesOtherwise p.plan q s c.as_slice-excluded.result.now) c.request-request.ensures over in
     let otherwise : GoesOtherwise p.plan r s c.args.part.now.excluded = subst (GoesOtherwise p.plan r s) c.as_slice-excluded.ensures of in
     sym (ap (λ o. part_goes_on (best_up_to p.plan r o) c.args.part.now s) c.requires.unbounded ∙ goes_on_otherwise p.plan r good c.args.part.now s c.requires.next otherwise)
 

@@ -1,8 +1,9 @@
-use Rattle.std.proofs.Common.{◌≡◌, refl, ◌+◌, ◌-◌, List, ◌++◌, ℕ, inl, arith, ap, sym, subst, ◌∙◌, zero, suc, [], Some, None, append_assoc, append-nil}
+use Rattle.std.proofs.Common.{◌≡◌, refl, ◌+◌, ◌-◌, ◌≤◌, List, ◌++◌, ℕ, inl, arith, ap, sym, subst, ◌∙◌, zero, suc, [], Some, None, append_assoc, append-nil}
 use Rattle.std.specs.Prelude.{is_some, Result, IfOk, OnOk, Ok, Err}
 use Rattle.sabr_model.specs.routes.Record.{record_of, RouteRecord}
 use Rattle.sabr_frontier.specs.listing.Listing.{next_route, given_first, one_step, searches_in, steps}
 use Rattle.sabr_frontier.specs.listing.State.{State}
+use Rattle.sabr_frontier.specs.giving.Detours.{detour_looks}
 use Rattle.sabr_frontier.specs.tree.Asking.{Asked, records_for, steps_for}
 use Rattle.sabr_frontier.specs.tree.Floors.{CarriesOnlyLeast}
 use Rattle.sabr_frontier.specs.tree.Shape.{Shape, shape_of, shown}
@@ -141,8 +142,14 @@ returns g c =
       more = then_ok c.peek.result told.more (λ more h. h ∙ left_after_last a first k c.args.count less b t same step);
       no_fewer = always_ok c.peek.result (omega (arith, given.called, c.ask_up_to.ensures.calls, told.no_fewer));
       at_most = always_ok c.peek.result (omega (arith, given.called, c.ask_up_to.ensures.calls, told.at_most, all));
+      looks = always_ok c.peek.result (subst (λ (z : Asked). c.args.looks.now.left ≤ c.peek.new.looks.left + detour_looks z.request.max_hops) same told.looks);
       same = told.same ∙ same;
     }
+
+pub peek-requires-clause-few : goal.peek-requires-clause-few
+peek-requires-clause-few g c =
+    let same = unbound c.gather_up_to-gathered.new.asker.asked c.ask_up_to.ensures.bound c.gather_up_to-gathered.ensures.same c.requires.unbounded in
+    subst (λ (z : Asked). detour_looks z.request.max_hops ≤ c.args.looks.now.left) (sym same) c.requires.few
 
 pub returns-in_err-gathered-clause-same : goal.returns-in_err-gathered-clause-same
 returns-in_err-gathered-clause-same g c = unbound c.gather_up_to-gathered.new.asker.asked c.ask_up_to.ensures.bound c.gather_up_to-gathered.ensures.same c.requires.unbounded

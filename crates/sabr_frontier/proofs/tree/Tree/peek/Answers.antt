@@ -29,6 +29,7 @@ goes_on_after-requires g c =
     let k = known a c.requires.tree c.in-Some.ensures.some c.in_ok-route.ensures in
     let numbers = c.numbers.ensures ∙ ap numbers_of k.copied in
     record {
+      few = c.requires.few;
       unbounded = c.requires.unbounded;
       in_range = slice_get_within t.nodes c.in-Some.node.0 k.part k.stands;
       route = ap (is_route a.plan.plan a.request) numbers ∙ (inside a.plan.plan a.request t c.requires.tree c.in-Some.node k.part k.route k.stands k.carries).0;

@@ -2,7 +2,7 @@ use Rattle.std.proofs.Common.{length, arith}
 use Rattle.sabr_search.specs.questions.Bounded.{bound_after}
 use Rattle.sabr_search.proofs.AnswerLemmas.Answered.{left_less, layers_within, search_fits}
 use Rattle.sabr_search.proofs.AnswerLemmas.UpTo.{enough_unless}
-use Rattle.sabr_search.proofs.BackwardLemmas.LeastPicks.{degree_at_most}
+use Rattle.sabr_search.proofs.LevelLemmas.Walks.{degree_at_most}
 use Rattle.sabr_search.proofs.layered.Layered.least_after.Goals as goal
 
 pub least_within-requires-clause-nodes : goal.least_within-requires-clause-nodes

@@ -18,12 +18,9 @@ pub returns : goal.returns
 returns g c = λ some.
     let task = c.args.task.now in
     let asked = c.requires.asked in
-    let chain = c.in_ok-chain.ensures in
     record {
       none = c.requires.none;
       since = c.soonest-since.result;
       soon = λ ns v node t some at chained after open'. omega (arith, c.soonest-since.ensures.each v, c.requires.soon ns v node t some at chained after open');
-      layers = rw chain.layers (c.in_ok-whole.ensures.whole c.if-not-whole.false);
-      chained = chain.chained;
-      nodes = omega (arith, chain.nodes, ap length c.shut-2.ensures, asked.task_is.as_many);
+      layers = c.in_ok-whole.ensures.whole c.if-not-whole.false;
     }

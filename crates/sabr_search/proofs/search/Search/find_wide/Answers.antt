@@ -17,7 +17,7 @@ run-requires-clause-soon g c =
     rw c.with_shut-wide.ensures (soon_after _ prefix c.requires.request (prefix_facts task.plan task.request prefix c.requires.asked.fits) (stop_of task prefix c.requires.asked.behind) _ c.requires.kept.0.soon)
 
 pub returns-in_default-clause-kept : goal.returns-in_default-clause-kept
-returns-in_default-clause-kept g c = (c.requires.kept.0, c.requires.kept.1, rw c.with_shut-wide.ensures at c.keep.ensures, c.requires.kept.3)
+returns-in_default-clause-kept g c = (c.requires.kept.0, c.requires.kept.1, rw c.with_shut-wide.ensures at c.keep-place.ensures, c.requires.kept.3)
 
 pub returns-clause-kept : goal.returns-clause-kept
-returns-clause-kept g c = (c.requires.kept.0, c.requires.kept.1, rw c.with_shut-wide.ensures at c.keep.ensures, c.requires.kept.3)
+returns-clause-kept g c = (c.requires.kept.0, c.requires.kept.1, rw c.with_shut-wide.ensures at c.keep-place.ensures, c.requires.kept.3)

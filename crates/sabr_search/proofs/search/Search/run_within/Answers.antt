@@ -1,7 +1,7 @@
 use Rattle.std.proofs.Common.{length, ap, arith}
 use Rattle.sabr_search.specs.layers.Late.{AreSince}
 use Rattle.sabr_search.proofs.AnswerLemmas.UpTo.{enough_unless}
-use Rattle.sabr_search.proofs.BackwardLemmas.LeastPicks.{degree_at_most}
+use Rattle.sabr_search.proofs.LevelLemmas.Walks.{degree_at_most}
 use Rattle.sabr_search.proofs.search.Search.run_within.Goals as goal
 
 pub least_within-requires-clause-arrivals : goal.least_within-requires-clause-arrivals

@@ -3,9 +3,9 @@ use Rattle.std.proofs.lemmas.Option.{slice_get_within}
 use Rattle.sabr_search.specs.declared.visit.Visit.{Visit}
 use Rattle.sabr_search.proofs.ForwardLemmas.LayerEntries.{read_at}
 use Rattle.sabr_search.proofs.ForwardLemmas.MadeLayers.{spent_more, spent_fewer, none_more}
-use Rattle.sabr_search.proofs.BackwardLemmas.LateMade.{back_first, late_next, met_by, unmet_by}
-use Rattle.sabr_search.proofs.BackwardLemmas.Ended.{none_by}
-use Rattle.sabr_search.proofs.BackwardLemmas.LateLayers.{fewest}
+use Rattle.sabr_search.proofs.BackwardLemmas.LateMade.{back_first, late_next, linked_first, met_by, unmet_by}
+use Rattle.sabr_search.proofs.BackwardLemmas.LateLayers.{are_met, own_dead}
+use Rattle.sabr_search.proofs.BackwardLemmas.Whole.{before_last}
 use Rattle.sabr_search.proofs.backward.deadlines.Deadlines.make_back.Goals as goal
 
 pub loop-left-init : goal.loop-left-init
@@ -17,6 +17,7 @@ loop-left-init g c =
         layers = back_first c.args.aim.now.task.now c.requires.task c.args.aim.now.since.now c.args.aim.now.delivery _ _ _ _ first.ends first.entries first.flags first.place first.many first.late first.none;
         unmet = λ j w x n b less e by step. absurd (omega arith);
       };
+      linked = rw (first.entries, first.linked) (linked_first _);
     }
 
 pub is_met-requires : goal.is_met-requires
@@ -35,14 +36,7 @@ returns-then-is_met-clause-met g c =
     let by = c.is_met.ensures.met c.if-is_met.true in
     let s : Visit = by.1 in
     let step = c.requires.real by.0 s by.2 in
-    λ less. record {
-      late = own.late;
-      places = own.place.items;
-      made = made;
-      arrivals = c.requires.arrivals;
-      met = met_by task _ _ c.loop-left.left own.ends.items own.late own.place.items own.entries.items made step.0 s.node s.at step.1 by.3;
-      flags = made.layers.lists.flags;
-    }
+    λ less. are_met task c.requires.task _ c.requires.arrivals _ c.loop-left.left own made c.loop-left.invariant.linked (met_by task _ _ c.loop-left.left own.ends.items own.late.items own.place.items own.entries.items made step.0 s.node s.at step.1 by.3)
 
 pub loop-left-preserved : goal.loop-left-preserved
 loop-left-preserved g c =
@@ -56,14 +50,15 @@ loop-left-preserved g c =
     let many : c.len-end.result ≡ length next.entries.items = omega (arith, c.len-end.ensures, next.entries.ok.0) in
     record {
       counted = omega (arith, c.next_back.ensures.counted, c.loop-left.invariant.counted);
-      made = late_next task c.requires.task c.args.aim.now.since.now c.args.aim.now.delivery left old.ends.items old.late old.place.items old.entries.items made.layers
-          c.push.new.self.items next.late next.place.items next.entries.items one.lists one.kept (one.told c.if-not-whole.false)
+      made = late_next task c.requires.task c.args.aim.now.since.now c.args.aim.now.delivery left old.ends.items old.late.items old.place.items old.entries.items made.layers
+          c.push.new.self.items next.late.items next.place.items next.entries.items one.lists one.kept (one.told c.if-not-whole.false)
           (c.in_ok-push.ensures.items ∙ ap (λ xs. xs ++ c.len-end.result ∷ []) same_ends ∙ ap (λ k. old.ends.items ++ k ∷ []) many)
           made.unmet
           (λ w x n b entry by step.
           let s = c.requires.steps n w b step in
           let node : s.1.node ≡ w = s.3 in
-          unmet_by task _ _ left old.ends.items old.late old.place.items old.entries.items made n w b step left x entry (omega (arith, c.is_met.ensures.unmet c.if-is_met.false s.0 s.1 s.2, s.4, ap (slice_index old.late) node)) by);
+          unmet_by task _ _ left old.ends.items old.late.items old.place.items old.entries.items made n w b step left x entry (omega (arith, c.is_met.ensures.unmet c.if-is_met.false s.0 s.1 s.2, s.4, ap (slice_index old.late.items) node)) by);
+      linked = one.linked;
     }
 
 pub returns-then-index-clause-beyond : goal.returns-then-index-clause-beyond
@@ -73,13 +68,13 @@ returns-then-index-clause-beyond g c =
     let made = c.loop-left.invariant.made in
     let empty : slice_index old.ends.items left ≡ slice_index old.ends.items (left + 1) =
     sym (read_at old.ends.items left c.index.result.now (omega (arith, made.layers.many)) c.index.ensures) ∙ c.if-index.true ∙ read_at old.ends.items (left + 1) c.index-in-loop-left.result.now (omega (arith, made.layers.many)) c.index-in-loop-left.ensures in
-    let none = none_by c.args.aim.now.task.now c.requires.task _ _ left old.ends.items old.late old.place.items old.entries.items made.layers empty made.unmet c.requires.arrivals in
-    λ same ns e le way. omega (arith, none ns e way)
+    let dead = own_dead c.args.aim.now.task.now c.requires.task _ c.requires.arrivals _ left old made c.loop-left.invariant.linked c.args.hops (λ j v x less. before_last c.args.aim.now.task.now c.requires.task _ _ left old made.layers empty j v x) in
+    λ same ns e le way. dead ns c.args.aim.now.task.now.at e (omega arith) le way
 
 pub returns-clause-beyond : goal.returns-clause-beyond
 returns-clause-beyond g c =
-    let old = c.loop-left.self in
-    λ same ns e le way. fewest c.args.aim.now.task.now c.requires.task _ _ c.loop-left.left old.ends.items old.late old.place.items old.entries.items c.loop-left.invariant.made c.requires.arrivals ns e (omega (arith, le, c.loop-left-test.false)) way
+    let dead = own_dead c.args.aim.now.task.now c.requires.task _ c.requires.arrivals _ c.loop-left.left c.loop-left.self c.loop-left.invariant.made c.loop-left.invariant.linked c.args.hops (λ j v x less e. omega (arith, less, c.loop-left-test.false)) in
+    λ same ns e le way. dead ns c.args.aim.now.task.now.at e (omega arith) le way
 
 pub returns-then-is_met-clause-counted : goal.returns-then-is_met-clause-counted
 returns-then-is_met-clause-counted g c = spent_fewer _ _ _ _ _ (omega arith) c.loop-left.invariant.counted

@@ -1,16 +1,19 @@
 use Rattle.std.proofs.Common.{◌≡◌, ◌+◌, ◌++◌, [], ◌∷◌, length, slice_index, ap, sym, ◌∙◌, arith}
 use Rattle.sabr_search.proofs.ForwardLemmas.LayerEntries.{read_at}
-use Rattle.sabr_search.proofs.BackwardLemmas.LateMade.{back_first, back_next}
-use Rattle.sabr_search.proofs.BackwardLemmas.Whole.{whole_of}
+use Rattle.sabr_search.proofs.BackwardLemmas.LateMade.{back_first, back_next, linked_first}
+use Rattle.sabr_search.proofs.BackwardLemmas.Whole.{before_last, whole_of}
 use Rattle.sabr_search.proofs.backward.deadlines.Deadlines.make_whole.Goals as goal
 
 pub loop-left-init : goal.loop-left-init
 loop-left-init g c =
     let first = c.in_ok-first_back.ensures in
-    back_first c.args.aim.now.task.now c.requires.task c.args.aim.now.since.now c.args.aim.now.delivery _ _ _ _ first.ends first.entries first.flags first.place first.many first.late first.none
+    record {
+      made = back_first c.args.aim.now.task.now c.requires.task c.args.aim.now.since.now c.args.aim.now.delivery _ _ _ _ first.ends first.entries first.flags first.place first.many first.late first.none;
+      linked = rw (first.entries, first.linked) (linked_first _);
+    }
 
 pub next_back-requires-clause-apart : goal.next_back-requires-clause-apart
-next_back-requires-clause-apart g c = λ p q e f. c.loop-left.invariant.apart c.loop-left.left p q e f (omega arith)
+next_back-requires-clause-apart g c = λ p q e f. c.loop-left.invariant.made.apart c.loop-left.left p q e f (omega arith)
 
 pub loop-left-preserved : goal.loop-left-preserved
 loop-left-preserved g c =
@@ -20,15 +23,18 @@ loop-left-preserved g c =
     let one = c.in_ok-whole.ensures in
     let same_ends : next.ends.items ≡ old.ends.items = ap (λ v. v.items) c.next_back.ensures.ends in
     let many : c.len-end.result ≡ length next.entries.items = omega (arith, c.len-end.ensures, next.entries.ok.0) in
-    back_next c.args.aim.now.task.now c.requires.task c.args.aim.now.since.now c.args.aim.now.delivery left old.ends.items old.late old.place.items old.entries.items c.loop-left.invariant
-    c.push.new.self.items next.late next.place.items next.entries.items one.lists one.kept (one.told c.if-not-whole.false)
-    (c.in_ok-push.ensures.items ∙ ap (λ xs. xs ++ c.len-end.result ∷ []) same_ends ∙ ap (λ k. old.ends.items ++ k ∷ []) many)
+    record {
+      made = back_next c.args.aim.now.task.now c.requires.task c.args.aim.now.since.now c.args.aim.now.delivery left old.ends.items old.late.items old.place.items old.entries.items c.loop-left.invariant.made
+          c.push.new.self.items next.late.items next.place.items next.entries.items one.lists one.kept (one.told c.if-not-whole.false)
+          (c.in_ok-push.ensures.items ∙ ap (λ xs. xs ++ c.len-end.result ∷ []) same_ends ∙ ap (λ k. old.ends.items ++ k ∷ []) many);
+      linked = one.linked;
+    }
 
 pub returns-then-index : goal.returns-then-index
 returns-then-index g c =
     let left = c.loop-left.left in
     let old = c.loop-left.self in
-    let made = c.loop-left.invariant in
+    let made = c.loop-left.invariant.made in
     let empty : slice_index old.ends.items left ≡ slice_index old.ends.items (left + 1) =
     sym (read_at old.ends.items left c.index.result.now (omega (arith, made.many)) c.index.ensures) ∙ c.if-index.true ∙ read_at old.ends.items (left + 1) c.index-in-loop-left.result.now (omega (arith, made.many)) c.index-in-loop-left.ensures in
-    record { whole = λ all. whole_of c.args.aim.now.task.now c.requires.task _ _ left old.ends.items old.late old.place.items old.entries.items made empty }
+    record { whole = λ all most. whole_of c.args.aim.now.task.now c.requires.task _ _ left old made c.loop-left.invariant.linked most (λ j v x less. before_last c.args.aim.now.task.now c.requires.task _ _ left old made empty j v x) }

@@ -1,5 +1,9 @@
+use Rattle.sabr_search.specs.layers.Deadlines.{AreLinked}
 use Rattle.sabr_search.specs.layers.Late.{AreBackLayers}
 use Rattle.sabr_search.proofs.backward.deadlines.Deadlines.make_whole.Given as goal
 
 abbrev pub invariant-loop-left : goal.invariant-loop-left
-invariant-loop-left g l = AreBackLayers l.aim.task.now l.aim.since.now l.aim.delivery l.left l.self.ends.items l.self.late l.self.place.items l.self.entries.items
+invariant-loop-left g l = record {
+  made : AreBackLayers l.aim.task.now l.aim.since.now l.aim.delivery l.left l.self.ends.items l.self.late.items l.self.place.items l.self.entries.items;
+  linked : AreLinked l.self.entries.items l.self.fewer.items;
+}

@@ -35,7 +35,7 @@ within g c =
 
 -- and its node is open
 open_node : (g : Over) (c : After-index-to g) → (c.index-to.result.now.node < length c.args.aim.now.task.now.table) × (slice_index_or c.args.aim.now.task.now.shut c.index-to.result.now.node false ≡ false)
-open_node g c = open_entry c.args.aim.now.task.now c.requires.task _ _ _ _ c.args.self.now.entries.items c.requires.lists c.requires.goal c.loop-place.place c.index-to.result.now (read g c).2
+open_node g c = open_entry c.args.aim.now.task.now c.requires.task _ _ _ _ c.args.self.now.entries.items c.requires.lists c.loop-place.place c.index-to.result.now (read g c).2
 
 pub take_senders-requires-clause-node : goal.take_senders-requires-clause-node
 take_senders-requires-clause-node g c = (open_node g (goal.at.take_senders-requires-clause-node g c).After-index-to).0
@@ -69,6 +69,7 @@ loop-place-preserved g c =
       ends = c.take_senders.ensures.ends ∙ so_far.ends;
       counted = omega (arith, c.take_senders.ensures.counted, so_far.counted, received_here);
       lists = rw so_far.ends at one.lists;
+      linked = one.linked;
       kept = rw so_far.ends at one.kept ∙ so_far.kept;
       told = λ p e n u t b above below here s less. elim (last_or_before p place below) [
         | inl before ↦ told_rises task c.args.aim.now.since.now _ _ u t one.rises (so_far.told p e n u t b above before here s less)

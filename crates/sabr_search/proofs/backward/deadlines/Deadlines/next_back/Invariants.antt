@@ -1,6 +1,6 @@
 use Rattle.std.proofs.Common.{◌≡◌, ◌+◌, ◌≤◌, take, slice_index}
 use Rattle.sabr_search.specs.questions.Steps.{received_by_all}
-use Rattle.sabr_search.specs.layers.Deadlines.{late_between}
+use Rattle.sabr_search.specs.layers.Deadlines.{AreLinked, late_between}
 use Rattle.sabr_search.specs.layers.Late.{AreLate, AreTold}
 use Rattle.sabr_search.proofs.backward.deadlines.Deadlines.next_back.Given as goal
 
@@ -8,7 +8,8 @@ abbrev pub invariant-loop-place : goal.invariant-loop-place
 invariant-loop-place g l = record {
   ends : l.self.ends ≡ l.fn.self.ends;
   counted : l.fn.looks.left ≤ l.looks.left + received_by_all l.aim.task.now (late_between l.fn.self.entries.items l.first l.place);
-  lists : AreLate l.aim.task.now (slice_index l.fn.self.ends.items l.left) (slice_index l.fn.self.ends.items (l.left + 1)) l.self.late l.self.place.items l.self.entries.items;
+  lists : AreLate l.aim.task.now (slice_index l.fn.self.ends.items l.left) (slice_index l.fn.self.ends.items (l.left + 1)) l.self.late.items l.self.place.items l.self.entries.items;
+  linked : AreLinked l.self.entries.items l.self.fewer.items;
   kept : take (slice_index l.fn.self.ends.items (l.left + 1)) l.self.entries.items ≡ take (slice_index l.fn.self.ends.items (l.left + 1)) l.fn.self.entries.items;
-  told : AreTold l.aim.task.now l.aim.since.now l.fn.self.entries.items (slice_index l.fn.self.ends.items l.left) l.place l.self.late;
+  told : AreTold l.aim.task.now l.aim.since.now l.fn.self.entries.items (slice_index l.fn.self.ends.items l.left) l.place l.self.late.items;
 }

@@ -4,6 +4,7 @@ use Rattle.std.proofs.lemmas.Option.{slice_get_within}
 use Rattle.sabr_search.specs.layers.Late.{IsToldOver}
 use Rattle.sabr_search.proofs.BackwardLemmas.LastSeconds.{left_before, each_until}
 use Rattle.sabr_search.proofs.BackwardLemmas.LateLists.{in_time_kept, told_rises}
+use Rattle.sabr_search.proofs.ForwardLemmas.LayerEntries.{read_at}
 use Rattle.sabr_search.proofs.LinkLemmas.Linking.{passes_within}
 use Rattle.sabr_search.proofs.LinkLemmas.StepLists.{sum_taken_le}
 use Rattle.sabr_search.proofs.backward.deadlines.Deadlines.take_senders.Given.{Over}
@@ -46,14 +47,15 @@ loop-place-preserved-then-brings_nothing g c =
       ends = so_far.ends;
       counted = omega (arith, so_far.counted, (passes_within c.args.aim.now.task.now c.args.to.node c.senders-senders.result c.senders-senders.ensures c.loop-place.place _ here.1).0);
       lists = so_far.lists;
+      linked = so_far.linked;
       kept = so_far.kept;
       rises = so_far.rises;
-      told = each_until (λ (s : SentLink). IsToldOver c.args.aim.now.task.now c.args.aim.now.since.now c.loop-place.self.late s.sender s.passes c.args.to.before) c.senders-senders.result c.loop-place.place _ here.1 so_far.told
+      told = each_until (λ (s : SentLink). IsToldOver c.args.aim.now.task.now c.args.aim.now.since.now c.loop-place.self.late.items s.sender s.passes c.args.to.before) c.senders-senders.result c.loop-place.place _ here.1 so_far.told
           (c.brings_nothing.ensures.told c.if-brings_nothing.true c.args.to.node here.2 here.0 (link, here.3));
     }
 
-pub loop-place-preserved-then-from-at : goal.loop-place-preserved-then-from-at
-loop-place-preserved-then-from-at g c =
+pub loop-place-preserved-then-from-index : goal.loop-place-preserved-then-from-index
+loop-place-preserved-then-from-index g c =
     let task = c.args.aim.now.task.now in
     let so_far = c.loop-place.invariant in
     let here = c.at-from.ensures in
@@ -63,10 +65,11 @@ loop-place-preserved-then-from-at g c =
       ends = so_far.ends;
       counted = omega (arith, so_far.counted, (passes_within task c.args.to.node c.senders-senders.result c.senders-senders.ensures c.loop-place.place _ here.link).0);
       lists = so_far.lists;
+      linked = so_far.linked;
       kept = so_far.kept;
       rises = so_far.rises;
-      told = each_until (λ (s : SentLink). IsToldOver task c.args.aim.now.since.now c.loop-place.self.late s.sender s.passes c.args.to.before) c.senders-senders.result c.loop-place.place _ here.link so_far.told
-          (λ n t w b has s by open' other soon. left_before task c.requires.task from.node c.args.to.node from.passes.now from.bounds (link, here.bounds) (slice_index c.loop-place.self.late from.node) (omega (arith, c.if-from-at.true, c.at.ensures)) n t w b has s);
+      told = each_until (λ (s : SentLink). IsToldOver task c.args.aim.now.since.now c.loop-place.self.late.items s.sender s.passes c.args.to.before) c.senders-senders.result c.loop-place.place _ here.link so_far.told
+          (λ n t w b has s by open' other soon. left_before task c.requires.task from.node c.args.to.node from.passes.now from.bounds (link, here.bounds) (slice_index c.loop-place.self.late.items from.node) (omega (arith, c.if-from-index.true, read_at c.loop-place.self.late.items from.node c.index.result.now (omega (arith, c.senders-senders.ensures.senders c.loop-place.place _ here.link, so_far.lists.many)) c.index.ensures)) n t w b has s);
     }
 
 pub loop-place-preserved : goal.loop-place-preserved
@@ -78,9 +81,10 @@ loop-place-preserved g c =
       ends = c.take_sender.ensures.ends ∙ so_far.ends;
       counted = omega (arith, so_far.counted, c.take_sender.ensures.looks, (passes_within task c.args.to.node c.senders-senders.result c.senders-senders.ensures c.loop-place.place _ c.at-from.ensures.link).0);
       lists = rw so_far.ends at one.lists;
+      linked = one.linked;
       kept = rw so_far.ends at one.kept ∙ so_far.kept;
       rises = λ k. omega (arith, so_far.rises k, one.rises k);
-      told = each_until (λ (s : SentLink). IsToldOver task c.args.aim.now.since.now c.take_sender.new.self.late s.sender s.passes c.args.to.before) c.senders-senders.result c.loop-place.place _ c.at-from.ensures.link
+      told = each_until (λ (s : SentLink). IsToldOver task c.args.aim.now.since.now c.take_sender.new.self.late.items s.sender s.passes c.args.to.before) c.senders-senders.result c.loop-place.place _ c.at-from.ensures.link
           (λ j s less at n t w b has step by. told_rises task c.args.aim.now.since.now _ _ s.sender t one.rises (so_far.told j s less at n t w b has step by))
           one.told;
     }

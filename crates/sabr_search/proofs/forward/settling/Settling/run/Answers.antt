@@ -3,7 +3,7 @@ use Rattle.std.specs.Prelude.{IfOk, IfSome}
 use Rattle.std.specs.declared.result.Result.{Result}
 use Rattle.std.specs.declared.result.Result.TheVariants.{Ok, Err}
 use Rattle.sabr_search.specs.questions.FirstSteps.{AreFirstSteps}
-use Rattle.sabr_search.proofs.BackwardLemmas.LeastPicks.{degree_at_most}
+use Rattle.sabr_search.proofs.LevelLemmas.Walks.{degree_at_most}
 use Rattle.sabr_search.proofs.forward.settling.Settling.run.Goals as goal
 
 pub returns-in_err-whole-clause-counted : goal.returns-in_err-whole-clause-counted

@@ -1,0 +1,8 @@
+use Rattle.std.proofs.Common.{◌+◌, ◌*◌, ◌≤◌}
+use Rattle.sabr_frontier.proofs.giving.other_way.detours.Given as goal
+
+abbrev pub invariant-loop-place : goal.invariant-loop-place
+invariant-loop-place g l = record {
+  most : l.fn.looks.left ≤ l.looks.left + 2 * l.place;
+  fewer : l.looks.left ≤ l.fn.looks.left;
+}

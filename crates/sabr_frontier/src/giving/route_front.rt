@@ -1,0 +1,110 @@
+//! Following the front of a route: where it leads, and which nodes no route goes on to after it.
+
+ghost use Rattle.std.specs.Prelude.{◌≡◌, ℕ, ◌+◌, ◌≤◌, [], false, length, IfOk, IfSome, IsTrue, slice_index_or};
+ghost use Rattle.sabr_model.specs.plan.Plan.{IsPlan, has};
+ghost use Rattle.sabr_model.specs.routes.Route.{is_prefix};
+ghost use Rattle.sabr_search.specs.questions.Course.{AreShut};
+ghost use Rattle.sabr_search.specs.questions.Task.{HasNodes, is_closed};
+ghost use Rattle.sabr_frontier.specs.giving.Detours.{LeadsTo};
+
+use sabr_index::{CountedPlan, Looks};
+use sabr_model::{NoMemory, Request};
+use std::alloc::Allocator;
+
+/// A node, by its index in the table of nodes, and a second from which on a bundle is there.
+#[derive(Clone, Copy)]
+pub struct Place {
+    pub node: usize,
+    pub at: u64,
+}
+
+/// Where the front of a route leads, and by index which nodes no route goes on to after it: the source, those that the
+/// front passes, and those to avoid.
+#[derive(Drop)]
+pub struct RouteFront<A: Allocator + Copy> {
+    pub here: Place,
+    pub shut: Vec<bool, A>,
+}
+
+/// Shuts the nodes to avoid. All are open before.
+fn shut_avoided<A: Allocator + Copy>(
+    shut: &mut Vec<bool, A>,
+    plan: &CountedPlan<'_, A>,
+    request: &Request,
+)
+    requires nodes { HasNodes plan.now.plan plan.now.table }
+    requires many { length shut.old.items ≡ length plan.now.table }
+    requires none { (k : ℕ) → slice_index_or shut.old.items k false ≡ false }
+    ensures { AreShut plan.now.table shut.new.items (λ x. has x request.now.avoided) }
+{
+    for node in request.avoided() {
+        if let Some(index) = plan.node_index(*node) {
+            shut[index] = true;
+        }
+    }
+}
+
+/// The front without numbers, at the source. None if no contact has the source.
+fn start<A: Allocator + Copy>(
+    alloc: A,
+    plan: &CountedPlan<'_, A>,
+    request: &Request,
+) -> Result<Option<RouteFront<A>>, NoMemory>
+    requires nodes { HasNodes plan.now.plan plan.now.table }
+    ensures leads { IfOk result (λ o. IfSome o (λ f. LeadsTo plan.now request.now [] f.here)) }
+    ensures shuts { IfOk result (λ o. IfSome o (λ f. AreShut plan.now.table f.shut.items (is_closed plan.now.plan request.now []))) }
+{
+    let Some(source) = plan.node_index(request.from()) else {
+        return Ok(None);
+    };
+    let mut shut = Vec::new(alloc);
+    shut.resize(plan.nodes(), false)?;
+    shut_avoided(&mut shut, plan, request);
+    shut[source] = true;
+    let here = Place {
+        node: source,
+        at: request.at(),
+    };
+    Ok(Some(RouteFront { here, shut }))
+}
+
+/// Follows the front of a route: one look for each of its numbers.
+///
+/// # Errors
+///
+/// [`NoMemory`] if a growth was refused.
+pub fn follow_front<A: Allocator + Copy>(
+    alloc: A,
+    plan: &CountedPlan<'_, A>,
+    looks: &mut Looks,
+    request: &Request,
+    front: &[u32],
+) -> Result<Option<RouteFront<A>>, NoMemory>
+    requires rules { IsPlan plan.now.plan }
+    requires nodes { HasNodes plan.now.plan plan.now.table }
+    requires fits { IsTrue (is_prefix plan.now.plan request.now front.now) }
+    requires few { length front.now ≤ looks.old.left }
+    ensures looks { looks.old.left ≤ looks.new.left + length front.now }
+    ensures fewer { looks.new.left ≤ looks.old.left }
+    ensures leads { IfOk result (λ o. IfSome o (λ f. LeadsTo plan.now request.now front.now f.here)) }
+    ensures shuts { IfOk result (λ o. IfSome o (λ f. AreShut plan.now.table f.shut.items (is_closed plan.now.plan request.now front.now))) }
+{
+    let Some(first) = start(alloc, plan, request)? else {
+        return Ok(None);
+    };
+    let RouteFront { mut here, mut shut } = first;
+    for place in 0..front.len() {
+        let Some(hop) = plan.hop(looks, front[place]) else {
+            unreachable!()
+        };
+        let Some(at) = hop.arrive(request, here.at) else {
+            unreachable!()
+        };
+        here = Place {
+            node: hop.receiver,
+            at,
+        };
+        shut[hop.receiver] = true;
+    }
+    Ok(Some(RouteFront { here, shut }))
+}

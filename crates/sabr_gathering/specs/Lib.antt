@@ -1,2 +1,0 @@
-pub mod ChainedPlaces
-pub mod Gathering

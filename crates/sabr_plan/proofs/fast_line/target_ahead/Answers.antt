@@ -1,0 +1,54 @@
+-- Eight bytes that make this number, and a ninth; or the first seven of them.
+use Rattle.std.proofs.Common.{◌≡◌, ℕ, ◌+◌, ◌-◌, ◌*◌, ◌/◌, ◌%◌, true, List, ◌∷◌, [], ◌++◌, length, take, drop, refl, ◌∙◌, sym, ap, arith, take-take, length-drop}
+use lib.Lanes.{number_l, digits_l}
+use Rattle.core.specs.Int.Digits.{AllBelowBase}
+use Rattle.std.proofs.lemmas.List.{take_all, take_more, take-append-drop}
+use Rattle.core.proofs.dec2flt.Eight.{eight_at}
+use Rattle.sabr_plan.specs.PlainWords.{AddsAhead, name_of, is_graphic_word}
+use Rattle.sabr_plan.specs.declared.command.Target.{Target}
+use Rattle.sabr_plan.specs.declared.command.Target.TheVariants.{Contact, Range}
+use Rattle.sabr_plan.proofs.fast_line.target_ahead.Goals as goal
+
+graphic_name : (target : Target) → is_graphic_word (name_of target) ≡ true
+graphic_name Contact = refl
+graphic_name Range = refl
+
+-- `a`, a space and a name
+adds_plain : (target : Target) (count : ℕ) (line : List ℕ) → take count line ≡ 97 ∷ 32 ∷ name_of target → AddsAhead target line (drop count line)
+adds_plain target count line front = record {
+  behind = 32 ∷ (name_of target ++ drop count line);
+  first = record { blanks = []; parts = sym (take-append-drop count line) ∙ ap (λ f. f ++ drop count line) front; blank = refl };
+  name = record {
+    start = name_of target ++ drop count line;
+    gap = record { blanks = 32 ∷ []; parts = refl; some = refl; blank = refl };
+    front = record { word = name_of target; parts = refl; graphic = graphic_name target; holds = refl };
+  };
+}
+
+-- bytes are the digits of the number that they make
+bytes_are : (xs : List ℕ) (n word : ℕ) → (length xs ≡ n) × AllBelowBase 256 xs → number_l 256 xs ≡ word → xs ≡ digits_l 256 n word
+bytes_are xs n word h is = digits xs h.1 ∙ (λ i. digits_l 256 (h.0 i) (is i))
+  where
+    digits : (ys : List ℕ) → AllBelowBase 256 ys → ys ≡ digits_l 256 (length ys) (number_l 256 ys)
+    digits [] h = refl
+    digits (y ∷ ys) h =
+        let n = number_l 256 ys in
+        let low : y ≡ (y + 256 * n) % 256 = omega (arith, h.0) in
+        let high : n ≡ (y + 256 * n) / 256 = omega (arith, h.0) in
+        λ i. low i ∷ (digits ys h.1 ∙ ap (digits_l 256 (length ys)) high) i
+
+pub returns-then-line-eq116 : goal.returns-then-line-eq116
+returns-then-line-eq116 c =
+    let line = c.args.line.now in
+    let eight = eight_at line 0 (λ i. (c.type_inv.line i).fits) (omega (arith, c.if-line-gt8.true)) in
+    let front = bytes_are (take 8 line) 8 _ eight (sym c.first_eight-word.ensures ∙ c.if-word-eq-A_CONTAC.true) in
+    let all : take 9 line ≡ 97 ∷ 32 ∷ name_of Contact = take_more line 8 0 (omega (arith, c.if-line-gt8.true)) ∙ (λ i. front i ++ c.if-line-eq116.true i ∷ []) in
+    rw (take_all (length line - 9) (drop 9 line) (omega (arith, length-drop 9 line))) (adds_plain Contact 9 line all)
+
+pub returns-then-word-eq-A_RANGE : goal.returns-then-word-eq-A_RANGE
+returns-then-word-eq-A_RANGE c =
+    let line = c.args.line.now in
+    let eight = eight_at line 0 (λ i. (c.type_inv.line i).fits) (omega (arith, c.if-line-gt8.true)) in
+    let front = bytes_are (take 8 line) 8 _ eight (sym c.first_eight-word.ensures ∙ c.if-word-eq-A_RANGE.true) in
+    let all : take 7 line ≡ 97 ∷ 32 ∷ name_of Range = sym (take-take 7 8 line (omega arith)) ∙ ap (take 7) front in
+    rw (take_all (length line - 7) (drop 7 line) (omega (arith, length-drop 7 line))) (adds_plain Range 7 line all)

@@ -1,0 +1,116 @@
+-- Contacts that are gathered with what no two of them share; and ranges that are gathered in any order, most in their
+-- places, and the latest beside them.
+use Rattle.std.specs.Prelude.{◌≡◌, ℕ, ◌+◌, ◌*◌, ◌/◌, ◌%◌, ◌^◌, ◌≤◌, Bool, false, true, nat_lt, List, [], ◌∷◌, ◌++◌, length, map, IsPermutation}
+use Rattle.std.specs.List.{list_any, AllByRecursion}
+use Rattle.std.specs.List.Sorted.{IsStrictlySortedBy}
+use Rattle.std.specs.declared.cmp.Ordering.{Ordering}
+use Rattle.std.specs.declared.option.Option.{Option}
+use Rattle.std.specs.declared.option.Option.TheVariants.{Some, None}
+use Rattle.sabr_model.specs.declared.contact.Contact.{Contact}
+use Rattle.sabr_model.specs.declared.contact.Range.{Range}
+use Rattle.sabr_model.specs.declared.opening.Opening.{Opening}
+use Rattle.sabr_model.specs.Order.{by_numbers, put_in}
+use Rattle.sabr_model.specs.plan.Plan.{ContactPlan, IsPlan, IsWindow, opens, overlap, range_key}
+use Rattle.sabr_model.specs.plan.Adding.{by_range_key}
+use Rattle.sabr_model.specs.plan.RangeOrder.{place_number}
+use Rattle.sabr_model.specs.plan.Openings.{opening_of}
+use Rattle.sabr_plan.specs.ChainedPlaces.{AreChained}
+
+-- contacts alone and the largest number assigned, as a plan without ranges
+abbrev pub plan_of_contacts : List Contact → ℕ → ContactPlan
+plan_of_contacts contacts greatest = record { contacts = contacts; ranges = []; greatest = greatest }
+
+-- the rules of a plan, for these alone
+abbrev pub ContactsObey : List Contact → ℕ → Type 0
+ContactsObey contacts greatest = IsPlan (plan_of_contacts contacts greatest)
+
+-- an opening as one number: by start, then by sender and receiver
+abbrev pub opening_number : Opening → ℕ
+opening_number o = place_number o.start o.from o.to
+
+-- the bucket of an opening, one of 4096
+abbrev pub opening_bucket : Opening → ℕ
+opening_bucket o = ((o.from * 11400714819323198485 % 2 ^ 64 + o.to * 14029467366897019727 % 2 ^ 64) % 2 ^ 64 + o.start * 1609587929392839161 % 2 ^ 64) % 2 ^ 64 / 2 ^ 44 % 4096
+
+-- the buckets of contacts
+abbrev pub contact_buckets : List Contact → List ℕ
+contact_buckets contacts = map (λ c. opening_bucket (opening_of c)) contacts
+
+-- no contact opens after this
+abbrev pub OpenBy : Opening → List Contact → Type 0
+OpenBy last contacts = AllByRecursion (λ c. opening_number (opening_of c) ≤ opening_number last) contacts
+
+-- the first contacts are in chains, and if the contacts ascend none opens after the last one
+abbrev pub KnowsSome : List ℕ → List ℕ → Bool → Opening → List Contact → Type 0
+KnowsSome befores lasts rising last contacts = AreChained (contact_buckets contacts) befores lasts × (rising ≡ true → OpenBy last contacts)
+
+-- an opening that no contact has was noted, one that a contact has was found, or neither
+abbrev pub IsNoted : List Contact → Opening → Option Bool → List ℕ → List ℕ → Bool → Opening → Type 0
+IsNoted contacts o (Some true) befores lasts rising last =
+    (list_any (opens o.from o.to o.start) contacts ≡ false) × ((c : Contact) → opening_of c ≡ o → KnowsSome befores lasts rising last (contacts ++ c ∷ []))
+IsNoted contacts o (Some false) befores lasts rising last = (list_any (opens o.from o.to o.start) contacts ≡ true) × KnowsSome befores lasts rising last contacts
+IsNoted contacts o None befores lasts rising last = KnowsSome befores lasts rising last contacts
+
+-- elements put into a list, one after the other
+abbrev pub put_all : {X : Type 0} → (X → X → Ordering) → List X → List X → List X
+put_all cmp [] ys = ys
+put_all cmp (x ∷ xs) ys = put_in cmp x (put_all cmp xs ys)
+
+-- ranges alone, as a plan without contacts
+abbrev pub plan_of_ranges : List Range → ContactPlan
+plan_of_ranges ranges = record { contacts = []; ranges = ranges; greatest = 0 }
+
+-- the rules of a plan, for these alone
+abbrev pub RangesObey : List Range → Type 0
+RangesObey ranges = IsPlan (plan_of_ranges ranges)
+
+-- the sorted ranges, and the latest put among them
+abbrev pub gathered : List Range → List Range → List Range
+gathered placed late = put_all by_range_key late placed
+
+-- ranges put into a list, the first before the others
+abbrev pub put_in_turn : List Range → List Range → List Range
+put_in_turn [] ys = ys
+put_in_turn (x ∷ xs) ys = put_in_turn xs (put_in by_range_key x ys)
+
+-- put in one by one, the ranges obey the rules of a plan, and none of them is lost
+abbrev pub ObeyInTurn : List Range → Type 0
+ObeyInTurn ranges = RangesObey (put_in_turn ranges []) × IsPermutation ranges (put_in_turn ranges [])
+
+-- the buckets of ranges by their ordered pairs, of 2048
+abbrev pub pair_bucket : ℕ → ℕ → ℕ
+pair_bucket one other = (one % 2048 * 509 + other % 2048) % 2048
+
+abbrev pub range_buckets : List Range → List ℕ
+range_buckets ranges = map (λ r. pair_bucket r.one r.other) ranges
+
+-- all of them are in chains
+abbrev pub RangesAreChained : List Range → List ℕ → List ℕ → Type 0
+RangesAreChained ranges befores lasts = AreChained (range_buckets ranges) befores lasts × (length befores ≡ length ranges)
+
+-- the range ends after a pair and second, given as a number, in the order of ranges
+abbrev pub ends_after : ℕ → Range → Bool
+ends_after number r = nat_lt number (place_number r.one r.other r.end)
+
+-- none of them does
+abbrev pub EndBy : ℕ → List Range → Type 0
+EndBy number ranges = list_any (ends_after number) ranges ≡ false
+
+-- ranges in order, and others in order that share no second of a pair with them
+pub record AreTwoLists (placed late : List Range) : Type 0 where
+  pub placed_rise : IsStrictlySortedBy by_numbers (map range_key placed)
+  pub late_rise : IsStrictlySortedBy by_numbers (map range_key late)
+  pub placed_windows : AllByRecursion (λ r. IsWindow r.start r.end) placed
+  pub late_windows : AllByRecursion (λ r. IsWindow r.start r.end) late
+  pub are_apart : AllByRecursion (λ r. list_any (overlap r) placed ≡ false) late
+
+-- both lists and all of them obey the rules of a plan's ranges, and none of the latest overlaps one of the others
+pub record AreGathered (placed late : List Range) : Type 0 where
+  pub placed_obey : RangesObey placed
+  pub late_obey : RangesObey late
+  pub all_obey : RangesObey (gathered placed late)
+  pub are_apart : AllByRecursion (λ r. list_any (overlap r) placed ≡ false) late
+
+-- the latest ranges beside the late, and these together beside the others
+abbrev pub AreThreeLists : List Range → List Range → List Range → Type 0
+AreThreeLists placed late latest = AreGathered placed (gathered late latest) × AreGathered late latest

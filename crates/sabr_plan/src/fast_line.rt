@@ -1,0 +1,217 @@
+//! A fast reader of additions, in one pass over a line. It leaves all other lines to the general reader.
+
+ghost use Rattle.std.specs.Prelude.{◌≡◌, ◌≢◌, ◌∷◌, Ok, Some, IfSome, IsFalse};
+ghost use Rattle.sabr_plan.specs.Numbers.{number_within};
+ghost use Rattle.sabr_plan.specs.PlainWords.{IsAfterBlanks, IsAfterGap, IsFront, IsAhead, BeginsWithLine, AddsAhead};
+ghost use Rattle.sabr_plan.specs.Operands.{time_at};
+ghost use Rattle.sabr_plan.specs.Commands.{line_command};
+ghost use Rattle.sabr_plan.specs.Words.{is_one_line};
+
+use crate::command::{Addition, Command, Target};
+use crate::eight_digits::first_eight;
+use crate::known_day::KnownDay;
+use crate::number::{leading_digits, leading_number};
+use crate::operand::{Reference, greatest_value};
+use crate::words::is_blank;
+
+/// The number of bytes of an absolute time.
+const TIME_BYTES: usize = 19;
+
+/// The bytes `a contac` as one number, of which the first byte is the lowest.
+const A_CONTAC: u64 = 0x6361_746e_6f63_2061;
+
+/// The bytes `a range ` as one number, of which the first byte is the lowest.
+const A_RANGE: u64 = 0x2065_676e_6172_2061;
+
+/// Returns the text after a byte, if a text begins with that byte.
+#[inline(always)]
+fn behind(text: &[u8], byte: u8) -> Option<&[u8]>
+    requires ended { IsFalse (is_one_line text.now) }
+    requires other { byte ≢ 10 }
+    ensures parts { IfSome result (λ r. text.now ≡ byte ∷ r.now) }
+    ensures ended { IfSome result (λ r. IsFalse (is_one_line r.now)) }
+{
+    if text[0] != byte {
+        return None;
+    }
+    Some(&text[1..])
+}
+
+/// Returns a text from its first byte on that is no blank. It is a function of its own, since most lines have one space
+/// before each word, and no other blanks.
+#[cold]
+#[inline(never)]
+fn after_blanks(text: &[u8]) -> &[u8]
+    requires { IsFalse (is_one_line text.now) }
+    ensures blanks { IsAfterBlanks text.now result.now }
+    ensures ended { IsFalse (is_one_line result.now) }
+{
+    let mut count = 0;
+    while is_blank(text[count]) {
+        count += 1;
+    }
+    &text[count..]
+}
+
+/// Returns the text after the LF, if only blanks come before it.
+#[inline(always)]
+fn after_end(text: &[u8]) -> Option<&[u8]>
+    requires { IsFalse (is_one_line text.now) }
+    ensures { IfSome result (λ r. IsAfterBlanks text.now (10 ∷ r.now)) }
+{
+    if text[0] == b'\n' {
+        return Some(&text[1..]);
+    }
+    let end = after_blanks(text);
+    if end[0] != b'\n' {
+        return None;
+    }
+    Some(&end[1..])
+}
+
+/// Returns the text after the blanks at its front, if there is at least one.
+#[inline(always)]
+fn after_gap(text: &[u8]) -> Option<&[u8]>
+    requires { IsFalse (is_one_line text.now) }
+    ensures gap { IfSome result (λ r. IsAfterGap text.now r.now) }
+    ensures ended { IfSome result (λ r. IsFalse (is_one_line r.now)) }
+{
+    if let Some(start) = behind(text, b' ') {
+        if start[0] > b' ' {
+            return Some(start);
+        }
+    }
+    let start = after_blanks(text);
+    if start.len() == text.len() {
+        return None;
+    }
+    Some(start)
+}
+
+/// Reads a number at the front of a text, after blanks. Returns the number and the text after it. `None` means: use the
+/// general reader.
+#[inline(always)]
+fn number_ahead(low: u64, high: u64, text: &[u8]) -> Option<(u64, &[u8])>
+    requires { IsFalse (is_one_line text.now) }
+    ensures word { IfSome result (λ r. IsAhead (λ w. number_within low high w ≡ Some r.0) text.now r.1.now) }
+    ensures ended { IfSome result (λ r. IsFalse (is_one_line r.1.now)) }
+{
+    let (value, _, rest) = leading_number(after_gap(text)?, low, high)?;
+    Some((value, rest))
+}
+
+/// Reads a relative time at the front of a text. Returns the time and the text after it. `None` means: use the general
+/// reader.
+#[inline(always)]
+fn relative_front<'a>(reference: &Reference, text: &'a [u8]) -> Option<(u64, &'a [u8])>
+    requires { IsFalse (is_one_line text.now) }
+    ensures { IfSome result (λ r. IsFront (λ w. time_at reference.now w ≡ Ok r.0) text.now r.1.now) }
+{
+    let (seconds, digits, rest) = leading_digits(behind(text, b'+')?);
+    if digits.is_empty() || digits.len() > 12 {
+        return None;
+    }
+    let Ok(time) = reference.after(seconds) else {
+        return None;
+    };
+    Some((time, rest))
+}
+
+/// Reads a time at the front of a text. Returns the time and the text after it. `None` means: use the general reader.
+#[inline(always)]
+fn time_front<'a>(
+    reference: &Reference,
+    day: &mut KnownDay,
+    text: &'a [u8],
+) -> Option<(u64, &'a [u8])>
+    requires { IsFalse (is_one_line text.now) }
+    ensures { IfSome result (λ r. IsFront (λ w. time_at reference.now w ≡ Ok r.0) text.now r.1.now) }
+{
+    if text[0] == b'+' {
+        return relative_front(reference, text);
+    }
+    if text.len() < TIME_BYTES {
+        return None;
+    }
+    let (word, rest) = text.split_at(TIME_BYTES);
+    let time = day.second_of(word)?;
+    Some((time, rest))
+}
+
+/// Reads a time at the front of a text, after blanks. Returns the time and the text after it. `None` means: use the
+/// general reader.
+#[inline(always)]
+fn time_ahead<'a>(
+    reference: &Reference,
+    day: &mut KnownDay,
+    text: &'a [u8],
+) -> Option<(u64, &'a [u8])>
+    requires { IsFalse (is_one_line text.now) }
+    ensures word { IfSome result (λ r. IsAhead (λ w. time_at reference.now w ≡ Ok r.0) text.now r.1.now) }
+    ensures ended { IfSome result (λ r. IsFalse (is_one_line r.1.now)) }
+{
+    let (time, rest) = time_front(reference, day, after_gap(text)?)?;
+    Some((time, rest))
+}
+
+/// Returns the target of the addition that a line begins with, and the text after its name.
+#[inline(always)]
+fn any_target_ahead(line: &[u8]) -> Option<(Target, &[u8])>
+    requires { IsFalse (is_one_line line.now) }
+    ensures adds { IfSome result (λ r. AddsAhead r.0 line.now r.1.now) }
+{
+    let name = after_gap(behind(after_blanks(line), b'a')?)?;
+    if let Some(text) = name.strip_prefix(b"contact") {
+        return Some((Target::Contact, text));
+    }
+    let text = name.strip_prefix(b"range")?;
+    Some((Target::Range, text))
+}
+
+/// Returns the target of the addition that a line begins with, and the text after its name. Most lines have one space
+/// before each word, and no other blanks.
+#[inline(always)]
+fn target_ahead(line: &[u8]) -> Option<(Target, &[u8])>
+    requires { IsFalse (is_one_line line.now) }
+    ensures { IfSome result (λ r. AddsAhead r.0 line.now r.1.now) }
+{
+    if line.len() > 8 {
+        let word = first_eight(line);
+        if word == A_CONTAC && line[8] == b't' {
+            return Some((Target::Contact, &line[9..]));
+        }
+        if word == A_RANGE {
+            return Some((Target::Range, &line[7..]));
+        }
+    }
+    any_target_ahead(line)
+}
+
+/// Returns the command of a text's first line, if it is an addition in the usual form, and the text after the line's
+/// LF. `None` means: use the general reader.
+#[inline(always)]
+pub fn fast_addition<'a>(
+    reference: &Reference,
+    start_day: &mut KnownDay,
+    end_day: &mut KnownDay,
+    text: &'a [u8],
+) -> Option<(Command, &'a [u8])>
+    requires { IsFalse (is_one_line text.now) }
+    ensures { IfSome result (λ r. BeginsWithLine (λ line. line_command reference.now line ≡ Ok r.0) text.now r.1.now) }
+{
+    let (target, rest) = target_ahead(text)?;
+    let (start, rest) = time_ahead(reference, start_day, rest)?;
+    let (end, rest) = time_ahead(reference, end_day, rest)?;
+    let (first, rest) = number_ahead(1, u64::MAX, rest)?;
+    let (second, rest) = number_ahead(1, u64::MAX, rest)?;
+    let (value, rest) = number_ahead(0, greatest_value(target), rest)?;
+    let behind = after_end(rest)?;
+    let addition = Addition {
+        start,
+        end,
+        first,
+        second,
+        value,
+    };
+    Some((Command::Add(target, addition), behind))
+}

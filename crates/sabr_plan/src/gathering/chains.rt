@@ -1,0 +1,78 @@
+//! A hash table with chaining over the indexes of a list: a search walks along the chain of one bucket.
+
+ghost use Rattle.std.specs.Prelude.{◌≡◌, ℕ, ◌+◌, ◌<◌, ◌≤◌, List, [], OnOk, OnErr, length, slice_index};
+ghost use Rattle.sabr_plan.specs.ChainedPlaces.{AreChained, ComesNext};
+
+use std::alloc::{AllocError, Allocator};
+
+/// The first indexes of a list, in chains by buckets.
+#[derive(Drop)]
+pub struct Chains<A: Allocator + Copy> {
+    /// For each bucket, one more than its last index, or 0 if it has none. Empty at first.
+    pub lasts: Vec<usize, A>,
+    /// For each index, one more than the last index before it in its bucket, or 0 if there is none.
+    pub befores: Vec<usize, A>,
+}
+
+impl<A: Allocator + Copy> Chains<A> {
+    /// Makes a table of no index. It doesn't allocate.
+    pub fn new(alloc: A) -> Chains<A>
+        ensures lasts { result.lasts.items ≡ [] }
+        ensures befores { result.befores.items ≡ [] }
+    {
+        Chains {
+            lasts: Vec::new(alloc),
+            befores: Vec::new(alloc),
+        }
+    }
+
+    /// Makes a table of this number of buckets, unless there is one.
+    pub fn size(&mut self, buckets: usize) -> Result<(), AllocError>
+        ensures sized { OnOk result (buckets ≤ length self.new.lasts.items) }
+
+        // The indexes stay in their chains.
+        ensures chained { (of : List ℕ) → AreChained of self.old.befores.items self.old.lasts.items → AreChained of self.new.befores.items self.new.lasts.items }
+        ensures same { self.new.befores.items ≡ self.old.befores.items }
+    {
+        if self.lasts.len() < buckets {
+            self.lasts.resize(buckets, 0)?;
+        }
+        Ok(())
+    }
+
+    /// Adds the next index to the chain of its bucket.
+    pub fn push(&mut self, bucket: usize) -> Result<(), AllocError>
+        requires { bucket < length self.old.lasts.items }
+        ensures ok { (of : List ℕ) → ComesNext of self.old.befores.items self.old.lasts.items bucket → OnOk result (AreChained of self.new.befores.items self.new.lasts.items) }
+        ensures longer { OnOk result (length self.new.befores.items ≡ length self.old.befores.items + 1) }
+        ensures sized { length self.new.lasts.items ≡ length self.old.lasts.items }
+
+        // An error changes nothing.
+        ensures err_lasts { OnErr result (self.new.lasts.items ≡ self.old.lasts.items) }
+        ensures err_befores { OnErr result (self.new.befores.items ≡ self.old.befores.items) }
+    {
+        let before = self.lasts[bucket];
+        self.befores.push(before)?;
+        self.lasts[bucket] = self.befores.len();
+        Ok(())
+    }
+
+    /// Removes all indexes from their chains. It doesn't allocate.
+    pub fn clear(&mut self)
+        ensures lasts { self.new.lasts.items ≡ [] }
+        ensures befores { self.new.befores.items ≡ [] }
+    {
+        self.lasts.clear();
+        self.befores.clear();
+    }
+}
+
+/// Returns one more than the last index of a bucket, or 0 if it has none or no table is made.
+pub fn last_of(lasts: &[usize], bucket: usize) -> usize
+    ensures { result ≡ slice_index lasts.now bucket }
+{
+    match lasts.get(bucket) {
+        Some(last) => *last,
+        None => 0,
+    }
+}

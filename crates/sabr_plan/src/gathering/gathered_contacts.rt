@@ -1,0 +1,153 @@
+//! Contacts that are gathered one by one, for a plan that is made of all at once.
+
+ghost use Rattle.std.specs.Prelude.{◌≡◌, ◌<◌, ◌≤◌, ◌+◌, [], None, Some, Err, IfOk, OnOk, OnErr, IsOkUnless, ok_or, unwrap_or};
+ghost use Rattle.std.specs.List.{list_any};
+ghost use Rattle.sabr_model.specs.plan.Plan.{last_time, opens, IsPlan};
+ghost use Rattle.sabr_model.specs.declared.fault.AddFault.{AddFault};
+ghost use Rattle.sabr_model.specs.declared.fault.AddFault.TheVariants.{NoMemory, NothingToDelete};
+ghost use Rattle.sabr_model.specs.plan.Adding.{next_contact, contact_refusal, with_contact, number_of_opening, without_contact};
+
+use crate::gathering::known_openings::KnownOpenings;
+use sabr_model::{AddFault, Contact, MOST_RECORDS, Opening};
+use std::alloc::{Allocator, Global};
+use std::marker::Model;
+
+/// Contacts that obey the rules of a plan's contacts, by ascending number, and the largest number assigned so far.
+///
+/// A hash table of their senders, receivers and starts finds a duplicate in O(1) on average.
+#[derive(Drop)]
+pub struct GatheredContacts<A: Allocator + Copy = Global> {
+    contacts: Vec<Contact, A>,
+    openings: KnownOpenings<A>,
+    greatest: u32,
+}
+
+impl<A: Allocator + Copy> Model for GatheredContacts<A> {
+    ghost use Rattle.sabr_model.specs.plan.Plan.{ContactPlan};
+    ghost use Rattle.sabr_plan.specs.Gathering.{plan_of_contacts, ContactsObey, KnowsSome};
+
+    ghost Value = { ContactPlan };
+
+    ghost view = { λ g. plan_of_contacts g.contacts.items g.greatest };
+
+    ghost invariant = { λ g. ContactsObey g.contacts.items g.greatest × KnowsSome g.openings.chains.befores.items g.openings.chains.lasts.items g.openings.rising g.openings.last g.contacts.items };
+}
+
+impl<A: Allocator + Copy> GatheredContacts<A> {
+    /// Makes an empty value. It doesn't allocate.
+    pub fn new(alloc: A) -> GatheredContacts<A>
+        ensures { result ≡ record { contacts = []; ranges = []; greatest = 0 } }
+    {
+        GatheredContacts {
+            contacts: Vec::new(alloc),
+            openings: KnownOpenings::new(alloc),
+            greatest: 0,
+        }
+    }
+
+    /// Adds a contact, as `Plan::add_contact` does, and returns its number: nodes, times in seconds since
+    /// 1970-01-01T00:00:00Z, rate in bytes per second, and the same errors. It is O(1) on average.
+    #[inline(always)]
+    pub fn add(
+        &mut self,
+        from: u64,
+        to: u64,
+        start: u64,
+        end: u64,
+        rate: u64,
+    ) -> Result<u32, AddFault>
+        requires from { 0 < from }
+        requires to { 0 < to }
+        requires end { end ≤ last_time }
+
+        // The first reason to refuse it is returned. Without one, only an allocation can fail.
+        ensures refused { (f : AddFault) → contact_refusal self.old from to start end ≡ Some f → result ≡ Err f }
+        ensures accepted { contact_refusal self.old from to start end ≡ None → IsOkUnless result NoMemory }
+
+        // It has the next number. An error changes nothing.
+        ensures number { IfOk result (λ n. n ≡ self.old.greatest + 1) }
+        ensures ok { OnOk result (self.new ≡ with_contact self.old (next_contact self.old from to start end rate)) }
+        ensures err { OnErr result (self.new ≡ self.old) }
+    {
+        if start >= end || from == to || self.greatest as usize >= MOST_RECORDS {
+            return Err(self.fault(from, to, start, end));
+        }
+        let number = self.greatest + 1;
+        if self.contacts.reserve(1).is_err() {
+            return Err(self.fault(from, to, start, end));
+        }
+        let opening = Opening { from, to, start };
+        let Some(is_new) = self.openings.note(&self.contacts, opening) else {
+            return Err(self.fault(from, to, start, end));
+        };
+        if !is_new {
+            return Err(AddFault::DuplicateContact);
+        }
+        self.contacts.push_reserved(Contact {
+            number,
+            from,
+            to,
+            start,
+            end,
+            rate,
+        });
+        self.greatest = number;
+        Ok(number)
+    }
+
+    /// Returns the first reason to refuse a contact, or `None`.
+    #[cold]
+    #[inline(never)]
+    fn fault(&self, from: u64, to: u64, start: u64, end: u64) -> AddFault
+        ensures { result ≡ unwrap_or (contact_refusal self.now from to start end) NoMemory }
+    {
+        let clashes = self.has_opening(from, to, start);
+        let refusal = Opening { from, to, start }.refusal(end, clashes, self.greatest);
+        refusal.unwrap_or(AddFault::NoMemory)
+    }
+
+    /// Returns true if one of the contacts has this sender, receiver and start.
+    fn has_opening(&self, from: u64, to: u64, start: u64) -> bool
+        ensures { result ≡ list_any (opens from to start) self.now.contacts }
+    {
+        self.contacts.iter().any(|c| c.opens(from, to, start))
+    }
+
+    /// Deletes the contact with this sender, receiver and start, and returns its number, which is never assigned again.
+    /// The start is in seconds since 1970-01-01T00:00:00Z.
+    ///
+    ///
+    /// It doesn't allocate. It is a pass over the contacts.
+    ///
+    /// # Errors
+    ///
+    /// `NothingToDelete` if there is no such contact. Then the contacts stay as they were.
+    pub fn delete(&mut self, from: u64, to: u64, start: u64) -> Result<u32, AddFault>
+        ensures value { result ≡ ok_or (number_of_opening self.old from to start) NothingToDelete }
+        ensures ok { OnOk result (self.new ≡ without_contact self.old from to start) }
+        ensures err { OnErr result (self.new ≡ self.old) }
+    {
+        let Some(contact) = Contact::find(&self.contacts, from, to, start) else {
+            return Err(AddFault::NothingToDelete);
+        };
+        let number = contact.number;
+        self.openings.chains.clear();
+        self.contacts.retain(|c| !c.opens(from, to, start));
+        Ok(number)
+    }
+
+    /// Returns the contacts by ascending number, and the largest number assigned so far. It doesn't allocate.
+    pub fn into_contacts(self) -> (Vec<Contact, A>, u32)
+        ensures contacts { result.0.items ≡ self.contacts }
+        ensures greatest { result.1 ≡ self.greatest }
+        ensures alone { self.ranges ≡ [] }
+        ensures rules { IsPlan self }
+    {
+        let GatheredContacts {
+            contacts,
+            openings: _,
+            greatest,
+        } = self;
+        (contacts, greatest)
+    }
+}

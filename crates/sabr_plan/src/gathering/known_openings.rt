@@ -1,0 +1,158 @@
+//! The openings of contacts that come one by one. A contact whose opening is the largest so far needs no search for a
+//! duplicate.
+
+ghost use Rattle.std.specs.Prelude.{◌≡◌, ◌<◌, ◌≤◌, ◌↔◌, [], IsTrue, OnOk, length};
+ghost use Rattle.std.specs.List.{list_any};
+ghost use Rattle.sabr_model.specs.plan.Plan.{opens};
+ghost use Rattle.sabr_plan.specs.ChainedPlaces.{AreChained};
+ghost use Rattle.sabr_plan.specs.Gathering.{opening_number, opening_bucket, contact_buckets, KnowsSome, IsNoted};
+
+use crate::gathering::chains::Chains;
+use sabr_model::{Contact, Opening, comes_by};
+use std::alloc::{AllocError, Allocator};
+
+/// The number of buckets. A chain of the largest plan has five contacts. With 8192, plans of 448 and 1833 contacts take
+/// 4 and 2 percent more instructions for one route, and four of 17000 to 20000 contacts 0.3 to 0.8 percent fewer; with
+/// 2048, the small ones take 2 and 1 percent fewer, and the large ones 1 to 2 percent more. To vary it:
+/// `bench/figures.py --counts 1 --only grid-8,dense-20,relay-moon-20000,walker-24-20000,dense-60,line-19998`.
+const BUCKETS: usize = 4096;
+
+/// The largest opening of contacts, by start, sender and receiver, and a hash table of the first contacts.
+///
+/// While each contact opens after those before it, the table is empty. From the first that doesn't, all contacts are in
+/// the table.
+#[derive(Drop)]
+pub struct KnownOpenings<A: Allocator + Copy> {
+    /// The hash table of the first contacts, by their openings.
+    pub chains: Chains<A>,
+    /// Whether each contact so far opens after those before it.
+    pub rising: bool,
+    /// If so, no contact opens after it.
+    pub last: Opening,
+}
+
+impl<A: Allocator + Copy> KnownOpenings<A> {
+    /// The openings of no contact. It doesn't allocate.
+    pub fn new(alloc: A) -> KnownOpenings<A>
+        ensures lasts { result.chains.lasts.items ≡ [] }
+        ensures befores { result.chains.befores.items ≡ [] }
+    {
+        KnownOpenings {
+            chains: Chains::new(alloc),
+            rising: true,
+            last: Opening {
+                from: 0,
+                to: 0,
+                start: 0,
+            },
+        }
+    }
+
+    /// Notes the opening of a contact that is to come after these. Returns false if one of them has it, and `None` if
+    /// an allocation failed.
+    #[inline(always)]
+    pub fn note(&mut self, contacts: &[Contact], opening: Opening) -> Option<bool>
+        requires { KnowsSome self.old.chains.befores.items self.old.chains.lasts.items self.old.rising self.old.last contacts.now }
+        ensures { IsNoted contacts.now opening result self.new.chains.befores.items self.new.chains.lasts.items self.new.rising self.new.last }
+    {
+        if self.rising && comes_after(&opening, &self.last) {
+            self.last = opening;
+            return Some(true);
+        }
+        // A copy, so that an opening that comes last stays in registers.
+        let late = opening;
+        self.note_in_chain(contacts, &late)
+    }
+
+    /// Notes the opening of a contact that is to come after these, by the hash table. Returns false if one of them has
+    /// it, and `None` if an allocation failed.
+    #[cold]
+    #[inline(never)]
+    fn note_in_chain(&mut self, contacts: &[Contact], opening: &Opening) -> Option<bool>
+        requires { AreChained (contact_buckets contacts.now) self.old.chains.befores.items self.old.chains.lasts.items }
+        ensures { IsNoted contacts.now opening.now result self.new.chains.befores.items self.new.chains.lasts.items self.new.rising self.new.last }
+    {
+        self.rising = false;
+        let Ok(()) = self.chains.size(BUCKETS) else {
+            return None;
+        };
+        let Ok(()) = chain_all(&mut self.chains, contacts) else {
+            return None;
+        };
+        let Chains { lasts, befores } = &self.chains;
+        if opens_in_chain(contacts, befores, lasts, opening) {
+            return Some(false);
+        }
+        let Ok(()) = self.chains.push(bucket_of(opening)) else {
+            return None;
+        };
+        Some(true)
+    }
+}
+
+/// Returns true if an opening comes after another, by start, sender and receiver.
+fn comes_after(opening: &Opening, other: &Opening) -> bool
+    ensures { IsTrue result ↔ (opening_number other.now < opening_number opening.now) }
+{
+    !comes_by(
+        (opening.start, opening.from, opening.to),
+        (other.start, other.from, other.to),
+    )
+}
+
+/// The bucket of an opening.
+fn bucket_of(opening: &Opening) -> usize
+    ensures value { result ≡ opening_bucket opening.now }
+    ensures limit { result < 4096 }
+{
+    let from = opening.from.wrapping_mul(11_400_714_819_323_198_485);
+    let to = opening.to.wrapping_mul(14_029_467_366_897_019_727);
+    let start = opening.start.wrapping_mul(1_609_587_929_392_839_161);
+    let mixed = from.wrapping_add(to).wrapping_add(start);
+    ((mixed >> 44) % 4096) as usize
+}
+
+/// Adds the contacts that aren't in the hash table.
+fn chain_all<A: Allocator + Copy>(
+    chains: &mut Chains<A>,
+    contacts: &[Contact],
+) -> Result<(), AllocError>
+    requires sized { 4096 ≤ length chains.old.lasts.items }
+    requires chained { AreChained (contact_buckets contacts.now) chains.old.befores.items chains.old.lasts.items }
+    ensures sized { 4096 ≤ length chains.new.lasts.items }
+    ensures chained { AreChained (contact_buckets contacts.now) chains.new.befores.items chains.new.lasts.items }
+    ensures all { OnOk result (length chains.new.befores.items ≡ length contacts.now) }
+{
+    while chains.befores.len() < contacts.len() {
+        let Contact {
+            from,
+            to,
+            start,
+            ..
+        } = contacts[chains.befores.len()];
+        chains.push(bucket_of(&Opening { from, to, start }))?;
+    }
+    Ok(())
+}
+
+/// Returns true if one of the contacts, all of which are in the hash table, has this opening.
+fn opens_in_chain(
+    contacts: &[Contact],
+    befores: &[usize],
+    lasts: &[usize],
+    opening: &Opening,
+) -> bool
+    requires sized { 4096 ≤ length lasts.now }
+    requires chained { AreChained (contact_buckets contacts.now) befores.now lasts.now }
+    requires all { length befores.now ≡ length contacts.now }
+    ensures { result ≡ list_any (opens opening.now.from opening.now.to opening.now.start) contacts.now }
+{
+    let mut at = lasts[bucket_of(opening)];
+    while at > 0 {
+        if contacts[at - 1].opens(opening.from, opening.to, opening.start) {
+            return true;
+        }
+        at = befores[at - 1];
+    }
+    false
+}

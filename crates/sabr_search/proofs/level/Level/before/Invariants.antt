@@ -1,8 +1,0 @@
-use Rattle.sabr_search.proofs.LevelLemmas.Chained.{IsLastTo}
-use Rattle.sabr_search.proofs.level.Level.before.Given as goal
-
-abbrev pub invariant-loop-place : goal.invariant-loop-place
-invariant-loop-place g l = IsLastTo l.self.layers.entries.items l.node l.end l.place
-
-abbrev pub decreases-loop-place : goal.decreases-loop-place
-decreases-loop-place g l = l.place
