@@ -34,7 +34,7 @@ from dataclasses import dataclass
 from typing import Optional
 
 from .. import hints
-from ..choosing import ranks_of
+from ..choosing import RANK, ranks_of
 from ..comparing import Change, contact_changes, route_changes, same_contacts
 from ..errors import PLAN_STATUS, Refused
 from ..listing import LOOK
@@ -48,7 +48,6 @@ from ..words import Asked, Words, add_further_words, add_request_words, router_o
 
 SVG = "svg"
 LIGHT = Kind(str.rjust, lambda it, how: str(it), lambda it, how: None if it == "-" else it)
-RANK = Kind(str.rjust, lambda it, how: str(it), lambda it, how: it if isinstance(it, int) else None)
 CONTACT = {"change": WORD, "number": NUMBER, "nodes": PATH, "start": TIME, "end": TIME, "rate": NUMBER, "light": LIGHT}
 WAS = ("start", "end", "rate", "light")  # what may have been otherwise
 ROUTE = {"change": WORD, "old_rank": RANK, "rank": RANK, "old_delivery": TIME, "delivery": TIME, "later": NUMBER, "contacts": NUMBERS,

@@ -27,16 +27,17 @@ and in its order, and so on, as if --used and --order route were given. --links 
 check` accepts. T is 2031/03/03-01:00:00, 2031-03-03T01:00:00Z, 2031-03-03, now, or now+2h with s, m, h or d.
 All times are UTC. A and B are nodes, by their numbers or by the names of --names. G may be /dev/stdin.
 
-The page has the picture, which mouse, touch and keys zoom and move, and the list of routes; `?` lists the keys. It tells
-what each contact and route is, and finds contacts, nodes, links as 31 > 22, and times by a field. It shows all links if
-there are at most 60, or else those of the routes, and a button the others, under a row for each sender. A click on a
-contact of a shown route, or Enter, tells the best route without that contact, as the program answered when the page was
-made. Further ones, and nodes, can be lost with it; if the page doesn't know the answer, it shows the command that tells.
-The timetable below the picture has the best delivery by the second at the source, over the whole plan, and its line can
-be dragged. The program is asked for at most 1024 seconds, and knows from them all between two with the same best route
-and delivery; the line goes to the nearest second that is known. Routes can be saved as CSV, and the picture as SVG. A print has all rows that are
-chosen, and the first 100 routes. The page has at most 1000 routes without --all, the first 100 with `send by`, the last
-second at the source. Its address keeps what is chosen, as H#lost=11&theme=dark.
+The page has the picture, which mouse, touch and keys zoom and move, and the list of routes; `?` lists the keys. It
+tells what each contact and route is, and finds contacts, nodes, links as 31 > 22, and times by a field. It shows all
+links if there are at most 60, or else those of the routes, and a button the others, under a row for each sender. A
+click on a contact of a shown route, or Enter, tells the best route without that contact, as the program answered when
+the page was made. Further ones, and nodes, can be lost with it; if the page doesn't know the answer, it shows the
+command that tells. The timetable below the picture has the best delivery by the second at the source, over the whole
+plan, and its line can be dragged. The program is asked for at most 1024 seconds, and knows from them all between two
+with the same best route and delivery; the line goes to the nearest second that is known. Routes can be saved as CSV,
+and the picture as SVG. A print has all rows that are chosen, and the first 100 routes. The page has at most 1000 routes
+without --all, the first 100 with `send by`, the last second at the source. Its address keeps what is chosen, as
+H#lost=11&theme=dark.
 
 Status 0: done. 1: the routes or the names can't be used, or the routes are not of this plan. 2: the words can't be
 used, or the picture is too high. 3: the plan can't be read. 5: a file can't be read, or writing failed. 125: there is

@@ -40,7 +40,8 @@ class Both:
         rows = [Row(link, [*_strips(links, link, span), *_strips(olds, link, span)]) for link in used]
         stages = [it for it in stages_of(routes, second) if span.shows_stage(it)]
         remarks = [] if self.changes else ["no contact differs"]
-        return Scene(self.title, [it for it in rows if it.strips], routes, stages, self._kinds(), span, names, time_text, remarks, second)
+        shown = [it for it in rows if it.strips]
+        return Scene(self.title, shown, routes, stages, self._kinds(), span, names, time_text, remarks, second)
 
     def _olds(self):
         """The old contacts that differ. Their numbers are below 0, so that none is that of another one of the new plan."""

@@ -194,8 +194,8 @@ class Picture:
         sender, receiver = map(self.scene.names.full, it.link)
         window = f"{self.scene.time_text(it.start)} to {self.scene.time_text(it.end)}"
         light = "no light time" if it.light is None else f"light time {it.light} s"
-        kind = SIGNS[self.scene.kinds.get(it.number, "contact")][2]
-        return f"contact {abs(it.number)}: {sender} {ARROW} {receiver}, {window}, {light}{f', {kind}' * (it.number in self.scene.kinds)}"
+        kind = f", {SIGNS[self.scene.kinds[it.number]][2]}" if it.number in self.scene.kinds else ""
+        return f"contact {abs(it.number)}: {sender} {ARROW} {receiver}, {window}, {light}{kind}"
 
     def numbers(self, strip):
         """The numbers of a strip's contacts: in their bars, or beside them, where there is room that no line crosses."""
