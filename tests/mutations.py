@@ -40,7 +40,7 @@ for name, body in functions:
         print(f"fn low::{name}: {told[name]}")
 print(f"only={len(told)} proved={[*told.values()].count('proved')}")
 """
-LIBRARY = "clone/crates/base/out/rlib/base.rlib"
+LIBRARY = "clone/crates/base/src"
 UNKNOWN = "src/lib.rt:1:1: error[unknown-name]: cannot find value `unknown` in this scope"
 
 
@@ -143,7 +143,7 @@ def what_was_refused_before(room):
     for title, ran, name, text in (
         ("only the others are tried again", "f2 0, f2 1", "notes", ""),
         ("all over another source", whole, "clone/crates/low/src/lib.rt", f"// a comment\n{source}"),
-        ("all over another library", whole, f"{LIBRARY}/format", "sum 2\n"),
+        ("all over another library", whole, f"{LIBRARY}/lib.rt", "fn more() {}\n"),
         ("one that is another", "f1 f2 0, f1 f2 2, f2 1", "clone/crates/low/mutations/m1.edit",
          "file: src/lib.rt\nold: right 1 }\nnew: wrong }\n"),
     ):
