@@ -18,6 +18,8 @@ memory        the peak memory of a run for one route and for 10000, in MB, and t
 library       those of calls of the C library, which library/build makes, beside `first` and `many`: reading a plan and
               the first question; a best route; a contact deleted and a best route after it; 1000 routes at once, and by
               pages of 100. What a call takes is the difference of two runs, by the calls that one has more
+tools         those, and the processor time, of `timetable`, `latest` and `report` that ask the C library in process; with
+              callgrind a run takes some fifty times as long
 
 These measure any plans:
 
@@ -42,7 +44,7 @@ import subprocess
 import sys
 
 import plans
-from parts import library, lists, many, reading
+from parts import library, lists, many, reading, tools
 from running import TOP, Counted, Program, instructions
 from tables import Machine
 
@@ -55,6 +57,7 @@ PARTS = {
     "pages": lists.pages,
     "memory": lists.memory,
     "library": library.library,
+    "tools": tools.tools,
     "listing": lists.listing,
     "instructions": lists.instructions,
     "reading": reading.reading,

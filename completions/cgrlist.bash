@@ -13,7 +13,7 @@ _cgrlist_words() {
         many) echo --plan --requests --count --help ;;
         follow) echo --plan --lists --help ;;
         cgrlist-check) echo --help --version --plan --session --json --names --iso --program ;;
-        cgrlist-compare) echo --help --version --from --to --at --margin-ppm --max-hops --avoid --requests --count --json --exit-code --names --iso --program ;;
+        cgrlist-compare) echo --help --version --from --to --at --margin-ppm --max-hops --avoid --requests --count --json --svg --exit-code --names --iso --program ;;
         cgrlist-from-ionrc) echo --help --version --reference --form --lenient ;;
         cgrlist-latest) echo --help --version --by --after --plan --without --names --iso --program --from --to --margin-ppm --max-hops --avoid --json ;;
         cgrlist-report) echo --help --version --plan --without --names --iso --program --from --to --at --margin-ppm --max-hops --avoid --report --requests --count --by --via --fits --distinct --look --hops --room --choices --exit-code --later --wrong --first-number --lost --send-by --csv --json ;;

@@ -68,6 +68,7 @@ complete -c cgrlist-compare -l avoid -d 'nodes that no route may pass, joined by
 complete -c cgrlist-compare -l requests -d 'a file of requests, in place of --from, --to and --at' --require-parameter --force-files
 complete -c cgrlist-compare -l count -d 'how many routes of each request' --exclusive
 complete -c cgrlist-compare -l json -d 'JSON'
+complete -c cgrlist-compare -l svg -d 'a picture of both plans'
 complete -c cgrlist-compare -l exit-code -d 'status 1 if something differs'
 complete -c cgrlist-compare -l names -d 'names of nodes: lines as \'31 lander\'; \'#\' begins a comment' --require-parameter --force-files
 complete -c cgrlist-compare -l iso -d 'print times as 2031-03-03T01:00:00Z'

@@ -1,6 +1,7 @@
 """Tries the tools that ask the program: over the worked plans, with answers that were worked out by hand, and over stubs in
 place of the program."""
 
+import functools
 import gzip
 import hashlib
 import json
@@ -141,6 +142,8 @@ def versions_and_environments(room):
     by_environment = {"CGRLIST_PLAN": f"{TOP}/examples/relay.txt", "CGRLIST_NAMES": room.names[1], "CGRLIST": room.program}
     yield ("plan, names and program by the environment", "lander > relay high > 12 > 1", lambda: parts_of("lander.*", room.run(
         f"tools/report --from lander --to 1 --at {DAY}-00:45:00 --count 1", **by_environment).all()))
+    yield "the program of the environment is the one that is asked", "report: there is no program: looked for /none\nstatus 125", lambda: room.run(
+        f"tools/report --from 31 --to 1 --at {DAY}-00:45:00 --count 1", **{**by_environment, "CGRLIST": "/none"}).all()
     yield "words come first", "lander > relay high > 12 > 1", lambda: parts_of("lander.*", room.told(
         "report --plan examples/relay.txt --from lander --to 1 --count 1", f"--at {DAY}-00:45:00", room.names, CGRLIST="/none",
         CGRLIST_PLAN="/none", CGRLIST_NAMES="/none"))
@@ -559,6 +562,70 @@ exec {room.program} "$@"
     return [stretch.rstrip("\n"), "after" if is_late else "before"]
 
 
+def in_process(room):
+    """Where there is a library, tools ask it, and print what they print of the program."""
+    library = f"{TOP}/library/out/libcgrlist.so.1"
+    if not os.path.exists(library):
+        print(f"answers: in process: left out, there is no {library}")
+        return
+    ends = "--plan examples/relay.txt --from 31 --to 1"
+    choices = room.file("chosen", "4,11,2\n5,12,2\n1,3\n")
+    for words in (
+        f"timetable {ends} --between 2030-01-01 2030-01-02 --csv", f"latest {ends} --by 2030-01-01T20:00:00Z", f"latest {ends} --by 2030-01-01",
+        f"report {ends} --at 2030-01-01 --count 3 --hops --send-by --json", f"report {ends} --at 2030-01-01 --count 3 --lost",
+        f"report {ends} --at 2030-01-01 --by 2030-01-01T18:00:00Z", f"report {ends} --at 2030-01-01 --distinct nodes --count 5 --without 4",
+        f"report {ends} --at 2030-01-01 --choices {choices}", f"report {ends} --at 2030-01-01 --count 3 --max-hops 0",
+        f"timeline {ends} --at 2030-01-01 --count 3", "compare examples/relay.txt examples/a.txt --from 1 --to 3 --at 2030-01-01 --count 2",
+    ):
+        yield f"in process: {words.replace(choices, 'G')}", "the same", lambda words=words: the_same(*(
+            room.run(f"tools/{words}", CGRLIST=room.program, **how).all() for how in ({"CGRLIST_LIBRARY": library}, {"CGRLIST_IN_PROCESS": "0"})))
+    nothing = {"CGRLIST": "/none", "CGRLIST_LIBRARY": library}
+    yield "in process, no program is asked", FIRST.splitlines()[0], lambda: last_of(room.run(
+        "tools/latest --plan examples/a.txt --from 1 --to 3 --by 2030-01-01T00:00:15Z", **nothing).out)
+    yield "a program that is named is asked", "status 125", lambda: last_of(room.run(
+        "tools/latest --program /none --plan examples/a.txt --from 1 --to 3 --by 2030-01-01T00:00:15Z", **nothing).all())
+
+
+def the_same(one, other):
+    return "the same" if one == other else (one, other)
+
+
+def a_testers_hour(room):
+    """A router's choices for each minute from midnight on. It takes the best route but in three ways: some seconds it keeps contact
+    4 after that has ended, some it forgets the last hop, and some it takes the second route, which delivers later."""
+    tried = functools.cache(lambda: judged_choices(room))
+    yield "a tester's hour: wrong in three ways", ["", "WrongEnd", "hop 1: TooLate"], lambda: sorted(set(tried()[0].values()))
+    yield "a tester's hour: each wrong choice is named, and no other", True, lambda: tried()[0] == tried()[1] or tried()
+    yield "a tester's hour: the counts and the status", True, lambda: (
+        lambda wrong, _, said, status: (said, status) == (wrong_text(wrong), 1) or (said, status))(*tried())
+
+
+def wrong_text(wrong):
+    late = sum(fault == "" for fault in wrong.values())
+    return f"report: of 1000 choices {len(wrong) - late} are no routes, and {late} deliver more than 0 s after the best\n"
+
+
+def judged_choices(room):
+    """The fault of each wrong choice by its line, empty for a late one; those that are named; what is said; and the status."""
+    seconds = [f"{DAY}-{minute // 60:02}:{minute % 60:02}:00" for minute in range(1000)]
+    requests = room.file("requests", "".join(f"31 1 {second}\n" for second in seconds))
+    told = room.run([room.program], "many --plan examples/relay.txt --count 2 --requests", [requests]).out
+    answers = [re.findall(r"delivery (\S+) .* contacts (.*)", part) for part in told.split("request ")[1:]]
+    wrong, lines = {}, []
+    for place, (second, (best, *others)) in enumerate(zip(seconds, answers), 1):
+        contacts = best[1]
+        if place % 97 == 5 and second > f"{DAY}-02:20:00":
+            wrong[place], contacts = "hop 1: TooLate", "4 11 2"
+        elif place % 101 == 7:
+            wrong[place], contacts = "WrongEnd", contacts.rpartition(" ")[0]
+        elif place % 89 == 11 and others and others[0][0] > best[0]:
+            wrong[place], contacts = "", others[0][1]
+        lines.append(f"{contacts.replace(' ', ',')} 31 1 {second}\n")
+    ran = room.ask("report --plan examples/relay.txt --csv --wrong --exit-code --choices", [room.file("thousand", "".join(lines))])
+    found = {int(line.split(",")[0]): line.rpartition(",")[2] for line in ran.out.splitlines()[1:]}
+    return wrong, found, without_progress(ran.err), ran.status
+
+
 def plans_compared(room):
     """A pass of the lander over the high relay is ten minutes later, that relay's pass to the south is gone, the low relay's have
     another rate, and a contact came. Without the high relay's pass, routes 2 and 3 come first."""
@@ -587,10 +654,24 @@ def plans_compared(room):
         {"stay": 16, "came": 1, "went": 1, "moved": 1, "changed": 2}, 600, {"start": "2030-01-01T01:00:00Z", "end": "2030-01-01T02:20:00Z"},
         {"change": "moved", "old_rank": 2, "rank": 1, "old_delivery": "2030-01-01T06:27:22Z", "delivery": "2030-01-01T06:27:22Z", "later": 0,
          "contacts": [5, 11, 2], "nodes": [31, 21, 12, 1]}, RELAY_DIGEST), as_json, request, "2"
+    yield "both plans in one picture", "3 as it was, 2 changed, 3 contact, 1 moved, 1 went", lambda: bars_of(
+        compared("--svg", request, "1", "--names", [room.file("names.txt", "31 lander\n")]))
+    yield "the routes over both", ["1 delivery 2030/01/01-06:27:22, contacts 5 11 2", "old 1 delivery 2030/01/01-02:47:22, contacts 4 11 2"], \
+        lambda: ["".join(it) for it in re.findall(r"<text><tspan [^>]*>([^<]*)</tspan>( [^<]*)</text>", compared("--svg", request, "1"))]
+    yield "contacts alone in one picture", "3 as it was, 1 came, 2 changed, 1 contact, 1 moved, 1 went", lambda: bars_of(compared("--svg"))
+    yield "no contact differs in a picture", 1, lambda: compared("--svg", plan="examples/relay.txt").count("no contact differs")
+    yield "no picture of many requests", "compare: --svg has the routes of one request: --from, --to and --at; see --help\nstatus 2", lambda: compared(
+        "--svg --count 1 --requests", [new])
     bad = room.file("bad.txt", "a range +0 +10 1 2 1\n")
     yield "which plan is refused", f"compare: {bad}: plan line 1: NoReference", lambda: compared(plan=bad).partition("\n")[0]
     yield "plans from pipes", "contacts: 4 stay, 0 came, 0 went, 0 moved, 0 changed", lambda: room.run(
         "bash -c", [f"tools/compare --program {room.program} <(cat examples/a.txt) - <examples/a.txt"]).all()
+
+
+def bars_of(picture):
+    """How many bars of a picture of two plans are of which kind."""
+    kinds = re.findall(r'<rect class="bar[^"]*" x=[^>]*><title>[^<]*?(?: s|no light time)(, [^<]*)?</title>', picture)
+    return ", ".join(f"{count} {kind}" for kind, count in sorted(Counter(kind[2:] or "contact" for kind in kinds).items()))
 
 
 COMPARED = """\
@@ -918,4 +999,4 @@ digest {RELAY_DIGEST}"""
 def checks(asked):
     return checks_of("answers", Tools(asked.program("cgrlist")), [
         latest_seconds, versions_and_environments, refusals, reports, reports_that_are_read, times_and_names, hops_and_room, many_routes,
-        a_planners_questions, plans_compared, many_requests, hints, programs_of_clones, plans_judged_alike, refused_plans, plans_checked])
+        a_planners_questions, in_process, a_testers_hour, plans_compared, many_requests, hints, programs_of_clones, plans_judged_alike, refused_plans, plans_checked])

@@ -265,7 +265,7 @@ moment at which ION reads the file)"), lambda: (ran.status, ran.err.replace(f"{r
            lambda: re.sub(" 2030.*;", ";", room.filter(f"--refer {DAY}-00:00:00", [commands]).all()))
 
 
-# As HDTN's documentation shows a contact plan, and with a second band of the first link.
+# Made for this test in HDTN's form as it is remembered, with a second band of the first link. It is no file of that project.
 HDTN = """{
     "contacts": [
         {"contact": 0, "source": 102, "dest": 10, "startTime": 0, "endTime": 2000, "rateBitsPerSec": 10000000, "owlt": 1},
@@ -274,7 +274,7 @@ HDTN = """{
     ]
 }
 """
-# As DtnSim's documentation shows one, with a range for one link alone.
+# Made for this test in DtnSim's form as it is remembered, with a range for one link alone. It is no file of that project.
 DTNSIM = """\
 # contacts
 a contact +0000010 +0000020 1 2 100

@@ -478,7 +478,7 @@ def mouse(it, _):
     it.wheel(-300)
     near = it.view()
     yield "the wheel zooms", True, lambda: width(near) < width(before) * 0.8
-    it.mouse(700, 500).click_and_hold().move_by_offset(-200, 0).release().perform()
+    it.mouse(700, 440).click_and_hold().move_by_offset(-200, 0).release().perform()
     it.settle()
     moved = it.view()
     shift = 200 / it.run("return plotWidth()") * width(near)
@@ -538,7 +538,7 @@ def keys(it, _):
     it.keys(Keys.ENTER)
     yield from said(it, "Contact 4 lost lander → high relay. 3 h 40 min later. Next is: 2030/01/01-06:27:22")
     it.keys("?")
-    yield "the list of keys", (True, 10), lambda: (it.part("help").is_displayed(), len(it.all("#help dt")))
+    yield "the list of keys", (True, 11), lambda: (it.part("help").is_displayed(), len(it.all("#help dt")))
     it.keys(Keys.ESCAPE)
     yield "Escape closes the list alone", (False, True), lambda: (it.part("help").is_displayed(), it.run("return isLosing()"))
     it.run("chart.focus()")
@@ -608,7 +608,7 @@ def touch(it, _):
     it.touch(*([(500 - 15 * step, 300), (600 + 15 * step, 300)] for step in range(9)))
     yield "a pinch zooms", True, lambda: width(it.view()) < width(before) * 0.6
     before = it.view()
-    it.touch(*([(600 - 20 * step, 500)] for step in range(9)))
+    it.touch(*([(600 - 20 * step, 440)] for step in range(9)))
     yield "a finger moves", True, lambda: it.view()[0] > before[0]
     it.run("showRoutes()")
     it.settle()
@@ -774,20 +774,28 @@ def followed(it, _):
 
 
 def starts(it, room):
-    """The line of the strip below the picture tells what is best for other seconds, as the program answers for each."""
+    """The timetable below the picture is that of tools/timetable, and its line tells what the program answers for each second."""
+    words = ["--program", room.program, "--plan", RELAY, *ASKED[:4], "--between", "2030-01-01", "2030-01-02", "--json"]
+    told = json.loads(room.run([f"{TOP}/tools/timetable", *words]).out)
+    stretches = [[it["from"], it["delivery"], it["contacts"]] for it in told["stretches"]]
+    yield "the timetable", stretches, lambda: it.run("""return starts.map(({first, route, delivery}) => [first, route && delivery].map(
+        (second) => second === null ? null : new Date((second + known.base) * 1000).toISOString().replace(".000", "")).concat(
+        [route && route.hops.map((hop) => known.number[hop.contact])]))""")
     it.run("showPlan()")
     it.settle()
     for wanted in (3 * 3600 + 900, 10 * 3600, 600):
         x, high = it.run("return [xOf(arguments[0]), HIGH / 2]", wanted)
-        strip = it.part("starts")
-        across, down = int(x - strip.size["width"] / 2), int(high - strip.size["height"] / 2)
-        ActionChains(it.driver, duration=50).move_to_element_with_offset(strip, across, down).click().perform()
+        table = it.part("starts")
+        across, down = int(x - table.size["width"] / 2), int(high - table.size["height"] / 2)
+        ActionChains(it.driver, duration=50).move_to_element_with_offset(table, across, down).click().perform()
         it.settle()
         yield f"a second near {wanted}", True, lambda: abs(it.run("return chosen.start") - wanted) < 300
         yield from answers_at(it, room)
-    it.run("strip.focus()")
-    it.keys(Keys.PAGE_UP)
-    yield from answers_at(it, room)
+    it.run("table.focus()")
+    for key, second in ((Keys.PAGE_UP, "02:20:00"), (Keys.PAGE_UP, "03:19:00"), (Keys.ARROW_RIGHT, None), (Keys.PAGE_DOWN, "03:19:00")):
+        it.keys(key)
+        yield f"a key leads to {second or 'a further second'}", True, lambda: it.run("return timeText(chosen.start)").endswith(second or "")
+        yield from answers_at(it, room)
     it.open(room.relay, "#at=2030/01/01-04:01:00")
     yield from answers_at(it, room)
     it.keys(Keys.ESCAPE)

@@ -344,7 +344,7 @@ esac
     yield ("a lost contact stays", "contact 11: 22 → 12, 2030/01/01-02:30:00 to 2030/01/01-04:00:00, light time 1039 s, lost",
            parts_of, "contact 11:[^<]*", picture)
     yield "it is crossed out", [2, 2, 1, 1], lambda: [len(lines_with(it, picture).splitlines()) for it in (
-        'class="bar lost"', 'class="cross"', 'class="number lost"', ">lost<")]
+        'class="bar lost"', 'class="cross"', 'class="number out"', ">lost<")]
     yield "its row comes last", "31 → 21,21 → 12,12 → 1,22 → 12", labels, picture
     # The span is from 00:45:00, when the bundle is at the source, to 06:27:22, with a twentieth and a second at both sides.
     yield ("it lies at its time", "6 ticks, 6 bars, 3 hops, 3 waits",

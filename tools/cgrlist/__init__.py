@@ -22,7 +22,7 @@ as fast, and the same; `CGRLIST_IN_PROCESS=0` turns that off.
 
 from typing import Iterable, Iterator, List, Optional, Sequence, Union
 
-from .asking import Plan, Time
+from .asking import Limit, Node, Plan, Source, Time
 from .choosing import Judged
 from .comparing import contact_changes, route_changes
 from .errors import Refused
@@ -44,9 +44,9 @@ __all__ = [
 ]
 
 
-def request(plan: Plan, source, destination, at: Time, margin_ppm=None, max_hops=None, avoid=()) -> Request:
+def request(plan: Plan, source: Source, destination: Node, at: Time, **limits: Limit) -> Request:
     """A request over a plan, as `Plan.request`."""
-    return plan.request(source, destination, at, margin_ppm=margin_ppm, max_hops=max_hops, avoid=avoid)
+    return plan.request(source, destination, at, **limits)
 
 
 def routes(plan: Plan, source, destination=None, at: Optional[Time] = None, **limits) -> Iterator[Route]:

@@ -1,6 +1,5 @@
 """A plan that can be asked: each call has a method, and a function of the package with the same name and words."""
 
-import functools
 import os
 from datetime import date, datetime
 from typing import Iterable, Iterator, List, Optional, Sequence, Union
@@ -8,19 +7,19 @@ from typing import Iterable, Iterator, List, Optional, Sequence, Union
 from . import plans
 from .choosing import LOOK, Choice, Judged, judged
 from .errors import WORDS_STATUS, Refused
-from .inprocess import InProcess, library
+from .inprocess import answering
 from .lost import Loss, losses
-from .program import Counts, Program, program_path
+from .program import Counts, program_path
 from .router import Router
 from .routes import Answer, Fault, Request, Route, listed
 from .times import second_of
 from .timetable import Start, Stretch, latest_start, stretches
-from .tool import scratch
 
 PART = 200  # requests that a worker answers at a time
 
 Node = Union[int, str]  # a number or a name
 Time = Union[int, str, datetime, date]
+Limit = Union[int, str, None, Iterable[Node]]  # of a margin or of hops, or nodes to avoid
 Source = Union[Node, Request]  # a source, or a whole request
 
 
@@ -66,8 +65,7 @@ class Plan(plans.Plan):
     def asked(self) -> Router:
         """What answers over the plan."""
         if self._asked is None:
-            found, program = library(_program_path), functools.partial(_program, self.file, self._text)
-            self._asked = InProcess(found, self._text, self.file, program) if found else program()
+            self._asked = answering(_program_path, self._text, self.file)
         return self._asked
 
     def check(self) -> Counts:
@@ -85,19 +83,17 @@ class Plan(plans.Plan):
 
     # ---- Requests ----
 
-    def request(self, source: Source, destination: Optional[Node] = None, at: Optional[Time] = None, *,
-                margin_ppm: Optional[int] = None, max_hops: Optional[int] = None,
-                avoid: Union[Node, Iterable[Node]] = ()) -> Request:
-        """A request. Nodes may be numbers or names, as texts too; those to avoid are any number of them, one number, or a
-        text in which commas join them. Refused if there is no such node or time.
+    def request(self, source: Source, destination: Optional[Node] = None, at: Optional[Time] = None, **limits: Limit) -> Request:
+        """A request, with the limits `margin_ppm`, `max_hops` and `avoid`. Nodes may be numbers or names, as texts too; those to
+        avoid are any number of them, one number, or a text in which commas join them. Refused if there is no such node or time.
         """
         if isinstance(source, Request):
-            if (destination, at, margin_ppm, max_hops, avoid) != (None, None, None, None, ()):
+            if destination is not None or at is not None or limits:
                 raise TypeError("a Request has all parts of a request")
             return source
         ends = self._node(source), self._node(destination)
-        avoided = tuple(sorted(map(self._node, listed(avoid))))
-        return Request(*ends, _second(at), margin_ppm, max_hops, avoided)
+        avoided = tuple(sorted(map(self._node, listed(limits.pop("avoid", ())))))
+        return Request(*ends, _second(at), avoid=avoided, **limits)
 
     def routes(self, source: Source, destination: Optional[Node] = None, at: Optional[Time] = None, **limits) -> Iterator[Route]:
         """All routes of a request, best first, with their nodes and without their hops, as an iterator.
@@ -215,15 +211,6 @@ def _program_path():
     return program_path(os.environ.get("CGRLIST"))
 
 
-def _program(file, text):
-    """The program over a plan's text, which is that of a file if it has one."""
-    if file is None:
-        file = scratch()
-        with open(file, "wb") as made:
-            made.write(text)
-    return Program(_program_path(), file)
-
-
 def _second(time):
     try:
         return second_of(time)
@@ -233,7 +220,5 @@ def _second(time):
 
 def _answered(router, requests, count, hops):
     """The answers to some requests."""
-    answers = router.many(requests, count)
-    if answers is None:  # asked one by one, it says which limit or node it refuses
-        answers = [router.first(request, count) for request in requests]
+    answers = router.answers(requests, count)
     return router.with_hops(answers) if hops else answers

@@ -169,7 +169,7 @@ def choices_text(asked):
     reader = Reader(plan, request, asked.limits, int(words.first_number or 1))
     choices = reader.choices(lines_of(words.choices))
     look = words.look or (LOOK if len({it.request for it in choices}) < 2 else LOOK_OF_EACH)
-    told = [*judged(asked.program, choices, look)]
+    told = [*judged(asked.router, choices, look)]
     wrong = [it for it in told if it.is_wrong(words.later or 0)]
     yield from _pieces(asked, wrong if words.wrong else told, request, look)
     asked.tell_hints(dict.fromkeys(it.request for it in choices))

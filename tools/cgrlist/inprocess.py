@@ -12,12 +12,13 @@ import re
 import threading
 from ctypes import POINTER, byref, c_bool, c_char_p, c_size_t, c_uint8, c_uint32, c_uint64, c_void_p
 
-from . import hints
+from . import clone, hints
 from .errors import PLAN_STATUS, REQUESTS_STATUS, START_STATUS, WORDS_STATUS, Refused
-from .program import MOST, Counts
+from .program import MOST, Counts, Program
 from .router import Router
 from .routes import HOPS, MARGIN, Answer, Fault, Hop, Route
 from .times import LAST
+from .tool import scratch_with
 
 NAME = "libcgrlist.so.1"
 PLACES = (NAME, f"../lib/{NAME}", f"../../../library/out/{NAME}")  # from the program's folder: beside it, installed, a clone's
@@ -79,22 +80,35 @@ _CALLS = {  # the types of the arguments of each call that is used
 # ---- The library ------------------------------------------------------------------------------------------------
 
 
-def library(program_path):
-    """The library that the environment names, or that lies beside the program, whose path a function gives; None if there is
-    none, or if the program is to be asked.
+def library(program_path, is_named=False):
+    """The library that the environment names, unless a word names the program, or that lies beside the program, whose path a
+    function gives; None if there is none, or if the program is to be asked.
     """
     if os.environ.get("CGRLIST_IN_PROCESS") == "0":
         return None
-    path = os.environ.get("CGRLIST_LIBRARY") or _beside(program_path)
+    path = None if is_named else os.environ.get("CGRLIST_LIBRARY")
+    path = path or _beside(program_path)
     return path and loaded(path)
 
 
 def _beside(program_path):
-    try:
-        folder = os.path.dirname(os.path.realpath(program_path()))
-    except Refused:  # there is no program
+    path = program_path()
+    if path == clone.TRIAL:  # the library may be older than the sources, as the proved program is
         return None
+    folder = os.path.dirname(os.path.realpath(path))
     return next((it for it in (os.path.join(folder, place) for place in PLACES) if os.path.isfile(it)), None)
+
+
+def answering(program_path, text, file=None, is_named=False):
+    """What answers over a plan's text, which may be that of a file: the library, or else the program, whose path a function
+    gives, and which a word may name.
+    """
+    found, program = library(program_path, is_named), functools.partial(_program_over, program_path, text, file)
+    return InProcess(found, text, file, program) if found else program()
+
+
+def _program_over(program_path, text, file):
+    return Program(program_path(), scratch_with(text) if file is None else file)
 
 
 @functools.lru_cache(maxsize=None)
@@ -263,8 +277,14 @@ class InProcess(Router):
             return Answer(*opened.page("cgrlist_first", asked, count, 1), request)
 
     def many(self, requests, count):
-        """The answers with the first routes of requests."""
-        return [self.first(request, count) for request in requests]
+        """The answers with the first routes of requests; None if one of them is refused."""
+        count = _number(count, 1, MOST, "--count")
+        try:
+            return [self.first(request, count) for request in requests]
+        except Refused as refused:
+            if refused.status != WORDS_STATUS:
+                raise
+            return None
 
     def follow(self, lists):
         """What lists of contacts do, each with its request: for each a route with its hops, or a `Fault`."""

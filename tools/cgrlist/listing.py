@@ -199,17 +199,17 @@ def is_asked_again(words):
 def pages_of(asked, request):
     """The pages of the list of which routes are chosen."""
     if is_counted(asked.words):
-        return [asked.program.first(request, asked.words.count)]
+        return [asked.router.first(request, asked.words.count)]
     if is_asked_again(asked.words):
-        return asked_again(asked.program, asked.plan, request, asked.words.distinct)
+        return asked_again(asked.router, asked.plan, request, asked.words.distinct)
     return asked.program.pages(request)
 
 
 def added(asked, answers, with_hops=False, with_send_by=False):
     """Answers with what is needed of their routes: the hops, and until when they may be sent."""
     if with_hops or asked.words.fits is not None:
-        answers = asked.program.with_hops(answers)
-    return asked.program.with_send_by(answers) if with_send_by else answers
+        answers = asked.router.with_hops(answers)
+    return asked.router.with_send_by(answers) if with_send_by else answers
 
 
 def listing_of(asked, pages, add=lambda answers: answers):

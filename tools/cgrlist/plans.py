@@ -10,7 +10,7 @@ from .errors import PLAN_STATUS, Refused
 from .names import Names
 from .reading import Reader, lines_in
 from .times import time_text
-from .tool import bytes_of, scratch
+from .tool import bytes_of, scratch_with
 
 
 class Contact(NamedTuple):
@@ -137,7 +137,4 @@ def _lines(lines):
 
 def with_lines(file, lines):
     """The path of a copy of a plan's text with further lines."""
-    path = scratch()
-    with open(file, "rb") as plan, open(path, "wb") as made:
-        made.write(plan.read() + "".join(f"\n{line}" for line in lines).encode() + b"\n")
-    return path
+    return scratch_with(bytes_of(file) + "".join(f"\n{line}" for line in lines).encode() + b"\n")

@@ -15,7 +15,7 @@ from . import clone, hints
 from .errors import NO_STATUS, PLAN_STATUS, REQUESTS_STATUS, START_STATUS, Refused
 from .router import Router
 from .routes import followed, parts_of, whole_report_of
-from .tool import Tool, beginning, bytes_of, in_order, processors, scratch
+from .tool import Tool, beginning, bytes_of, in_order, processors, scratch, scratch_with
 
 MOST = 10000  # routes that the program gives at a time
 LISTS = 2500  # of contacts that a run follows, so that several processors share many
@@ -101,9 +101,7 @@ class Program(Router):
 
     def verify(self, text):
         """Whether a text, as bytes, is the session text of a place in the list of its request over the plan."""
-        path = scratch()
-        with open(path, "wb") as file:
-            file.write(text)
+        path = scratch_with(text)
         is_one = self.run("verify", "--session", path, but=NO_STATUS) is not None
         os.unlink(path)
         return is_one
@@ -142,9 +140,7 @@ class Program(Router):
     @contextlib.contextmanager
     def over(self, text):
         """The program over another plan's text, while it is needed."""
-        path = scratch()
-        with open(path, "wb") as file:
-            file.write(text)
+        path = scratch_with(text)
         yield replace(self, plan_file=path)
         os.unlink(path)
 

@@ -6,7 +6,7 @@ from dataclasses import dataclass
 from .errors import WORDS_STATUS, Refused
 from .routes import Request
 from .times import time_of
-from .tool import processors
+from .tool import lines_of, processors
 
 MOST_OF_PART = 500  # requests that one run answers, so that progress can be told, and memory doesn't grow
 _LIMIT = re.compile(r"\d{1,20}", re.ASCII)
@@ -30,6 +30,14 @@ def requests_of(lines, names, limits):
             except ValueError as error:
                 raise Refused(f"requests line {place}: {error}: {line}", WORDS_STATUS) from error
     return found
+
+
+def requests_in(asked):
+    """The requests of the file that a tool's words name, of which there must be one."""
+    lines = requests_of(lines_of(asked.words.requests), asked.names, asked.limits)
+    if not lines:
+        raise Refused(f"there is no request in {asked.words.requests}", WORDS_STATUS)
+    return lines
 
 
 def parts_of(lines, are_joined):

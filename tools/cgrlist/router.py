@@ -38,12 +38,16 @@ class Router:
                 (lates if isinstance(told, Fault) else seconds)[place] = at
         return seconds
 
-    def best(self, requests):
-        """The best route of each of some requests; None where there is none. What refuses one says why."""
-        answers = self.many(requests, 1) if len(requests) > 1 else None
+    def answers(self, requests, count):
+        """The answers with the first routes of requests. What refuses one says why."""
+        answers = self.many(requests, count) if len(requests) > 1 else None
         if answers is None:  # asked one by one, it says which limit or node it refuses
-            answers = [self.first(request, 1) for request in requests]
-        return [next(iter(it), None) for it in answers]
+            answers = [self.first(request, count) for request in requests]
+        return answers
+
+    def best(self, requests):
+        """The best route of each of some requests; None where there is none."""
+        return [next(iter(it), None) for it in self.answers(requests, 1)]
 
     def without(self, numbers):
         """What answers over the plan without the contacts with some numbers; the others keep theirs."""

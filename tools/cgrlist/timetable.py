@@ -4,12 +4,13 @@ that is in time.
 
 from dataclasses import dataclass, replace
 from datetime import datetime
-from typing import Iterator, List, Optional
+from typing import Iterator, List, Optional, Tuple
 
 from .router import Router
 from .routes import Request, Route
 from .times import date_of
 
+WIDE = 256  # seconds that are asked for at a time where not each is
 PART = 16384  # seconds of a span after which its stretches are told
 STEPS = (512, 32, 1)  # of a part, the seconds between those that are asked for, until all between are known
 
@@ -65,12 +66,33 @@ class Start:
 
 def stretches(router: Router, request: Request, last: int) -> Iterator[Stretch]:
     """The stretches from the request's second to a last one, in their order, each once it has ended."""
+    return _joined_all(_known(router, request, last), last)
+
+
+def known_stretches(router: Router, request: Request, span: Tuple[int, int], most: int) -> List[Stretch]:
+    """Stretches of a span whose best route is known, of whose seconds no more than so many are asked for: that of the request,
+    some that are equally far from each other, and then those in the middle of the widest gaps.
+    """
+    first, last = span
+    asked = sorted({first, request.at, last, *_between(first, last, min(most, WIDE))})
+    found = {}
+    while asked:
+        found.update(zip(asked, _best_at(router, request, asked)))
+        gaps = sorted(_gaps(found), key=lambda gap: gap[0] - gap[1])
+        asked = [(one + other) // 2 for one, other in gaps[: max(min(WIDE, most - len(found)), 0)]]
+    return [*_joined_all(sorted(found.items()), last)]
+
+
+def _joined_all(known, last):
+    """The stretches of seconds with their best routes, each once it has ended."""
     begun = None
-    for second, route in _known(router, request, last):
+    for second, route in known:
         following = Stretch(second, second, route) if begun is None else _joined(begun, second, route)
         if begun and following.first != begun.first:
             yield begun
         begun = following
+        if route is None:  # and none later
+            break
     if begun:
         yield begun if begun.route else replace(begun, last=last)
 
@@ -81,6 +103,8 @@ def _joined(begun, second, route):
         return Stretch(second, second, route)
     if route.delivery == begun.delivery:
         return replace(begun, last=second)
+    if second > begun.last + 1:
+        return Stretch(second, second, route)
     if begun.rises or begun.first == begun.last:
         return replace(begun, last=second, rises=True)
     return Stretch(second, second, route, rises=True)
@@ -94,8 +118,6 @@ def _known(router, request, last):
         found = _of_part(router, request, first, min(first + PART - 1, last))
         for second in sorted(found):
             yield second, found[second]
-            if found[second] is None:  # and none later
-                return
 
 
 def _of_part(router, request, first, last):
@@ -104,25 +126,24 @@ def _of_part(router, request, first, last):
     A bundle that is at the source later arrives no earlier, over the same contacts, too. So where two seconds have the same
     best route and delivery, all between have: another one that is better between would be better at the first of them.
     """
-    found = {}
-    for step in STEPS:
-        asked = sorted({*range(first, last + 1, step), last} - found.keys() - _settled(found))
-        routes = _best_at(router, request, asked)
-        found.update(zip(asked, routes))
+    asked = sorted({*range(first, last + 1, STEPS[0]), last})
+    found = dict(zip(asked, _best_at(router, request, asked)))
+    for step in STEPS[1:]:
+        asked = [at for one, other in _gaps(found) for at in range(one + step - (one - first) % step, other, step)]
+        found.update(zip(asked, _best_at(router, request, asked)))
     return found
 
 
-def _settled(found):
-    """The seconds that need not be asked for: those between two with the same answer, and those after one without a route."""
-    settled, known = set(), sorted(found)
-    for one, other in zip(known, known[1:]):
-        if found[one] is None or (found[other] and _told(found[one]) == _told(found[other])):
-            settled.update(range(one + 1, other))
-    return settled
+def _gaps(found):
+    """The seconds beside those that have to be asked for, which aren't between two with the same answer, nor after one without
+    a route.
+    """
+    known = sorted(found)
+    return [(one, other) for one, other in zip(known, known[1:]) if other - one > 1 and not _are_alike(found[one], found[other])]
 
 
-def _told(route):
-    return route.delivery, route.contacts
+def _are_alike(one, other):
+    return one is None or other is not None and (one.delivery, one.contacts) == (other.delivery, other.contacts)
 
 
 def _best_at(router, request, seconds):

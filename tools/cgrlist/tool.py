@@ -38,6 +38,14 @@ def scratch():
     return os.path.join(Tool.folder.name, f"{os.getpid()}-{next(Tool.counted)}")  # a worker may have its parent's folder
 
 
+def scratch_with(data):
+    """The path of a new file with these bytes, likewise."""
+    path = scratch()
+    with open(path, "wb") as file:
+        file.write(data)
+    return path
+
+
 def bytes_of(path):
     """The bytes of a file, or of standard input for `-`."""
     with open("/dev/stdin" if path == "-" else path, "rb") as file:
@@ -53,10 +61,7 @@ def kept_file(path):
     """The path of a file that can be read more than once: of a copy, if it is a pipe or standard input."""
     if path != "-" and (os.path.isfile(path) or os.path.isdir(path) or not os.path.exists(path)):
         return path
-    data, copy = bytes_of(path), scratch()
-    with open(copy, "wb") as file:
-        file.write(data)
-    return copy
+    return scratch_with(bytes_of(path))
 
 
 def tell(message):

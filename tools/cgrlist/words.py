@@ -16,13 +16,14 @@ from concurrent.futures import ThreadPoolExecutor
 
 from . import hints
 from .errors import START_STATUS, WORDS_STATUS, Refused
+from .inprocess import answering
 from .names import Names
 from .plans import Plan
 from .program import Program, program_path
 from .routes import Request
 from .tables import CSV, JSON, TEXT, Spelling
 from .times import TIMES, iso_text, sheet_text, time_of, time_text
-from .tool import Tool, kept_file
+from .tool import Tool, bytes_of, kept_file
 from .version import VERSION
 
 # ---- The parser -------------------------------------------------------------------------------------------------
@@ -145,6 +146,11 @@ def named_program(words):
     return words.program if words.program is not None else os.environ.get("CGRLIST") or None
 
 
+def router_over(file, words):
+    """What answers over the plan of a file: the library, or else the program that the words name."""
+    return answering(lambda: program_path(named_program(words)), bytes_of(file), file, words.program is not None)
+
+
 class Asked:
     """What the words of a tool ask for. In `words`, nodes are numbers, and times are seconds."""
 
@@ -191,14 +197,25 @@ class Asked:
         return kept_file(self.words.plan)
 
     @functools.cached_property
+    def router(self):
+        """What answers over the plan without the contacts that are lost: the library, or else the program."""
+        self._reading  # begins now, beside the first question
+        return router_over(self._file_without, self.words)
+
+    @functools.cached_property
     def program(self):
-        """The program over the plan without the contacts that are lost."""
-        self._reading  # begins now, beside the program's first run
-        program = Program(program_path(named_program(self.words)), self.plan_file)
+        """The program over the same plan, which can say how a list of routes goes on."""
+        self._reading
+        return Program(program_path(named_program(self.words)), self._file_without)
+
+    @functools.cached_property
+    def _file_without(self):
+        """The path of the plan's text without the contacts that are lost."""
         if not getattr(self.words, "without", None):
-            return program
-        program.check()
-        return Program(program.path, self.plan.file)
+            return self.plan_file
+        router_over(self.plan_file, self.words).check()
+        return self.plan.file
+
 
     def is_plan_checked(self):
         """Whether there is a program, not a trial, which then accepts the plan. One that is named has to be there."""
@@ -232,8 +249,8 @@ class Asked:
 
     @property
     def plan_after_check(self):
-        """The plan, after the program was asked whether it accepts it."""
-        self.program.check()
+        """The plan, after the router was asked whether it accepts it."""
+        self.router.check()
         return self.plan
 
     def tell_hints(self, requests=()):

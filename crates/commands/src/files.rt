@@ -136,7 +136,7 @@ pub fn make_session<'w, D: FileSystem<'w>>(
     }
 }
 
-/// Keeps the file of a new session if the run that wrote it is done, and else removes it. If that fails, the file stays.
+/// Keeps the file of a new session if the run that wrote it is done, and else removes it. If that fails, it stays.
 pub fn keep_if_done<'w, D: FileSystem<'w>>(files: &mut D, file: D::NewFile, status: Status)
     ensures { KeepsIfDone D.rules status (D.NewFile.output file) (D.left files.old) (D.left files.new) }
 {

@@ -36,11 +36,11 @@ pub fn runs_in_turn()
     ensures { RunsInTurn }
 {}
 
-/// Shows that calls of the program list a plan page by page, from their words to the files that they leave. A call `first`
-/// keeps its session, and then each call `next` goes on from the file in which the one before kept its own. Over a system
-/// in which a file reads as what was last written there, the calls that end with [`Status::Done`](crate::Status::Done)
-/// print the reports of the first routes of the list, each from where the one before ended, and leave at each path the
-/// session text of its place.
+/// Shows that calls of the program list a plan page by page, from their words to the files that they leave. A call
+/// `first` keeps its session, and then each call `next` goes on from the file in which the one before kept its own.
+/// Over a system in which a file reads as what was last written there, the calls that end with
+/// [`Status::Done`](crate::Status::Done) print the reports of the first routes of the list, each from where the one
+/// before ended. At each path they leave the session text of its place.
 pub fn calls_in_turn()
     ensures { CallsInTurn }
 {}

@@ -6,6 +6,7 @@
     tools/compare OLD NEW --requests G --count K
                                      the same for each request of a file, as for tools/report
     tools/compare .. --json          JSON, in which `old` has what was otherwise
+    tools/compare .. --svg           a picture: the links that differ over both plans, and the routes over each
     tools/compare .. --exit-code     status 1 if a contact differs, or with requests if a route does
     tools/compare .. --names FILE    nodes by their names, which can be given in place of numbers, too
     tools/compare .. --iso           times as 2030-01-01T02:47:22Z
@@ -16,6 +17,10 @@ than the longer of both is long, the nearest first. `number` is the contact's nu
 it went. Routes are compared by their contacts. A route has its rank and its delivery over the old plan and over the new
 one, and `later` says how many seconds later it delivers now. Ranks are looked for among the first 100000 routes.
 
+The picture has the links that differ. What came, moved or changed has a colour, and stands below as it was in the old
+plan; what went is crossed out. With a request it also has the links of the routes: those over the new plan, and as `old
+1` those over the old one that went or moved, over its contacts as they were.
+
 T is 2031/03/03-01:00:00, 2031-03-03T01:00:00Z, 2031-03-03, now, or now+2h with s, m, h or d. All times are UTC. OLD, NEW
 or G may be - for standard input, and plans may be pipes.
 
@@ -24,23 +29,24 @@ is refused. 5: a file can't be read. 125: there is no program. Any other status 
 """
 
 import json
+import os
+from dataclasses import dataclass
+from typing import Optional
 
 from .. import hints
 from ..choosing import ranks_of
 from ..comparing import Change, contact_changes, route_changes, same_contacts
-from ..errors import PLAN_STATUS, WORDS_STATUS, Refused
+from ..errors import PLAN_STATUS, Refused
 from ..listing import LOOK
-from ..names import Names
 from ..plans import Plan
-from ..program import Program, program_path
-from ..requests import requests_of
+from ..requests import requests_in
 from ..routes import Fault, Request, Route
 from ..tables import (JSON, NUMBER, NUMBERS, PATH, TEXT, TIME, WORD, Kind, Spelling, Table, json_of, request_json, request_text)
-from ..times import iso_text, time_text
-from ..tool import kept_file, lines_of, run_tool
+from ..tool import kept_file, run_tool
 from ..version import VERSION
-from ..words import Words, add_further_words, add_request_words, named_program, node_word
+from ..words import Asked, Words, add_further_words, add_request_words, router_over
 
+SVG = "svg"
 LIGHT = Kind(str.rjust, lambda it, how: str(it), lambda it, how: None if it == "-" else it)
 RANK = Kind(str.rjust, lambda it, how: str(it), lambda it, how: it if isinstance(it, int) else None)
 CONTACT = {"change": WORD, "number": NUMBER, "nodes": PATH, "start": TIME, "end": TIME, "rate": NUMBER, "light": LIGHT}
@@ -57,41 +63,35 @@ def read_words():
     add_request_words(parser)
     parser.add_argument("--requests", metavar="G", help="a file of requests, in place of --from, --to and --at")
     parser.add_argument("--count", metavar="K", help="how many routes of each request")
-    parser.add_argument("--json", dest="form", action="store_const", const=JSON, default=TEXT, help="JSON")
+    form = parser.add_mutually_exclusive_group()
+    form.add_argument("--json", dest="form", action="store_const", const=JSON, default=TEXT, help="JSON")
+    form.add_argument("--svg", dest="form", action="store_const", const=SVG, help="a picture of both plans")
     parser.add_argument("--exit-code", action="store_true", help="status 1 if something differs")
     add_further_words(parser)
-    words = parser.parse_args()
+    asked = Asked(parser)
+    check_words(parser, asked.words)
+    return asked
+
+
+def check_words(parser, words):
+    """Refuses words without those that they need, and words that take each other's place."""
     request = {f"--{name}": vars(words)[name] for name in ("from", "to", "at")}
     given = [name for name, value in request.items() if value is not None]
+    if words.requests and words.form == SVG:
+        parser.error("--svg has the routes of one request: --from, --to and --at")
     if words.requests and given:
         parser.error("--requests takes the place of --from, --to and --at")
     if (given or words.count) and not words.requests and len(given) < 3:
         parser.error(f"these words are missing: {', '.join(name for name in request if name not in given)}")
     if bool(words.count) != bool(given or words.requests):
         parser.error("a request and --count need each other")
-    return parser, words
 
 
-def requests_asked(parser, words, names):
+def requests_asked(asked):
     """The requests of the words, or of their file."""
-    avoid = words.avoid.split(",") if words.avoid is not None else ()
-    avoid = tuple(sorted(node_word(parser, names, "avoid", text) for text in avoid))
-    limits = {"margin_ppm": words.margin_ppm, "max_hops": words.max_hops, "avoid": avoid}
-    if words.requests:
-        lines = requests_of(lines_of(words.requests), names, limits)
-        if not lines:
-            raise Refused(f"there is no request in {words.requests}", WORDS_STATUS)
-        return [line.request for line in lines]
-    if not words.count:
-        return []
-    ends = [node_word(parser, names, name, vars(words)[name]) for name in ("from", "to")]
-    return [Request(*ends, words.at, **limits)]
-
-
-def answers_of(program, requests, count):
-    """The answers to requests, by one run if the program refuses none of them."""
-    answers = program.many(requests, count) if len(requests) > 1 else None
-    return answers or [program.first(request, count) for request in requests]
+    if asked.words.requests:
+        return [line.request for line in requests_in(asked)]
+    return [asked.request()] if asked.words.count else []
 
 
 # ---- What differs -----------------------------------------------------------------------------------------------
@@ -102,43 +102,70 @@ class Side:
 
     def __init__(self, path, words, names):
         hints.check_file(path)
-        self.program = Program(program_path(named_program(words)), kept_file(path))
+        file, self.name = kept_file(path), os.path.basename(path)
+        self.router = router_over(file, words)
         try:
-            self.program.check()
+            self.router.check()
         except Refused as refused:
             if refused.status == PLAN_STATUS:
                 message = refused.message.removeprefix("cgrlist: ").rstrip()
                 raise Refused(f"{path}: {message}", PLAN_STATUS, hints=refused.hints) from refused
             raise
-        self.plan = Plan.from_file(self.program.plan_file, names)
+        self.plan = Plan.from_file(file, names)
 
     def ranked(self, request, routes):
         """Routes of another plan by these contacts, each under its contacts with its rank here; those that are none are left out."""
-        told = [it for it in self.program.follow((contacts, request) for contacts in routes) if not isinstance(it, Fault)]
+        told = [it for it in self.router.follow((contacts, request) for contacts in routes) if not isinstance(it, Fault)]
         wanted = {it.contacts: it.delivery for it in told}
-        ranks = ranks_of(self.program.pages(request), wanted, LOOK)[0] if wanted else {}
+        ranks = ranks_of(self.router.pages(request), wanted, LOOK)[0] if wanted else {}
         return {it.contacts: self.plan.with_nodes(it.having(rank=ranks.get(it.contacts, f">{LOOK}"))) for it in told}
+
+
+@dataclass(frozen=True)
+class Differing:
+    """The contacts that differ, or the routes of a request with its answers over both plans; and how many stay and differ."""
+
+    changes: list
+    counts: dict
+    request: Optional[Request] = None
+    answers: tuple = ()
 
 
 class Comparison:
     """Two sides, and which of their contacts are the same."""
 
     def __init__(self, old, new):
-        self.old, self.new = old, new
+        self.old, self.new, self.title = old, new, f"{old.name} and {new.name}"
         self.same = same_contacts(old.plan, new.plan)
+        self.numbers = {it.number: other.number for it, other in self.same}  # in the new plan, of the old one's contacts
 
     def contacts(self):
-        """The contacts that differ, by start."""
-        return sorted(contact_changes(self.old.plan, self.new.plan, self.same), key=lambda it: (it.new or it.old).start)
+        """What differs of the contacts, by start."""
+        changes = sorted(contact_changes(self.old.plan, self.new.plan, self.same), key=lambda it: (it.new or it.old).start)
+        return Differing(changes, counted(changes, {it.number for it in self.new.plan.contacts}, CONTACT_KINDS))
 
     def routes(self, request, answers):
         """The routes that differ. One that is in one list alone has its rank over the other plan, too, if it is a route there."""
         changes = route_changes(self.old.plan, self.new.plan, *(answer.routes for answer in answers), self.same)
-        to_new = {it.number: other.number for it, other in self.same}
-        to_old = {other: number for number, other in to_new.items()}
+        to_old = {other: number for number, other in self.numbers.items()}
         olds = self._elsewhere(self.old, request, to_old, [it.new for it in changes if it.old is None])
-        news = self._elsewhere(self.new, request, to_new, [it.old for it in changes if it.new is None])
+        news = self._elsewhere(self.new, request, self.numbers, [it.old for it in changes if it.new is None])
         return [Change(it.old or olds.get(it.new.contacts), it.new or news.get(it.old.contacts)) for it in changes]
+
+    def answers(self, requests, count):
+        """For each request what differs of its routes."""
+        for request, *answers in zip(requests, *(it.router.answers(requests, count) for it in (self.old, self.new))):
+            changes = self.routes(request, answers)
+            yield Differing(changes, counted(changes, {it.contacts for it in answers[1].routes}, ROUTE_KINDS), request, answers)
+
+    def drawn_routes(self, differing):
+        """The routes of a request that a picture shows, with their hops."""
+        from ..drawing.both import Routes
+
+        sides = zip((self.old, self.new), differing.answers)
+        olds, news = (side.router.with_hops([answer])[0].routes for side, answer in sides)
+        changes = route_changes(self.old.plan, self.new.plan, olds, news, self.same)
+        return Routes(differing.request, list(news), [it.old for it in changes if it.old])
 
     @staticmethod
     def _elsewhere(side, request, numbers, routes):
@@ -197,11 +224,11 @@ def route_row(change):
 # ---- The text and the JSON --------------------------------------------------------------------------------------
 
 
-def contacts_text(changes, counts, how):
+def contacts_text(contacts, how):
     """How many contacts stay, and the others."""
-    yield counts_text("contacts", counts)
+    yield counts_text("contacts", contacts.counts)
     rows = []
-    for it in changes:
+    for it in contacts.changes:
         kind = f"moved, {span_text(it.later)}" if it.kind == "moved" else it.kind
         was = ", ".join(f"{field} {CONTACT[field].text(value, how)}" for field, value in was_otherwise(it).items())
         rows.append({**contact_row(it), "change": kind, "old": was})
@@ -209,10 +236,10 @@ def contacts_text(changes, counts, how):
         yield from Table({**CONTACT, "old": WORD}, [rows], how).text()
 
 
-def routes_text(request, changes, counts, how):
+def routes_text(routes, how):
     """A request, how many of its routes stay, and the others."""
-    yield f"\n{request_text(request, how)}{counts_text('routes', counts)}"
-    rows = [{field: "-" if value is None else value for field, value in route_row(it).items()} for it in changes]
+    yield f"\n{request_text(routes.request, how)}{counts_text('routes', routes.counts)}"
+    rows = [{field: "-" if value is None else value for field, value in route_row(it).items()} for it in routes.changes]
     columns = {**ROUTE, **dict.fromkeys(("old_delivery", "delivery"), DELIVERY)}
     if rows:
         yield from Table(columns, [rows], how).text()
@@ -227,32 +254,56 @@ def contact_json(change, how):
     return {**json_of(CONTACT, contact_row(change), how), "later": change.later, "old": was}
 
 
+def routes_json(routes, how):
+    """A request with its routes that differ as JSON has them."""
+    rows = [json_of(ROUTE, route_row(it), how) for it in routes.changes]
+    return {"request": request_json(routes.request, how), "counts": routes.counts, "routes": rows}
+
+
+def whole_text(both, contacts, answers, how):
+    """What differs as text, in pieces."""
+    yield from contacts_text(contacts, how)
+    for routes in answers:
+        yield from routes_text(routes, how)
+
+
+def whole_json(both, contacts, answers, how):
+    """What differs as JSON."""
+    rows, told = [contact_json(it, how) for it in contacts.changes], [routes_json(it, how) for it in answers]
+    plans = {"old_plan": both.old.plan.digest, "plan": both.new.plan.digest, "version": VERSION}
+    yield json.dumps({"counts": contacts.counts, "contacts": rows, "requests": told, "names": how.told_names(), **plans}) + "\n"
+
+
+def picture(both, contacts, answers, how):
+    """Both plans and the routes over each as an SVG."""
+    from ..drawing.both import Both
+    from ..drawing.picture import Picture
+
+    routes = next((both.drawn_routes(it) for it in answers), None)
+    scene = Both(both.title, both.new.plan.contacts, contacts.changes, both.numbers, routes).scene(how.names, how.time_text)
+    yield Picture(scene).svg()
+
+
+FORMS = {TEXT: whole_text, JSON: whole_json, SVG: picture}
+
+
 def tool():
     """What differs, in pieces."""
-    parser, words = read_words()
-    names = Names.from_file(words.names)
-    requests = requests_asked(parser, words, names)
-    old, new = (Side(path, words, names) for path in (words.old, words.new))
-    both, how = Comparison(old, new), Spelling(names, iso_text if words.iso else time_text, lambda: [*old.plan.contacts, *new.plan.contacts])
-    contacts, told, differs = both.contacts(), [], False
-    counts = counted(contacts, {it.number for it in new.plan.contacts}, CONTACT_KINDS)
-    if words.form == TEXT:
-        yield from contacts_text(contacts, counts, how)
-    for request, *answers in zip(requests, *(answers_of(it.program, requests, words.count) for it in (old, new))):
-        changes = both.routes(request, answers)
-        of_routes = counted(changes, {it.contacts for it in answers[1].routes}, ROUTE_KINDS)
-        differs = differs or bool(changes)
-        if words.form == TEXT:
-            yield from routes_text(request, changes, of_routes, how)
-        else:
-            rows = [json_of(ROUTE, route_row(it), how) for it in changes]
-            told.append({"request": request_json(request, how), "counts": of_routes, "routes": rows})
-    if words.form == JSON:
-        rows = [contact_json(it, how) for it in contacts]
-        plans = {"old_plan": old.plan.digest, "plan": new.plan.digest, "version": VERSION}
-        yield json.dumps({"counts": counts, "contacts": rows, "requests": told, "names": how.told_names(), **plans}) + "\n"
-    if words.exit_code and (differs if requests else contacts):
+    asked = read_words()
+    words, requests = asked.words, requests_asked(asked)
+    both = Comparison(*(Side(path, words, asked.names) for path in (words.old, words.new)))
+    how = Spelling(asked.names, asked.time_text, lambda: [*both.old.plan.contacts, *both.new.plan.contacts])
+    contacts, answers = both.contacts(), []
+    yield from FORMS[words.form](both, contacts, kept(both.answers(requests, words.count), answers), how)
+    if words.exit_code and (any(it.changes for it in answers) if requests else contacts.changes):
         raise Refused(None)
+
+
+def kept(them, into):
+    """Some things as they come, which a list keeps."""
+    for it in them:
+        into.append(it)
+        yield it
 
 
 def main():

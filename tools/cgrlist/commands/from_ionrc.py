@@ -11,7 +11,8 @@ says why. Standard error has a line for each file: what was taken, and what was 
 there are any. `c contact` changes the rate of a contact, which gets a new number. FILE may be - for standard input.
 
 A plan of HDTN is JSON. Each contact has a light time of its own, and contact 0 there is contact 1 here. In a plan of
-DtnSim, which has ION's lines, light takes no time over a link that has no range.
+DtnSim, which has ION's lines, light takes no time over a link that has no range. Both forms are read as their projects
+describe them, and were tried on files that were made for that, not on files of these projects.
 
 Status 0: done. 1: a line was left out that may be about a contact or a range, or names a file of them that isn't given,
 or a file adds nothing to the plan; a message names each such line; with --lenient the status is 0. 2: the words can't

@@ -77,9 +77,9 @@ def answer_json(asked, request, start, is_found):
 def answer(asked):
     """The text of the answer, and whether there is a start that is in time."""
     request = asked.request(asked.words.after)
-    (best,) = asked.program.best([request])
+    (best,) = asked.router.best([request])
     asked.tell_hints([request])
-    found = latest_start(asked.program, request, asked.words.by)
+    found = latest_start(asked.router, request, asked.words.by)
     latest, is_found = found or Start(request.at, best), found is not None
     if asked.words.form == JSON:
         return answer_json(asked, request, latest, is_found), is_found

@@ -58,11 +58,11 @@ import sys
 import tempfile
 
 from ..choosing import JUDGING, add_judging_words, choices_text
-from ..errors import WORDS_STATUS, Refused
+from ..errors import Refused
 from ..forms import Form
 from ..listing import add_choice_words, added, check_choice_words, is_counted, listing_of, pages_of, tell_looked
 from ..lost import losses
-from ..requests import parts_of, requests_of
+from ..requests import parts_of, requests_in
 from ..routes import whole_report_of
 from ..tables import NUMBER, NUMBERS, PATH, TIME, Table, about
 from ..tool import Progress, Tool, in_order, lines_of, run_tool, tell
@@ -103,10 +103,8 @@ def tell_how_to_go_on(words, pages):
 
 def answers_of(asked):
     """The answers to the requests of a file, each a request and a listing, in their order and as they come."""
-    lines = requests_of(lines_of(asked.words.requests), asked.names, asked.limits)
-    if not lines:
-        raise Refused(f"there is no request in {asked.words.requests}", WORDS_STATUS)
-    asked.program.check()  # so that a plan is refused once
+    lines = requests_in(asked)
+    asked.router.check()  # so that a plan is refused once
     listings, progress = [], Progress()
     for answers in in_order(functools.partial(part_answered, asked), parts_of(lines, is_counted(asked.words))):
         for answer in answers:
@@ -122,7 +120,7 @@ def answers_of(asked):
 def part_answered(asked, lines):
     """The answers to some requests of a file, by one run of the program if each has one page and none is refused."""
     requests, add = [line.request for line in lines], adding(asked)
-    pages = asked.program.many(requests, asked.words.count) if is_counted(asked.words) else None
+    pages = asked.router.many(requests, asked.words.count) if is_counted(asked.words) else None
     if pages is None:
         return [(line.request, line_answered(asked, line, add)) for line in lines]
     return [(it.request, listing_of(asked, [it]).read()) for it in add(pages)]
@@ -148,8 +146,8 @@ def losses_table(asked):
     """A table of the contacts of the shown routes: the best route if each is lost."""
     request, plan = asked.request(), asked.plan_after_check
     routes = listing_of(asked, pages_of(asked, request)).routes()
-    best = next((route for route in routes if route.rank == 1), None) or next(iter(asked.program.first(request, 1)), None)
-    rows = [loss_row(it, plan, best) for it in losses(asked.program, plan, request, routes)]
+    best = next((route for route in routes if route.rank == 1), None) or next(iter(asked.router.first(request, 1)), None)
+    rows = [loss_row(it, plan, best) for it in losses(asked.router, plan, request, routes)]
     asked.tell_hints([request])
     return Table(LOSS, [rows], asked.spelling, "lost", lambda: about(asked.spelling, plan, request))
 

@@ -32,8 +32,9 @@ what each contact and route is, and finds contacts, nodes, links as 31 > 22, and
 there are at most 60, or else those of the routes, and a button the others, under a row for each sender. A click on a
 contact of a shown route, or Enter, tells the best route without that contact, as the program answered when the page was
 made. Further ones, and nodes, can be lost with it; if the page doesn't know the answer, it shows the command that tells.
-The line in the strip below the picture can be dragged: it tells the best route for other seconds at the source, of which
-the program was asked for at most 720. Routes can be saved as CSV, and the picture as SVG. A print has all rows that are
+The timetable below the picture has the best delivery by the second at the source, over the whole plan, and its line can
+be dragged. The program is asked for at most 1024 seconds, and knows from them all between two with the same best route
+and delivery; the line goes to the nearest second that is known. Routes can be saved as CSV, and the picture as SVG. A print has all rows that are
 chosen, and the first 100 routes. The page has at most 1000 routes without --all, the first 100 with `send by`, the last
 second at the source. Its address keeps what is chosen, as H#lost=11&theme=dark.
 
@@ -44,6 +45,7 @@ no program. Any other status is the program's.
 
 import os
 import shlex
+import sys
 from dataclasses import replace
 
 from ..drawing.axis import Span
@@ -174,7 +176,7 @@ def routes_of(asked):
     asked.tell_hints([request])
     tell_looked([listing], words)
     check_count(words, len(routes))
-    (answer,) = asked.program.with_hops([Answer(routes, None, request)])
+    (answer,) = asked.router.with_hops([Answer(routes, None, request)])
     return list(answer.routes)
 
 
@@ -236,7 +238,8 @@ def contact_row(it):
 
 def write_page(asked, view, routes):
     """Writes the page into its file."""
-    text = Page(view, asked.plan, asked.lost, told_of(asked, routes)).html()
+    made_by = shlex.join([command("timeline"), *sys.argv[1:]])
+    text = Page(view, asked.plan, asked.lost, replace(told_of(asked, routes), made_by=made_by)).html()
     if asked.words.html == "-":
         return text
     write_whole(asked.words.html, text)
@@ -249,7 +252,7 @@ def told_of(asked, routes):
     if not asks_for_routes(asked.words):
         ask = f"--from A --to B --at {asked.time_text(first_start(asked.plan))} --count 3 --html {plan}.html"
         return Told(ranked(routes or []), command=f"{command('timeline')} --plan {shlex.quote(plan)} {ask}")
-    return answers_of(asked.program, asked.plan, asked.request(), ranked(routes), [command("report"), "--plan", plan])
+    return answers_of(asked.router, asked.plan, asked.request(), ranked(routes), [command("report"), "--plan", plan])
 
 
 def command(tool):

@@ -23,7 +23,6 @@ Status 0: done. 1: the names can't be used. 2: the words can't be used. 3: the p
 
 from dataclasses import replace
 
-from ..drawing.plot import plot_svg
 from ..errors import WORDS_STATUS, Refused
 from ..tables import NUMBERS, PATH, TIME, Table, about
 from ..times import time_text
@@ -52,7 +51,7 @@ def found_stretches(asked):
     """The stretches, with the nodes of their routes, as they come."""
     first, last = asked.words.between
     progress = Progress()
-    for it in stretches(asked.program, asked.request(first), last):
+    for it in stretches(asked.router, asked.request(first), last):
         yield it.route and replace(it, route=asked.plan.with_nodes(it.route)) or it
         progress.tell(f"told up to {time_text(it.last)}")
     progress.end()
@@ -70,6 +69,8 @@ def tool():
     asked = read_words()
     words, found = asked.words, found_stretches(asked)
     if words.svg:
+        from ..drawing.plot import plot_svg
+
         title = f"{asked.names.of(vars(words)['from'])} to {asked.names.of(words.to)}"
         return "".join(plot_svg([*found], title, asked.time_text, asked.plan.path_text))
     request = asked.request(words.between[0])

@@ -7,11 +7,14 @@ style and script lets a browser refuse anything else.
 import base64
 import hashlib
 import html
-import itertools
 import json
 from pathlib import Path
 
 from ..plans import links_of
+from ..times import iso_text, time_of
+from ..version import VERSION
+from .axis import STEPS
+from .picture import DARK, DASHES, LIGHT
 
 FOLDER = Path(__file__).resolve().parent / "html"
 # In the order in which they run.
@@ -68,19 +71,24 @@ class Page:
             "gone": {self._nodes.of(node): self._best_data(route) for node, route in self._told.lost.nodes.items()},
             "begins": [route.rank for route in self._told.routes] == [*range(1, len(self._told.routes) + 1)],
             "starts": self._starts_data(),
+            "look": look_data(),
             **self._command_data(),
         }
 
     def _starts_data(self):
-        """The best routes by the second at the source, each with how many seconds have it, one after the other."""
-        it = self._told.starts
-        if it is None:
+        """The best routes by the second at the source: of each stretch how many seconds are before it and how many follow its
+        first one, the place of its route, how long that takes from the first one, and 1 if it rises.
+        """
+        starts = self._told.starts
+        if starts is None:
             return None
-        runs, routes = [], Places(dict.fromkeys(filter(None, it.routes)))
-        for route, seconds in itertools.groupby(it.routes):
-            runs.append([len([*seconds]), -1 if route is None else routes.of(route)])
-        routes = [self._route_data(route) for route in routes.values]
-        return {"first": self._second(it.first), "step": it.step, "runs": runs, "routes": routes}
+        places, rows, end = Places(it.contacts for it in starts.routes), [], starts.stretches[0].first
+        for it in starts.stretches:
+            told = [places.of(it.route.contacts), it.delivery - it.first, int(it.rises)] if it.route else []
+            rows.append([it.first - end, it.last - it.first, *told])
+            end = it.last + 1
+        first, routes = self._second(starts.stretches[0].first), map(self._route_data, starts.routes)
+        return {"first": first, "stretches": rows, "routes": [*routes]}
 
     def _command_data(self):
         """The command that asks the program for more."""
@@ -103,11 +111,13 @@ class Page:
         return ends.union(*self._links)
 
     def _made(self):
-        """From what the answers are."""
+        """When and by which command the page was made, and from what the answers are."""
+        by = f": {self._told.made_by}" * bool(self._told.made_by)
+        made = f"Made {iso_text(time_of('now'))} by cgrlist {VERSION}{by}."
         if self._told.request is None:
             told = ["The routes are those of an explanation."] if self._told.routes else []
-            return " ".join([*told, *(f"{it}." for it in self._view.remarks)])
-        return f"The answers are those of cgrlist over the plan with this digest: {self._told.digest}"
+            return " ".join([*told, *(f"{it}." for it in self._view.remarks), made])
+        return f"{made} The answers are those of cgrlist over the plan with this digest: {self._told.digest}"
 
     def _plan_data(self):
         """The nodes, the links and the contacts."""
@@ -148,6 +158,12 @@ class Page:
 
     def _second(self, second):
         return second - self._base
+
+
+def look_data():
+    """How a page looks like a picture: the steps of its axis, and the colours and dashes of its routes."""
+    dashes = [[] if it == "none" else [*map(int, it.split())] for it in DASHES]
+    return {"steps": [[it.seconds, it.months] for it in STEPS], "dashes": dashes, "light": LIGHT, "dark": DARK}
 
 
 class Places:

@@ -3,7 +3,7 @@
 import html
 
 from ..times import date_of
-from .layout import ARROW, BAR, CHARACTER, DIGIT, HEAD, Layout
+from .layout import ARROW, BAR, CHARACTER, DIGIT, HEAD, SIDE, Layout
 
 LINE = 19  # height of a line of words below the rows
 MOST = 20000  # height of a picture that is drawn without being asked for twice
@@ -17,16 +17,20 @@ STYLE = """
 text { font: 13px system-ui, sans-serif; fill: #1f2328 }
 .number, .rank, .source { stroke: #ffffff; paint-order: stroke; stroke-width: 3px; stroke-linejoin: round }
 .number { font-size: 12px; fill: #424a53 }
-.number.in { fill: #ffffff; stroke: #656d76 }
+.number.in { fill: #ffffff; stroke: none }
 .rank { font-size: 11px; font-weight: bold }
 .source { font-size: 12px }
 .back { fill: #ffffff }
 .band { fill: #f3f5f7 }
 .tick { stroke: #d0d7de }
 .bar { fill: #656d76 }
-.lost { fill: #cf222e; fill-opacity: 0.15; stroke: #cf222e }
+.lost, .went { fill: #cf222e; fill-opacity: 0.15; stroke: #cf222e }
+.came { fill: #1a7f37 }
+.moved { fill: #0969da }
+.changed { fill: #9a6700 }
+.was { fill: none; stroke: #656d76; stroke-dasharray: 3 2 }
 .cross { stroke: #cf222e; stroke-width: 1.5 }
-.number.lost { fill: #cf222e; fill-opacity: 1; stroke: #ffffff; text-decoration: line-through }
+.number.out { fill: #cf222e; stroke: #ffffff; text-decoration: line-through }
 .hop { stroke-width: 4; stroke-linecap: round }
 .wait, .turn { fill: none; stroke-width: 1.3 }
 .begin { stroke: #57606a; stroke-dasharray: 2 3 }
@@ -37,14 +41,18 @@ DARK_STYLE = """
 text { fill: #e6edf3 }
 .number, .rank, .source { stroke: #0d1117 }
 .number { fill: #b7bfc9 }
-.number.in { fill: #0d1117; stroke: #768390 }
+.number.in { fill: #0d1117 }
 .back { fill: #0d1117 }
 .band { fill: #161b22 }
 .tick { stroke: #30363d }
 .bar { fill: #768390 }
-.lost { fill: #ff7b72; stroke: #ff7b72 }
+.lost, .went { fill: #ff7b72; stroke: #ff7b72 }
+.came { fill: #56d364 }
+.moved { fill: #79b8ff }
+.changed { fill: #e3b341 }
+.was { fill: none; stroke: #768390 }
 .cross { stroke: #ff7b72 }
-.number.lost { fill: #ff7b72; stroke: #0d1117 }
+.number.out { fill: #ff7b72; stroke: #0d1117 }
 .begin { stroke: #9aa6b2 }
 .any { stroke: #e6edf3 }
 .mark { fill: #e6edf3 }
@@ -80,15 +88,19 @@ def titled(element, title):
     return f"<{element}><title>{html.escape(title)}</title></{element.split()[0]}>"
 
 
+BOX = '<rect class="{}" y="-9" width="22" height="10"/>'
+CROSS = '<path class="cross" d="M0 -4h22"/>'
+OUT = ("lost", "went")  # the kinds of contacts that are crossed out
+
 # The signs of the legend: the element, the place of its words, the words, and the width of all.
 SIGNS = {
-    "contact": ('<rect class="bar" y="-9" width="22" height="10"/>', 28, "contact, with its number", 205),
-    "lost": (
-        '<rect class="bar lost" y="-9" width="22" height="10"/><path class="cross" d="M0 -4h22"/>',
-        28,
-        "lost",
-        70,
-    ),
+    "contact": (BOX.format("bar"), 28, "contact, with its number", 205),
+    "lost": (f"{BOX.format('bar lost')}{CROSS}", 28, "lost", 70),
+    "came": (BOX.format("bar came"), 28, "came", 78),
+    "went": (f"{BOX.format('bar went')}{CROSS}", 28, "went", 78),
+    "moved": (BOX.format("bar moved"), 28, "moved", 88),
+    "changed": (BOX.format("bar changed"), 28, "changed", 98),
+    "was": (BOX.format("bar was"), 28, "as it was", 105),
     "hop": ('<path class="hop any" d="M0 -4h22"/>', 30, "sending to arrival", 160),
     "wait": ('<path class="wait any" d="M0 -4h22"/>', 28, "wait", 85),
     "delivery": ('<circle class="mark" cx="0" cy="-4" r="3.4"/>', 10, "delivery", 80),
@@ -164,10 +176,10 @@ class Picture:
             for it in filter(self.span.shows, strip.windows):
                 x = self.x(it.start)
                 width = max(self.x(it.end) - x, 0.1)  # nothing is drawn of no width
-                kind = "bar lost" if it.number in self.scene.lost else "bar"
-                rect = f'rect class="{kind}" x="{x:.1f}" y="{strip.bar}" width="{width:.1f}" height="{BAR}"'
+                kind = self.scene.kinds.get(it.number, "")
+                rect = f'rect class="{f"bar {kind}".strip()}" x="{x:.1f}" y="{strip.bar}" width="{width:.1f}" height="{BAR}"'
                 yield titled(rect, self.told(it))
-                if it.number in self.scene.lost:
+                if kind in OUT:
                     yield f'<path class="cross" d="M{x:.1f} {strip.bar + BAR / 2}h{width:.1f}"/>'
                 yield from self.notches(it, strip.bar, ground)
 
@@ -182,8 +194,8 @@ class Picture:
         sender, receiver = map(self.scene.names.full, it.link)
         window = f"{self.scene.time_text(it.start)} to {self.scene.time_text(it.end)}"
         light = "no light time" if it.light is None else f"light time {it.light} s"
-        lost = ", lost" if it.number in self.scene.lost else ""
-        return f"contact {it.number}: {sender} {ARROW} {receiver}, {window}, {light}{lost}"
+        kind = SIGNS[self.scene.kinds.get(it.number, "contact")][2]
+        return f"contact {abs(it.number)}: {sender} {ARROW} {receiver}, {window}, {light}{f', {kind}' * (it.number in self.scene.kinds)}"
 
     def numbers(self, strip):
         """The numbers of a strip's contacts: in their bars, or beside them, where there is room that no line crosses."""
@@ -191,14 +203,16 @@ class Picture:
         ends = [self.layout.left, *(self.x(it.end) for it in shown), *[self.layout.left + self.layout.plot] * 2]
         starts = [*(self.x(it.start) for it in shown), self.width]
         for place, it in enumerate(shown):
-            wide = DIGIT * len(str(it.number)) + 2
+            text, kind = str(abs(it.number)), self.scene.kinds.get(it.number)
+            wide = DIGIT * len(text) + 2
             inside = self.room(starts[place] + (8 if it.start < self.span.first else 4), ends[place + 1] - wide - 4, wide, strip)
             right = self.room(ends[place + 1] + 3, starts[place + 1] - wide - 2, wide, strip)
             left = self.room(ends[place] + 2, starts[place] - wide - 3, wide, strip, is_last=True)
             x = next((x for x in (inside, right, left) if x is not None), None)
             if x is not None:
-                kind = "number lost" if it.number in self.scene.lost else "number in" if x is inside else "number"
-                yield f'<text class="{kind}" x="{x:.1f}" y="{strip.bar + BAR - 3}">{it.number}</text>'
+                is_out, is_in = kind in OUT, x is inside and kind != "was"
+                kind = "number out" if is_out else "number in" if is_in else "number"
+                yield f'<text class="{kind}" x="{x:.1f}" y="{strip.bar + BAR - 3}">{text}</text>'
 
     def room(self, first, last, wide, strip, is_last=False):
         """The first x of some at which a text so wide is crossed by no line, or the last one; None if there is none."""
@@ -235,7 +249,7 @@ class Picture:
         """The line from sending to arrival."""
         send, arrive = map(self.scene.time_text, (stage.hop.send, stage.hop.arrive))
         way = f"M{self.x(stage.hop.send):.1f} {self.y(stage):.1f}H{self.x(stage.hop.arrive):.1f}"
-        told = f"{self.rank(stage)}, contact {stage.hop.contact}: sent {send}, arrives {arrive}"
+        told = f"{self.rank(stage)}, contact {abs(stage.hop.contact)}: sent {send}, arrives {arrive}"
         return titled(f'path class="hop line{hue(stage.at)}" d="{way}"', told)
 
     def wait(self, stage):
@@ -263,7 +277,7 @@ class Picture:
     def below(self):
         """The lines of words below the rows: the legend, remarks, and the routes."""
         if self.rows:
-            yield "".join(f'<g transform="translate({x})">{sign}</g>' for x, sign in self.legend())
+            yield from self.legend()
         for remark in self.scene.remarks:
             yield f"<text>{remark}</text>"
         for at, route in enumerate(self.routes):
@@ -272,12 +286,15 @@ class Picture:
             yield f"{signs}<text>{rank} {self.scene.told(at, self.layout.plot // 7)}</text>"
 
     def legend(self):
-        """What bars and lines are, as far as they are drawn: each sign with its place."""
-        drawn, place = {"contact", *self.scene.signs()}, 0
-        for sign, (element, x, words, width) in SIGNS.items():
-            if sign in drawn:
-                yield place, f'{element}<text x="{x}">{words}</text>'
-                place += width
+        """What bars and lines are, as far as they are drawn, in as many lines as they need."""
+        drawn, line, place = self.scene.signs(), "", 0
+        for element, x, words, width in (SIGNS[sign] for sign in SIGNS if sign in drawn):
+            if place + width > self.layout.plot + SIDE:
+                yield line
+                line, place = "", 0
+            line += f'<g transform="translate({place})">{element}<text x="{x}">{words}</text></g>'
+            place += width
+        yield line
 
 
 def sample(at):

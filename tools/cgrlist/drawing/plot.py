@@ -2,11 +2,11 @@
 
 import html
 
-from ..times import date_of
 from .axis import Axis, Span
 from .picture import hue, style, titled
+from .scene import date_sign
 
-LEFT, TOP, WIDTH, HEIGHT, SIDE = 150, 40, 640, 360, 30
+LEFT, TOP, WIDTH, HEIGHT, SIDE = 150, 64, 640, 360, 30
 CHARACTER, LINE = 7.8, 20
 
 
@@ -18,9 +18,12 @@ def plot_svg(stretches, title, time_text, path_text):
     size = f'width="{width}" height="{height}"'
     yield f'<svg xmlns="http://www.w3.org/2000/svg" viewBox="0 0 {width} {height}" {size} role="img">\n<title>{html.escape(title)}</title>\n{style()}\n<rect class="back" {size}/>\n'
     if shown:
-        across = Axis(Span(stretches[0].first, stretches[-1].last + 1), WIDTH, CHARACTER, 10)
-        up = Axis(_span(shown), HEIGHT, 0, LINE)
+        sign = date_sign(time_text)
+        across = Axis(Span(stretches[0].first, stretches[-1].last + 1), WIDTH, CHARACTER, 10, sign)
+        up = Axis(_span(shown), HEIGHT, 0, LINE, sign)
+        yield from _without_route(stretches, across)
         yield from _ticks(across, up, time_text)
+        yield from _joins(shown, across, up)
         for it in shown:
             yield _line(it, across, up, f"line{hue(places[it.route.contacts])}", time_text) + "\n"
         yield from _legend(shown, places, path_text)
@@ -41,11 +44,27 @@ def _ticks(across, up, time_text):
     for tick in across.ticks():
         x = f"{LEFT + across.place(tick.second):.1f}"
         yield titled(f'path class="tick" d="M{x} {TOP - 4}V{TOP + HEIGHT}"', time_text(tick.second)) + "\n"
-        yield f'<text x="{x}" y="{TOP - 8}" text-anchor="middle">{tick.label}</text>\n'
-    for second in up.step.times(up.span):
-        y = f"{TOP + HEIGHT - up.place(second):.1f}"
-        yield titled(f'path class="tick" d="M{LEFT - 4} {y}H{LEFT + WIDTH}"', time_text(second)) + "\n"
-        yield f'<text x="{LEFT - 8}" y="{y}" text-anchor="end">{date_of(second):%m/%d %H:%M:%S}</text>\n'
+        for text, y in ((tick.label, TOP - 8), (tick.above, TOP - 26)):
+            yield f'<text x="{x}" y="{y}" text-anchor="middle">{text}</text>\n' if text else ""
+    for tick in up.ticks():
+        y = TOP + HEIGHT - up.place(tick.second)
+        yield titled(f'path class="tick" d="M{LEFT - 4} {y:.1f}H{LEFT + WIDTH}"', time_text(tick.second)) + "\n"
+        yield f'<text x="{LEFT - 8}" y="{y + 4:.1f}" text-anchor="end">{f"{tick.above} {tick.label}".strip()}</text>\n'
+
+
+def _without_route(stretches, across):
+    """Where there is no route."""
+    for it in (it for it in stretches if not it.route):
+        x, end = (LEFT + across.place(second) for second in (it.first, it.last + 1))
+        yield f'<rect class="band" x="{x:.1f}" y="{TOP}" width="{end - x:.1f}" height="{HEIGHT}"/>\n'
+        yield f'<text x="{(x + end) / 2:.1f}" y="{TOP + LINE}" text-anchor="middle">no route</text>\n' if end - x > 60 else ""
+
+
+def _joins(shown, across, up):
+    """The jumps from stretch to stretch."""
+    for before, it in zip(shown, shown[1:]):
+        x, *ends = LEFT + across.place(it.first), *(TOP + HEIGHT - up.place(at) for at in (before.last_delivery, it.delivery))
+        yield f'<path class="begin" d="M{x:.1f} {ends[0]:.1f}V{ends[1]:.1f}"/>\n' if ends[0] - ends[1] > 1 else ""
 
 
 def _line(it, across, up, line, time_text):

@@ -128,7 +128,7 @@ class Scene:
     rows: list
     routes: list
     stages: list  # those that the span and the rows show
-    lost: "frozenset[int]"  # the contacts that are crossed out, by number
+    kinds: "Dict[int, str]"  # of contacts that are drawn otherwise, by number: one of KINDS
     span: "Span | None"
     names: Names
     time_text: "Callable[[int], str]"
@@ -172,11 +172,11 @@ class Scene:
         return "after this span" if route.hops[0].send > self.span.last else "not over these links"
 
     def signs(self):
-        """What is drawn, besides windows: any of hop, wait, delivery and lost."""
+        """What is drawn: windows of which kinds, and any of hop, wait and delivery."""
         shown = {"hop": self.span.shows_hop, "wait": self.span.shows_wait, "delivery": self.shows_delivery}
         signs = {sign for sign, is_shown in shown.items() if any(map(is_shown, self.stages))}
         windows = (it for row in self.rows for strip in row.strips for it in strip)
-        return signs | {"lost" for it in windows if it.number in self.lost and self.span.shows(it)}
+        return signs | {self.kinds.get(it.number, "contact") for it in windows if self.span.shows(it)}
 
     def shows_delivery(self, stage):
         """Whether the delivery of a route is drawn at the end of a stage."""
@@ -209,10 +209,10 @@ class View:
         shown = [[it for it in windows if span.shows(it) or it.number in numbers] for windows in chosen.values()]
         rows = [row_of(windows) for windows in shown if windows]
         remarks = [*remarks_of(links, routes, len(chosen) - len(rows)), *self.remarks]
-        numbers = frozenset(it.number for it in lost)
+        kinds = {it.number: "lost" for it in lost}
         is_shown = routes and source_second is not None and span.first <= source_second <= span.last
         second = source_second if is_shown else None
-        return Scene(self.title, rows, routes or [], stages, numbers, span, self.names, self.time_text, remarks, second)
+        return Scene(self.title, rows, routes or [], stages, kinds, span, self.names, self.time_text, remarks, second)
 
 
 def date_sign(time_text):

@@ -65,7 +65,7 @@ class Text:
         starts = [self.cell(it.start) for it in shown]
         for start, it in zip(starts, shown):
             end = min(int(self.axis.place(it.end)), self.width)
-            yield start, ("x" if it.number in self.scene.lost else "=") * max(end - start, 1)
+            yield start, ("x" if it.number in self.scene.kinds else "=") * max(end - start, 1)
         for start, it, after in zip(starts, shown, [*starts[1:], self.width + 1]):
             if start + len(str(it.number)) < after:
                 yield start, str(it.number)

@@ -6,20 +6,18 @@ from typing import List, Optional
 
 from ..lost import Lost, best_without
 from ..routes import Answer, Request, Route
-from ..times import DAY
+from ..timetable import Stretch, known_stretches
 
-STARTS = 720  # seconds at the source that are asked for, at most
-STEPS = (1, 2, 5, 10, 15, 30, 60, 120, 300, 600, 900, 1800, 3600, 7200, 21600, 43200, DAY)  # seconds from one to the next
+STARTS = 1024  # seconds at the source that are asked for, at most
 SEND_BY = 100  # routes whose last second at the source is asked for, which takes some fifteen questions for each
 
 
 @dataclass(frozen=True)
 class Starts:
-    """The best routes, or None, of bundles that are at the source at a first second and then at equal steps."""
+    """The best routes by the second at the source, as stretches of time, and each of them once with its hops."""
 
-    first: int
-    step: int
-    routes: List[Optional[Route]]
+    stretches: List[Stretch]
+    routes: List[Route]
 
 
 @dataclass(frozen=True)
@@ -27,7 +25,7 @@ class Told:
     """What a page tells, besides the plan: a request with its routes, and the best routes without parts of them.
 
     Without a request, the routes are some that were explained before. `digest` is that of the plan, as the program tells
-    it. `command` asks for more, and without a request for a page with routes.
+    it. `command` asks for more, and without a request for a page with routes; `made_by` made the page.
     """
 
     routes: List[Route]
@@ -36,10 +34,11 @@ class Told:
     digest: Optional[str] = None
     starts: Optional[Starts] = None
     command: str = ""
+    made_by: str = ""
 
     def all_others(self):
         """All routes besides those that are listed."""
-        return [*self.lost.routes(), *filter(None, self.starts.routes if self.starts else ())]
+        return [*self.lost.routes(), *(self.starts.routes if self.starts else ())]
 
 
 def answers_of(program, plan, request, routes, report):
@@ -61,22 +60,16 @@ def with_send_by(program, request, *lists):
 
 
 def starts_of(program, plan, request, routes):
-    """The best routes of bundles that are at the source at some seconds: a day about the request's, or if the routes take
-    longer four times as long, as far as the plan has contacts. None if that can't be asked.
+    """The best routes of bundles that are at the source at any second, from the plan's first start, or the request's second,
+    to its last end. None without a route.
     """
-    contacts = plan.contacts
-    if not routes or not contacts:
+    if not routes:
         return None
-    wide = max(DAY, 4 * (max(route.delivery for route in routes) - request.at))
-    step = next((step for step in STEPS if step * STARTS >= wide), wide // STARTS)
-    before = min(wide // 4, max(request.at - first_start(plan), 0)) // step
-    after = min(wide - wide // 4, max(max(it.end for it in contacts) - request.at, 0)) // step
-    first = request.at - before * step
-    answers = program.many([replace(request, at=first + place * step) for place in range(before + after + 1)], 1)
-    if answers is None:
-        return None
-    bests = [it.routes[0].having(rank=None, until=0) if it.routes else None for it in program.with_hops(answers)]
-    return Starts(first, step, bests)
+    span = min(request.at, first_start(plan)), max(it.end for it in plan.contacts)
+    stretches = known_stretches(program, request, span, STARTS)
+    firsts = {it.route.contacts: it for it in reversed(stretches) if it.route}
+    asked = [Answer((it.route,), None, replace(request, at=it.first)) for it in firsts.values()]
+    return Starts(stretches, [route for answer in program.with_hops(asked) for route in answer.routes])
 
 
 def first_start(plan):

@@ -98,8 +98,8 @@ abbrev pub ArePrinted : ContactPlan → RouteRequest → ℕ → Files → List 
 ArePrinted p r asked end [] = Unit {0}
 ArePrinted p r asked end (c ∷ calls) = IsPrinted p r asked end c × ArePrinted p r (asked + c.count) end calls
 
--- over files of which one has the text of a plan, a call `first` for an accepted request, and then any calls `next`, print
--- the listing page by page, and leave the session text of each place
+-- over files of which one has the text of a plan, a call `first` for an accepted request, and then any calls `next`,
+-- print the listing page by page, and leave the session text of each place
 abbrev pub CallsInTurn : Type 0
 CallsInTurn =
     (files : Files) (at text : List ℕ) (p : ContactPlan) (r : RouteRequest) (first : Call) (calls : List Call) → files at ≡ Some text → plan_of text true ≡ Ok p → IsRequest r

@@ -54,8 +54,8 @@ function turnLost(lost, it) {
 
 // Brings what was chosen into view: the answer or the card beside the picture, and the route in it.
 function bringIntoView() {
-  const part = isLosing() ? byId("lost") : document.querySelector("#routes .on");
-  const route = isLosing() ? bestThen() : routes[chosen.route];
+  const part = isAsking() ? byId("lost") : document.querySelector("#routes .on");
+  const route = isAsking() ? bestThen() : routes[chosen.route];
   part?.scrollIntoView({ block: "nearest" });
   if (route) revealRoute(route);
 }

@@ -1,66 +1,99 @@
-// When a bundle is delivered at best, by the second at which it is at the source: the strip below the picture.
+// When a bundle is delivered at best, by the second at which it is at the source: the timetable below the picture.
 
-const strip = byId("starts");
-const brush = strip.getContext("2d");
-const HIGH = 60; // of the strip
+const table = byId("starts");
+const brush = table.getContext("2d");
+const HIGH = 84; // of the timetable
 const starts = readStarts();
 
-// Of each second that was asked for, in steps, the best route; null if there is none.
+// The stretches of time with one best route each, in their order. Of a second between two of them the page doesn't know it.
 function readStarts() {
   if (!known.starts) return null;
-  const { first, step, runs } = known.starts, found = [];
-  const all = known.starts.routes.map((it) => sameRoute(it) ?? readRoute(it, routes.length, "★"));
+  const all = known.starts.routes.map((it) => readRoute(it, routes.length, "★"));
   const hues = all.map((it) => likeRoute(it)?.place);
-  for (const [count, place] of runs) for (let left = count; left; left--) found.push(all[place] ?? null);
-  const deliveries = all.map((it) => it.delivery), hueOf = new Map(all.map((it, place) => [it, hues[place]]));
-  return { first, step, found, hueOf, earliest: Math.min(...deliveries), latest: Math.max(...deliveries) };
+  let end = known.starts.first;
+  return known.starts.stretches.map(([gap, length, place, took, rises]) => {
+    const first = end + gap, last = first + length, route = all[place] ?? null;
+    end = last + 1;
+    return { first, last, route, delivery: first + took, lastDelivery: first + took + (rises ? length : 0), hue: hues[place] };
+  });
 }
 
-// The shown route that is one of the strip's, hop by hop.
-function sameRoute({ hops }) {
-  const told = (route) => route.hops.map((hop) => [known.number[hop.contact], hop.send, hop.arrive]).join();
-  return routes.find((route) => told(route) === hops.join());
-}
-
-// The shown route over the same contacts, whose colour a route of the strip has.
+// The shown route over the same contacts, whose colour a route of the timetable has.
 function likeRoute(route) {
   const contacts = ({ hops }) => hops.map((hop) => hop.contact).join();
   return routes.find((it) => contacts(it) === contacts(route));
 }
 
-const placeOfStart = (second) => Math.min(Math.max(Math.round((second - starts.first) / starts.step), 0), starts.found.length - 1);
-const routeAtStart = (second) => starts.found[placeOfStart(second)];
-const isStarting = () => chosen.start !== null;
-const startSecond = () => chosen.start ?? request.at;
+// The stretch of a second, or else the next one; and the nearest second that is known.
+const stretchFrom = (second) => Math.min(firstOf(starts, (it) => it.last >= second), starts.length - 1);
 
-// Moves the line to the nearest second that was asked for. At the request's own second nothing is chosen.
-function startAt(second) {
-  if (!isStarting()) startOver();
-  const asked = starts.first + placeOfStart(second) * starts.step;
-  chosen.start = asked === request.at ? null : asked;
-  change();
+function knownSecond(second) {
+  const place = stretchFrom(second), { first, last } = starts[place], before = starts[place - 1]?.last ?? first;
+  if (first <= second) return Math.min(Math.round(second), last);
+  return second - before < first - second ? before : first;
 }
 
-const yOfDelivery = (second) => HIGH - 8 - ((second - starts.earliest) / (starts.latest - starts.earliest || 1)) * (HIGH - 20);
+const isStarting = () => chosen.start !== null;
+const startSecond = () => chosen.start ?? request.at;
+const lastBest = { second: null, route: null };
+
+// The best route from a known second on; null if there is none.
+function routeAtStart(second) {
+  if (lastBest.second !== second) Object.assign(lastBest, { second, route: routeOf(starts[stretchFrom(second)], second) });
+  return lastBest.route;
+}
+
+// The route of a stretch, with the times that it has from a second on: a hop waits for its contact, and is as long as ever.
+function routeOf({ route }, second) {
+  if (!route) return null;
+  let here = second;
+  const hops = route.hops.map(({ contact, send, arrive }) => {
+    const sent = Math.max(here, known.start[contact]);
+    here = sent + arrive - send;
+    return { contact, send: sent, arrive: here };
+  });
+  const told = (hops) => hops.map((hop) => [hop.contact, hop.send, hop.arrive]).join();
+  return routes.find((it) => told(it.hops) === told(hops)) ?? { ...route, hops, delivery: here, sendBy: null };
+}
+
+// Moves the line to the nearest second that is known. At the request's own second nothing is chosen. While the line is
+// dragged, the list of routes stays as it is.
+function startAt(second, isDragged = false) {
+  if (!isStarting()) startOver();
+  const found = knownSecond(second);
+  chosen.start = found === request.at ? null : found;
+  if (!isDragged) return change();
+  byId("lost").replaceChildren(...(isStarting() ? aboutStart() : []));
+  layOut();
+  draw();
+}
+
+// ---- How it is drawn ----
+
+const deliveryAt = ({ route, first, delivery, lastDelivery }, second) =>
+  route ? Math.min(delivery + Math.max(second - first, 0), lastDelivery) : null;
 
 function paintStarts() {
   if (!starts) return;
-  fitCanvas(strip, size.width, HIGH, brush);
+  fitCanvas(table, size.width, HIGH, brush);
   brush.fillStyle = ink.back;
   brush.fillRect(0, 0, size.width, HIGH);
-  writeBeside(["best delivery,", "by the start"]);
+  writeBeside(["best delivery,", "by the second", "at the source"]);
   brush.save();
   brush.beginPath();
   brush.rect(size.left, 0, size.width - size.left, HIGH);
   brush.clip();
-  starts.found.forEach(paintStep);
-  const x = Math.round(xOf(startSecond())) + 0.5;
-  brush.fillStyle = isStarting() ? ink.accent : ink.soft;
-  brush.fillRect(x - 0.5, 0, 1.5, HIGH);
-  brush.beginPath();
-  brush.arc(x, 7, 5, 0, 7);
-  brush.fill();
+  const inView = starts.filter((it) => it.route && it.last >= view.first && it.first <= view.last);
+  const yOf = heightsOfDeliveries(inView);
+  inView.forEach((it, place) => paintStretch(it, inView[place - 1], yOf));
+  paintLine(yOf);
   brush.restore();
+}
+
+// Where deliveries lie, of which the earliest and the latest in view are at the ends.
+function heightsOfDeliveries(inView) {
+  const low = inView[0]?.delivery ?? 0, high = inView.at(-1)?.lastDelivery ?? low;
+  return (second) => HIGH - 8 - ((second - low) / (high - low || 1)) * (HIGH - 32);
 }
 
 function writeBeside(lines) {
@@ -68,20 +101,41 @@ function writeBeside(lines) {
   brush.textAlign = "right";
   brush.textBaseline = "middle";
   brush.fillStyle = ink.soft;
-  lines.forEach((line, place) => brush.fillText(line, size.left - 10, 22 + 15 * place, size.left - 16));
+  lines.forEach((line, place) => brush.fillText(line, size.left - 10, 26 + 15 * place, size.left - 16));
 }
 
-// A step of the line: it goes up where the delivery is later, and isn't there without a route.
-function paintStep(route, place) {
-  const [left, right] = [place, place + 1].map((at) => Math.round(xOf(starts.first + at * starts.step)));
-  if (right < size.left || left > size.width || !route) return;
-  const before = starts.found[place - 1], y = yOfDelivery(route.delivery), hue = starts.hueOf.get(route);
-  brush.fillStyle = hue === undefined ? ink.used : ink.routes[hue % HUES];
-  brush.fillRect(left, y - 1, Math.max(right - left, 1), 2.5);
-  if (before && before.delivery !== route.delivery) {
-    brush.fillStyle = ink.grid;
-    brush.fillRect(left, y, 1, yOfDelivery(before.delivery) - y);
+// The line of a stretch, and what joins it with the one before.
+function paintStretch(it, before, yOf) {
+  const left = xOf(it.first), right = Math.max(xOf(it.last + 1), left + 1), y = yOf(it.delivery);
+  if (before) {
+    brush.strokeStyle = ink.grid;
+    brush.lineWidth = 1;
+    strokeOn(brush, [[xOf(before.last + 1), yOf(before.lastDelivery)], [left, yOf(before.lastDelivery)], [left, y]]);
   }
+  brush.strokeStyle = it.hue === undefined ? ink.used : ink.routes[it.hue % HUES];
+  brush.lineWidth = 2.5;
+  strokeOn(brush, [[left, y], [right, yOf(it.lastDelivery)]]);
+}
+
+function strokeOn(brush, places) {
+  brush.beginPath();
+  places.forEach(([x, y], place) => (place ? brush.lineTo(x, y) : brush.moveTo(x, y)));
+  brush.stroke();
+}
+
+// The line that can be dragged, and the delivery from its second on.
+function paintLine(yOf) {
+  const second = startSecond(), x = Math.round(xOf(second)) + 0.5, delivery = deliveryAt(starts[stretchFrom(second)], second);
+  brush.fillStyle = isStarting() ? ink.accent : ink.soft;
+  brush.fillRect(x - 0.5, 0, 1.5, HIGH);
+  for (const y of [9, delivery === null ? 9 : yOf(delivery)]) {
+    brush.beginPath();
+    brush.arc(x, y, y === 9 ? 6 : 4, 0, 7);
+    brush.fill();
+  }
+  const text = delivery === null ? "no route" : `delivery ${timeBeside(delivery, second)}`, isLeft = x + 160 > size.width;
+  brush.textAlign = isLeft ? "right" : "left";
+  brush.fillText(text, x + (isLeft ? -11 : 11), 9);
 }
 
 // What is best for the second of the line.
@@ -104,28 +158,39 @@ function aboutStart() {
 
 const secondUnder = (event) => secondAt(event.offsetX);
 
-strip.onpointerdown = (event) => {
-  strip.setPointerCapture(event.pointerId);
+table.onpointerdown = (event) => {
+  table.setPointerCapture(event.pointerId);
   startAt(secondUnder(event));
-  strip.onpointermove = (moved) => startAt(secondUnder(moved));
+  table.onpointermove = (moved) => startAt(secondUnder(moved), true);
 };
 
-strip.onpointerup = strip.onpointercancel = () => {
-  strip.onpointermove = null;
+table.onpointerup = table.onpointercancel = () => {
+  table.onpointermove = null;
+  change();
+  bringIntoView();
 };
 
-strip.onkeydown = (event) => {
-  const steps = { ArrowLeft: -1, ArrowRight: 1, PageDown: -10, PageUp: 10 }[event.key];
-  if (!steps) return;
+// Arrows move the line by a hundredth of the view, and Page Up and Page Down to the next stretch and the one before.
+table.onkeydown = (event) => {
+  const second = startSecond(), step = Math.max(Math.round((view.last - view.first) / 100), 1), place = stretchFrom(second);
+  const { first } = starts[place];
+  const seconds = {
+    ArrowLeft: second - step,
+    ArrowRight: second + step,
+    PageUp: starts[place + 1]?.first ?? second,
+    PageDown: second > first ? first : starts[place - 1]?.first ?? second,
+  };
+  if (!(event.key in seconds)) return;
   event.preventDefault();
-  startAt(startSecond() + steps * starts.step);
+  startAt(seconds[event.key]);
+  bringIntoView();
 };
 
 // What a screen reader is told of the line.
 function tellStart() {
   const best = isStarting() ? routeAtStart(chosen.start) : routes[0];
   const delivery = best ? `delivery ${timeText(best.delivery)}` : "no route";
-  const values = { min: 0, max: starts.found.length - 1, now: placeOfStart(startSecond()) };
-  for (const [name, value] of Object.entries(values)) strip.setAttribute(`aria-value${name}`, value);
-  strip.setAttribute("aria-valuetext", `${timeText(startSecond())}, ${delivery}`);
+  const values = { min: starts[0].first, max: starts.at(-1).last, now: startSecond() };
+  for (const [name, value] of Object.entries(values)) table.setAttribute(`aria-value${name}`, value);
+  table.setAttribute("aria-valuetext", `${timeText(startSecond())}, ${delivery}`);
 }

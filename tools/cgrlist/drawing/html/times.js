@@ -36,13 +36,7 @@ function durationText(seconds) {
 
 // ---- Ticks ----
 
-const CLOCK = [1, 2, 5, 10, 15, 30, 60, 120, 300, 600, 900, 1800, 3600, 7200, 10800, 21600, 43200];
-const DAYS = [1, 2, 7, 14].map((days) => days * DAY);
-const MONTHS = [1, 2, 3, 6, ...[1, 2, 5, 10, 20, 50, 100, 200, 500, 1000].map((years) => years * 12)];
-const STEPS = [
-  ...[...CLOCK, ...DAYS].map((seconds) => ({ seconds, months: 0 })),
-  ...MONTHS.map((months) => ({ seconds: months * 28 * DAY, months })),
-];
+const STEPS = known.look.steps.map(([seconds, months]) => ({ seconds, months }));
 
 // The least step whose labels have room.
 function stepFor(seconds, width) {

@@ -1,6 +1,6 @@
 // What is in view: the state, the rows of links, places on the canvas, and how the view moves.
 
-const HUES = 8; // so many routes have a colour of their own
+const HUES = known.look.light.length; // so many routes have a colour of their own
 const AXIS = 46, BAR = 16, STRIP = BAR + 2, LANE = 12, PLAIN = 28, ABOVE = 5; // heights
 const SIDE = 14; // the right margin
 const SHORTEST = 10; // seconds of the shortest span in view
@@ -18,7 +18,8 @@ const pointed = { what: null, route: null }; // what is below the mouse: on the 
 
 const isLosing = () => chosen.lost.size + chosen.gone.size > 0;
 const isAsking = () => isLosing() || isStarting(); // what is best then
-const isBroken = (route) => (isLosing() && !holds(route)) || (isStarting() && isShownRoute(route) && route.sendBy < chosen.start);
+const isBroken = (route) => (isLosing() && !holds(route)) || (isStarting() && isMissed(route));
+const isMissed = (route) => isShownRoute(route) && route.sendBy !== null && route.sendBy < chosen.start;
 const isGone = (link) => chosen.gone.has(link.from) || chosen.gone.has(link.to);
 const isLost = (contact) => missing.has(contact) || chosen.lost.has(contact) || isGone(links[linkOf[contact]]);
 const then = { of: null, best: null };

@@ -154,7 +154,7 @@ function card(route) {
     const hasNodes = known.asks && route.nodes.length > 2;
     item.append(element("div", { class: "hops" }, hopTable(route, true), hasNodes ? nodeButtons(route) : ""));
   }
-  item.style.setProperty("--hue", isBroken(route) ? ink.soft : `var(--c${route.place % HUES})`);
+  item.style.setProperty("--hue", isBroken(route) ? ink.soft : ink.routes[route.place % HUES]);
   item.onmouseenter = () => glance(isShownRoute(route) ? route.place : null);
   item.onmouseleave = () => glance(null);
   return item;
