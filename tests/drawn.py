@@ -20,7 +20,8 @@ Both finders live on from plan to plan: one run of the program `steps` answers a
                     limits, and over a crowded one for its request, others and it again; over every tenth plan, the same
                     of a run of `first` for each of them
 
-There is a check for each answer that is compared, and for each count of what was drawn.
+There is a check for each answer that is compared, and for each count of what was drawn. Of a case that fails, lines of its
+plan are left out as long as it still fails (tests/shrinking.py), and the smallest plan is told.
 """
 
 import itertools
@@ -31,9 +32,11 @@ import tempfile
 from collections import Counter
 from dataclasses import dataclass, field
 from functools import partial
+from operator import itemgetter
 
 from checking import Check
 from oracle import NO_LIMIT, Bad, Listing, Plan, Request, Route, spelled, time_text
+from shrinking import Shrinker
 from steps import answers_of as answers_to
 
 SECONDS = 600
@@ -53,17 +56,23 @@ class Drawing:
     """A plan as lines make it, with the steps that make it by calls and what each answers. Times are given in seconds
     after BEGIN."""
 
-    def __init__(self):
+    def __init__(self, taken=()):
         self.plan = Plan()
         self.lines = []  # those that are good
         self.steps = [("new", "ok")]
+        self.taken = []  # all lines, each with its step
+        for line, step in taken:
+            self.take(line, step)
 
     def take(self, line, step):
-        """Adds by a line if it is good, and by a step, which answers the contact's number, `ok`, or the refusal."""
+        """Changes the plan by a line if it is good, and by a step, which answers the contact's number, `ok`, or the
+        refusal."""
+        before = set(self.plan.contacts)
+        self.taken.append((line, step))
         try:
             self.plan.line(line.encode())
             self.lines.append(line)
-            self.steps.append((step, "ok" if step.startswith("range") else str(self.plan.greatest)))
+            self.steps.append((step, "".join(map(str, before ^ set(self.plan.contacts))) or "ok"))
         except Bad as kind:
             self.steps.append((step, str(kind)))
 
@@ -78,9 +87,8 @@ class Drawing:
 
     def drop_contact(self, number):
         it = self.plan.contacts[number]
-        self.lines.append(f"d contact {time_text(it.start)} {it.sender} {it.receiver}")
-        self.plan.line(self.lines[-1].encode())
-        self.steps.append((f"drop-contact {it.sender} {it.receiver} {it.start}", str(number)))
+        line = f"d contact {time_text(it.start)} {it.sender} {it.receiver}"
+        self.take(line, f"drop-contact {it.sender} {it.receiver} {it.start}")
 
     def text(self):
         return "".join(f"{line}\n" for line in self.lines)
@@ -307,8 +315,26 @@ class Case:
     said: list = field(default_factory=list)
     counts: Counter = field(default_factory=Counter)  # how many of its last pages are of each kind
 
+    def __post_init__(self):
+        self.drawn = self.draws.random.getstate()  # before anything is said
+
+    def over(self, taken):
+        """The case over a plan of these lines, with what is said over that."""
+        draws, drawing = Draws(self.draws.seed), Drawing(taken)
+        draws.random.setstate(self.drawn)
+        case = case_of(self.title, draws, drawing, self.listing.request)
+        case.say_all()
+        return case
+
+    def say_all(self):
+        """Says what belongs to its title."""
+        SAYING.get(self.title.partition(" ")[0], say_all)(self)
+
     def say(self, step, wanted="ok"):
         self.said.append((step, wanted))
+
+    def steps(self):
+        return [step for step, _ in self.said]
 
     def make_plan(self, from_text):
         """Makes the plan: from its text, or by calls."""
@@ -770,7 +796,7 @@ def cases_of(asked):
     others = other_cases() if asked.seed is None else []
     cases = [case for case in drawn + others if asked.text in case.title]
     for case in cases:
-        SAYING.get(case.title.partition(" ")[0], say_all)(case)
+        case.say_all()
     return cases
 
 
@@ -782,15 +808,21 @@ def words_of(case):
 def checks(asked):
     """The cases that are asked for, and the counts of what was drawn if all are."""
     program, cgrlist, cases = asked.program("steps"), asked.program("cgrlist"), cases_of(asked)
-    answers = iter(answers_to(program, [step for case in cases for step, _ in case.said]))
-    all_asked = []
+    answers = iter(answers_to(program, [step for case in cases for step in case.steps()]))
+    all_asked, shrinker = [], Shrinker()
+
+    def check_of(case, failures, again):
+        """A check of a case that has these failures; `again` finds those of the case over fewer lines."""
+        smallest = partial(shrinker.after, failures, case.drawing.taken, lambda taken: again(case.over(taken)), itemgetter(0))
+        return Check(words_of(case), smallest, case.title)
+
     for case in cases:
         own = list(itertools.islice(answers, len(case.said)))
-        yield Check(words_of(case), partial(failures_of, case, own), case.title)
+        yield check_of(case, failures_of(case, own), lambda it: failures_of(it, answers_to(program, it.steps())))
         if case.title.startswith(("seed", "crowded")):
             all_asked.append(draw_asked(case))
-            with_first = case.title.endswith("0")
-            yield Check(words_of(case), partial(compare_many, cgrlist, all_asked[-1], with_first), case.title)
+            many = partial(compare_many, cgrlist, with_first=case.title.endswith("0"))
+            yield check_of(case, many(all_asked[-1]), lambda it, many=many: many(draw_asked(it)))
     if asked.seed is None and not asked.text:
         yield Check("drawn", partial(failures_of_counts, counted(cases), LEAST))
         yield Check("drawn", partial(failures_of_counts, counted_asked(all_asked), LEAST_ASKED))
