@@ -7,7 +7,7 @@ the other. From the listing alone follows what must be answered:
 
     finders         the least route of drawn parts; which drawn chains routes may begin with; bounds on looks
     sessions        pages and pages taken back: the routes, the place, the parts and the text. A place has one text,
-                    whatever the way that led there; on some ways the session passes through its text
+                    whatever the way that led there; on some ways the session passes through its text, or its parts
     last pages      of sessions that begin, that gave pages, and that passed through their texts: the routes, and whether
                     one is left; of each number from 0 to 8, and of what is drawn, also up to the listing's end and beyond
     verifying       yes to the text of each place, in both versions; to a text with another digit, or with the line of
@@ -160,7 +160,7 @@ def draw_plan(draws, nodes):
 
 def draw_request(draws, nodes):
     source, at = 1 + draws.below(2), BEGIN + draws.below(8)
-    margin = draws.one_of((0, 0, 250000, 1000000))
+    margin = draws.one_of((0, 0, 0, 1, 250000, 1000000))
     if not draws.once_in(3):
         return Request(source, nodes, at, margin)
     avoided = tuple(node for node in range(1, 7) if node not in (source, nodes) and draws.once_in(6))
@@ -485,6 +485,20 @@ class Walk:
         self.case.say("keep")
         self.case.say(f"session-given {draw_piece(self.case.draws)} {ALL} ends")
         self.case.say("read")
+        self.begin_here()
+
+    def pass_through_parts(self):
+        """Goes on with a session that is loaded from the parts of this one."""
+        listing = self.case.listing
+        self.case.say("load")
+        for prefix, excluded, route in listing.parts(self.place):
+            carried = spelled(route.contacts if route else ())
+            self.case.say(f"part {spelled(prefix)} / {spelled(excluded)} / {carried}")
+        self.case.say(f"finish {self.place} {spelled(listing.last(self.place))}")
+        self.begin_here()
+
+    def begin_here(self):
+        """Stands where the session is new: it has made no search, and no page can be taken back."""
         self.searches = 0
         self.former = []
         self.stand()
@@ -510,7 +524,8 @@ def walk_about(case):
 
 
 def walk_through_texts(case):
-    """Pages and steps back, and in half of the cases a passage through the text after them; then all that is left."""
+    """Pages and steps back, and in half of the cases a passage through the text after them; then one through the parts, and
+    all that is left."""
     walk = Walk(case)
     for _ in range(10):
         if case.draws.once_in(4):
@@ -519,6 +534,7 @@ def walk_through_texts(case):
             walk.page(case.draws.below(4))
         if case.draws.once_in(2):
             walk.pass_through_text()
+    walk.pass_through_parts()
     walk.page(10000)
 
 
@@ -695,6 +711,7 @@ def compare_many(program, asked, with_first):
 
 # What is drawn has to have at least so many of these.
 LEAST = {
+    "listings without a route": 100,
     "listings with several routes": 200,
     "listings with six routes or more": 30,
     "parts with a route": 4000,
@@ -719,6 +736,7 @@ def counted(cases):
     counts = Counter()
     for case in cases:
         counts += case.counts
+        counts["listings without a route"] += not case.listing.routes
         counts["listings with several routes"] += len(case.listing.routes) > 1
         counts["listings with six routes or more"] += len(case.listing.routes) > 5
         for step, wanted in case.said:
