@@ -7,7 +7,7 @@ the other. From the listing alone follows what must be answered:
 
     finders         the least route of drawn parts; which drawn chains routes may begin with; bounds on looks
     sessions        pages and pages taken back: the routes, the place, the parts and the text. A place has one text,
-                    whatever the way that led there; on some ways the session passes through its text
+                    whatever the way that led there; on some ways the session passes through its text, or its parts
     last pages      of sessions that begin, that gave pages, and that passed through their texts: the routes, and whether
                     one is left; of each number from 0 to 8, and of what is drawn, also up to the listing's end and beyond
     verifying       yes to the text of each place, in both versions; to a text with another digit, or with the line of
@@ -20,7 +20,8 @@ Both finders live on from plan to plan: one run of the program `steps` answers a
                     limits, and over a crowded one for its request, others and it again; over every tenth plan, the same
                     of a run of `first` for each of them
 
-There is a check for each answer that is compared, and for each count of what was drawn.
+There is a check for each answer that is compared, and for each count of what was drawn. Of a case that fails, lines of its
+plan are left out as long as it still fails (tests/shrinking.py), and the smallest plan is told.
 """
 
 import itertools
@@ -31,9 +32,11 @@ import tempfile
 from collections import Counter
 from dataclasses import dataclass, field
 from functools import partial
+from operator import itemgetter
 
 from checking import Check
 from oracle import NO_LIMIT, Bad, Listing, Plan, Request, Route, spelled, time_text
+from shrinking import Shrinker
 from steps import answers_of as answers_to
 
 SECONDS = 600
@@ -53,17 +56,23 @@ class Drawing:
     """A plan as lines make it, with the steps that make it by calls and what each answers. Times are given in seconds
     after BEGIN."""
 
-    def __init__(self):
+    def __init__(self, taken=()):
         self.plan = Plan()
         self.lines = []  # those that are good
         self.steps = [("new", "ok")]
+        self.taken = []  # all lines, each with its step
+        for line, step in taken:
+            self.take(line, step)
 
     def take(self, line, step):
-        """Adds by a line if it is good, and by a step, which answers the contact's number, `ok`, or the refusal."""
+        """Changes the plan by a line if it is good, and by a step, which answers the contact's number, `ok`, or the
+        refusal."""
+        before = set(self.plan.contacts)
+        self.taken.append((line, step))
         try:
             self.plan.line(line.encode())
             self.lines.append(line)
-            self.steps.append((step, "ok" if step.startswith("range") else str(self.plan.greatest)))
+            self.steps.append((step, "".join(map(str, before ^ set(self.plan.contacts))) or "ok"))
         except Bad as kind:
             self.steps.append((step, str(kind)))
 
@@ -78,9 +87,8 @@ class Drawing:
 
     def drop_contact(self, number):
         it = self.plan.contacts[number]
-        self.lines.append(f"d contact {time_text(it.start)} {it.sender} {it.receiver}")
-        self.plan.line(self.lines[-1].encode())
-        self.steps.append((f"drop-contact {it.sender} {it.receiver} {it.start}", str(number)))
+        line = f"d contact {time_text(it.start)} {it.sender} {it.receiver}"
+        self.take(line, f"drop-contact {it.sender} {it.receiver} {it.start}")
 
     def text(self):
         return "".join(f"{line}\n" for line in self.lines)
@@ -152,7 +160,7 @@ def draw_plan(draws, nodes):
 
 def draw_request(draws, nodes):
     source, at = 1 + draws.below(2), BEGIN + draws.below(8)
-    margin = draws.one_of((0, 0, 250000, 1000000))
+    margin = draws.one_of((0, 0, 0, 1, 250000, 1000000))
     if not draws.once_in(3):
         return Request(source, nodes, at, margin)
     avoided = tuple(node for node in range(1, 7) if node not in (source, nodes) and draws.once_in(6))
@@ -307,8 +315,26 @@ class Case:
     said: list = field(default_factory=list)
     counts: Counter = field(default_factory=Counter)  # how many of its last pages are of each kind
 
+    def __post_init__(self):
+        self.drawn = self.draws.random.getstate()  # before anything is said
+
+    def over(self, taken):
+        """The case over a plan of these lines, with what is said over that."""
+        draws, drawing = Draws(self.draws.seed), Drawing(taken)
+        draws.random.setstate(self.drawn)
+        case = case_of(self.title, draws, drawing, self.listing.request)
+        case.say_all()
+        return case
+
+    def say_all(self):
+        """Says what belongs to its title."""
+        SAYING.get(self.title.partition(" ")[0], say_all)(self)
+
     def say(self, step, wanted="ok"):
         self.said.append((step, wanted))
+
+    def steps(self):
+        return [step for step, _ in self.said]
 
     def make_plan(self, from_text):
         """Makes the plan: from its text, or by calls."""
@@ -459,6 +485,20 @@ class Walk:
         self.case.say("keep")
         self.case.say(f"session-given {draw_piece(self.case.draws)} {ALL} ends")
         self.case.say("read")
+        self.begin_here()
+
+    def pass_through_parts(self):
+        """Goes on with a session that is loaded from the parts of this one."""
+        listing = self.case.listing
+        self.case.say("load")
+        for prefix, excluded, route in listing.parts(self.place):
+            carried = spelled(route.contacts if route else ())
+            self.case.say(f"part {spelled(prefix)} / {spelled(excluded)} / {carried}")
+        self.case.say(f"finish {self.place} {spelled(listing.last(self.place))}")
+        self.begin_here()
+
+    def begin_here(self):
+        """Stands where the session is new: it has made no search, and no page can be taken back."""
         self.searches = 0
         self.former = []
         self.stand()
@@ -484,7 +524,8 @@ def walk_about(case):
 
 
 def walk_through_texts(case):
-    """Pages and steps back, and in half of the cases a passage through the text after them; then all that is left."""
+    """Pages and steps back, and in half of the cases a passage through the text after them; then one through the parts, and
+    all that is left."""
     walk = Walk(case)
     for _ in range(10):
         if case.draws.once_in(4):
@@ -493,6 +534,7 @@ def walk_through_texts(case):
             walk.page(case.draws.below(4))
         if case.draws.once_in(2):
             walk.pass_through_text()
+    walk.pass_through_parts()
     walk.page(10000)
 
 
@@ -669,6 +711,7 @@ def compare_many(program, asked, with_first):
 
 # What is drawn has to have at least so many of these.
 LEAST = {
+    "listings without a route": 100,
     "listings with several routes": 200,
     "listings with six routes or more": 30,
     "parts with a route": 4000,
@@ -693,6 +736,7 @@ def counted(cases):
     counts = Counter()
     for case in cases:
         counts += case.counts
+        counts["listings without a route"] += not case.listing.routes
         counts["listings with several routes"] += len(case.listing.routes) > 1
         counts["listings with six routes or more"] += len(case.listing.routes) > 5
         for step, wanted in case.said:
@@ -770,7 +814,7 @@ def cases_of(asked):
     others = other_cases() if asked.seed is None else []
     cases = [case for case in drawn + others if asked.text in case.title]
     for case in cases:
-        SAYING.get(case.title.partition(" ")[0], say_all)(case)
+        case.say_all()
     return cases
 
 
@@ -782,15 +826,21 @@ def words_of(case):
 def checks(asked):
     """The cases that are asked for, and the counts of what was drawn if all are."""
     program, cgrlist, cases = asked.program("steps"), asked.program("cgrlist"), cases_of(asked)
-    answers = iter(answers_to(program, [step for case in cases for step, _ in case.said]))
-    all_asked = []
+    answers = iter(answers_to(program, [step for case in cases for step in case.steps()]))
+    all_asked, shrinker = [], Shrinker()
+
+    def check_of(case, failures, again):
+        """A check of a case that has these failures; `again` finds those of the case over fewer lines."""
+        smallest = partial(shrinker.after, failures, case.drawing.taken, lambda taken: again(case.over(taken)), itemgetter(0))
+        return Check(words_of(case), smallest, case.title)
+
     for case in cases:
         own = list(itertools.islice(answers, len(case.said)))
-        yield Check(words_of(case), partial(failures_of, case, own), case.title)
+        yield check_of(case, failures_of(case, own), lambda it: failures_of(it, answers_to(program, it.steps())))
         if case.title.startswith(("seed", "crowded")):
             all_asked.append(draw_asked(case))
-            with_first = case.title.endswith("0")
-            yield Check(words_of(case), partial(compare_many, cgrlist, all_asked[-1], with_first), case.title)
+            many = partial(compare_many, cgrlist, with_first=case.title.endswith("0"))
+            yield check_of(case, many(all_asked[-1]), lambda it, many=many: many(draw_asked(it)))
     if asked.seed is None and not asked.text:
         yield Check("drawn", partial(failures_of_counts, counted(cases), LEAST))
         yield Check("drawn", partial(failures_of_counts, counted_asked(all_asked), LEAST_ASKED))

@@ -3,7 +3,8 @@
 There are 5500 texts of some five lines, drawn from seeds: lines that set the reference, add and delete, in all
 spellings. In most texts, one line is then changed by a word or by a byte. Each text is given whole, so that a line that
 adds is read quickly if it can be, and byte by byte, so that no line is. Compared are the digest, or the first bad line and
-its kind. There is a check for each answer that is compared, and for each count of what was drawn.
+its kind. There is a check for each answer that is compared, and for each count of what was drawn. Of a text that fails,
+lines are left out as long as it still fails (tests/shrinking.py), and the smallest is told.
 """
 
 import datetime
@@ -14,6 +15,7 @@ from functools import partial
 
 from checking import Check
 from oracle import EPOCH, MOST_NUMBER, lines_of, read
+from shrinking import Shrinker
 from steps import answers_of
 
 TEXTS = 5500
@@ -165,6 +167,13 @@ def failures_of(text, said, answers):
         yield "" if wanted == found.partition(":")[0] else told
 
 
+def failures_over(program, lines):
+    """For each step over a text of these lines: how its answer failed."""
+    text = b"".join(lines)
+    said = list(steps_over(text))
+    return failures_of(text, said, answers_of(program, [step for step, _ in said]))
+
+
 def failures_of_counts(texts):
     """For each count of what was drawn: how it failed, which is empty if it passed."""
     counts = Counter()
@@ -182,9 +191,12 @@ def checks(asked):
     seeds = range(TEXTS) if asked.seed is None else [asked.seed]
     texts = {seed: draw_text(seed) for seed in seeds}
     said = {seed: list(steps_over(text)) for seed, text in texts.items()}
-    answers = iter(answers_of(asked.program("steps"), [step for steps in said.values() for step, _ in steps]))
+    program, shrinker = asked.program("steps"), Shrinker()
+    answers = iter(answers_of(program, [step for steps in said.values() for step, _ in steps]))
     for seed, text in texts.items():
         own = list(itertools.islice(answers, len(said[seed])))
-        yield Check(f"drawn_lines --seed {seed}", partial(failures_of, text, said[seed], own))
+        of_text, lines = failures_of(text, said[seed], own), text.splitlines(keepends=True)
+        again = partial(failures_over, program)
+        yield Check(f"drawn_lines --seed {seed}", partial(shrinker.after, of_text, lines, again, repr))
     if asked.seed is None:
         yield Check("drawn_lines", partial(failures_of_counts, texts.values()))
