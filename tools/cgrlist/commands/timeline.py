@@ -97,7 +97,7 @@ def add_view_words(parser):
     shape.add_argument("--text", action="store_true", help="draw with characters")
     shape.add_argument("--list", action="store_true", help="list the contacts by number")
     add_form_words(parser)
-    shape.add_argument("--html", metavar="H", help="write a page to touch into this file")
+    shape.add_argument("--html", metavar="H", help="write an interactive page into this file")
     parser.add_argument("--columns", type=int, default=100, metavar="N", help="how wide a text is; 100 if not given")
     parser.add_argument("--width", type=int, metavar="PX", help="how wide a picture is")
     more = f"a picture that is higher than {MOST}, and a page with more routes, too"
