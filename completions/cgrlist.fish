@@ -63,7 +63,7 @@ complete -c cgrlist-compare -l from -d 'the source' --exclusive
 complete -c cgrlist-compare -l to -d 'the destination' --exclusive
 complete -c cgrlist-compare -l at -d 'when the bundle is at the source, UTC' --exclusive
 complete -c cgrlist-compare -l margin-ppm -d 'a margin on each light time, in parts in a million of it' --exclusive
-complete -c cgrlist-compare -l max-hops -d 'routes of at most so many contacts' --exclusive
+complete -c cgrlist-compare -l max-hops -d 'the most contacts of a route' --exclusive
 complete -c cgrlist-compare -l avoid -d 'nodes that no route may pass, joined by commas' --exclusive
 complete -c cgrlist-compare -l requests -d 'a file of requests, in place of --from, --to and --at' --require-parameter --force-files
 complete -c cgrlist-compare -l count -d 'how many routes of each request' --exclusive
@@ -91,9 +91,9 @@ complete -c cgrlist-latest -l program -d 'the program; if not given, the clone\'
 complete -c cgrlist-latest -l from -d 'the source' --exclusive
 complete -c cgrlist-latest -l to -d 'the destination' --exclusive
 complete -c cgrlist-latest -l margin-ppm -d 'a margin on each light time, in parts in a million of it' --exclusive
-complete -c cgrlist-latest -l max-hops -d 'routes of at most so many contacts' --exclusive
+complete -c cgrlist-latest -l max-hops -d 'the most contacts of a route' --exclusive
 complete -c cgrlist-latest -l avoid -d 'nodes that no route may pass, joined by commas' --exclusive
-complete -c cgrlist-latest -l json -d 'JSON: the second, its route and the question'
+complete -c cgrlist-latest -l json -d 'JSON: the second, its route and the request'
 complete -c cgrlist-report -f
 complete -c cgrlist-report -l help -d 'show this help message and exit'
 complete -c cgrlist-report -l version -d 'print the version'
@@ -106,16 +106,16 @@ complete -c cgrlist-report -l from -d 'the source' --exclusive
 complete -c cgrlist-report -l to -d 'the destination' --exclusive
 complete -c cgrlist-report -l at -d 'when the bundle is at the source, UTC' --exclusive
 complete -c cgrlist-report -l margin-ppm -d 'a margin on each light time, in parts in a million of it' --exclusive
-complete -c cgrlist-report -l max-hops -d 'routes of at most so many contacts' --exclusive
+complete -c cgrlist-report -l max-hops -d 'the most contacts of a route' --exclusive
 complete -c cgrlist-report -l avoid -d 'nodes that no route may pass, joined by commas' --exclusive
 complete -c cgrlist-report -l report -d 'a report of this plan, in place of --count or --by' --require-parameter --force-files
 complete -c cgrlist-report -l requests -d 'a file of requests, in place of --from, --to and --at' --require-parameter --force-files
 complete -c cgrlist-report -l count -d 'how many routes' --exclusive
 complete -c cgrlist-report -l by -d 'all routes that deliver by T' --exclusive
 complete -c cgrlist-report -l via -d 'only the routes through this node' --exclusive
-complete -c cgrlist-report -l fits -d 'only the routes with room for so many bytes' --exclusive
+complete -c cgrlist-report -l fits -d 'only the routes with room for that many bytes' --exclusive
 complete -c cgrlist-report -l distinct -d 'only the first of routes that have this in common' --exclusive -a 'entry nodes contacts'
-complete -c cgrlist-report -l look -d 'how many routes are looked at for distinct ones' --exclusive
+complete -c cgrlist-report -l look -d 'how many routes are searched at most' --exclusive
 complete -c cgrlist-report -l hops -d 'each hop, too'
 complete -c cgrlist-report -l room -d 'how many bytes fit, too'
 complete -c cgrlist-report -l choices -d 'a router\'s choices, a line each, in place of --count or --by' --require-parameter --force-files
@@ -139,14 +139,14 @@ complete -c cgrlist-timeline -l from -d 'the source' --exclusive
 complete -c cgrlist-timeline -l to -d 'the destination' --exclusive
 complete -c cgrlist-timeline -l at -d 'when the bundle is at the source, UTC' --exclusive
 complete -c cgrlist-timeline -l margin-ppm -d 'a margin on each light time, in parts in a million of it' --exclusive
-complete -c cgrlist-timeline -l max-hops -d 'routes of at most so many contacts' --exclusive
+complete -c cgrlist-timeline -l max-hops -d 'the most contacts of a route' --exclusive
 complete -c cgrlist-timeline -l avoid -d 'nodes that no route may pass, joined by commas' --exclusive
 complete -c cgrlist-timeline -l count -d 'how many routes' --exclusive
 complete -c cgrlist-timeline -l by -d 'all routes that deliver by T' --exclusive
 complete -c cgrlist-timeline -l via -d 'only the routes through this node' --exclusive
-complete -c cgrlist-timeline -l fits -d 'only the routes with room for so many bytes' --exclusive
+complete -c cgrlist-timeline -l fits -d 'only the routes with room for that many bytes' --exclusive
 complete -c cgrlist-timeline -l distinct -d 'only the first of routes that have this in common' --exclusive -a 'entry nodes contacts'
-complete -c cgrlist-timeline -l look -d 'how many routes are looked at for distinct ones' --exclusive
+complete -c cgrlist-timeline -l look -d 'how many routes are searched at most' --exclusive
 complete -c cgrlist-timeline -l report -d 'the routes of this report of the request' --require-parameter --force-files
 complete -c cgrlist-timeline -l explained -d 'the routes of these explanations' --require-parameter --force-files
 complete -c cgrlist-timeline -l between -d 'the span of time' --exclusive
@@ -159,7 +159,7 @@ complete -c cgrlist-timeline -l text -d 'draw with characters'
 complete -c cgrlist-timeline -l list -d 'list the contacts by number'
 complete -c cgrlist-timeline -l csv -d 'comma-separated values'
 complete -c cgrlist-timeline -l json -d 'JSON'
-complete -c cgrlist-timeline -l html -d 'write a page to touch into this file' --require-parameter --force-files
+complete -c cgrlist-timeline -l html -d 'write an interactive page into this file' --require-parameter --force-files
 complete -c cgrlist-timeline -l columns -d 'how wide a text is; 100 if not given' --exclusive
 complete -c cgrlist-timeline -l width -d 'how wide a picture is' --exclusive
 complete -c cgrlist-timeline -l all -d 'a picture that is higher than 20000, and a page with more routes, too'
@@ -174,7 +174,7 @@ complete -c cgrlist-timetable -l program -d 'the program; if not given, the clon
 complete -c cgrlist-timetable -l from -d 'the source' --exclusive
 complete -c cgrlist-timetable -l to -d 'the destination' --exclusive
 complete -c cgrlist-timetable -l margin-ppm -d 'a margin on each light time, in parts in a million of it' --exclusive
-complete -c cgrlist-timetable -l max-hops -d 'routes of at most so many contacts' --exclusive
+complete -c cgrlist-timetable -l max-hops -d 'the most contacts of a route' --exclusive
 complete -c cgrlist-timetable -l avoid -d 'nodes that no route may pass, joined by commas' --exclusive
 complete -c cgrlist-timetable -l between -d 'the first second at the source, and the last' --exclusive
 complete -c cgrlist-timetable -l csv -d 'comma-separated values'

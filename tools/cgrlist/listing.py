@@ -164,9 +164,9 @@ def add_choice_words(parser):
     parser.add_argument("--count", metavar="K", help="how many routes")
     parser.add_argument("--by", type=time_word, metavar="T", help="all routes that deliver by T")
     parser.add_argument("--via", metavar="N", help="only the routes through this node")
-    parser.add_argument("--fits", type=number_word, metavar="BYTES", help="only the routes with room for so many bytes")
+    parser.add_argument("--fits", type=number_word, metavar="BYTES", help="only the routes with room for that many bytes")
     parser.add_argument("--distinct", choices=DISTINCT, help="only the first of routes that have this in common")
-    parser.add_argument("--look", type=number_word, metavar="N", help="how many routes are looked at for distinct ones")
+    parser.add_argument("--look", type=number_word, metavar="N", help="how many routes are searched at most")
 
 
 def check_choice_words(parser, words):

@@ -129,7 +129,7 @@ def add_request_words(parser, required=(), without=()):
         meaning = "when the bundle is at the source, UTC"
         parser.add_argument("--at", type=time_word, metavar="T", help=meaning, required="at" in required)
     parser.add_argument("--margin-ppm", metavar="P", help="a margin on each light time, in parts in a million of it")
-    parser.add_argument("--max-hops", metavar="H", help="routes of at most so many contacts")
+    parser.add_argument("--max-hops", metavar="H", help="the most contacts of a route")
     parser.add_argument("--avoid", metavar="LIST", help="nodes that no route may pass, joined by commas")
 
 

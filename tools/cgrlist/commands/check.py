@@ -1,4 +1,4 @@
-"""Checks a plan: names all its bad lines and how to repair them, or tells what stands after its last line.
+"""Checks a plan: names all its bad lines and how to repair them, or shows what it holds.
 
     tools/check --plan F             the bad lines, or counts, nodes, first start and last end, and the digest
     tools/check .. --session G       and whether the session text G is one of the plan and has the best routes; if not, why

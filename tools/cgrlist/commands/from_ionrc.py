@@ -6,13 +6,13 @@
 
 All contacts and ranges go into the one plan, in the order of the files and of their lines, with absolute times.
 T is the time from which each file counts relative times until its first line `@`: 2031/03/03-01:00:00 or now, as other
-tools take it. ION takes the moment at which it reads the file. What is left out stands in the plan as a comment that
+tools take it. ION takes the moment at which it reads the file. What is left out is in the plan as a comment that
 says why. Standard error has a line for each file: what was taken, and what was left out, regions and confidences too if
 there are any. `c contact` changes the rate of a contact, which gets a new number. FILE may be - for standard input.
 
 A plan of HDTN is JSON. Each contact has a light time of its own, and contact 0 there is contact 1 here. In a plan of
-DtnSim, which has ION's lines, light takes no time over a link that has no range. Both forms are read as their projects
-describe them, and were tried on files that were made for that, not on files of these projects.
+DtnSim, which has ION's lines, light takes no time over a link that has no range. Both forms were tried on files that
+were made for that, not on files of these projects.
 
 Status 0: done. 1: a line was left out that may be about a contact or a range, or names a file of them that isn't given,
 or a file adds nothing to the plan; a message names each such line; with --lenient the status is 0. 2: the words can't

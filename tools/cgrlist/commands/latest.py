@@ -4,7 +4,7 @@
     tools/latest .. --without LIST  as if these contacts were lost; the others keep their numbers
     tools/latest .. --names FILE    the route's nodes by their names, which can be given in place of numbers, too
     tools/latest .. --iso           times as 2030-01-01T02:47:22Z
-    tools/latest .. --json          JSON, with the route's nodes and the question
+    tools/latest .. --json          JSON, with the route's nodes and the request
 
 It prints that second, and the best route from then on, as `cgrlist first` prints it. A delivery at T is in time. The
 `until` of a report isn't that second: it is the earliest end among a route's contacts, which is often later.
@@ -61,7 +61,7 @@ def read_words():
     add_plan_words(parser)
     add_request_words(parser, required=("from", "to"), without=("at",))
     json_word = {"dest": "form", "action": "store_const", "const": JSON, "default": TEXT}
-    parser.add_argument("--json", **json_word, help="JSON: the second, its route and the question")
+    parser.add_argument("--json", **json_word, help="JSON: the second, its route and the request")
     return Asked(parser)
 
 

@@ -11,11 +11,12 @@
 Which routes:
     --without LIST                  as if these contacts were lost; the others keep their numbers
     --via N                         only routes through node N; K counts the routes before they are chosen
-    --fits BYTES                    only routes with room for so many bytes; K counts as for --via
+    --fits BYTES                    only routes with room for that many bytes; K counts as for --via
     --distinct entry|nodes|contacts
                                     of routes that share their entry node, a relay or a contact, only the first; here K
                                     counts those that are shown
-    --look N                        for --distinct with --via or --fits, look at N routes at most; 100000 if not given
+    --look N                        for --distinct with --via or --fits, and for --choices: search only the first N routes;
+                                    100000 if not given, but 100 for choices of several requests
 
 What of them, and how:
     --hops                          each hop with its contact, nodes, sending and arrival
@@ -25,7 +26,7 @@ What of them, and how:
                                     many seconds later it delivers
     --choices G                     in place of --count: what a router chose, a file with lines as `4,11,2` or
                                     `31>22@2030-01-01T01:00:00Z,..`. For each line its fault, or its delivery, how many
-                                    seconds that is after the best one, and its rank if that is at most 100000
+                                    seconds that is after the best one, and its rank, up to N of --look
     --csv                           comma-separated values; a time is 2030-01-01 02:47:22; with --hops a line a hop
     --json                          JSON, with `end` for whether the list ends there; with --requests a line a request
     --names FILE                    nodes by their names, which can be given in place of numbers, too; JSON has both
@@ -33,15 +34,15 @@ What of them, and how:
 
 T is 2031/03/03-01:00:00, 2031-03-03T01:00:00Z, 2031-03-03, now, or now+2h with s, m, h or d. All times are UTC. G may
 be /dev/stdin, or - for requests. An answer ends as a report does: with `more`, or `end` if there are no further routes.
-Routes are printed as they come. Ctrl-C keeps those, and standard error then has a command that goes on.
+Routes are printed as they come. After Ctrl-C, standard error has a command that goes on.
 
-Each distinct route is asked for by itself, over the plan without what those before it have. So it has no rank, and is
-found without going through the list. With --via, --fits or --report, the list is looked through, and ranks are told.
+Each distinct route is searched by itself, over the plan without what those before it have. So it has no rank. With
+--via, --fits or --report, the list is gone through, and routes have ranks.
 
 Room is information and no promise. At a hop it is the rate times the seconds from sending to the contact's end, and for
-a route the least of its hops. It leaves out other traffic, and that a later hop has to wait for bytes that an earlier,
-slower one is still sending. If --report gives the routes, --room, --hops and --send-by need the request's --from, --to
-and --at. Where the plan has nodes above 2^53 - 1, which many readers of JSON would round, nodes are texts in JSON; and
+a route the smallest of its hops. It leaves out other traffic, and that a later hop has to wait for bytes that an
+earlier, slower one is still sending. If --report gives the routes, --room, --hops and --send-by need the request's
+--from, --to and --at. Where the plan has nodes above 2^53 - 1, which many readers of JSON would round, nodes are texts in JSON; and
 so are rooms if they can be so large.
 
 Hints on standard error name what may be mistyped. They change neither the answer nor the status.

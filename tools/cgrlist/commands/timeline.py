@@ -15,7 +15,7 @@
     tools/timeline .. --order link             the links by their nodes, and not as the routes go
     tools/timeline .. --width PX [--all]       how wide the picture is; it is at most 20000 high without --all
     tools/timeline .. --text [--columns N]     the same as text
-    tools/timeline .. --html H                 a page to touch: the file H, which needs no network and no server; `-`
+    tools/timeline .. --html H                 an interactive page: the file H, which needs no network; `-`
                                                is standard output
     tools/timeline --plan F --list [--csv|--json]
                                                each contact with its number, one a line
@@ -28,11 +28,11 @@ check` accepts. T is 2031/03/03-01:00:00, 2031-03-03T01:00:00Z, 2031-03-03, now,
 All times are UTC. A and B are nodes, by their numbers or by the names of --names. G may be /dev/stdin.
 
 The page has the picture, which mouse, touch and keys zoom and move, and the list of routes; `?` lists the keys. It
-tells what each contact and route is, and finds contacts, nodes, links as 31 > 22, and times by a field. It shows all
+shows what each contact and route is, and finds contacts, nodes, links as 31 > 22, and times by a field. It shows all
 links if there are at most 60, or else those of the routes, and a button the others, under a row for each sender. A
-click on a contact of a shown route, or Enter, tells the best route without that contact, as the program answered when
+click on a contact of a shown route, or Enter, shows the best route without that contact, as the program answered when
 the page was made. Further ones, and nodes, can be lost with it; if the page doesn't know the answer, it shows the
-command that tells. The timetable below the picture has the best delivery by the second at the source, over the whole
+command that does. The timetable below the picture has the best delivery by the second at the source, over the whole
 plan, and its line can be dragged. The program is asked for at most 1024 seconds, and knows from them all between two
 with the same best route and delivery; the line goes to the nearest second that is known. Routes can be saved as CSV,
 and the picture as SVG. A print has all rows that are chosen, and the first 100 routes. The page has at most 1000 routes
@@ -97,7 +97,7 @@ def add_view_words(parser):
     shape.add_argument("--text", action="store_true", help="draw with characters")
     shape.add_argument("--list", action="store_true", help="list the contacts by number")
     add_form_words(parser)
-    shape.add_argument("--html", metavar="H", help="write a page to touch into this file")
+    shape.add_argument("--html", metavar="H", help="write an interactive page into this file")
     parser.add_argument("--columns", type=int, default=100, metavar="N", help="how wide a text is; 100 if not given")
     parser.add_argument("--width", type=int, metavar="PX", help="how wide a picture is")
     more = f"a picture that is higher than {MOST}, and a page with more routes, too"
