@@ -137,7 +137,7 @@ def latest_seconds(room):
 
 def versions_and_environments(room):
     for tool in sorted(os.listdir(f"{TOP}/tools")):
-        if tool not in ("cgrlist", "manual_pages", "mutations", "refusals.py", "pyproject.toml", "completions"):
+        if tool not in ("cgrlist", "manual_pages", "mutations", "refusals.py", "reference", "pyproject.toml", "completions"):
             yield f"the version of {tool}", f"{tool} 1.2.0", lambda: room.run(f"tools/{tool} --version").all()
     by_environment = {"CGRLIST_PLAN": f"{TOP}/examples/relay.txt", "CGRLIST_NAMES": room.names[1], "CGRLIST": room.program}
     yield ("plan, names and program by the environment", "lander > relay high > 12 > 1", lambda: parts_of("lander.*", room.run(
