@@ -538,7 +538,7 @@ def keys(it, _):
     it.keys(Keys.ENTER)
     yield from said(it, "Contact 4 lost lander → high relay. 3 h 40 min later. Next is: 2030/01/01-06:27:22")
     it.keys("?")
-    yield "the list of keys", (True, 11), lambda: (it.part("help").is_displayed(), len(it.all("#help dt")))
+    yield "the list of keys", (True, 13), lambda: (it.part("help").is_displayed(), len(it.all("#help dt")))
     it.keys(Keys.ESCAPE)
     yield "Escape closes the list alone", (False, True), lambda: (it.part("help").is_displayed(), it.run("return isLosing()"))
     it.run("chart.focus()")
@@ -554,6 +554,28 @@ def keys(it, _):
     ):
         it.keys(pressed)
         yield f"the key {name}", True, lambda: holds(it.view())
+    yield from focus(it)
+
+
+def focus(it):
+    """The focus stays in the page, and can be seen, if its button goes away."""
+    focused = "const it = document.activeElement; return [it.id || it.innerText.split('\\n')[0], it.matches(':focus-visible')]"
+    card = "byId('routes').children[arguments[0]].firstChild.focus()"
+    for what, tabs in (("contact", 1), ("node", 4)):
+        it.run(card, 1)
+        it.keys(Keys.ENTER, *[Keys.TAB] * tabs)
+        it.keys(Keys.SPACE)
+        yield f"after a lost {what}", ["Take back", True], it.run, focused
+        it.keys(Keys.ENTER)
+        yield f"after the lost {what} is taken back", (["chart", True], ""), lambda: (it.run(focused), it.says("lost"))
+    it.run(card, 2)
+    it.keys(Keys.ENTER, Keys.TAB)
+    it.keys(Keys.ESCAPE)
+    yield "after Escape in a card", ["3", True], it.run, focused
+    for key in (Keys.ENTER, Keys.ESCAPE):
+        it.run("showLinks('all', 3); byId('one').focus()")
+        it.keys(key)
+        yield f"after a node's links, by {'Enter' if key == Keys.ENTER else 'Escape'}", ["all", True], it.run, focused
 
 
 def finding(it, _):
@@ -796,10 +818,30 @@ def starts(it, room):
         it.keys(key)
         yield f"a key leads to {second or 'a further second'}", True, lambda: it.run("return timeText(chosen.start)").endswith(second or "")
         yield from answers_at(it, room)
+    yield from ends_of_line(it)
     it.open(room.relay, "#at=2030/01/01-04:01:00")
     yield from answers_at(it, room)
     it.keys(Keys.ESCAPE)
     yield "Escape takes that back", ("", None), lambda: (it.says("lost"), it.run("return chosen.start"))
+
+
+def ends_of_line(it):
+    """The line goes to both ends and over seconds of which the page knows nothing, and stays in view."""
+    seen = "const at = startSecond(); return [at, view.first <= at && at <= view.last]"
+    it.run("zoom(0.02)")
+    for name, second in (("END", 86400), ("HOME", 0), ("PAGE_UP", 8400)):
+        it.keys(getattr(Keys, name))
+        yield f"the key {name.lower()}", [second, True], it.run, seen
+    it.run("startAt(request.at + 99); showSpan(request.at + 100, request.at + 10000)")
+    it.keys(Keys.ARROW_LEFT)
+    yield "the request's second", [2700, True], it.run, seen
+    it.run("startAt(starts[0].last); [starts[1].first, starts[2].first] = [starts[1].last, starts[2].last]")
+    for key, second in ((Keys.ARROW_RIGHT, "starts[1].first"), (Keys.ARROW_RIGHT, "starts[2].first"), (Keys.ARROW_LEFT, "starts[1].last")):
+        it.keys(key)
+        yield f"over unknown seconds to {second}", True, it.run, f"return chosen.start === {second}"
+    it.run("[...document.querySelectorAll('#lost button')].at(-1).focus()")
+    it.keys(Keys.ENTER)
+    yield "after that is taken back", ["starts", None], it.run, "return [document.activeElement.id, chosen.start]"
 
 
 def answers_at(it, room):
@@ -835,6 +877,10 @@ def groups(it, room):
     it.keys(Keys.ARROW_DOWN)
     yield from said(it, "Contact 1: from 1, to 2")
     yield "it opens by keys", 23, it.run, "return rows.list.length"
+    it.keys(Keys.BACKSPACE)
+    yield "it closes by keys", closed, it.run, names
+    it.keys(Keys.ARROW_DOWN)
+    yield from said(it, "Contact 12: from 2, to 1")
 
 
 def saving(it, room):

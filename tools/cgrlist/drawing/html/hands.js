@@ -4,6 +4,7 @@
 
 // Shows what was chosen.
 function change() {
+  if (shows.node === null && document.activeElement === byId("one")) byId(shows.links).focus(); // it goes away
   for (const [name, isPressed] of Object.entries(pressedButtons())) byId(name).setAttribute("aria-pressed", isPressed);
   byId("one").hidden = shows.node === null;
   byId("crossed").hidden = !isLosing() && !missing.size;
@@ -58,6 +59,7 @@ function bringIntoView() {
   const route = isAsking() ? bestThen() : routes[chosen.route];
   part?.scrollIntoView({ block: "nearest" });
   if (route) revealRoute(route);
+  else if (isStarting()) revealSpan(chosen.start, chosen.start);
 }
 
 function showLinks(which, node = null) {
@@ -242,6 +244,7 @@ const KEYS = {
   ArrowDown: ({ shiftKey }) => (shiftKey ? scrollBy(80) : goAcross(1)),
   PageUp: () => scrollBy(AXIS - size.height),
   PageDown: () => scrollBy(size.height - AXIS),
+  Backspace: closeAtCursor,
   Enter: loseAtCursor,
   " ": loseAtCursor,
 };
@@ -308,6 +311,16 @@ function linkOfRow(place, step) {
   return row.its.at(step > 0 ? 0 : -1);
 }
 
+const isClosedOver = (row, link) => !isOfLink(row) && row.its.includes(link) && !shows.open.has(row.sender);
+
+// Closes the group of the cursor's link.
+function closeAtCursor() {
+  const group = rows.list.find((row) => !isOfLink(row) && row.its.includes(linkOf[chosen.contact]));
+  if (!group || !shows.open.has(group.sender)) return;
+  turnGroup(group.sender);
+  revealRows(group.top, group.top + group.height);
+}
+
 // To the contact before or after in its row.
 function goAlong(step) {
   if (chosen.contact === null) return firstCursor();
@@ -318,8 +331,9 @@ function goAlong(step) {
 // To the contact of the row above or below that starts nearest.
 function goAcross(step) {
   if (chosen.contact === null) return firstCursor();
-  const place = rows.list.findIndex((row) => row.link === linkOf[chosen.contact]);
-  const link = place < 0 ? undefined : linkOfRow(place + step, step);
+  const at = linkOf[chosen.contact], place = rows.list.findIndex((row) => row.link === at || isClosedOver(row, at));
+  if (place < 0) return firstCursor();
+  const link = linkOfRow(place + step, step);
   if (link === undefined) return;
   const away = (contact) => Math.abs(known.start[contact] - known.start[chosen.contact]);
   goTo(contactsOf(link).reduce((best, other) => (away(other) < away(best) ? other : best)));

@@ -141,8 +141,7 @@ function paintLine(yOf) {
 // What is best for the second of the line.
 function aboutStart() {
   const best = routeAtStart(chosen.start), head = element("b", {}, `Bundle at the source ${timeText(chosen.start)}`);
-  const back = element("button", { class: "small", onclick: startOver }, "Take back");
-  if (!best) return [element("div", { class: "told" }, head), element("div", { class: "told big" }, "No route"), back];
+  if (!best) return [element("div", { class: "told" }, head), element("div", { class: "told big" }, "No route"), backButton()];
   const later = best.delivery - routes[0].delivery;
   const side = later < 0 ? "earlier" : "later", asked = timeBeside(request.at, chosen.start);
   return [
@@ -150,7 +149,7 @@ function aboutStart() {
     element("div", { class: "told big" }, `Delivery ${timeBeside(best.delivery, chosen.start)}`),
     element("div", { class: "told" }, later ? `${durationText(Math.abs(later))} ${side} than for ${asked}` : `as for ${asked}`),
     element("div", { class: "told soft" }, pathOf(best)),
-    back,
+    backButton(),
   ];
 }
 
@@ -170,20 +169,24 @@ table.onpointerup = table.onpointercancel = () => {
   bringIntoView();
 };
 
-// Arrows move the line by a hundredth of the view, and Page Up and Page Down to the next stretch and the one before.
+// Arrows move the line by a hundredth of the view, and at least to the next known second; Page Up and Page Down move it to
+// the next stretch and the one before, Home and End to the ends.
 table.onkeydown = (event) => {
   const second = startSecond(), step = Math.max(Math.round((view.last - view.first) / 100), 1), place = stretchFrom(second);
-  const { first } = starts[place];
+  const { first, last } = starts[place], before = starts[place - 1], after = starts[place + 1]?.first ?? second;
   const seconds = {
-    ArrowLeft: second - step,
-    ArrowRight: second + step,
-    PageUp: starts[place + 1]?.first ?? second,
-    PageDown: second > first ? first : starts[place - 1]?.first ?? second,
+    ArrowLeft: second - step < first ? Math.min(second - step, before?.last ?? first) : second - step,
+    ArrowRight: second + step > last ? Math.max(second + step, after) : second + step,
+    PageUp: after,
+    PageDown: second > first ? first : before?.first ?? second,
+    Home: starts[0].first,
+    End: starts.at(-1).last,
   };
   if (!(event.key in seconds)) return;
   event.preventDefault();
   startAt(seconds[event.key]);
-  bringIntoView();
+  if (isStarting()) bringIntoView();
+  else revealSpan(request.at, request.at);
 };
 
 // What a screen reader is told of the line.

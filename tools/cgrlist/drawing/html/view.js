@@ -203,10 +203,13 @@ const showPlan = () => flyTo(...spanOfPlan());
 function revealRoute(route) {
   const tops = route.hops.map((hop) => rows.of.get(linkOf[hop.contact])).flatMap((row) => [row.top, row.top + row.height]);
   revealRows(Math.min(...tops), Math.max(...tops));
-  const first = route.hops[0].send, last = route.delivery;
+  revealSpan(isStarting() ? chosen.start : route.hops[0].send, route.delivery);
+}
+
+function revealSpan(first, last) {
   if (view.first <= first && last <= view.last) return;
   const wide = Math.max(view.last - view.first, (last - first) * 1.2), middle = (first + last) / 2;
-  if (isAsking()) showRoutes();
+  if (isLosing()) showRoutes();
   else flyTo(middle - wide / 2, middle + wide / 2);
 }
 

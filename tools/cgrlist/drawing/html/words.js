@@ -127,7 +127,7 @@ const hideTip = () => showTip(null);
 const PRINTED = 100; // so many routes a print lists, with their hops
 
 function listRoutes() {
-  const isFocused = document.activeElement.dataset.key; // the list is made anew, and keeps the focus
+  const focused = document.activeElement;
   byId("count").textContent = headOfList();
   const order = (one, other) => (other === bestThen()) - (one === bestThen()) || one.place - other.place;
   const all = [...allRoutes()].sort(order), shown = all.slice(0, isPrinting ? PRINTED : all.length);
@@ -136,7 +136,13 @@ function listRoutes() {
   byId("lost").replaceChildren(...(isLosing() ? aboutLoss() : isStarting() ? aboutStart() : []));
   byId("lost").classList.toggle("start", isStarting());
   byId("ask").hidden = Boolean(request || routes.length);
-  if (isFocused) document.querySelector(`[data-key="${isFocused}"]`)?.focus();
+  if (!focused.isConnected) focusLike(focused.dataset.key);
+}
+
+// The list was made anew, and keeps the focus: at the same button, or where all is taken back, or at the route's card.
+function focusLike(key) {
+  const places = [`[data-key="${key}"]`, "#lost .back", `[data-key="route ${parseInt(key)}"]`, "#chart"];
+  places.map((it) => document.querySelector(it)).find(Boolean).focus();
 }
 
 function headOfList() {
@@ -206,8 +212,7 @@ function lateText(route) {
 function aboutLoss() {
   const best = bestThen();
   const head = element("div", { class: "told" }, element("b", {}, lostText()), linkOfLost());
-  const back = element("button", { class: "small", onclick: takeBack }, "Take back");
-  return [head, ...next(best), ...toCopy(best), back];
+  return [head, ...next(best), ...toCopy(best), backButton()];
 }
 
 const lostNumbers = () => [...chosen.lost].map((contact) => known.number[contact]);
@@ -266,8 +271,11 @@ function lossText(best) {
   return later > 0 ? `${durationText(later)} later` : `${durationText(-later)} sooner`;
 }
 
+const backButton = () => element("button", { class: "small back", onclick: takeBack }, "Take back");
+
 function takeBack() {
+  const part = isStarting() ? table : chart;
   loseNothing();
   change();
-  chart.focus();
+  part.focus();
 }
