@@ -36,7 +36,6 @@ impl<A: Allocator + Copy> Plan<A> {
         self.ends.clear();
         self.lights.clear();
         forget_contact(&mut self.table, &self.contacts, &contact);
-        self.openings.forget(from, to, start);
         self.contacts.retain(|c| !(c.number == contact.number));
         Ok(contact.number)
     }

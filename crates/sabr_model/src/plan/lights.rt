@@ -44,7 +44,7 @@ pub fn lights_of<A: Allocator + Copy>(
 }
 
 /// Returns for each pair of nodes the index of its first range, as a guess. Pairs may share a slot.
-fn guesses_of<A: Allocator + Copy>(alloc: A, ranges: &[Range]) -> Result<Vec<u32, A>, AllocError> {
+fn guesses_of<A: Allocator + Copy>(alloc: A, ranges: &[Range]) -> Result<Vec<u16, A>, AllocError> {
     let mut guesses = Vec::new(alloc);
     let slots = (ranges.len().min(MOST_RANGES) * SLOTS_OF_RANGE).next_power_of_two();
     guesses.resize(slots, 0)?;
@@ -58,15 +58,15 @@ fn guesses_of<A: Allocator + Copy>(alloc: A, ranges: &[Range]) -> Result<Vec<u32
 
 /// The slot of an ordered pair; the number of slots is a power of two.
 #[inline(always)]
-fn slot_of(guesses: &[u32], one: u64, other: u64) -> usize {
+fn slot_of(guesses: &[u16], one: u64, other: u64) -> usize {
     one.wrapping_mul(509).wrapping_add(other) as usize & guesses.len().saturating_sub(1)
 }
 
 /// Notes the index of a range in a slot.
 #[inline(always)]
-fn note_guess(guesses: &mut [u32], slot: usize, place: usize) {
+fn note_guess(guesses: &mut [u16], slot: usize, place: usize) {
     if slot < guesses.len() {
-        guesses[slot] = place.min(u32::MAX as usize) as u32;
+        guesses[slot] = place.min(u16::MAX as usize) as u16;
     }
 }
 
@@ -83,7 +83,7 @@ fn light_of_contact_near(
     ranges: &[Range],
     contact: &Contact,
     rising: bool,
-    guesses: &mut [u32],
+    guesses: &mut [u16],
 ) -> Option<u32>
     requires ranges { IsRangeList ranges.now }
     requires rising { IsTrue rising → IsTrue (list_all is_rising ranges.now) }
@@ -105,7 +105,7 @@ fn light_of_contact_near(
 /// Returns the light time of the range of this ordered pair that is in force at `t`. The index of the range is guessed
 /// for the pair, which may share its slot with others. A wrong guess costs a binary search.
 #[inline(always)]
-fn light_near(ranges: &[Range], one: u64, other: u64, t: u64, guesses: &mut [u32]) -> Option<u32>
+fn light_near(ranges: &[Range], one: u64, other: u64, t: u64, guesses: &mut [u16]) -> Option<u32>
     requires { IsRangeList ranges.now }
     ensures { result ≡ light_of_pair ranges.now one other t }
 {

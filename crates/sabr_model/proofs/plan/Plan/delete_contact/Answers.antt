@@ -3,7 +3,6 @@ use Rattle.std.proofs.lemmas.Fn.{filter_same}
 use Rattle.sabr_model.specs.declared.contact.Contact.{Contact}
 use Rattle.sabr_model.specs.plan.Plan.{ContactPlan, TabledPlan, opens}
 use Rattle.sabr_model.specs.plan.Adding.{without_contact}
-use Rattle.sabr_model.specs.plan.Openings.{openings_of}
 use Rattle.sabr_model.proofs.PlanLemmas.Deletions.{found_by_number, without_opening, IsPlan-fewer_contacts}
 use Rattle.sabr_model.proofs.PlanLemmas.KnownLemmas.{nothing_known}
 use Rattle.sabr_model.proofs.plan.Plan.delete_contact.Goals as goal
@@ -27,11 +26,6 @@ invariant_of-self g c =
       IsPlan-fewer_contacts p (λ d. not (eqb d.number c.in-Some.contact.now.number)) c.self.invariant.0,
       rw c.deref-2.ensures.value at c.forget_contact.ensures,
       nothing_known _,
-      λ e.
-          let cs = c.self.inside.contacts.items in
-          let found : find (opens c.args.from c.args.to c.args.start) cs ≡ Some c.in-Some.contact.now = ap (find (opens c.args.from c.args.to c.args.start)) (sym c.deref.ensures.value) ∙ sym c.in-Some.ensures in
-          c.forget.ensures cs c.self.invariant.3 e
-          ∙ ap openings_of (without_opening p c.args.from c.args.to c.args.start c.in-Some.contact.now c.self.invariant.0 found),
     )
 
 pub returns-clause-ok : goal.returns-clause-ok

@@ -1,5 +1,4 @@
 use Rattle.std.proofs.Common.{◌≤◌, List, length, subst, sym}
-use Rattle.std.proofs.lemmas.Bool.{both_ways}
 use Rattle.std.specs.List.{AllByRecursion}
 use Rattle.indexmap.specs.IndexMap.{keys}
 use Rattle.sabr_model.specs.declared.contact.Contact.{Contact}
@@ -38,5 +37,4 @@ invariant_of-result g c =
         ends = all_ends (keys table) _ _ (subst (λ (cs : List Contact). AreEnds (keys table) cs c.in_ok-table.ends.items) lent c.in_ok-table.ensures.ends);
         lights = subst (λ (rs : List Range). BeginLights rs c.args.contacts.items lights) c.deref-3.ensures.value (subst (λ (cs : List Contact). BeginLights c.deref-3.result.now cs lights) c.deref-2.ensures.value (c.in_ok-lights.ensures {u = tt}).each);
       },
-      λ e. absurd (both_ways _ c.without_set.ensures e),
     )
