@@ -174,7 +174,7 @@ pub fn table_of<A: Allocator + Copy>(
         note_guess(&mut guesses, contact.to, guess.1, found.1);
         let from = found.0 as u16;
         let to = found.1 as u16;
-        ends.push(Ends { from, to })?;
+        ends.push_reserved(Ends { from, to });
     }
     Ok((table, ends))
 }

@@ -43,7 +43,7 @@ pub struct Plan<A: Allocator + Copy = Global> {
     table: NodeTable<A>,
     /// The largest number ever assigned.
     greatest: u32,
-    /// The indexes of the nodes of each contact, or an empty list.
+    /// The indexes of the nodes of each contact.
     ends: Vec<Ends, A>,
     /// The light time of each contact, or an empty list.
     lights: LightTimes<A>,

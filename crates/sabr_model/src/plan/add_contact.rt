@@ -7,7 +7,7 @@ ghost use Rattle.sabr_model.specs.declared.fault.AddFault.{AddFault};
 ghost use Rattle.sabr_model.specs.declared.fault.AddFault.TheVariants.{NoMemory};
 ghost use Rattle.sabr_model.specs.plan.Adding.{next_contact, contact_refusal, with_contact};
 
-use super::Plan;
+use super::{Ends, Plan};
 use crate::contact::Contact;
 use crate::fault::AddFault;
 use crate::node_table::note_contact;
@@ -34,8 +34,6 @@ impl<A: Allocator + Copy> Plan<A> {
         ensures ok { OnOk result (self.new.plan ≡ with_contact self.old.plan (next_contact self.old.plan from to start end rate)) }
         ensures err { OnErr result (self.new ≡ self.old) }
     {
-        self.ends.clear();
-        self.lights.clear();
         let number = self.greatest + 1;
         let contact = Contact {
             number,
@@ -46,7 +44,15 @@ impl<A: Allocator + Copy> Plan<A> {
             rate,
         };
         self.contacts.reserve(1)?;
-        note_contact(self.alloc, &mut self.table, &contact, (0, 0))?;
+        self.ends.reserve(1)?;
+        let both = note_contact(self.alloc, &mut self.table, &contact, (0, 0))?;
+        let sender = both.0 as u16;
+        let receiver = both.1 as u16;
+        self.ends.push_reserved(Ends {
+            from: sender,
+            to: receiver,
+        });
+        self.lights.clear();
         self.contacts.push_reserved(contact);
         self.greatest = number;
         Ok(number)
