@@ -7,7 +7,7 @@ ghost use Rattle.sabr_model.specs.plan.Known.{AreLights};
 ghost use Rattle.sabr_model.specs.plan.Light.{light_of, light_of_pair, is_rising};
 ghost use Rattle.sabr_model.specs.plan.RangeOrder.{IsRangeList};
 
-use super::light_times::LightTimes;
+use super::light_times::{LightTimes, word_of};
 use super::ranges::{light_of_range, light_until, ranges_until};
 use crate::contact::{Contact, Range};
 use std::alloc::{AllocError, Allocator};
@@ -33,14 +33,14 @@ pub fn lights_of<A: Allocator + Copy>(
     ensures { IfOk result (λ lights. AreLights ranges.now contacts.now lights) }
 {
     let rising = are_rising(ranges);
-    let mut lights = LightTimes::new(alloc);
-    lights.reserve(contacts.len())?;
+    let mut words = Vec::new(alloc);
+    words.reserve(contacts.len())?;
     let mut guesses = guesses_of(alloc, ranges)?;
     for contact in contacts {
         let light = light_of_contact_near(ranges, contact, rising, &mut guesses);
-        lights.push(light)?;
+        words.push_reserved(word_of(light));
     }
-    Ok(lights)
+    Ok(LightTimes::of(words))
 }
 
 /// Returns for each pair of nodes the index of its first range, as a guess. Pairs may share a slot.

@@ -15,8 +15,8 @@ overflow_cast-from g c =
     let cs = c.args.contacts.now in
     let i = c.loop-contact.contact-index in
     let noted = c.in_ok-found.ensures in
-    let more = IsTableOf-push _ _ c.loop-contact.table c.note_contact.new.table c.loop-contact.invariant.table noted.unique noted.ok in
     let few : length (take (i + 1) cs) ≤ 20000 = omega (arith, c.requires, length-take (i + 1) cs) in
+    let more = IsTableOf-push _ _ c.loop-contact.table c.note_contact.new.table c.loop-contact.invariant.table noted.unique noted.ok in
     let short = short_index (take (i + 1) cs) c.note_contact.new.table c.in_ok-found.found.0 _ (subst (λ ds. IsTableOf ds c.note_contact.new.table) (sym (take_more cs i _ c.loop-contact-test.true)) more) few noted.ends.from in
     omega (arith, short)
 
@@ -25,8 +25,8 @@ overflow_cast-to g c =
     let cs = c.args.contacts.now in
     let i = c.loop-contact.contact-index in
     let noted = c.in_ok-found.ensures in
-    let more = IsTableOf-push _ _ c.loop-contact.table c.note_contact.new.table c.loop-contact.invariant.table noted.unique noted.ok in
     let few : length (take (i + 1) cs) ≤ 20000 = omega (arith, c.requires, length-take (i + 1) cs) in
+    let more = IsTableOf-push _ _ c.loop-contact.table c.note_contact.new.table c.loop-contact.invariant.table noted.unique noted.ok in
     let short = short_index (take (i + 1) cs) c.note_contact.new.table c.in_ok-found.found.1 _ (subst (λ ds. IsTableOf ds c.note_contact.new.table) (sym (take_more cs i _ c.loop-contact-test.true)) more) few noted.ends.to in
     omega (arith, short)
 
