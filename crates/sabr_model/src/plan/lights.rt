@@ -12,13 +12,13 @@ use super::ranges::{light_of_range, light_until, ranges_until};
 use crate::contact::{Contact, Range};
 use std::alloc::{AllocError, Allocator};
 
-/// The number of slots with guesses for each range. With 4, walker-24 has 195 wrong guesses, each of which costs a
-/// binary search. To vary it and the next: `bench/figures.py --counts 1 --only walker-24-5000,walker-24-20000,cube`.
-const SLOTS_OF_RANGE: usize = 8;
+/// The number of slots with guesses for each range. With 8, relay-moon-20000 has some 2300 wrong guesses, each of which
+/// costs a binary search. To vary it and the next: `bench/figures.py --counts 1 --only relay-moon-20000,cube`.
+const SLOTS_OF_RANGE: usize = 16;
 
 /// The largest number of ranges for which slots are made. More ranges share these slots. With half as many slots, cube
 /// has 990 more wrong guesses.
-const MOST_RANGES: usize = 8192;
+const MOST_RANGES: usize = 4096;
 
 /// Returns the light time of each contact. A pair's first range is guessed first, and then the range of the pair's last
 /// contact. It takes a few steps for a contact whose range is the guessed one or the one before it, and one or two
