@@ -8,7 +8,6 @@ ghost use Rattle.sabr_index.specs.Links.{AreLinksOf};
 
 use crate::building::link_nodes;
 use crate::counted_plan::{CountedPlan, PlanLinks};
-use crate::ends::ends_of_contacts;
 use crate::incoming::incoming_links;
 use crate::link::Links;
 use crate::order::order_of_contacts;
@@ -40,12 +39,7 @@ impl<'p, A: Allocator + Copy> Index<'p, A> {
         ensures { IfOk result (λ i. i ≡ plan.now) }
     {
         plan.nodes();
-        let known = plan.known_ends();
-        if known.len() == plan.contacts().len() {
-            return Index::with_ends(alloc, plan, known);
-        }
-        let ends = ends_of_contacts(alloc, plan)?;
-        Index::with_ends(alloc, plan, &ends)
+        Index::with_ends(alloc, plan, plan.ends())
     }
 
     /// Makes the index of a plan whose contacts have these ends.

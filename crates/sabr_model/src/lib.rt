@@ -52,7 +52,6 @@ mod node_list;
 mod node_table;
 mod numbers;
 mod opening;
-mod openings;
 mod plan;
 mod request;
 mod request_values;

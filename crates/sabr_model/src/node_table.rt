@@ -18,6 +18,9 @@ use std::hash::{BuildHasherDefault, FoldHasher};
 /// walker-66-20000,grid-40,sparse-20000,cube`.
 const GUESSES: usize = 2048;
 
+/// The number of contacts for which a node has room once it sends one. With 4, grid-40 takes 4 percent longer to read.
+const ROOM_AT_FIRST: usize = 16;
+
 /// For each node, the numbers of the contacts that it sends, in ascending order.
 pub type NodeTable<A> = IndexMap<u64, Vec<u32, A>, BuildHasherDefault<FoldHasher>, A>;
 
@@ -61,7 +64,7 @@ fn add_number<A: Allocator + Copy>(
         }
         None => {
             let index = table.len();
-            let mut numbers = Vec::new(alloc);
+            let mut numbers = Vec::with_capacity(alloc, ROOM_AT_FIRST)?;
             numbers.push(number)?;
             table.insert(node, numbers)?;
             Ok(index)
@@ -174,7 +177,7 @@ pub fn table_of<A: Allocator + Copy>(
         note_guess(&mut guesses, contact.to, guess.1, found.1);
         let from = found.0 as u16;
         let to = found.1 as u16;
-        ends.push(Ends { from, to })?;
+        ends.push_reserved(Ends { from, to });
     }
     Ok((table, ends))
 }

@@ -19,7 +19,6 @@ ghost use Rattle.std.specs.Prelude.{◌≡◌, []};
 
 use crate::contact::{Contact, Range};
 use crate::node_table::NodeTable;
-use crate::openings::Openings;
 pub use arriving::arrive;
 pub use ends::Ends;
 use indexmap::IndexMap;
@@ -44,9 +43,7 @@ pub struct Plan<A: Allocator + Copy = Global> {
     table: NodeTable<A>,
     /// The largest number ever assigned.
     greatest: u32,
-    /// The sender, receiver and start of each contact, if they are stored. No two contacts have all three in common.
-    openings: Openings<A>,
-    /// The indexes of the nodes of each contact, or an empty list.
+    /// The indexes of the nodes of each contact.
     ends: Vec<Ends, A>,
     /// The light time of each contact, or an empty list.
     lights: LightTimes<A>,
@@ -57,13 +54,12 @@ impl<A: Allocator + Copy> Model for Plan<A> {
     ghost use Rattle.sabr_model.specs.plan.Plan.{TabledPlan, IsPlan};
     ghost use Rattle.sabr_model.specs.plan.Table.{IsTableOf};
     ghost use Rattle.sabr_model.specs.plan.Known.{IsKnown};
-    ghost use Rattle.sabr_model.specs.plan.Openings.{KnowsOpenings};
 
     ghost Value = { TabledPlan };
 
     ghost view = { λ a. record { plan = record { contacts = a.contacts.items; ranges = a.ranges.items; greatest = a.greatest }; table = keys a.table } };
 
-    ghost invariant = { λ a. IsPlan (record { contacts = a.contacts.items; ranges = a.ranges.items; greatest = a.greatest }) × IsTableOf a.contacts.items a.table × IsKnown (record { plan = record { contacts = a.contacts.items; ranges = a.ranges.items; greatest = a.greatest }; table = keys a.table }) a.ends.items a.lights × KnowsOpenings a.openings.kept a.openings.set.keys a.contacts.items };
+    ghost invariant = { λ a. IsPlan (record { contacts = a.contacts.items; ranges = a.ranges.items; greatest = a.greatest }) × IsTableOf a.contacts.items a.table × IsKnown (record { plan = record { contacts = a.contacts.items; ranges = a.ranges.items; greatest = a.greatest }; table = keys a.table }) a.ends.items a.lights };
 }
 
 impl<A: Allocator + Copy> Plan<A> {
@@ -77,7 +73,6 @@ impl<A: Allocator + Copy> Plan<A> {
             ranges: Vec::new(alloc),
             table: IndexMap::new(alloc),
             greatest: 0,
-            openings: Openings::new(alloc),
             ends: Vec::new(alloc),
             lights: LightTimes::new(alloc),
         }

@@ -1,10 +1,11 @@
 -- How many contacts and nodes a plan has at most.
-use Rattle.std.proofs.Common.{◌≡◌, ℕ, ◌+◌, ◌≤◌, true, ltb, List, [], ◌∷◌, length, map, refl, arith}
-use Rattle.std.specs.Prelude.{nat_eq, Vec}
+use Rattle.std.proofs.Common.{◌≡◌, ℕ, ◌+◌, ◌<◌, ◌≤◌, true, ltb, List, [], ◌∷◌, length, map, refl, arith}
+use Rattle.std.specs.Prelude.{nat_eq, slice_get, Some, Vec}
 use Rattle.std.specs.List.{AllByRecursion}
 use Rattle.std.proofs.lemmas.Bool.{and_parts, ltb-true}
 use Rattle.std.proofs.lemmas.Map.Entries.{length-keys_of}
 use Rattle.std.proofs.lemmas.Map.Made.{distinct_count-le}
+use Rattle.std.proofs.lemmas.Option.{slice_get_within}
 use Rattle.indexmap.specs.IndexMap.{IndexMap, keys}
 use Rattle.sabr_model.specs.declared.contact.Contact.{Contact}
 use Rattle.sabr_model.specs.plan.Plan.{ContactPlan, IsPlan, most_records, rises_above}
@@ -39,9 +40,16 @@ few_nodes cs few =
     omega (arith, within, ends, few)
 
 -- the nodes of their table
-pub few_keys : {S A : Type 0} (cs : List Contact) (table : IndexMap ℕ (Vec ℕ A) S) → IsTableOf cs table → length cs ≤ most_records → length (keys table) ≤ 40000
+few_keys : {S A : Type 0} (cs : List Contact) (table : IndexMap ℕ (Vec ℕ A) S) → IsTableOf cs table → length cs ≤ most_records → length (keys table) ≤ 40000
 few_keys cs table h few =
     let counted = counts_nodes cs table h in
     let within = few_nodes cs few in
     let entries = length-keys_of table.entries in
     omega (arith, counted, within, entries)
+
+-- so the index of each of them takes 16 bits
+pub short_index : {S A : Type 0} (cs : List Contact) (table : IndexMap ℕ (Vec ℕ A) S) (place node : ℕ) → IsTableOf cs table → length cs ≤ most_records → slice_get (keys table) place ≡ Some node → place < 65536
+short_index cs table place node h few at =
+    let within = slice_get_within (keys table) place node at in
+    let all = few_keys cs table h few in
+    omega (arith, within, all)

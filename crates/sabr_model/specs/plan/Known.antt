@@ -1,4 +1,4 @@
--- What a plan keeps of its first contacts: their ends, and their light times.
+-- What a plan stores of its contacts: their ends, and the light times of the first.
 use Rattle.std.specs.Prelude.{◌≡◌, ℕ, ◌<◌, ◌==◌, List, [], if◌then◌else◌, length, slice_index_or}
 use Rattle.std.specs.declared.option.Option.{Option}
 use Rattle.std.specs.declared.option.Option.TheVariants.{Some, None}
@@ -7,11 +7,7 @@ use Rattle.sabr_model.specs.declared.contact.Range.{Range}
 use Rattle.sabr_model.specs.declared.plan.ends.Ends.{Ends}
 use Rattle.sabr_model.specs.plan.Plan.{TabledPlan}
 use Rattle.sabr_model.specs.plan.Light.{light_of}
-use Rattle.sabr_model.specs.plan.ContactEnds.{AreEndsOf}
-
--- the first contacts have their ends, in the same order
-abbrev pub BeginEnds : List ℕ → List Contact → List Ends → Type 0
-BeginEnds table contacts ends = (k : ℕ) (d : Contact) (e : Ends) → k < length ends → AreEndsOf table (slice_index_or contacts k d) (slice_index_or ends k e)
+use Rattle.sabr_model.specs.plan.ContactEnds.{AreEnds}
 
 -- the light time of a stored number: none if it is the largest of 32 bits
 abbrev pub light_of_word : ℕ → Option ℕ
@@ -27,7 +23,7 @@ pub record AreLights (ranges : List Range) (contacts : List Contact) (lights : L
   pub as_many : length lights ≡ length contacts
   pub each : BeginLights ranges contacts lights
 
--- the ends and the light times that are stored are right
+-- each contact has its ends, and the light times that are stored are right
 pub record IsKnown (p : TabledPlan) (known_ends : List Ends) (known_lights : List (Option ℕ)) : Type 0 where
-  pub ends : BeginEnds p.table p.plan.contacts known_ends
+  pub ends : AreEnds p.table p.plan.contacts known_ends
   pub lights : BeginLights p.plan.ranges p.plan.contacts known_lights

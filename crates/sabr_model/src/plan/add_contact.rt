@@ -7,7 +7,7 @@ ghost use Rattle.sabr_model.specs.declared.fault.AddFault.{AddFault};
 ghost use Rattle.sabr_model.specs.declared.fault.AddFault.TheVariants.{NoMemory};
 ghost use Rattle.sabr_model.specs.plan.Adding.{next_contact, contact_refusal, with_contact};
 
-use super::Plan;
+use super::{Ends, Plan};
 use crate::contact::Contact;
 use crate::fault::AddFault;
 use crate::node_table::note_contact;
@@ -34,8 +34,6 @@ impl<A: Allocator + Copy> Plan<A> {
         ensures ok { OnOk result (self.new.plan ≡ with_contact self.old.plan (next_contact self.old.plan from to start end rate)) }
         ensures err { OnErr result (self.new ≡ self.old) }
     {
-        self.ends.clear();
-        self.lights.clear();
         let number = self.greatest + 1;
         let contact = Contact {
             number,
@@ -46,9 +44,15 @@ impl<A: Allocator + Copy> Plan<A> {
             rate,
         };
         self.contacts.reserve(1)?;
-        self.openings.reserve()?;
-        note_contact(self.alloc, &mut self.table, &contact, (0, 0))?;
-        self.openings.note(&contact);
+        self.ends.reserve(1)?;
+        let both = note_contact(self.alloc, &mut self.table, &contact, (0, 0))?;
+        let sender = both.0 as u16;
+        let receiver = both.1 as u16;
+        self.ends.push_reserved(Ends {
+            from: sender,
+            to: receiver,
+        });
+        self.lights.clear();
         self.contacts.push_reserved(contact);
         self.greatest = number;
         Ok(number)
@@ -57,8 +61,7 @@ impl<A: Allocator + Copy> Plan<A> {
     /// Adds a contact, and returns its number: one more than the largest number ever assigned.
     ///
     /// Times are seconds since 1970-01-01T00:00:00Z, and `end` is at most 253370764799. The rate is in bytes per
-    /// second. An error leaves the plan as it was. It is O(1) on average for a plan that was built with this call, and
-    /// a pass over the contacts for a plan that was read.
+    /// second. An error leaves the plan as it was. It is a pass over the contacts.
     ///
     /// # Errors
     ///
@@ -86,7 +89,7 @@ impl<A: Allocator + Copy> Plan<A> {
         ensures ok { OnOk result (self.new.plan ≡ with_contact self.old.plan (next_contact self.old.plan from to start end rate)) }
         ensures err { OnErr result (self.new ≡ self.old) }
     {
-        let clashes = self.openings.has(&self.contacts, from, to, start);
+        let clashes = Contact::any_opens(&self.contacts, from, to, start);
         let opening = Opening { from, to, start };
         if let Some(fault) = opening.refusal(end, clashes, self.greatest) {
             return Err(fault);

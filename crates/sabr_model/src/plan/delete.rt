@@ -9,6 +9,7 @@ ghost use Rattle.sabr_model.specs.declared.fault.AddFault.TheVariants.{NothingTo
 ghost use Rattle.sabr_model.specs.plan.Adding.{number_of_opening, without_contact, begins, without_range};
 
 use super::Plan;
+use super::ends::look_up_ends;
 use crate::contact::{Contact, Range};
 use crate::fault::AddFault;
 use crate::node_table::forget_contact;
@@ -33,11 +34,10 @@ impl<A: Allocator + Copy> Plan<A> {
             return Err(AddFault::NothingToDelete);
         };
         let contact = *contact;
-        self.ends.clear();
         self.lights.clear();
         forget_contact(&mut self.table, &self.contacts, &contact);
-        self.openings.forget(from, to, start);
         self.contacts.retain(|c| !(c.number == contact.number));
+        look_up_ends(&self.table, &self.contacts, &mut self.ends);
         Ok(contact.number)
     }
 

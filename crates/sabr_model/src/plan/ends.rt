@@ -1,9 +1,11 @@
 //! The ends of contacts, as indexes in the table of nodes.
 
-ghost use Rattle.std.specs.Prelude.{◌≡◌, ◌<◌, Some, IsTrue, length, slice_get, slice_index_or};
+ghost use Rattle.std.specs.Prelude.{◌≡◌, ◌<◌, ◌≤◌, Some, IsTrue, length, slice_get, slice_index_or, vec_capacity};
 ghost use Rattle.indexmap.specs.IndexMap.{keys};
-ghost use Rattle.sabr_model.specs.plan.Plan.{has};
-ghost use Rattle.sabr_model.specs.plan.Known.{BeginEnds};
+ghost use Rattle.sabr_model.specs.declared.contact.Contact.{Contact};
+ghost use Rattle.sabr_model.specs.plan.Plan.{has, most_records};
+ghost use Rattle.sabr_model.specs.plan.Table.{IsTableOf};
+ghost use Rattle.sabr_model.specs.plan.ContactEnds.{AreEnds};
 
 use super::Plan;
 use crate::contact::Contact;
@@ -18,30 +20,43 @@ pub struct Ends {
 }
 
 impl<A: Allocator + Copy> Plan<A> {
-    /// The indexes of the nodes of each contact, by number. The list is empty if the plan hasn't stored them.
-    pub fn known_ends(&self) -> &[Ends]
-        ensures { BeginEnds self.now.table self.now.plan.contacts result.now }
+    /// The indexes of the nodes of each contact, by number.
+    pub fn ends(&self) -> &[Ends]
+        ensures { AreEnds self.now.table self.now.plan.contacts result.now }
     {
         &self.ends
     }
 
     /// Returns the index of the receiver of the contact at an index.
     #[inline(always)]
-    pub(super) fn receiver_at(&self, place: usize, contact: &Contact) -> usize
-        requires within { place < length self.now.plan.contacts }
-        requires there { contact.now ≡ slice_index_or self.now.plan.contacts place contact.now }
-        ensures { slice_get self.now.table result ≡ Some contact.now.to }
+    pub(super) fn receiver_at(&self, place: usize) -> usize
+        requires { place < length self.now.plan.contacts }
+        ensures { (d : Contact) → slice_get self.now.table result ≡ Some (slice_index_or self.now.plan.contacts place d).to }
     {
-        match self.ends.get(place) {
-            Some(ends) => ends.to as usize,
-            None => index_of(&self.table, contact.to),
-        }
+        self.ends[place].to as usize
+    }
+}
+
+/// Looks up the indexes of the nodes of each contact. It doesn't allocate.
+pub fn look_up_ends<A: Allocator + Copy>(
+    table: &NodeTable<A>,
+    contacts: &[Contact],
+    ends: &mut Vec<Ends, A>,
+)
+    requires table { IsTableOf contacts.now table.now }
+    requires few { length contacts.now ≤ most_records }
+    requires room { length contacts.now ≤ vec_capacity ends.old }
+    ensures { AreEnds (keys table.now) contacts.now ends.new.items }
+{
+    ends.clear();
+    for contact in contacts {
+        let from = index_of(table, contact.from) as u16;
+        let to = index_of(table, contact.to) as u16;
+        ends.push_reserved(Ends { from, to });
     }
 }
 
 /// Returns the index of a node of the table.
-#[cold]
-#[inline(never)]
 fn index_of<A: Allocator + Copy>(table: &NodeTable<A>, node: u64) -> usize
     requires { IsTrue (has node (keys table.now)) }
     ensures { slice_get (keys table.now) result ≡ Some node }

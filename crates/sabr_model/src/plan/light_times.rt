@@ -1,13 +1,23 @@
 //! A list of light times, in 32 bits each.
 
-ghost use Rattle.std.specs.Prelude.{◌≡◌, ◌≤◌, ◌<◌, ◌∷◌, ◌++◌, [], IfOk, IfSome, MatchOption, length, slice_index_or};
+ghost use Rattle.std.specs.Prelude.{◌≡◌, ◌≤◌, ◌<◌, [], IfSome, MatchOption, length, map, slice_index_or};
 ghost use Rattle.sabr_model.specs.plan.Plan.{most_light};
+ghost use Rattle.sabr_model.specs.plan.Known.{light_of_word};
 
-use std::alloc::{AllocError, Allocator};
+use std::alloc::Allocator;
 use std::marker::Model;
 
 /// The number that means "no light time". It is above the largest light time.
 const NO_LIGHT: u32 = u32::MAX;
+
+/// Returns the number that stands for a light time.
+#[inline(always)]
+pub fn word_of(light: Option<u32>) -> u32
+    requires { IfSome light (λ l. l ≤ most_light) }
+    ensures { light_of_word result ≡ light }
+{
+    light.unwrap_or(NO_LIGHT)
+}
 
 /// Light times, each of which may be missing. They take 4 bytes each.
 #[derive(Drop)]
@@ -35,20 +45,11 @@ impl<A: Allocator + Copy> LightTimes<A> {
         }
     }
 
-    /// Reserves room for `count` more.
-    pub fn reserve(&mut self, count: usize) -> Result<(), AllocError>
-        ensures { self.new ≡ self.old }
+    /// Makes the list of the light times for which these numbers stand.
+    pub fn of(words: Vec<u32, A>) -> LightTimes<A>
+        ensures { result ≡ map light_of_word words.items }
     {
-        self.words.reserve(count)
-    }
-
-    /// Adds a light time at the end.
-    pub fn push(&mut self, light: Option<u32>) -> Result<(), AllocError>
-        requires { IfSome light (λ l. l ≤ most_light) }
-        ensures items { IfOk result (λ _. self.new ≡ self.old ++ light ∷ []) }
-    {
-        self.words.push(light.unwrap_or(NO_LIGHT))?;
-        Ok(())
+        LightTimes { words }
     }
 
     /// Returns the light time at an index. `None` if the list ends before it.

@@ -7,18 +7,18 @@ ghost use Rattle.sabr_model.specs.plan.Known.{AreLights};
 ghost use Rattle.sabr_model.specs.plan.Light.{light_of, light_of_pair, is_rising};
 ghost use Rattle.sabr_model.specs.plan.RangeOrder.{IsRangeList};
 
-use super::light_times::LightTimes;
+use super::light_times::{LightTimes, word_of};
 use super::ranges::{light_of_range, light_until, ranges_until};
 use crate::contact::{Contact, Range};
 use std::alloc::{AllocError, Allocator};
 
-/// The number of slots with guesses for each range. With 4, walker-24 has 195 wrong guesses, each of which costs a
-/// binary search. To vary it and the next: `bench/figures.py --counts 1 --only walker-24-5000,walker-24-20000,cube`.
-const SLOTS_OF_RANGE: usize = 8;
+/// The number of slots with guesses for each range. With 8, relay-moon-20000 has some 2300 wrong guesses, each of which
+/// costs a binary search. To vary it and the next: `bench/figures.py --counts 1 --only relay-moon-20000,cube`.
+const SLOTS_OF_RANGE: usize = 16;
 
 /// The largest number of ranges for which slots are made. More ranges share these slots. With half as many slots, cube
 /// has 990 more wrong guesses.
-const MOST_RANGES: usize = 8192;
+const MOST_RANGES: usize = 4096;
 
 /// Returns the light time of each contact. A pair's first range is guessed first, and then the range of the pair's last
 /// contact. It takes a few steps for a contact whose range is the guessed one or the one before it, and one or two
@@ -33,18 +33,18 @@ pub fn lights_of<A: Allocator + Copy>(
     ensures { IfOk result (λ lights. AreLights ranges.now contacts.now lights) }
 {
     let rising = are_rising(ranges);
-    let mut lights = LightTimes::new(alloc);
-    lights.reserve(contacts.len())?;
+    let mut words = Vec::new(alloc);
+    words.reserve(contacts.len())?;
     let mut guesses = guesses_of(alloc, ranges)?;
     for contact in contacts {
         let light = light_of_contact_near(ranges, contact, rising, &mut guesses);
-        lights.push(light)?;
+        words.push_reserved(word_of(light));
     }
-    Ok(lights)
+    Ok(LightTimes::of(words))
 }
 
 /// Returns for each pair of nodes the index of its first range, as a guess. Pairs may share a slot.
-fn guesses_of<A: Allocator + Copy>(alloc: A, ranges: &[Range]) -> Result<Vec<u32, A>, AllocError> {
+fn guesses_of<A: Allocator + Copy>(alloc: A, ranges: &[Range]) -> Result<Vec<u16, A>, AllocError> {
     let mut guesses = Vec::new(alloc);
     let slots = (ranges.len().min(MOST_RANGES) * SLOTS_OF_RANGE).next_power_of_two();
     guesses.resize(slots, 0)?;
@@ -58,15 +58,15 @@ fn guesses_of<A: Allocator + Copy>(alloc: A, ranges: &[Range]) -> Result<Vec<u32
 
 /// The slot of an ordered pair; the number of slots is a power of two.
 #[inline(always)]
-fn slot_of(guesses: &[u32], one: u64, other: u64) -> usize {
+fn slot_of(guesses: &[u16], one: u64, other: u64) -> usize {
     one.wrapping_mul(509).wrapping_add(other) as usize & guesses.len().saturating_sub(1)
 }
 
 /// Notes the index of a range in a slot.
 #[inline(always)]
-fn note_guess(guesses: &mut [u32], slot: usize, place: usize) {
+fn note_guess(guesses: &mut [u16], slot: usize, place: usize) {
     if slot < guesses.len() {
-        guesses[slot] = place.min(u32::MAX as usize) as u32;
+        guesses[slot] = place.min(u16::MAX as usize) as u16;
     }
 }
 
@@ -83,7 +83,7 @@ fn light_of_contact_near(
     ranges: &[Range],
     contact: &Contact,
     rising: bool,
-    guesses: &mut [u32],
+    guesses: &mut [u16],
 ) -> Option<u32>
     requires ranges { IsRangeList ranges.now }
     requires rising { IsTrue rising → IsTrue (list_all is_rising ranges.now) }
@@ -105,7 +105,7 @@ fn light_of_contact_near(
 /// Returns the light time of the range of this ordered pair that is in force at `t`. The index of the range is guessed
 /// for the pair, which may share its slot with others. A wrong guess costs a binary search.
 #[inline(always)]
-fn light_near(ranges: &[Range], one: u64, other: u64, t: u64, guesses: &mut [u32]) -> Option<u32>
+fn light_near(ranges: &[Range], one: u64, other: u64, t: u64, guesses: &mut [u16]) -> Option<u32>
     requires { IsRangeList ranges.now }
     ensures { result ≡ light_of_pair ranges.now one other t }
 {

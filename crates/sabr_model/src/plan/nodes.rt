@@ -81,7 +81,7 @@ impl<A: Allocator + Copy> Plan<A> {
         Hop {
             start: contact.start,
             end: contact.end,
-            receiver: self.receiver_at(place, contact),
+            receiver: self.receiver_at(place),
             light: self.light_at(place, contact),
         }
     }

@@ -8,7 +8,6 @@ use super::lights::lights_of;
 use crate::contact::{Contact, Range};
 use crate::fault::NoMemory;
 use crate::node_table::table_of;
-use crate::openings::Openings;
 use std::alloc::Allocator;
 
 impl<A: Allocator + Copy> Plan<A> {
@@ -37,7 +36,6 @@ impl<A: Allocator + Copy> Plan<A> {
             ranges,
             table,
             greatest,
-            openings: Openings::without_set(alloc),
             ends,
             lights,
         })

@@ -1,14 +1,13 @@
-use Rattle.std.proofs.Common.{◌≡◌, ◌<◌, ℕ, length, take, slice_index_or}
+use Rattle.std.proofs.Common.{◌≤◌, length, take}
+use Rattle.std.specs.Prelude.{vec_capacity}
 use Rattle.indexmap.specs.IndexMap.{keys}
-use Rattle.sabr_model.specs.declared.contact.Contact.{Contact}
-use Rattle.sabr_model.specs.declared.plan.ends.Ends.{Ends}
 use Rattle.sabr_model.specs.plan.Table.{IsTableOf}
-use Rattle.sabr_model.specs.plan.ContactEnds.{AreEndsOf}
+use Rattle.sabr_model.specs.plan.ContactEnds.{AreEnds}
 use Rattle.sabr_model.proofs.node_table.table_of.Given as goal
 
 abbrev pub invariant-loop-contact : goal.invariant-loop-contact
 invariant-loop-contact g l = record {
   table : IsTableOf (take l.contact-index l.contacts) l.table;
-  as_many : length l.ends.items ≡ l.contact-index;
-  each : (k : ℕ) (d : Contact) (e : Ends) → k < l.contact-index → AreEndsOf (keys l.table) (slice_index_or l.contacts k d) (slice_index_or l.ends.items k e);
+  ends : AreEnds (keys l.table) (take l.contact-index l.contacts) l.ends.items;
+  room : length l.contacts ≤ vec_capacity l.ends;
 }

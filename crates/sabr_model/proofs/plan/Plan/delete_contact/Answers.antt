@@ -1,11 +1,13 @@
-use Rattle.std.proofs.Common.{◌≡◌, ◌∙◌, ap, sym, not, eqb, rules, find, Some, List}
+use Rattle.std.proofs.Common.{◌≡◌, ◌∙◌, ap, sym, subst, not, eqb, rules, find, Some, List}
 use Rattle.std.proofs.lemmas.Fn.{filter_same}
+use Rattle.indexmap.specs.IndexMap.{keys}
 use Rattle.sabr_model.specs.declared.contact.Contact.{Contact}
 use Rattle.sabr_model.specs.plan.Plan.{ContactPlan, TabledPlan, opens}
 use Rattle.sabr_model.specs.plan.Adding.{without_contact}
-use Rattle.sabr_model.specs.plan.Openings.{openings_of}
+use Rattle.sabr_model.specs.plan.ContactEnds.{AreEnds}
 use Rattle.sabr_model.proofs.PlanLemmas.Deletions.{found_by_number, without_opening, IsPlan-fewer_contacts}
-use Rattle.sabr_model.proofs.PlanLemmas.KnownLemmas.{nothing_known}
+use Rattle.sabr_model.proofs.PlanLemmas.KnownLemmas.{ends_known}
+use Rattle.sabr_model.proofs.PlanLemmas.Limits.{few_contacts}
 use Rattle.sabr_model.proofs.plan.Plan.delete_contact.Goals as goal
 
 pub forget_contact-requires : goal.forget_contact-requires
@@ -19,19 +21,25 @@ forget_contact-requires g c =
       table = c.self.invariant.1;
     })
 
+pub look_up_ends-requires-clause-table : goal.look_up_ends-requires-clause-table
+look_up_ends-requires-clause-table g c =
+    let kept = filter_same _ (λ (d : Contact). not (eqb d.number c.in-Some.contact.now.number)) _ (λ d b f' k. search rules) _ _ c.retain.ensures.filtered in
+    rw (c.deref-3.ensures.value, kept) (rw c.deref-2.ensures.value at c.forget_contact.ensures)
+
+pub look_up_ends-requires-clause-few : goal.look_up_ends-requires-clause-few
+look_up_ends-requires-clause-few g c =
+    let p : ContactPlan = record { contacts = c.self.inside.contacts.items; ranges = c.self.inside.ranges.items; greatest = c.self.inside.greatest } in
+    let kept = filter_same _ (λ (d : Contact). not (eqb d.number c.in-Some.contact.now.number)) _ (λ d b f' k. search rules) _ _ c.retain.ensures.filtered in
+    rw (c.deref-3.ensures.value, kept) (few_contacts _ (IsPlan-fewer_contacts p (λ d. not (eqb d.number c.in-Some.contact.now.number)) c.self.invariant.0))
+
 pub invariant_of-self : goal.invariant_of-self
 invariant_of-self g c =
     let p : ContactPlan = record { contacts = c.self.inside.contacts.items; ranges = c.self.inside.ranges.items; greatest = c.self.inside.greatest } in
     let kept = filter_same _ (λ (d : Contact). not (eqb d.number c.in-Some.contact.now.number)) _ (λ d b f' k. search rules) _ _ c.retain.ensures.filtered in
-    rw (kept, c.clear.ensures.items, c.clear-2.ensures.items) (
+    rw (kept, c.clear.ensures.items) (
       IsPlan-fewer_contacts p (λ d. not (eqb d.number c.in-Some.contact.now.number)) c.self.invariant.0,
       rw c.deref-2.ensures.value at c.forget_contact.ensures,
-      nothing_known _,
-      λ e.
-          let cs = c.self.inside.contacts.items in
-          let found : find (opens c.args.from c.args.to c.args.start) cs ≡ Some c.in-Some.contact.now = ap (find (opens c.args.from c.args.to c.args.start)) (sym c.deref.ensures.value) ∙ sym c.in-Some.ensures in
-          c.forget.ensures cs c.self.invariant.3 e
-          ∙ ap openings_of (without_opening p c.args.from c.args.to c.args.start c.in-Some.contact.now c.self.invariant.0 found),
+      ends_known _ _ (subst (λ (ds : List Contact). AreEnds (keys c.forget_contact.new.table) ds c.look_up_ends.new.ends.items) (c.deref-3.ensures.value ∙ kept) c.look_up_ends.ensures),
     )
 
 pub returns-clause-ok : goal.returns-clause-ok

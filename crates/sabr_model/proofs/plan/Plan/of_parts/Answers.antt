@@ -1,5 +1,4 @@
 use Rattle.std.proofs.Common.{◌≤◌, List, length, subst, sym}
-use Rattle.std.proofs.lemmas.Bool.{both_ways}
 use Rattle.std.specs.List.{AllByRecursion}
 use Rattle.indexmap.specs.IndexMap.{keys}
 use Rattle.sabr_model.specs.declared.contact.Contact.{Contact}
@@ -10,7 +9,6 @@ use Rattle.sabr_model.specs.plan.Table.{IsTableOf}
 use Rattle.sabr_model.specs.plan.ContactEnds.{AreEnds}
 use Rattle.sabr_model.specs.plan.Known.{BeginLights}
 use Rattle.sabr_model.proofs.PlanLemmas.RangeKeys.{range_list}
-use Rattle.sabr_model.proofs.PlanLemmas.KnownLemmas.{all_ends}
 use Rattle.sabr_model.proofs.PlanLemmas.Limits.{few_contacts}
 use Rattle.sabr_model.proofs.plan.Plan.of_parts.Goals as goal
 
@@ -35,8 +33,7 @@ invariant_of-result g c =
       c.requires,
       subst (λ (cs : List Contact). IsTableOf cs table) lent c.in_ok-table.ensures.table,
       record {
-        ends = all_ends (keys table) _ _ (subst (λ (cs : List Contact). AreEnds (keys table) cs c.in_ok-table.ends.items) lent c.in_ok-table.ensures.ends);
+        ends = subst (λ (cs : List Contact). AreEnds (keys table) cs c.in_ok-table.ends.items) lent c.in_ok-table.ensures.ends;
         lights = subst (λ (rs : List Range). BeginLights rs c.args.contacts.items lights) c.deref-3.ensures.value (subst (λ (cs : List Contact). BeginLights c.deref-3.result.now cs lights) c.deref-2.ensures.value (c.in_ok-lights.ensures {u = tt}).each);
       },
-      λ e. absurd (both_ways _ c.without_set.ensures e),
     )
