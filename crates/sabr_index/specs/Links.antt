@@ -81,7 +81,7 @@ pub record NodeLinks : Type 0 where
   pub links : List Link
   pub passes : List Pass
 
--- how many links so many nodes have
+-- the number of links of these nodes
 abbrev pub links_in : List NodeLinks → ℕ
 links_in linked = sum_by (λ s. length s.links) linked
 

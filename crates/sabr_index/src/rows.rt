@@ -37,7 +37,7 @@ pub fn link_rows<A: Allocator + Copy>(
 /// Returns the place after those from `first` on that have its receiver.
 fn end_of_row(passes: &[Pass], first: usize) -> usize
     requires { first < length passes.now }
-    ensures behind { first < result }
+    ensures filled { first < result }
     ensures within { result ≤ length passes.now }
     ensures alike { (k : ℕ) (d : Pass) → first ≤ k → k < result → (slice_index_or passes.now k d).receiver ≡ (slice_index_or passes.now first d).receiver }
 {

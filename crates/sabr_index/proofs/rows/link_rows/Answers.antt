@@ -55,7 +55,7 @@ loop-first-preserved g c =
       rows = (
         h.rows.0 ++ l ∷ [],
         (c.in_ok-push.ensures {u = tt}).items ∙ ap (λ (ls : List Link). ls ++ l ∷ []) h.rows.1 ∙ append_assoc _ h.rows.0 (l ∷ []),
-        rows_more ys h.rows.0 l first (rows_kept xs row h.rows.0 first n h.within many h.rows.2) refl (record { filled = c.end_of_row-end.ensures.behind; ends = omega (arith, many, c.end_of_row-end.ensures.within); row = link }),
-        (let few = h.rows.3 in omega (arith, few, length-append h.rows.0 (l ∷ []), c.end_of_row-end.ensures.behind)),
+        rows_more ys h.rows.0 l first (rows_kept xs row h.rows.0 first n h.within many h.rows.2) refl (record { filled = c.end_of_row-end.ensures.filled; ends = omega (arith, many, c.end_of_row-end.ensures.within); row = link }),
+        (let few = h.rows.3 in omega (arith, few, length-append h.rows.0 (l ∷ []), c.end_of_row-end.ensures.filled)),
       );
     }
