@@ -17,9 +17,9 @@ use Rattle.sabr_index.specs.declared.link.Link.{Link}
 use Rattle.sabr_index.specs.declared.senders.Incoming.{Incoming}
 use Rattle.sabr_model.specs.plan.Plan.{TabledPlan, contact_named, has, are_different}
 use Rattle.sabr_model.specs.plan.Tabled.{IsTabled}
-use Rattle.sabr_index.specs.Links.{NodeLinks, IsPassOf, IsLinkOf, AreLinksOf, numbers_of, received_by, SentLink, IsLinkTo, AreLinksTo}
+use Rattle.sabr_index.specs.Links.{NodeLinks, IsPassOf, IsLinkOf, AreLinksOf, numbers_of, passes_over, received_by, SentLink, IsLinkTo, AreLinksTo}
 use Rattle.sabr_index.specs.Linking.{AreLinked}
-use Rattle.sabr_index.specs.Incoming.{passes_over, passes_at, passes_named, links_named, LieThere, HasLink, HaveReceivers, AreIncoming}
+use Rattle.sabr_index.specs.Incoming.{passes_at, passes_named, links_named, LieThere, HasLink, HaveReceivers, AreIncoming}
 use Rattle.sabr_model.proofs.ListLemmas.Different.{different_append, part_at, part_has}
 use Rattle.sabr_index.proofs.PassNumbers.{pass_of_number, number_once, numbers_part}
 use Rattle.sabr_model.proofs.RouteLemmas.Listed.{distinct_from_different}

@@ -1,5 +1,6 @@
 pub mod Links
 pub mod Linking
+pub mod Table
 pub mod Incoming
 pub mod Grouping
 pub mod Index

@@ -1,5 +1,5 @@
 -- A node's links: its standing contacts with a light time by receiver, and by start on each link.
-use Rattle.std.specs.Prelude.{IsTrue, ◌≡◌, ℕ, ◌+◌, ◌<◌, ◌≤◌, ◌==◌, List, length, map, slice_get}
+use Rattle.std.specs.Prelude.{IsTrue, ◌≡◌, ℕ, ◌+◌, ◌-◌, ◌<◌, ◌≤◌, ◌==◌, List, length, map, take, drop, slice_get}
 use Rattle.std.specs.List.{sum_by, flat_map, filter}
 use Rattle.std.specs.declared.option.Option.TheVariants.{Some}
 use Rattle.sabr_model.specs.declared.contact.Contact.{Contact}
@@ -54,6 +54,10 @@ pub record IsLinkOf (p : TabledPlan) (node : ℕ) (passes : List Pass) (l : Link
   pub in_rows : (i j : ℕ) (x y : Pass) → l.first ≤ i → i + j < l.end → slice_get passes i ≡ Some x → slice_get passes (i + j) ≡ Some y → IsInRow x j y
   pub bounds : (k : ℕ) (x : Pass) → l.first ≤ k → k < l.end → slice_get passes k ≡ Some x → IsWithin l.bounds x
 
+-- the passes over which a link lies
+abbrev pub passes_over : List Pass → Link → List Pass
+passes_over passes l = take (l.end - l.first) (drop l.first passes)
+
 -- the numbers of passes
 abbrev pub numbers_of : List Pass → List ℕ
 numbers_of passes = map (λ x. x.number) passes
@@ -77,7 +81,7 @@ pub record NodeLinks : Type 0 where
   pub links : List Link
   pub passes : List Pass
 
--- how many links so many nodes have
+-- the number of links of these nodes
 abbrev pub links_in : List NodeLinks → ℕ
 links_in linked = sum_by (λ s. length s.links) linked
 

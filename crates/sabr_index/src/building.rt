@@ -1,15 +1,15 @@
 //! How the links of each node are built.
 
-ghost use Rattle.std.specs.Prelude.{◌≡◌, ◌<◌, ◌≤◌, ◌^◌, IfOk, MatchOption, length};
+ghost use Rattle.std.specs.Prelude.{◌≡◌, ◌<◌, ◌^◌, IfOk, OnOk, MatchOption, length};
 ghost use Rattle.sabr_index.specs.Grouping.{AreByNode, AreStanding, number_at, numbers_of_places};
 ghost use Rattle.sabr_index.specs.Links.{links_in};
-ghost use Rattle.sabr_index.specs.Linking.{AreLinksOver, HasNoLight, IsPassOfNumber, AreBounded, ArePassesOf, AreLinked};
+ghost use Rattle.sabr_index.specs.Linking.{HasNoLight, IsPassOfNumber, ArePassesMore, AreLinked};
+ghost use Rattle.sabr_index.specs.Table.{IsPartMore};
 
-use crate::bounds::order_passes;
 use crate::link::{Link, Pass};
 use crate::order::ContactOrder;
-use crate::rows::write_links;
-use crate::table::{KeptLinks, LinkTable};
+use crate::rows::link_rows;
+use crate::table::{LinkTable, NodePart};
 use sabr_model::Plan;
 use std::alloc::{AllocError, Allocator};
 
@@ -25,63 +25,65 @@ pub fn link_nodes<A: Allocator + Copy>(
     ensures few { IfOk result (λ t. links_in t < 2 ^ 16) }
 {
     let count = plan.nodes();
-    let mut table = LinkTable::with_capacity(alloc, count)?;
-    let mut places = Vec::new(alloc);
+    let mut nodes = Vec::with_capacity(alloc, count)?;
     let mut links = Vec::new(alloc);
+    let mut passes = Vec::with_capacity(alloc, order.places.len())?;
+    let mut places = Vec::new(alloc);
     for index in 0..count {
         places.clear();
         order.senders.push_places(index, &mut places)?;
-        let node = links_at(alloc, plan, &order, &places, &mut links)?;
-        table.push(node)?;
+        let node = add_node(plan, &order, &places, &mut links, &mut passes)?;
+        nodes.push(node)?;
     }
-    Ok(table)
+    Ok(LinkTable::of_parts(nodes, links, passes))
 }
 
-/// Makes the links over the contacts at these places of the order. They are written into a list that is used again, and
-/// copied into one that has no more room than they take.
-fn links_at<A: Allocator + Copy>(
-    alloc: A,
+/// Adds the links over the contacts at these places of the order, which one node sends. Returns where they lie.
+fn add_node<A: Allocator + Copy>(
     plan: &Plan<A>,
     order: &ContactOrder<A>,
     places: &[u16],
-    written: &mut Vec<Link, A>,
-) -> Result<KeptLinks<A>, AllocError>
+    links: &mut Vec<Link, A>,
+    passes: &mut Vec<Pass, A>,
+) -> Result<NodePart, AllocError>
     requires there { AreStanding plan.now.plan.contacts order.now.places.items places.now }
     requires nodes { length plan.now.table < 2 ^ 16 }
     requires few { length places.now < 2 ^ 16 }
-    ensures links { IfOk result (λ s. AreLinksOver plan.now (numbers_of_places plan.now.plan.contacts order.now.places.items places.now) s.links.items s.passes.items) }
-    ensures no_more { IfOk result (λ s. length s.links.items ≤ length places.now) }
+    ensures { IfOk result (λ n. IsPartMore plan.now (numbers_of_places plan.now.plan.contacts order.now.places.items places.now) links.old.items links.new.items passes.old.items passes.new.items n) }
 {
-    let mut passes = passes_at(alloc, plan, order, places)?;
-    order_passes(&mut passes);
-    write_links(&passes, written)?;
-    let mut links = Vec::new(alloc);
-    links.extend_from_slice(written)?;
-    Ok(KeptLinks { links, passes })
+    let first_link = links.len();
+    let first_pass = passes.len();
+    push_passes(plan, order, places, passes)?;
+    link_rows(&mut passes[first_pass..], links)?;
+    Ok(NodePart {
+        first_link,
+        end_link: links.len(),
+        first_pass,
+        end_pass: passes.len(),
+    })
 }
 
-/// Makes the passes of those contacts at these places of the order that have a light time.
-fn passes_at<A: Allocator + Copy>(
-    alloc: A,
+/// Adds the passes of those contacts at these places of the order that have a light time.
+fn push_passes<A: Allocator + Copy>(
     plan: &Plan<A>,
     order: &ContactOrder<A>,
     places: &[u16],
-) -> Result<Vec<Pass, A>, AllocError>
+    passes: &mut Vec<Pass, A>,
+) -> Result<(), AllocError>
     requires there { AreStanding plan.now.plan.contacts order.now.places.items places.now }
     requires nodes { length plan.now.table < 2 ^ 16 }
-    ensures are { IfOk result (λ v. ArePassesOf plan.now (numbers_of_places plan.now.plan.contacts order.now.places.items places.now) v.items) }
-    ensures bounded { IfOk result (λ v. AreBounded v.items) }
+    ensures { OnOk result (ArePassesMore plan.now (numbers_of_places plan.now.plan.contacts order.now.places.items places.now) passes.old.items passes.new.items) }
 {
-    let mut passes = Vec::with_capacity(alloc, places.len())?;
     for place in places {
         if let Some(pass) = pass_of(plan, order.places[*place as usize] as usize) {
             passes.push(pass)?;
         }
     }
-    Ok(passes)
+    Ok(())
 }
 
 /// Makes the pass of the contact at a place, bounded by itself alone, or none if it has no light time.
+#[inline(always)]
 fn pass_of<A: Allocator + Copy>(plan: &Plan<A>, place: usize) -> Option<Pass>
     requires place { place < length plan.now.plan.contacts }
     requires few { length plan.now.table < 2 ^ 16 }

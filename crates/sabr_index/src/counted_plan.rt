@@ -1,4 +1,4 @@
-//! A plan as searches hold it: who uses a contact's record takes a look.
+//! A plan as searches hold it: a contact's record is read for a look.
 
 ghost use Rattle.std.specs.Prelude.{◌≡◌, ◌<◌, ◌≤◌, ◌+◌, ◌^◌, ◌++◌, ◌∷◌, [], ℕ, Some, None, MatchOption, IfSome, IsFalse, length, slice_get};
 ghost use Rattle.sabr_model.specs.plan.Plan.{IsPlan, contact_named, has};
@@ -101,7 +101,7 @@ impl<'p, A: Allocator + Copy> CountedPlan<'p, A> {
         self.plan.tell_rules();
     }
 
-    /// How many contacts stand.
+    /// The number of standing contacts.
     pub fn contacts(&self) -> u64
         ensures value { result ≡ length self.now.plan.contacts }
         ensures limit { result ≤ 2 ^ 60 }

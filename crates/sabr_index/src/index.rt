@@ -31,7 +31,7 @@ impl<'p, A: Allocator + Copy> Model for Index<'p, A> {
 }
 
 impl<'p, A: Allocator + Copy> Index<'p, A> {
-    /// Makes the index of a plan, or returns `NoMemory` if a growth was refused.
+    /// Makes the index of a plan, or returns `NoMemory` if an allocation failed.
     ///
     /// It takes some steps for each contact and node, and a binary search or two of the ranges for each contact whose
     /// light time the plan doesn't keep. If the contacts of a link weren't added in order of their starts, it sorts them.

@@ -1,4 +1,4 @@
-//! The record of a pass: who reads it takes a look.
+//! The record of a pass, which is read for a look.
 
 ghost use Rattle.std.specs.Prelude.{◌≡◌, ◌+◌, ◌<◌, ltb};
 

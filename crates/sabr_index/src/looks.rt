@@ -40,7 +40,7 @@ impl Looks {
         }
     }
 
-    /// How many are left.
+    /// The number of looks that are left.
     #[inline(always)]
     pub fn left(&self) -> u64
         ensures { result ≡ self.now.left }
@@ -48,7 +48,7 @@ impl Looks {
         self.left
     }
 
-    /// How many were taken.
+    /// The number of looks that were taken.
     pub fn taken(&self) -> u64
         ensures { result ≡ looks_taken self.now }
     {
@@ -64,7 +64,7 @@ impl Looks {
         self.left -= 1;
     }
 
-    /// Takes so many looks.
+    /// Takes a number of looks.
     pub fn take_many(&mut self, count: u64)
         requires few { count ≤ self.old.left }
         ensures counted { self.old.left ≡ self.new.left + count }

@@ -1,60 +1,43 @@
-//! The links over passes that are in order of their receivers.
+//! The links over the passes of a node, which are side by side where they have one receiver.
 
-ghost use Rattle.std.specs.Prelude.{◌≡◌, ◌+◌, ◌-◌, ◌^◌, ◌<◌, ◌≤◌, ℕ, OnOk, length, slice_index_or};
+ghost use Rattle.std.specs.Prelude.{◌≡◌, ◌^◌, ◌<◌, ◌≤◌, ℕ, OnOk, IsPermutation, length, slice_index_or};
 ghost use Rattle.sabr_index.specs.declared.link.Pass.{Pass};
-ghost use Rattle.sabr_index.specs.Linking.{AreRows};
+ghost use Rattle.sabr_index.specs.Linking.{AreBounded, contacts_of, AreRowsMore};
 
-use crate::link::{Link, LinkBounds, Pass};
+use crate::bounds::order_row;
+use crate::link::{Link, Pass};
 use std::alloc::{AllocError, Allocator};
 
-/// Writes the links over passes: one over each row of passes to one receiver.
-pub fn write_links<A: Allocator + Copy>(
-    passes: &[Pass],
+/// Adds the links over passes: one over each row of passes to one receiver, which it puts in order.
+pub fn link_rows<A: Allocator + Copy>(
+    passes: &mut [Pass],
     links: &mut Vec<Link, A>,
 ) -> Result<(), AllocError>
-    requires { length passes.now < 2 ^ 16 }
-    ensures rows { OnOk result (AreRows passes.now links.new.items (length passes.now)) }
-    ensures few { OnOk result (length links.new.items ≤ length passes.now) }
+    requires few { length passes.old < 2 ^ 16 }
+    requires bounded { AreBounded passes.old }
+    ensures moved { OnOk result (IsPermutation (contacts_of passes.old) (contacts_of passes.new)) }
+    ensures rows { OnOk result (AreRowsMore links.old.items links.new.items passes.new) }
 {
-    links.clear();
     let mut first = 0;
     while first < passes.len() {
+        let receiver = passes[first].receiver;
         let end = end_of_row(passes, first);
+        let bounds = order_row(&mut passes[first..end]);
         links.push(Link {
-            receiver: passes[first].receiver,
+            receiver,
             first: first as u16,
             end: end as u16,
-            bounds: bounds_of_row(passes, first, end),
+            bounds,
         })?;
         first = end;
     }
     Ok(())
 }
 
-/// Returns what bounds the passes of a link, from `first` up to `end`. The last pass has the greatest end of all, and
-/// the first the least start and the least light time.
-fn bounds_of_row(passes: &[Pass], first: usize, end: usize) -> LinkBounds
-    requires filled { first < end }
-    requires within { end ≤ length passes.now }
-    ensures ends { (d : Pass) → result.latest_end ≡ (slice_index_or passes.now (end - 1) d).latest_end }
-    ensures light { (d : Pass) → result.least_light ≡ (slice_index_or passes.now first d).least_light_behind }
-    ensures soonest { (d : Pass) → result.soonest ≤ (slice_index_or passes.now first d).start + (slice_index_or passes.now first d).least_light_behind }
-{
-    let earliest = passes[first];
-    let last = passes[end - 1];
-    LinkBounds {
-        latest_end: last.latest_end,
-        least_light: earliest.least_light_behind,
-        soonest: earliest
-            .start
-            .saturating_add(earliest.least_light_behind as u64),
-    }
-}
-
 /// Returns the place after those from `first` on that have its receiver.
-pub fn end_of_row(passes: &[Pass], first: usize) -> usize
+fn end_of_row(passes: &[Pass], first: usize) -> usize
     requires { first < length passes.now }
-    ensures behind { first < result }
+    ensures filled { first < result }
     ensures within { result ≤ length passes.now }
     ensures alike { (k : ℕ) (d : Pass) → first ≤ k → k < result → (slice_index_or passes.now k d).receiver ≡ (slice_index_or passes.now first d).receiver }
 {

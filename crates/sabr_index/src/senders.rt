@@ -47,7 +47,7 @@ impl<'a, A: Allocator + Copy> Senders<'a, A> {
         Senders { incoming, linked }
     }
 
-    /// How many links lead to the node.
+    /// The number of links to the node.
     pub fn len(&self) -> usize
         ensures { result ≡ length self.now }
     {

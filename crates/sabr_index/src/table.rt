@@ -1,43 +1,60 @@
 //! The table of the links of all nodes.
 
-ghost use Rattle.std.specs.Prelude.{◌≡◌, ◌<◌, ◌++◌, ◌∷◌, [], Some, IfOk, OnOk, length, slice_get};
+ghost use Rattle.std.specs.Prelude.{◌≡◌, ◌<◌, Some, length, slice_get};
+ghost use Rattle.sabr_index.specs.Table.{parts_of, AreParts};
 
 use crate::link::{Link, Links, Pass};
-use std::alloc::{AllocError, Allocator};
+use std::alloc::Allocator;
 use std::marker::Model;
 
-/// What the table keeps of one node: its links, and the passes that they lie over, one link after another.
-#[derive(Drop)]
-pub struct KeptLinks<A: Allocator + Copy> {
-    pub links: Vec<Link, A>,
-    pub passes: Vec<Pass, A>,
+/// Where the links of a node lie in the list of all links, and its passes in that of all passes.
+#[derive(Clone, Copy)]
+pub struct NodePart {
+    pub first_link: usize,
+    pub end_link: usize,
+    pub first_pass: usize,
+    pub end_pass: usize,
 }
 
-/// The links of each node. Contracts see the list of them.
+/// The links of each node, in one list, and the passes that they lie over, in another. Contracts see the list of the
+/// nodes' links.
 #[derive(Drop)]
 pub struct LinkTable<A: Allocator + Copy> {
-    nodes: Vec<KeptLinks<A>, A>,
+    nodes: Vec<NodePart, A>,
+    links: Vec<Link, A>,
+    passes: Vec<Pass, A>,
 }
 
 impl<A: Allocator + Copy> Model for LinkTable<A> {
-    ghost use Rattle.std.specs.Prelude.{List, map};
+    ghost use Rattle.std.specs.Prelude.{List};
     ghost use Rattle.sabr_index.specs.Links.{NodeLinks};
+    ghost use Rattle.sabr_index.specs.Table.{parts_of, AreParts};
 
     ghost Value = { List NodeLinks };
 
-    ghost view = { λ t. map (λ n. record { links = n.links.items; passes = n.passes.items }) t.nodes.items };
+    ghost view = { λ t. parts_of t.nodes.items t.links.items t.passes.items };
+
+    ghost invariant = { λ t. AreParts t.nodes.items t.links.items t.passes.items };
 }
 
 impl<A: Allocator + Copy> LinkTable<A> {
-    /// No links, with room for so many nodes.
-    pub fn with_capacity(alloc: A, count: usize) -> Result<LinkTable<A>, AllocError>
-        ensures { IfOk result (λ t. t ≡ []) }
+    /// Makes the table of these lists.
+    pub fn of_parts(
+        nodes: Vec<NodePart, A>,
+        links: Vec<Link, A>,
+        passes: Vec<Pass, A>,
+    ) -> LinkTable<A>
+        requires { AreParts nodes.items links.items passes.items }
+        ensures { result ≡ parts_of nodes.items links.items passes.items }
     {
-        let nodes = Vec::with_capacity(alloc, count)?;
-        Ok(LinkTable { nodes })
+        LinkTable {
+            nodes,
+            links,
+            passes,
+        }
     }
 
-    /// How many nodes there are.
+    /// The number of nodes.
     pub fn len(&self) -> usize
         ensures { result ≡ length self.now }
     {
@@ -45,22 +62,15 @@ impl<A: Allocator + Copy> LinkTable<A> {
     }
 
     /// The links of the node at an index.
+    #[inline(always)]
     pub fn of(&self, index: usize) -> Links<'_>
         requires { index < length self.now }
         ensures { slice_get self.now index ≡ Some (record { links = result.links.now; passes = result.passes.now }) }
     {
-        let node = &self.nodes[index];
+        let node = self.nodes[index];
         Links {
-            links: &node.links,
-            passes: &node.passes,
+            links: &self.links[node.first_link..node.end_link],
+            passes: &self.passes[node.first_pass..node.end_pass],
         }
-    }
-
-    /// Adds the links of the next node.
-    pub fn push(&mut self, node: KeptLinks<A>) -> Result<(), AllocError>
-        ensures { OnOk result (self.new ≡ self.old ++ (record { links = node.links.items; passes = node.passes.items }) ∷ []) }
-    {
-        self.nodes.push(node)?;
-        Ok(())
     }
 }

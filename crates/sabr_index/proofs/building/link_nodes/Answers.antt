@@ -1,16 +1,19 @@
-use Rattle.std.proofs.Common.{◌≡◌, ◌<◌, ◌≤◌, ◌+◌, suc, [], ◌∷◌, ◌++◌, ℕ, List, length, get_or, ap, sym, subst, ◌∙◌, arith, length-append}
+use Rattle.std.proofs.Common.{◌≡◌, ◌<◌, suc, ◌+◌, [], ◌∷◌, ◌++◌, ℕ, List, length, get_or, ap, sym, subst, ◌∙◌, arith, length-append}
 use Rattle.std.specs.Prelude.{slice_get}
-use Rattle.sabr_index.specs.Grouping.{places_of, places_below, AreStanding, numbers_of_places}
-use Rattle.sabr_index.specs.Links.{NodeLinks}
-use Rattle.sabr_index.specs.Linking.{AreSent}
+use Rattle.std.proofs.lemmas.List.{length-map}
+use Rattle.sabr_index.specs.Grouping.{places_of, places_below, AreStanding, numbers_at, numbers_of_places}
+use Rattle.sabr_index.specs.Links.{links_in}
+use Rattle.sabr_index.specs.Linking.{AreSent, AreLinked}
+use Rattle.sabr_index.specs.Table.{part_of, parts_of}
 use Rattle.sabr_index.proofs.GroupLemmas.{place_in, few_of, few_below}
 use Rattle.sabr_index.proofs.ContactOrders.{in_at}
 use Rattle.sabr_index.proofs.LinkLemmas.{linked_more}
+use Rattle.sabr_index.proofs.TableLemmas.{part_more}
 use Rattle.sabr_index.proofs.IncomingLemmas.{links_push}
 use Rattle.sabr_index.proofs.building.link_nodes.Goals as goal
 
-pub links_at-requires : goal.links_at-requires
-links_at-requires g c =
+pub add_node-requires : goal.add_node-requires
+add_node-requires g c =
     let h = c.requires in
     let i = c.loop-index.index in
     let places = places_of h.senders i (length h.senders) in
@@ -32,36 +35,42 @@ loop-index-preserved g c =
     let h = c.requires in
     let order = c.args.order.places.items in
     let i = c.loop-index.index in
-    let places = places_of h.senders i (length h.senders) in
-    let read : c.deref.result.now ≡ places = c.deref.ensures.value ∙ c.in_ok-push_places.ensures h.senders h.chains ∙ ap (λ (ns : List ℕ). ns ++ places) c.clear.ensures.items in
-    let node : NodeLinks = record { links = c.in_ok-node.node.links.items; passes = c.in_ok-node.node.passes.items } in
-    let pushed : c.push.new.self ≡ c.loop-index.table ++ node ∷ [] = c.in_ok-push.ensures {u = tt} in
-    record {
-      as_many = rw pushed (omega (arith, c.loop-index.invariant.as_many, length-append c.loop-index.table (node ∷ [])));
+    let is = c.loop-index.invariant in
+    let read : (senders : List ℕ) → _ → c.deref.result.now ≡ places_of senders i (length senders) = λ senders chains. c.deref.ensures.value ∙ c.in_ok-push_places.ensures senders chains ∙ ap (λ (ns : List ℕ). ns ++ places_of senders i (length senders)) c.clear.ensures.items in
+    let w = c.in_ok-node.ensures {u = tt} in
+    let parts = parts_of c.loop-index.nodes.items c.loop-index.links.items c.loop-index.passes.items in
+    let more = part_more p (numbers_of_places p.plan.contacts order c.deref.result.now) c.loop-index.nodes.items c.loop-index.links.items c.add_node.new.links.items c.loop-index.passes.items c.add_node.new.passes.items c.in_ok-node.node is.parts w in
+    let many : length parts ≡ i = length-map c.loop-index.nodes.items (part_of c.loop-index.links.items c.loop-index.passes.items) ∙ is.as_many in
+    rw (c.in_ok-push.ensures {u = tt}).items
+    (record {
+      as_many = omega (arith, is.as_many, length-append c.loop-index.nodes.items (c.in_ok-node.node ∷ []));
+      parts = more.1;
       linked =
-          rw pushed
-          (linked_more p c.loop-index.table node c.loop-index.invariant.linked (λ n e.
-          c.in_ok-node.ensures.links n (subst (λ (ns : List ℕ). AreSent p.plan n (numbers_of_places p.plan.contacts order ns)) (sym read) (h.sent i n (ap (slice_get p.table) (sym c.loop-index.invariant.as_many) ∙ e)))));
+          subst (AreLinked p) (sym more.0)
+          (linked_more p parts w.own is.linked (λ n e.
+          w.over n (subst (λ (ns : List ℕ). AreSent p.plan n (numbers_of_places p.plan.contacts order ns)) (sym (read h.senders h.chains)) (h.sent i n (ap (slice_get p.table) (sym many) ∙ e)))));
       few = λ senders chains.
           let group = places_of senders i (length senders) in
-          let got : c.deref.result.now ≡ group = c.deref.ensures.value ∙ c.in_ok-push_places.ensures senders chains ∙ ap (λ (ns : List ℕ). ns ++ group) c.clear.ensures.items in
-          let no_more : length node.links ≤ length c.deref.result.now = c.in_ok-node.ensures.no_more in
           let step : places_below senders (i + 1) ≡ group ++ places_below senders i = (let next : i + 1 ≡ suc i = omega arith in ap (places_below senders) next) in
-          let so_far = c.loop-index.invariant.few senders chains in
-          rw pushed
-          (omega (
+          let so_far = is.few senders chains in
+          omega (
             arith,
-            links_push c.loop-index.table node,
+            ap links_in more.0,
+            links_push parts w.own,
             so_far,
-            no_more,
-            ap (λ (ns : List ℕ). length ns) got,
+            w.few,
+            length-map c.deref.result.now (λ q. get_or (numbers_at p.plan.contacts order) q 0),
+            ap (λ (ns : List ℕ). length ns) (read senders chains),
             ap (λ (ns : List ℕ). length ns) step,
             length-append group (places_below senders i),
-          ));
-    }
+          );
+    })
 
 pub returns-clause-few : goal.returns-clause-few
 returns-clause-few g c =
     let h = c.requires in
     let all = c.loop-index.invariant.few h.senders h.chains in
-    omega (arith, all, few_below h.senders c.loop-index.index, h.as_many, h.few)
+    rw c.of_parts.ensures (omega (arith, all, few_below h.senders c.loop-index.index, h.as_many, h.few))
+
+pub returns-clause-linked : goal.returns-clause-linked
+returns-clause-linked g c = subst (AreLinked c.args.plan.now) (sym c.of_parts.ensures) c.loop-index.invariant.linked

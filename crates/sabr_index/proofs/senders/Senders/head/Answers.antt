@@ -5,8 +5,8 @@ use Rattle.std.proofs.lemmas.List.{length-map}
 use Rattle.std.proofs.lemmas.Option.{slice_get-map, slice_get-get_or}
 use Rattle.sabr_index.specs.declared.link.Link.{Link}
 use Rattle.sabr_index.specs.declared.senders.Incoming.{Incoming}
-use Rattle.sabr_index.specs.Links.{NodeLinks, SentLink}
-use Rattle.sabr_index.specs.Incoming.{passes_over, passes_at, passes_named, LiesOver}
+use Rattle.sabr_index.specs.Links.{NodeLinks, SentLink, passes_over}
+use Rattle.sabr_index.specs.Incoming.{passes_at, passes_named, LiesOver}
 use Rattle.sabr_index.proofs.senders.Senders.head.Goals as goal
 
 pub returns : goal.returns

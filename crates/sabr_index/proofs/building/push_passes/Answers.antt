@@ -1,12 +1,13 @@
-use Rattle.std.proofs.Common.{◌≡◌, ◌<◌, ◌∙◌, ℕ, length, map, get_or, sym, ap, arith}
+use Rattle.std.proofs.Common.{◌≡◌, ◌<◌, ◌++◌, ◌∷◌, [], ◌∙◌, ℕ, List, length, map, get_or, sym, ap, arith, append_assoc}
 use Rattle.std.proofs.lemmas.List.{get_or-map, get_or_read, length-map}
 use Rattle.std.proofs.lemmas.List.Elements.{All-push}
 use Rattle.sabr_model.specs.declared.contact.Contact.{Contact}
+use Rattle.sabr_index.specs.declared.link.Pass.{Pass}
 use Rattle.sabr_index.specs.Grouping.{numbers_at, numbers_of_places}
 use Rattle.sabr_index.specs.Linking.{IsBounded}
 use Rattle.sabr_index.proofs.LinkLemmas.{passes_more, passes_skip}
-use Rattle.sabr_index.proofs.building.passes_at.Goals as goal
-use Rattle.sabr_index.proofs.building.passes_at.Goals.{in-Some+in_ok-push, in_default}
+use Rattle.sabr_index.proofs.building.push_passes.Goals as goal
+use Rattle.sabr_index.proofs.building.push_passes.Goals.{in-Some+in_ok-push, in_default}
 
 pub loop-place-preserved : goal.loop-place-preserved
 loop-place-preserved g c =
@@ -23,16 +24,15 @@ loop-place-preserved g c =
     let lt : i < length numbers = omega (arith, c.loop-place-test.true, length-map places number) in
     let at : n ≡ number q = ap number_of (get_or_read order q c.index.result.now standing c.index.ensures 0) ∙ sym (get_or-map number_of order q 0 0 standing) in
     let here : n ≡ get_or numbers i n = at ∙ sym (get_or-map number places i 0 n c.loop-place-test.true) in
-    let xs = c.loop-place.passes.items in
+    let h = c.loop-place.invariant in
     elim c.match-pass_of.branch [
       | in-Some+in_ok-push w ↦
-          record {
-            are = rw (w.passes-is, w.in_ok-push.ensures.items) (passes_more p numbers i n _ xs lt here c.loop-place.invariant.are w.in-Some.ensures);
-            bounded = rw (w.passes-is, w.in_ok-push.ensures.items) (All-push IsBounded xs _ c.loop-place.invariant.bounded w.in-Some.ensures.2);
-          }
-      | in_default w ↦
-          record {
-            are = rw w.passes-is (passes_skip p numbers i n xs lt here c.loop-place.invariant.are w.in_default.ensures);
-            bounded = rw w.passes-is c.loop-place.invariant.bounded;
-          }
+          let x = w.in-Some.pass in
+          rw w.passes-is (
+            h.0 ++ x ∷ [],
+            w.in_ok-push.ensures.items ∙ ap (λ (xs : List Pass). xs ++ x ∷ []) h.1 ∙ append_assoc _ h.0 (x ∷ []),
+            passes_more p numbers i n x h.0 lt here h.2 w.in-Some.ensures,
+            All-push IsBounded h.0 x h.3 w.in-Some.ensures.2,
+          )
+      | in_default w ↦ rw w.passes-is (h.0, h.1, passes_skip p numbers i n h.0 lt here h.2 w.in_default.ensures, h.3)
     ]

@@ -1,0 +1,54 @@
+-- The parts of nodes in the lists of all links and passes.
+use Rattle.std.proofs.Common.{◌≡◌, ℕ, ◌+◌, ◌-◌, ◌≤◌, List, [], ◌∷◌, ◌++◌, length, take, drop, refl, sym, ap, ◌∙◌, arith, length-append, length-drop}
+use Rattle.std.proofs.lemmas.List.{drop_at, drop-append-le, take-append-le, map-append}
+use Rattle.std.proofs.lemmas.List.Elements.{All-head, All-tail, All-push, All-weaker}
+use Rattle.std.proofs.lemmas.Slice.{between_to_end}
+use Rattle.sabr_model.specs.plan.Plan.{TabledPlan}
+use Rattle.sabr_index.specs.declared.link.Link.{Link}
+use Rattle.sabr_index.specs.declared.link.Pass.{Pass}
+use Rattle.sabr_index.specs.declared.table.NodePart.{NodePart}
+use Rattle.sabr_index.specs.Links.{NodeLinks}
+use Rattle.sabr_index.specs.Table.{part_of, parts_of, LiesIn, AreParts, IsPartMore}
+
+module _ {X : Type 0} where
+  -- a part is the same in a longer list
+  same_part : (xs ys : List X) (first end : ℕ) → first ≤ end → end ≤ length xs → take (end - first) (drop first (xs ++ ys)) ≡ take (end - first) (drop first xs)
+  same_part xs ys first end rise within =
+      ap (take (end - first)) (drop-append-le first xs ys (omega (arith, rise, within))) ∙ take-append-le (end - first) (drop first xs) ys (omega (arith, length-drop first xs, within))
+
+  -- what was added is a part
+  own_part : (xs ys all : List X) (first end : ℕ) → all ≡ xs ++ ys → first ≡ length xs → end ≡ length all → take (end - first) (drop first all) ≡ ys
+  own_part xs ys all first end are first_is end_is = between_to_end all first end (omega (arith, end_is)) ∙ ap (drop first) are ∙ drop_at xs ys first (sym first_is)
+
+-- the parts are the same in longer lists
+parts_same : (nodes : List NodePart) (links more : List Link) (passes others : List Pass) → AreParts nodes links passes → parts_of nodes (links ++ more) (passes ++ others) ≡ parts_of nodes links passes
+parts_same [] links more passes others lie = refl
+parts_same (n ∷ ns) links more passes others lie =
+    let h = All-head (LiesIn (length links) (length passes)) n ns lie in
+    let rest = parts_same ns links more passes others (All-tail (LiesIn (length links) (length passes)) n ns lie) in
+    let own_links = same_part links more n.first_link n.end_link h.links_rise h.links_end in
+    let own_passes = same_part passes others n.first_pass n.end_pass h.passes_rise h.passes_end in
+    let one : part_of (links ++ more) (passes ++ others) n ≡ part_of links passes n =
+    ap (λ (ls : List Link). record { links = ls; passes = take (n.end_pass - n.first_pass) (drop n.first_pass (passes ++ others)) }) own_links
+    ∙ ap (λ (ps : List Pass). record { links = take (n.end_link - n.first_link) (drop n.first_link links); passes = ps }) own_passes in
+    ap (λ (s : NodeLinks). s ∷ parts_of ns (links ++ more) (passes ++ others)) one ∙ ap (λ (ss : List NodeLinks). part_of links passes n ∷ ss) rest
+
+-- a part more
+pub part_more : (p : TabledPlan) (numbers : List ℕ) (nodes : List NodePart) (links new_links : List Link) (passes new_passes : List Pass) (n : NodePart) → AreParts nodes links passes → (h : IsPartMore p numbers links new_links passes new_passes n)
+    → (parts_of (nodes ++ n ∷ []) new_links new_passes ≡ parts_of nodes links passes ++ h.own ∷ []) × AreParts (nodes ++ n ∷ []) new_links new_passes
+part_more p numbers nodes links new_links passes new_passes n lie h =
+    let many_links : length new_links ≡ length links + length h.own.links = ap (λ (ls : List Link). length ls) h.links_are ∙ length-append links h.own.links in
+    let many_passes : length new_passes ≡ length passes + length h.own.passes = ap (λ (ps : List Pass). length ps) h.passes_are ∙ length-append passes h.own.passes in
+    let old : parts_of nodes new_links new_passes ≡ parts_of nodes links passes =
+    ap (λ (ls : List Link). parts_of nodes ls new_passes) h.links_are ∙ ap (parts_of nodes (links ++ h.own.links)) h.passes_are ∙ parts_same nodes links h.own.links passes h.own.passes lie in
+    let own : part_of new_links new_passes n ≡ h.own =
+    ap (λ (ls : List Link). record { links = ls; passes = take (n.end_pass - n.first_pass) (drop n.first_pass new_passes) }) (own_part links h.own.links new_links n.first_link n.end_link h.links_are h.first_link h.end_link)
+    ∙ ap (λ (ps : List Pass). record { links = h.own.links; passes = ps }) (own_part passes h.own.passes new_passes n.first_pass n.end_pass h.passes_are h.first_pass h.end_pass) in (
+      map-append (part_of new_links new_passes) nodes (n ∷ [])
+          ∙ ap (λ (ss : List NodeLinks). ss ++ part_of new_links new_passes n ∷ []) old
+          ∙ ap (λ (s : NodeLinks). parts_of nodes links passes ++ s ∷ []) own,
+      All-push (LiesIn (length new_links) (length new_passes)) nodes n
+          (All-weaker (LiesIn (length links) (length passes)) (LiesIn (length new_links) (length new_passes))
+          (λ m l. record { links_rise = l.links_rise; links_end = omega (arith, l.links_end, many_links); passes_rise = l.passes_rise; passes_end = omega (arith, l.passes_end, many_passes) }) nodes lie)
+          (record { links_rise = omega (arith, h.first_link, h.end_link, many_links); links_end = omega (arith, h.end_link); passes_rise = omega (arith, h.first_pass, h.end_pass, many_passes); passes_end = omega (arith, h.end_pass) }),
+    )
