@@ -175,9 +175,7 @@ pub fn table_of<A: Allocator + Copy>(
         let found = note_contact(alloc, &mut table, contact, guess)?;
         note_guess(&mut guesses, contact.from, guess.0, found.0);
         note_guess(&mut guesses, contact.to, guess.1, found.1);
-        let from = found.0 as u16;
-        let to = found.1 as u16;
-        ends.push_reserved(Ends { from, to });
+        ends.push_reserved(Ends::of(found.0, found.1));
     }
     Ok((table, ends))
 }

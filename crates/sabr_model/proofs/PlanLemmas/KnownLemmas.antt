@@ -1,15 +1,14 @@
 -- What a plan stores of its contacts.
 use Rattle.std.proofs.Common.{◌≡◌, ℕ, zero, suc, ◌+◌, ◌<◌, ◌≤◌, true, ◌||◌, eqb, List, [], ◌∷◌, ◌++◌, length, get_or, take, refl, sym, ap, ◌∙◌, inl, inr, arith, length-append}
-use Rattle.std.specs.Prelude.{slice_get, Some, Vec}
+use Rattle.std.specs.Prelude.{Vec}
 use Rattle.std.proofs.Math.ListN.{get_or-append}
 use Rattle.std.proofs.Math.Seq.{get_or-append_seam}
 use Rattle.std.proofs.lemmas.Bool.{or_left, or_right, eq-eqb, cases_lt}
 use Rattle.std.proofs.lemmas.List.{get_or_default}
-use Rattle.std.proofs.lemmas.Option.{slice_get-get_or}
 use Rattle.indexmap.specs.IndexMap.{IndexMap, keys}
 use Rattle.sabr_model.specs.declared.contact.Contact.{Contact}
 use Rattle.sabr_model.specs.declared.plan.ends.Ends.{Ends}
-use Rattle.sabr_model.specs.plan.Plan.{ContactPlan, TabledPlan, contact_named, has}
+use Rattle.sabr_model.specs.plan.Plan.{TabledPlan, has}
 use Rattle.sabr_model.specs.plan.Table.{ends_of, KeepsPlaces, IsTableOf}
 use Rattle.sabr_model.specs.plan.ContactEnds.{AreEndsOf, AreEnds}
 use Rattle.sabr_model.specs.plan.Known.{IsKnown}
@@ -75,10 +74,6 @@ sender_there (c ∷ cs) (suc k) d lt =
 -- and both are in the table
 pub both_in_table : {S A : Type 0} (cs : List Contact) (table : IndexMap ℕ (Vec ℕ A) S) → IsTableOf cs table → (k : ℕ) (d : Contact) → k < length cs → (has (get_or cs k d).from (keys table) ≡ true) × (has (get_or cs k d).to (keys table) ≡ true)
 both_in_table cs table h k d lt = (has_node cs table (get_or cs k d).from h ∙ sender_there cs k d lt, has_node cs table (get_or cs k d).to h ∙ receiver_there cs k d lt)
-
--- the contact at the place of a number is the one that it names
-pub named_at : (p : ContactPlan) (n k : ℕ) (x : Contact) → (k < length p.contacts) × (contact_named p n ≡ slice_get p.contacts k) → x ≡ get_or p.contacts k x → contact_named p n ≡ Some x
-named_at p n k x here is = here.1 ∙ slice_get-get_or p.contacts k x here.0 ∙ ap Some (sym is)
 
 -- to take as many as there are is to take all
 pub take_enough : {X : Type 0} (n : ℕ) (xs : List X) → length xs ≤ n → take n xs ≡ xs

@@ -46,15 +46,6 @@ none_sent {A = A} cs table q h e =
     let none : None ≡ then_some (has q (ends_of cs)) (sent_by cs q) = ap (option_map (λ (v : Vec ℕ A). v.items)) e ∙ h.lists q in
     sym (sends_nothing cs q (then_none (has q (ends_of cs)) (sent_by cs q) none))
 
--- if there is a value, it is the one that was given
-then_some_is : {X : Type 0} (b : Bool) (x y : X) → Some y ≡ then_some b x → y ≡ x
-then_some_is true x y e = cc
-then_some_is false x y e = absurd cc
-
--- a node's list in the table is what it sends
-pub some_sent : {S A : Type 0} (cs : List Contact) (table : IndexMap ℕ (Vec ℕ A) S) (q : ℕ) (xs : List ℕ) → IsTableOf cs table → list_at table q ≡ Some xs → xs ≡ sent_by cs q
-some_sent cs table q xs h e = then_some_is (has q (ends_of cs)) (sent_by cs q) xs (sym e ∙ h.lists q)
-
 -- there is a value if and only if the condition is true
 is_some-then_some : {X : Type 0} (b : Bool) (x : X) → is_some (then_some b x) ≡ b
 is_some-then_some true x = refl

@@ -46,12 +46,7 @@ impl<A: Allocator + Copy> Plan<A> {
         self.contacts.reserve(1)?;
         self.ends.reserve(1)?;
         let both = note_contact(self.alloc, &mut self.table, &contact, (0, 0))?;
-        let sender = both.0 as u16;
-        let receiver = both.1 as u16;
-        self.ends.push_reserved(Ends {
-            from: sender,
-            to: receiver,
-        });
+        self.ends.push_reserved(Ends::of(both.0, both.1));
         self.lights.clear();
         self.contacts.push_reserved(contact);
         self.greatest = number;

@@ -1,6 +1,6 @@
 //! The ends of contacts, as indexes in the table of nodes.
 
-ghost use Rattle.std.specs.Prelude.{◌≡◌, ◌<◌, ◌≤◌, Some, IsTrue, length, slice_get, slice_index_or, vec_capacity};
+ghost use Rattle.std.specs.Prelude.{◌≡◌, ◌<◌, ◌≤◌, ◌^◌, Some, IsTrue, length, slice_get, slice_index_or, vec_capacity};
 ghost use Rattle.indexmap.specs.IndexMap.{keys};
 ghost use Rattle.sabr_model.specs.declared.contact.Contact.{Contact};
 ghost use Rattle.sabr_model.specs.plan.Plan.{has, most_records};
@@ -17,6 +17,21 @@ use std::alloc::Allocator;
 pub struct Ends {
     pub from: u16,
     pub to: u16,
+}
+
+impl Ends {
+    /// Makes the ends of these indexes.
+    #[inline(always)]
+    pub(crate) fn of(from: usize, to: usize) -> Ends
+        requires from { from < 2 ^ 16 }
+        requires to { to < 2 ^ 16 }
+        ensures { result ≡ record { from = from; to = to } }
+    {
+        Ends {
+            from: from as u16,
+            to: to as u16,
+        }
+    }
 }
 
 impl<A: Allocator + Copy> Plan<A> {
@@ -50,9 +65,9 @@ pub fn look_up_ends<A: Allocator + Copy>(
 {
     ends.clear();
     for contact in contacts {
-        let from = index_of(table, contact.from) as u16;
-        let to = index_of(table, contact.to) as u16;
-        ends.push_reserved(Ends { from, to });
+        let from = index_of(table, contact.from);
+        let to = index_of(table, contact.to);
+        ends.push_reserved(Ends::of(from, to));
     }
 }
 

@@ -10,25 +10,18 @@ use Rattle.sabr_model.proofs.PlanLemmas.TableLemmas.{IsTableOf-push}
 use Rattle.sabr_model.proofs.PlanLemmas.Limits.{short_index}
 use Rattle.sabr_model.proofs.node_table.table_of.Goals as goal
 
-pub overflow_cast-from : goal.overflow_cast-from
-overflow_cast-from g c =
+pub of-requires : goal.of-requires
+of-requires g c =
     let cs = c.args.contacts.now in
     let i = c.loop-contact.contact-index in
     let noted = c.in_ok-found.ensures in
+    let table = c.note_contact.new.table in
     let few : length (take (i + 1) cs) ≤ 20000 = omega (arith, c.requires, length-take (i + 1) cs) in
-    let more = IsTableOf-push _ _ c.loop-contact.table c.note_contact.new.table c.loop-contact.invariant.table noted.unique noted.ok in
-    let short = short_index (take (i + 1) cs) c.note_contact.new.table c.in_ok-found.found.0 _ (subst (λ ds. IsTableOf ds c.note_contact.new.table) (sym (take_more cs i _ c.loop-contact-test.true)) more) few noted.ends.from in
-    omega (arith, short)
-
-pub overflow_cast-to : goal.overflow_cast-to
-overflow_cast-to g c =
-    let cs = c.args.contacts.now in
-    let i = c.loop-contact.contact-index in
-    let noted = c.in_ok-found.ensures in
-    let few : length (take (i + 1) cs) ≤ 20000 = omega (arith, c.requires, length-take (i + 1) cs) in
-    let more = IsTableOf-push _ _ c.loop-contact.table c.note_contact.new.table c.loop-contact.invariant.table noted.unique noted.ok in
-    let short = short_index (take (i + 1) cs) c.note_contact.new.table c.in_ok-found.found.1 _ (subst (λ ds. IsTableOf ds c.note_contact.new.table) (sym (take_more cs i _ c.loop-contact-test.true)) more) few noted.ends.to in
-    omega (arith, short)
+    let more = subst (λ ds. IsTableOf ds table) (sym (take_more cs i _ c.loop-contact-test.true)) (IsTableOf-push _ _ c.loop-contact.table table c.loop-contact.invariant.table noted.unique noted.ok) in
+    record {
+      from = short_index (take (i + 1) cs) table c.in_ok-found.found.0 _ more few noted.ends.from;
+      to = short_index (take (i + 1) cs) table c.in_ok-found.found.1 _ more few noted.ends.to;
+    }
 
 pub loop-contact-preserved : goal.loop-contact-preserved
 loop-contact-preserved g c =
@@ -42,7 +35,7 @@ loop-contact-preserved g c =
     let more = ends_push (keys c.loop-contact.table) (keys table) (take i cs) c.loop-contact.ends.items (get_or cs i none) both noted.places c.loop-contact.invariant.ends noted.ends in
     record {
       table = subst (λ ds. IsTableOf ds table) seam (IsTableOf-push _ _ c.loop-contact.table table c.loop-contact.invariant.table noted.unique noted.ok);
-      ends = rw c.push_reserved.ensures.items (subst (λ (ds : List Contact). AreEnds (keys table) ds (c.loop-contact.ends.items ++ both ∷ [])) seam more);
+      ends = rw (c.push_reserved.ensures.items, c.of.ensures) (subst (λ (ds : List Contact). AreEnds (keys table) ds (c.loop-contact.ends.items ++ both ∷ [])) seam more);
       room = omega (arith, c.push_reserved.ensures.capacity, c.loop-contact.invariant.room);
     }
 

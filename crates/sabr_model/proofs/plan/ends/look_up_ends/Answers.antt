@@ -13,20 +13,16 @@ index_of-from-requires g c =
     let none : Contact = record { number = 0; from = 0; to = 0; start = 0; end = 0; rate = 0 } in
     (both_in_table c.args.contacts.now c.args.table.now c.requires.table c.loop-contact.contact-index none c.loop-contact-test.true).0
 
-pub overflow_cast-from : goal.overflow_cast-from
-overflow_cast-from g c =
-    let short = short_index c.args.contacts.now c.args.table.now c.index_of-from.result _ c.requires.table c.requires.few c.index_of-from.ensures in
-    omega (arith, short)
-
 pub index_of-to-requires : goal.index_of-to-requires
 index_of-to-requires g c =
     let none : Contact = record { number = 0; from = 0; to = 0; start = 0; end = 0; rate = 0 } in
     (both_in_table c.args.contacts.now c.args.table.now c.requires.table c.loop-contact.contact-index none c.loop-contact-test.true).1
 
-pub overflow_cast-to : goal.overflow_cast-to
-overflow_cast-to g c =
-    let short = short_index c.args.contacts.now c.args.table.now c.index_of-to.result _ c.requires.table c.requires.few c.index_of-to.ensures in
-    omega (arith, short)
+pub of-requires : goal.of-requires
+of-requires g c = record {
+  from = short_index c.args.contacts.now c.args.table.now c.index_of-from.result _ c.requires.table c.requires.few c.index_of-from.ensures;
+  to = short_index c.args.contacts.now c.args.table.now c.index_of-to.result _ c.requires.table c.requires.few c.index_of-to.ensures;
+}
 
 pub loop-contact-preserved : goal.loop-contact-preserved
 loop-contact-preserved g c =
@@ -37,7 +33,7 @@ loop-contact-preserved g c =
     let both : Ends = record { from = c.index_of-from.result; to = c.index_of-to.result } in
     let more = ends_push ks ks (take i cs) c.loop-contact.ends.items (get_or cs i none) both (λ k n at. at) c.loop-contact.invariant.ends (record { from = c.index_of-from.ensures; to = c.index_of-to.ensures }) in
     record {
-      ends = rw c.push_reserved.ensures.items (subst (λ (ds : List Contact). AreEnds ks ds (c.loop-contact.ends.items ++ both ∷ [])) (sym (take_more cs i none c.loop-contact-test.true)) more);
+      ends = rw (c.push_reserved.ensures.items, c.of.ensures) (subst (λ (ds : List Contact). AreEnds ks ds (c.loop-contact.ends.items ++ both ∷ [])) (sym (take_more cs i none c.loop-contact-test.true)) more);
       room = omega (arith, c.push_reserved.ensures.capacity, c.loop-contact.invariant.room);
     }
 
