@@ -5,7 +5,6 @@ mod bounds;
 mod building;
 mod counted_plan;
 mod ends;
-mod grouping;
 mod incoming;
 mod index;
 mod link;
