@@ -1,7 +1,8 @@
 pub mod Links
 pub mod Linking
 pub mod Table
+pub mod Counting
 pub mod Incoming
-pub mod Grouping
+pub mod Order
 pub mod Index
 pub mod Looks

@@ -1,7 +1,7 @@
 //! How the links of each node are built.
 
-ghost use Rattle.std.specs.Prelude.{◌≡◌, ◌<◌, ◌^◌, IfOk, OnOk, MatchOption, length};
-ghost use Rattle.sabr_index.specs.Grouping.{AreByNode, AreStanding, number_at, numbers_of_places};
+ghost use Rattle.std.specs.Prelude.{◌≡◌, ◌<◌, ◌^◌, All, IfOk, OnOk, MatchOption, length};
+ghost use Rattle.sabr_index.specs.Order.{AreByNode, number_at, numbers_at};
 ghost use Rattle.sabr_index.specs.Links.{links_in};
 ghost use Rattle.sabr_index.specs.Linking.{HasNoLight, IsPassOfNumber, ArePassesMore, AreLinked};
 ghost use Rattle.sabr_index.specs.Table.{IsPartMore};
@@ -19,7 +19,7 @@ pub fn link_nodes<A: Allocator + Copy>(
     plan: &Plan<A>,
     order: ContactOrder<A>,
 ) -> Result<LinkTable<A>, AllocError>
-    requires { AreByNode plan.now.plan plan.now.table order.places.items order.senders.lasts.items order.senders.befores.items }
+    requires { AreByNode plan.now.plan plan.now.table order.starts.items order.places.items }
     ensures linked { IfOk result (λ t. AreLinked plan.now t) }
     ensures as_many { IfOk result (λ t. length t ≡ length plan.now.table) }
     ensures few { IfOk result (λ t. links_in t < 2 ^ 16) }
@@ -28,32 +28,28 @@ pub fn link_nodes<A: Allocator + Copy>(
     let mut nodes = Vec::with_capacity(alloc, count)?;
     let mut links = Vec::new(alloc);
     let mut passes = Vec::with_capacity(alloc, order.places.len())?;
-    let mut places = Vec::new(alloc);
     for index in 0..count {
-        places.clear();
-        order.senders.push_places(index, &mut places)?;
-        let node = add_node(plan, &order, &places, &mut links, &mut passes)?;
+        let node = add_node(plan, order.of(index), &mut links, &mut passes)?;
         nodes.push(node)?;
     }
     Ok(LinkTable::of_parts(nodes, links, passes))
 }
 
-/// Adds the links over the contacts at these places of the order, which one node sends. Returns where they lie.
+/// Adds the links over the contacts at these places, which one node sends. Returns where they lie.
 fn add_node<A: Allocator + Copy>(
     plan: &Plan<A>,
-    order: &ContactOrder<A>,
     places: &[u16],
     links: &mut Vec<Link, A>,
     passes: &mut Vec<Pass, A>,
 ) -> Result<NodePart, AllocError>
-    requires there { AreStanding plan.now.plan.contacts order.now.places.items places.now }
+    requires there { All (λ q. q < length plan.now.plan.contacts) places.now }
     requires nodes { length plan.now.table < 2 ^ 16 }
     requires few { length places.now < 2 ^ 16 }
-    ensures { IfOk result (λ n. IsPartMore plan.now (numbers_of_places plan.now.plan.contacts order.now.places.items places.now) links.old.items links.new.items passes.old.items passes.new.items n) }
+    ensures { IfOk result (λ n. IsPartMore plan.now (numbers_at plan.now.plan.contacts places.now) links.old.items links.new.items passes.old.items passes.new.items n) }
 {
     let first_link = links.len();
     let first_pass = passes.len();
-    push_passes(plan, order, places, passes)?;
+    push_passes(plan, places, passes)?;
     link_rows(&mut passes[first_pass..], links)?;
     Ok(NodePart {
         first_link,
@@ -63,19 +59,18 @@ fn add_node<A: Allocator + Copy>(
     })
 }
 
-/// Adds the passes of those contacts at these places of the order that have a light time.
+/// Adds the passes of those contacts at these places that have a light time.
 fn push_passes<A: Allocator + Copy>(
     plan: &Plan<A>,
-    order: &ContactOrder<A>,
     places: &[u16],
     passes: &mut Vec<Pass, A>,
 ) -> Result<(), AllocError>
-    requires there { AreStanding plan.now.plan.contacts order.now.places.items places.now }
+    requires there { All (λ q. q < length plan.now.plan.contacts) places.now }
     requires nodes { length plan.now.table < 2 ^ 16 }
-    ensures { OnOk result (ArePassesMore plan.now (numbers_of_places plan.now.plan.contacts order.now.places.items places.now) passes.old.items passes.new.items) }
+    ensures { OnOk result (ArePassesMore plan.now (numbers_at plan.now.plan.contacts places.now) passes.old.items passes.new.items) }
 {
     for place in places {
-        if let Some(pass) = pass_of(plan, order.places[*place as usize] as usize) {
+        if let Some(pass) = pass_of(plan, *place as usize) {
             passes.push(pass)?;
         }
     }

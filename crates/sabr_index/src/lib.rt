@@ -4,7 +4,6 @@
 mod bounds;
 mod building;
 mod counted_plan;
-mod grouping;
 mod incoming;
 mod index;
 mod link;

@@ -14,13 +14,13 @@ pub struct Pass {
     pub(crate) start: u64,
     /// The first second at which the contact can no longer be used.
     pub(crate) end: u64,
-    /// The greatest end of this contact and those before it on the link.
+    /// The largest end of this contact and those before it on the link.
     pub latest_end: u64,
-    /// The least light time of this contact and those before it on the link.
+    /// The smallest light time of this contact and those before it on the link.
     pub least_light_before: u32,
-    /// The least light time of this contact and those after it on the link.
+    /// The smallest light time of this contact and those after it on the link.
     pub least_light_behind: u32,
-    /// The least number of this contact and those after it on the link.
+    /// The smallest number of this contact and those after it on the link.
     pub least_number_behind: u32,
     /// The index of its receiver in the table of nodes.
     pub(crate) receiver: u16,
@@ -59,8 +59,8 @@ pub struct Links<'a> {
     pub passes: &'a [Pass],
 }
 
-/// What is compared before a link to a node is read: the index of its sender in the table of nodes, and two of the bounds
-/// for all of its passes.
+/// What is compared before a link to a node is read: the index of its sender in the table of nodes, and two of the
+/// bounds for all of its passes.
 #[derive(Clone, Copy)]
 pub struct SenderHead {
     pub node: usize,

@@ -16,7 +16,8 @@ use Rattle.sabr_model.specs.plan.Plan.{ContactPlan, most_records, opens, overlap
 abbrev pub next_contact : ContactPlan → ℕ → ℕ → ℕ → ℕ → ℕ → Contact
 next_contact p from to start end rate = record { number = p.greatest + 1; from = from; to = to; start = start; end = end; rate = rate }
 
--- the first reason to refuse a record between two nodes over a window, if the plan has one that clashes with it, and so many
+-- the first reason to refuse a record between two nodes over a window, if the plan has one that clashes with it, and
+-- that many
 abbrev pub first_refusal : ℕ → ℕ → ℕ → ℕ → Bool → AddFault → ℕ → Option AddFault
 first_refusal one other start end clashes clash count =
     if nat_le end start then Some EmptyWindow

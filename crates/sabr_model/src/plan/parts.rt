@@ -11,7 +11,7 @@ use crate::node_table::table_of;
 use std::alloc::Allocator;
 
 impl<A: Allocator + Copy> Plan<A> {
-    /// Makes the plan of these contacts and ranges, where `greatest` is the largest number ever assigned.
+    /// Makes the plan of these contacts and ranges, where `largest` is the largest number ever assigned.
     ///
     ///
     /// Its time grows with the number of contacts and ranges.

@@ -5,7 +5,7 @@ use Rattle.std.proofs.lemmas.List.{take_at, drop_at, drop_all, length-map}
 use Rattle.std.proofs.lemmas.List.Sorted.{length_permutation}
 use Rattle.std.proofs.lemmas.Slice.{between_to_end}
 use Rattle.sabr_index.specs.declared.link.Pass.{Pass}
-use Rattle.sabr_index.specs.Grouping.{numbers_of_places}
+use Rattle.sabr_index.specs.Order.{numbers_at}
 use Rattle.sabr_index.specs.Linking.{contact_of, contacts_of}
 use Rattle.sabr_index.proofs.LinkLemmas.{are_links}
 use Rattle.sabr_index.proofs.building.add_node.Goals as goal
@@ -32,7 +32,7 @@ ordered old made lent ready all first count all_are same first_is count_is moved
 pub returns : goal.returns
 returns g c =
     let p = c.args.plan.now in
-    let numbers = numbers_of_places p.plan.contacts c.args.order.now.places.items c.args.places.now in
+    let numbers = numbers_at p.plan.contacts c.args.places.now in
     let old = c.args.passes.now.items in
     let all = c.push_passes.new.passes.items in
     let w = c.in_ok-push_passes.ensures {u = tt} in

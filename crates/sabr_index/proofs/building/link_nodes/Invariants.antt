@@ -1,5 +1,5 @@
-use Rattle.std.proofs.Common.{◌≡◌, ◌≤◌, ℕ, List, length}
-use Rattle.sabr_index.specs.Grouping.{AreChainsOf, places_below}
+use Rattle.std.proofs.Common.{◌≡◌, ◌≤◌, ℕ, Some, length}
+use Rattle.std.specs.Prelude.{slice_get}
 use Rattle.sabr_index.specs.Links.{links_in}
 use Rattle.sabr_index.specs.Linking.{AreLinked}
 use Rattle.sabr_index.specs.Table.{parts_of, AreParts}
@@ -10,5 +10,5 @@ invariant-loop-index g l = record {
   as_many : length l.nodes.items ≡ l.index;
   parts : AreParts l.nodes.items l.links.items l.passes.items;
   linked : AreLinked l.plan (parts_of l.nodes.items l.links.items l.passes.items);
-  few : (senders : List ℕ) → AreChainsOf senders l.order.senders.lasts.items l.order.senders.befores.items → links_in (parts_of l.nodes.items l.links.items l.passes.items) ≤ length (places_below senders l.index);
+  few : (a : ℕ) → slice_get l.order.starts.items l.index ≡ Some a → links_in (parts_of l.nodes.items l.links.items l.passes.items) ≤ a;
 }

@@ -1,9 +1,9 @@
 use Rattle.std.proofs.Common.{◌≡◌, ◌<◌, ◌++◌, ◌∷◌, [], ◌∙◌, ℕ, List, length, map, get_or, sym, ap, arith, append_assoc}
-use Rattle.std.proofs.lemmas.List.{get_or-map, get_or_read, length-map}
+use Rattle.std.proofs.lemmas.List.{get_or-map, length-map}
 use Rattle.std.proofs.lemmas.List.Elements.{All-push}
 use Rattle.sabr_model.specs.declared.contact.Contact.{Contact}
 use Rattle.sabr_index.specs.declared.link.Pass.{Pass}
-use Rattle.sabr_index.specs.Grouping.{numbers_at, numbers_of_places}
+use Rattle.sabr_index.specs.Order.{numbers_at}
 use Rattle.sabr_index.specs.Linking.{IsBounded}
 use Rattle.sabr_index.proofs.LinkLemmas.{passes_more, passes_skip}
 use Rattle.sabr_index.proofs.building.push_passes.Goals as goal
@@ -12,18 +12,13 @@ use Rattle.sabr_index.proofs.building.push_passes.Goals.{in-Some+in_ok-push, in_
 pub loop-place-preserved : goal.loop-place-preserved
 loop-place-preserved g c =
     let p = c.args.plan.now in
-    let order = c.args.order.now.places.items in
     let places = c.args.places.now in
-    let numbers = numbers_of_places p.plan.contacts order places in
+    let numbers = numbers_at p.plan.contacts places in
     let i = c.loop-place.place-index in
-    let q = get_or places i 0 in
-    let standing = (c.requires.there i c.loop-place-test.true).0 in
     let number_of : ℕ → ℕ = λ k. get_or (map (λ (d : Contact). d.number) p.plan.contacts) k 0 in
-    let number : ℕ → ℕ = λ j. get_or (numbers_at p.plan.contacts order) j 0 in
-    let n = number_of c.index.result.now in
-    let lt : i < length numbers = omega (arith, c.loop-place-test.true, length-map places number) in
-    let at : n ≡ number q = ap number_of (get_or_read order q c.index.result.now standing c.index.ensures 0) ∙ sym (get_or-map number_of order q 0 0 standing) in
-    let here : n ≡ get_or numbers i n = at ∙ sym (get_or-map number places i 0 n c.loop-place-test.true) in
+    let n = number_of (get_or places i 0) in
+    let lt : i < length numbers = omega (arith, c.loop-place-test.true, length-map places number_of) in
+    let here : n ≡ get_or numbers i n = sym (get_or-map number_of places i 0 n c.loop-place-test.true) in
     let h = c.loop-place.invariant in
     elim c.match-pass_of.branch [
       | in-Some+in_ok-push w ↦

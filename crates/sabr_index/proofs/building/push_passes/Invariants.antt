@@ -1,7 +1,7 @@
 use Rattle.std.proofs.Common.{take}
-use Rattle.sabr_index.specs.Grouping.{numbers_of_places}
+use Rattle.sabr_index.specs.Order.{numbers_at}
 use Rattle.sabr_index.specs.Linking.{ArePassesMore}
 use Rattle.sabr_index.proofs.building.push_passes.Given as goal
 
 abbrev pub invariant-loop-place : goal.invariant-loop-place
-invariant-loop-place g l = ArePassesMore l.plan (take l.place-index (numbers_of_places l.plan.plan.contacts l.order.places.items l.places)) l.fn.passes.items l.passes.items
+invariant-loop-place g l = ArePassesMore l.plan (take l.place-index (numbers_at l.plan.plan.contacts l.places)) l.fn.passes.items l.passes.items

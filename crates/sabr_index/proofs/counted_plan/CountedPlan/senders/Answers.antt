@@ -13,7 +13,7 @@ of-requires-clause-spans g c = λ to a b at next. let lie = c.self.invariant.gro
 pub over-requires : goal.over-requires
 over-requires g c =
     let w = c.of.ensures in
-    rw w.names_are (lie_there c.self.inside.plan.now c.self.inside.linked c.self.invariant.links c.self.invariant.as_many c.args.index _ (c.self.invariant.grouped c.args.index w.first w.end w.begins w.ends).2)
+    rw w.part_is (lie_there c.self.inside.plan.now c.self.inside.linked c.self.invariant.links c.self.invariant.as_many c.args.index _ (c.self.invariant.grouped c.args.index w.first w.end w.begins w.ends).2)
 
 pub returns : goal.returns
 returns g c = λ node e.
@@ -24,5 +24,5 @@ returns g c = λ node e.
     let at : slice_get p.table c.args.index ≡ Some node = ap (λ (q : TabledPlan). slice_get q.table c.args.index) c.self.view_is ∙ e in
     let are = links_to p linked c.self.invariant.links c.self.invariant.as_many c.self.invariant.tabled c.args.index node at names (c.self.invariant.grouped c.args.index w.first w.end w.begins w.ends).2 in
     let is : c.over.result ≡ links_named linked names =
-    c.over.ensures ∙ ap (λ (ns : List Incoming). links_named linked ns) w.names_are in
+    c.over.ensures ∙ ap (λ (ns : List Incoming). links_named linked ns) w.part_is in
     subst (λ (q : TabledPlan). AreLinksTo q node c.over.result) c.self.view_is (subst (λ (ss : List SentLink). AreLinksTo p node ss) (sym is) are)
