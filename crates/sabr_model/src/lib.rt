@@ -15,7 +15,7 @@
 //! numbers from 1 to 18446744073709551615. A window includes its start and excludes its end.
 //!
 //! **Errors.** [`AddFault`] refuses a record with an empty window or one node twice, a second contact with the same
-//! sender, receiver and start, ranges of one ordered pair that overlap, and more than [`MOST_RECORDS`] records.
+//! sender, receiver and start, ranges of one ordered pair that overlap, and more than [`MAX_RECORDS`] records.
 //! [`RequestError`] refuses a request, and [`HopFault`] says why a list is no route. [`NoMemory`] and
 //! `AddFault::NoMemory` are failed allocations. No call panics.
 //!
@@ -70,7 +70,7 @@ pub use hop::Hop;
 pub use laws::{
     candidates_hold_each_once, every_way_is_listed, faults_tell_routes, law1, law2, law3,
 };
-pub use limits::{LAST_TIME, MOST_AVOIDED, MOST_HOPS, MOST_LIGHT, MOST_MARGIN, MOST_RECORDS};
+pub use limits::{LAST_TIME, MAX_AVOIDED, MAX_HOPS, MAX_LIGHT, MAX_MARGIN, MAX_RECORDS};
 pub use node_list::NodeList;
 pub use numbers::Numbers;
 pub use opening::Opening;

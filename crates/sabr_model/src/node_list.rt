@@ -2,7 +2,7 @@
 
 ghost use Rattle.std.specs.Prelude.{◌≡◌, ◌≤◌, ◌<◌, ◌∷◌, ◌++◌, [], None, IfSome, MatchOption, length};
 
-use crate::limits::MOST_AVOIDED;
+use crate::limits::MAX_AVOIDED;
 use arrayvec::ArrayVec;
 use std::marker::Model;
 
@@ -10,7 +10,7 @@ use std::marker::Model;
 /// memory.
 #[derive(Drop)]
 pub struct NodeList {
-    nodes: ArrayVec<u64, MOST_AVOIDED>,
+    nodes: ArrayVec<u64, MAX_AVOIDED>,
 }
 
 impl Model for NodeList {

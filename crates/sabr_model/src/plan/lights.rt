@@ -18,7 +18,7 @@ const SLOTS_OF_RANGE: usize = 16;
 
 /// The largest number of ranges for which slots are made. More ranges share these slots. With half as many slots, cube
 /// has 990 more wrong guesses.
-const MOST_RANGES: usize = 4096;
+const MAX_RANGES: usize = 4096;
 
 /// Returns the light time of each contact. A pair's first range is guessed first, and then the range of the pair's last
 /// contact. It takes a few steps for a contact whose range is the guessed one or the one before it, and one or two
@@ -46,7 +46,7 @@ pub fn lights_of<A: Allocator + Copy>(
 /// Returns for each pair of nodes the index of its first range, as a guess. Pairs may share a slot.
 fn guesses_of<A: Allocator + Copy>(alloc: A, ranges: &[Range]) -> Result<Vec<u16, A>, AllocError> {
     let mut guesses = Vec::new(alloc);
-    let slots = (ranges.len().min(MOST_RANGES) * SLOTS_OF_RANGE).next_power_of_two();
+    let slots = (ranges.len().min(MAX_RANGES) * SLOTS_OF_RANGE).next_power_of_two();
     guesses.resize(slots, 0)?;
     for after in 0..ranges.len() {
         let place = ranges.len() - 1 - after;

@@ -6,7 +6,7 @@ ghost use Rattle.sabr_model.specs.plan.Adding.{first_refusal};
 
 use crate::contact::Range;
 use crate::fault::AddFault;
-use crate::limits::MOST_RECORDS;
+use crate::limits::MAX_RECORDS;
 use crate::opening::Opening;
 
 impl Opening {
@@ -51,7 +51,7 @@ fn refusal(
         Some(AddFault::SelfPair)
     } else if clashes {
         Some(clash)
-    } else if count >= MOST_RECORDS {
+    } else if count >= MAX_RECORDS {
         Some(AddFault::TooMany)
     } else {
         None
