@@ -26,7 +26,7 @@ pub fn link_nodes<A: Allocator + Copy>(
 {
     let count = plan.nodes();
     let mut nodes = Vec::with_capacity(alloc, count)?;
-    let mut links = Vec::new(alloc);
+    let mut links = Vec::with_capacity(alloc, order.places.len())?;
     let mut passes = Vec::with_capacity(alloc, order.places.len())?;
     for index in 0..count {
         let node = add_node(plan, order.of(index), &mut links, &mut passes)?;
