@@ -1,5 +1,5 @@
 -- Digits and the number that they stand for.
-use Rattle.std.proofs.Common.{◌≡◌, ℕ, ◌+◌, ◌-◌, ◌*◌, ◌<◌, ◌≤◌, true, ◌&&◌, List, [], ◌∷◌, length, take, drop, get_or, refl, ap, arith, rules, fold}
+use Rattle.std.proofs.Common.{◌≡◌, ℕ, ◌+◌, ◌-◌, ◌*◌, ◌/◌, ◌%◌, ◌<◌, ◌≤◌, true, ◌&&◌, List, [], ◌∷◌, length, take, drop, get_or, refl, ap, ◌∙◌, arith, rules, fold}
 use Rattle.std.specs.Prelude.{nat_lt, Option, Some, None, if◌then◌else◌}
 use Rattle.std.specs.List.{list_all}
 use Rattle.std.proofs.lemmas.List.{take_more, take-append-drop}
@@ -8,6 +8,8 @@ use Rattle.std.proofs.lemmas.List.Sums.{fold-append}
 use Rattle.std.proofs.lemmas.Str.Parse.{IsNumeralModel, numerals_by_fold, digits_value_short}
 use Rattle.std.proofs.Math.Bool.{and-false}
 use borrow.Author.Tests.{lt-ltb, le-ltb}
+use lib.Lanes.{number_l, digits_l}
+use Rattle.core.specs.Int.Digits.{AllBelowBase}
 use Rattle.sabr_plan.specs.Digits.{is_digit, are_digits, digits_value}
 
 -- digits as this crate tests and folds them are those of std
@@ -59,3 +61,15 @@ few_digits xs all short = omega (arith, digits_value_short numerals xs 19 all sh
 -- so at most nineteen digits have a number
 pub small_digits : (xs : List ℕ) → 0 < length xs → list_all is_digit xs ≡ true → length xs ≤ 19 → small_value xs ≡ Some (digits_value xs)
 small_digits xs some all short = small_value_some xs some all (few_digits xs all short)
+
+-- bytes are the digits of the number that they make
+pub bytes_are : (xs : List ℕ) (n word : ℕ) → (length xs ≡ n) × AllBelowBase 256 xs → number_l 256 xs ≡ word → xs ≡ digits_l 256 n word
+bytes_are xs n word h is = digits xs h.1 ∙ (λ i. digits_l 256 (h.0 i) (is i))
+  where
+    digits : (ys : List ℕ) → AllBelowBase 256 ys → ys ≡ digits_l 256 (length ys) (number_l 256 ys)
+    digits [] h = refl
+    digits (y ∷ ys) h =
+        let n = number_l 256 ys in
+        let low : y ≡ (y + 256 * n) % 256 = omega (arith, h.0) in
+        let high : n ≡ (y + 256 * n) / 256 = omega (arith, h.0) in
+        λ i. low i ∷ (digits ys h.1 ∙ ap (digits_l 256 (length ys)) high) i

@@ -1,6 +1,9 @@
 -- The text of a time is that of its day and of a second of that day; it is a word of a line.
-use Rattle.std.proofs.Common.{◌≡◌, ℕ, ◌+◌, ◌-◌, ◌/◌, ◌%◌, ◌<◌, ◌≤◌, true, false, eqb, List, ◌++◌, take, refl, sym, ap, ◌∙◌, arith, Option, Some, None, Ok, ok_or}
+use Rattle.std.proofs.Common.{◌≡◌, ℕ, ◌+◌, ◌-◌, ◌/◌, ◌%◌, ◌<◌, ◌≤◌, true, false, eqb, List, [], ◌∷◌, ◌++◌, length, take, get_or, append_assoc, refl, sym, ap, ◌∙◌, arith, Option, Some, None, Ok, ok_or}
 use Rattle.std.proofs.lemmas.Bool.{ne_eqb}
+use Rattle.std.proofs.lemmas.List.{take_more}
+use lib.Lanes.{number_l, digits_l}
+use Rattle.core.specs.Dec2flt.Digits.{IsEightBytes}
 use borrow.Author.Tests.{le-leb}
 use Rattle.sabr_model.specs.plan.Plan.{last_time}
 use Rattle.sabr_plan.specs.declared.time.TimeFields.{TimeFields}
@@ -9,6 +12,7 @@ use Rattle.sabr_plan.specs.Times.{day_after_epoch, spelled, fields_of, time_text
 use Rattle.sabr_plan.specs.TimeShape.{HasWidth, date_text, clock_text, IsDate}
 use Rattle.sabr_plan.specs.Operands.{relative_of, after_reference, absolute_time, time_at}
 use Rattle.sabr_plan.specs.PlainWords.{is_graphic, is_graphic_word}
+use Rattle.sabr_plan.proofs.Digits.{bytes_are}
 use Rattle.sabr_plan.proofs.Seconds.{fields_of_width, time_of-text}
 
 text_is : (t : ℕ) → time_text_of t ≡ date_text (day_after_epoch (t / 86400)) ++ clock_text (t % 86400)
@@ -32,6 +36,15 @@ date_of text t e h =
       whole = omega arith;
       within = omega arith;
     }
+
+-- ten bytes, of which the first eight make a number
+pub date_bytes : (text : List ℕ) → IsEightBytes (take 8 text) → 9 < length text → take 10 text ≡ digits_l 256 8 (number_l 256 (take 8 text)) ++ get_or text 8 0 ∷ get_or text 9 0 ∷ []
+date_bytes text eight long =
+    let front = bytes_are (take 8 text) 8 (number_l 256 (take 8 text)) eight refl in
+    take_more text 9 0 long ∙ ap (λ f. f ++ get_or text 9 0 ∷ []) (take_more text 8 0 (omega arith) ∙ ap (λ f. f ++ get_or text 8 0 ∷ []) front) ∙ two (digits_l 256 8 (number_l 256 (take 8 text)))
+  where
+    two : (xs : List ℕ) → (xs ++ get_or text 8 0 ∷ []) ++ get_or text 9 0 ∷ [] ≡ xs ++ get_or text 8 0 ∷ get_or text 9 0 ∷ []
+    two xs = rw append_assoc refl
 
 high : (n : ℕ) → n < 100 → is_graphic (48 + n / 10) ≡ true
 high n h = rw (le-leb 33 (48 + n / 10) (omega arith), le-leb (48 + n / 10) 126 (omega arith)) refl

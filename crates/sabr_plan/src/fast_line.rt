@@ -150,6 +150,12 @@ fn time_ahead<'a>(
     ensures word { IfSome result (λ r. IsAhead (λ w. time_at reference.now w ≡ Ok r.0) text.now r.1.now) }
     ensures ended { IfSome result (λ r. IsFalse (is_one_line r.1.now)) }
 {
+    if let Some(start) = behind(text, b' ') {
+        if start[0] == b'+' {
+            let (time, rest) = relative_front(reference, start)?;
+            return Some((time, rest));
+        }
+    }
     let (time, rest) = time_front(reference, day, after_gap(text)?)?;
     Some((time, rest))
 }

@@ -1,22 +1,32 @@
 //! A cache of one day: that of the last absolute start or end. If the next one has the same date, only its time of day
 //! is read.
 
-ghost use Rattle.std.specs.Prelude.{◌≡◌, ◌<◌, ◌≤◌, IfSome, IsTrue, length};
+ghost use Rattle.std.specs.Prelude.{◌≡◌, ◌<◌, ◌≤◌, ◌∷◌, [], ◌++◌, IfSome, length};
+ghost use lib.Lanes.{digits_l};
 ghost use Rattle.sabr_model.specs.plan.Plan.{last_time};
 ghost use Rattle.sabr_plan.specs.Times.{time_text_of};
 ghost use Rattle.sabr_plan.specs.TimeShape.{clock_text, IsDate};
 
+use crate::eight_digits::first_eight;
 use crate::time::{is_pair, pair_at, parse_time};
 
 /// The number of seconds of a day.
 const DAY_SECONDS: u64 = 86400;
 
+/// The bytes `1970/01/` as one number, of which the first byte is the lowest.
+const FIRST_MONTH: u64 = 0x2f31_302f_3037_3931;
+
 /// A day: the bytes `yyyy/mm/dd`, and its first second.
 #[derive(Clone, Copy)]
 pub struct KnownDay {
-    date: [u8; 10],
+    /// The bytes `yyyy/mm/` as one number, of which the first byte is the lowest.
+    month: u64,
+    /// The first byte of `dd`.
+    tens: u8,
+    /// The second byte.
+    units: u8,
     begin: u64,
-    ghost known: { IsDate date begin },
+    ghost known: { IsDate (digits_l 256 8 month ++ tens ∷ units ∷ []) begin },
 }
 
 /// Returns the second of the day of the text after a date, `-hh:mm:ss`.
@@ -45,7 +55,9 @@ impl KnownDay {
     #[tactic(auto, unfolding(crate::specs::Times::day_after_epoch))]
     pub fn new() -> KnownDay {
         KnownDay {
-            date: *b"1970/01/01",
+            month: FIRST_MONTH,
+            tens: b'0',
+            units: b'1',
             begin: 0,
         }
     }
@@ -56,10 +68,11 @@ impl KnownDay {
         requires { length text.now ≡ 19 }
         ensures { IfSome result (λ t. (text.now ≡ time_text_of t) × (t ≤ last_time)) }
     {
-        let (date, clock) = text.split_at(10);
-        if date != self.date.as_slice() {
+        let month = first_eight(text);
+        if month != self.month || text[8] != self.tens || text[9] != self.units {
             return self.meet(text);
         }
+        let (_, clock) = text.split_at(10);
         let second = clock_of(clock)?;
         Some(self.begin + second)
     }
@@ -67,16 +80,15 @@ impl KnownDay {
     /// Returns the second of a text with another date, and caches that date.
     #[cold]
     #[inline(never)]
-    #[tactic(auto, using(crate::proofs::KnownDays::date_of))]
     fn meet(&mut self, text: &[u8]) -> Option<u64>
         requires { length text.now ≡ 19 }
         ensures { IfSome result (λ t. (text.now ≡ time_text_of t) × (t ≤ last_time)) }
     {
         let time = parse_time(text)?;
-        let mut date = [0u8; 10];
-        date.copy_from_slice(&text[..10]);
         *self = KnownDay {
-            date,
+            month: first_eight(text),
+            tens: text[8],
+            units: text[9],
             begin: time - time % DAY_SECONDS,
         };
         Some(time)

@@ -1,12 +1,11 @@
 -- Eight bytes that make this number, and a ninth; or the first seven of them.
-use Rattle.std.proofs.Common.{◌≡◌, ℕ, ◌+◌, ◌-◌, ◌*◌, ◌/◌, ◌%◌, true, List, ◌∷◌, [], ◌++◌, length, take, drop, refl, ◌∙◌, sym, ap, arith, take-take, length-drop}
-use lib.Lanes.{number_l, digits_l}
-use Rattle.core.specs.Int.Digits.{AllBelowBase}
+use Rattle.std.proofs.Common.{◌≡◌, ℕ, ◌-◌, true, List, ◌∷◌, [], ◌++◌, length, take, drop, refl, ◌∙◌, sym, ap, arith, take-take, length-drop}
 use Rattle.std.proofs.lemmas.List.{take_all, take_more, take-append-drop}
 use Rattle.core.proofs.dec2flt.Eight.{eight_at}
 use Rattle.sabr_plan.specs.PlainWords.{AddsAhead, name_of, is_graphic_word}
 use Rattle.sabr_plan.specs.declared.command.Target.{Target}
 use Rattle.sabr_plan.specs.declared.command.Target.TheVariants.{Contact, Range}
+use Rattle.sabr_plan.proofs.Digits.{bytes_are}
 use Rattle.sabr_plan.proofs.fast_line.target_ahead.Goals as goal
 
 graphic_name : (target : Target) → is_graphic_word (name_of target) ≡ true
@@ -24,18 +23,6 @@ adds_plain target count line front = record {
     front = record { word = name_of target; parts = refl; graphic = graphic_name target; holds = refl };
   };
 }
-
--- bytes are the digits of the number that they make
-bytes_are : (xs : List ℕ) (n word : ℕ) → (length xs ≡ n) × AllBelowBase 256 xs → number_l 256 xs ≡ word → xs ≡ digits_l 256 n word
-bytes_are xs n word h is = digits xs h.1 ∙ (λ i. digits_l 256 (h.0 i) (is i))
-  where
-    digits : (ys : List ℕ) → AllBelowBase 256 ys → ys ≡ digits_l 256 (length ys) (number_l 256 ys)
-    digits [] h = refl
-    digits (y ∷ ys) h =
-        let n = number_l 256 ys in
-        let low : y ≡ (y + 256 * n) % 256 = omega (arith, h.0) in
-        let high : n ≡ (y + 256 * n) / 256 = omega (arith, h.0) in
-        λ i. low i ∷ (digits ys h.1 ∙ ap (digits_l 256 (length ys)) high) i
 
 pub returns-then-line-eq116 : goal.returns-then-line-eq116
 returns-then-line-eq116 c =
