@@ -1,16 +1,14 @@
--- Contacts that are gathered with what no two of them share; and ranges that are gathered in any order, most in their
--- places, and the latest beside them.
-use Rattle.std.specs.Prelude.{◌≡◌, ℕ, ◌+◌, ◌*◌, ◌/◌, ◌%◌, ◌^◌, ◌≤◌, Bool, false, true, nat_lt, List, [], ◌∷◌, ◌++◌, length, map, IsPermutation}
+-- Contacts that are gathered with what no two of them share; and ranges that are gathered in any order, and sorted at
+-- the end.
+use Rattle.std.specs.Prelude.{◌≡◌, ℕ, ◌+◌, ◌*◌, ◌/◌, ◌%◌, ◌^◌, ◌≤◌, Bool, false, true, nat_lt, List, [], ◌∷◌, ◌++◌, length, take, drop, map, IsPermutation}
 use Rattle.std.specs.List.{list_any, AllByRecursion}
-use Rattle.std.specs.List.Sorted.{IsStrictlySortedBy}
-use Rattle.std.specs.declared.cmp.Ordering.{Ordering}
 use Rattle.std.specs.declared.option.Option.{Option}
 use Rattle.std.specs.declared.option.Option.TheVariants.{Some, None}
 use Rattle.sabr_model.specs.declared.contact.Contact.{Contact}
 use Rattle.sabr_model.specs.declared.contact.Range.{Range}
 use Rattle.sabr_model.specs.declared.opening.Opening.{Opening}
-use Rattle.sabr_model.specs.Order.{by_numbers, put_in}
-use Rattle.sabr_model.specs.plan.Plan.{ContactPlan, IsPlan, IsWindow, opens, overlap, range_key}
+use Rattle.sabr_model.specs.Order.{put_in}
+use Rattle.sabr_model.specs.plan.Plan.{ContactPlan, IsPlan, opens}
 use Rattle.sabr_model.specs.plan.Adding.{by_range_key}
 use Rattle.sabr_model.specs.plan.RangeOrder.{place_number}
 use Rattle.sabr_model.specs.plan.Openings.{opening_of}
@@ -51,11 +49,6 @@ IsNoted contacts o (Some true) befores lasts rising last =
 IsNoted contacts o (Some false) befores lasts rising last = (list_any (opens o.from o.to o.start) contacts ≡ true) × KnowsSome befores lasts rising last contacts
 IsNoted contacts o None befores lasts rising last = KnowsSome befores lasts rising last contacts
 
--- elements put into a list, one after the other
-abbrev pub put_all : {X : Type 0} → (X → X → Ordering) → List X → List X → List X
-put_all cmp [] ys = ys
-put_all cmp (x ∷ xs) ys = put_in cmp x (put_all cmp xs ys)
-
 -- ranges alone, as a plan without contacts
 abbrev pub plan_of_ranges : List Range → ContactPlan
 plan_of_ranges ranges = record { contacts = []; ranges = ranges; greatest = 0 }
@@ -63,10 +56,6 @@ plan_of_ranges ranges = record { contacts = []; ranges = ranges; greatest = 0 }
 -- the rules of a plan, for these alone
 abbrev pub RangesObey : List Range → Type 0
 RangesObey ranges = IsPlan (plan_of_ranges ranges)
-
--- the sorted ranges, and the latest put among them
-abbrev pub gathered : List Range → List Range → List Range
-gathered placed late = put_all by_range_key late placed
 
 -- ranges put into a list, the first before the others
 abbrev pub put_in_turn : List Range → List Range → List Range
@@ -84,10 +73,6 @@ pair_bucket one other = (one % 2048 * 509 + other % 2048) % 2048
 abbrev pub range_buckets : List Range → List ℕ
 range_buckets ranges = map (λ r. pair_bucket r.one r.other) ranges
 
--- all of them are in chains
-abbrev pub RangesAreChained : List Range → List ℕ → List ℕ → Type 0
-RangesAreChained ranges befores lasts = AreChained (range_buckets ranges) befores lasts × (length befores ≡ length ranges)
-
 -- the range ends after a pair and second, given as a number, in the order of ranges
 abbrev pub ends_after : ℕ → Range → Bool
 ends_after number r = nat_lt number (place_number r.one r.other r.end)
@@ -96,21 +81,10 @@ ends_after number r = nat_lt number (place_number r.one r.other r.end)
 abbrev pub EndBy : ℕ → List Range → Type 0
 EndBy number ranges = list_any (ends_after number) ranges ≡ false
 
--- ranges in order, and others in order that share no second of a pair with them
-pub record AreTwoLists (placed late : List Range) : Type 0 where
-  pub placed_rise : IsStrictlySortedBy by_numbers (map range_key placed)
-  pub late_rise : IsStrictlySortedBy by_numbers (map range_key late)
-  pub placed_windows : AllByRecursion (λ r. IsWindow r.start r.end) placed
-  pub late_windows : AllByRecursion (λ r. IsWindow r.start r.end) late
-  pub are_apart : AllByRecursion (λ r. list_any (overlap r) placed ≡ false) late
-
--- both lists and all of them obey the rules of a plan's ranges, and none of the latest overlaps one of the others
-pub record AreGathered (placed late : List Range) : Type 0 where
-  pub placed_obey : RangesObey placed
-  pub late_obey : RangesObey late
-  pub all_obey : RangesObey (gathered placed late)
-  pub are_apart : AllByRecursion (λ r. list_any (overlap r) placed ≡ false) late
-
--- the latest ranges beside the late, and these together beside the others
-abbrev pub AreThreeLists : List Range → List Range → List Range → Type 0
-AreThreeLists placed late latest = AreGathered placed (gathered late latest) × AreGathered late latest
+-- the first ranges are in order, the next ones are in chains, and if each begins after those before it end, none ends
+-- after the last end
+pub record KnowsRanges (befores lasts : List ℕ) (rising : Bool) (last : ℕ × ℕ × ℕ) (placed : ℕ) (ranges : List Range) : Type 0 where
+  pub within : placed ≤ length ranges
+  pub in_order : RangesObey (take placed ranges)
+  pub chained : AreChained (range_buckets (drop placed ranges)) befores lasts
+  pub rises : rising ≡ true → EndBy (place_number last.0 last.1 last.2) ranges

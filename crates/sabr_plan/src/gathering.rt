@@ -6,8 +6,8 @@
 //!
 //! - [`GatheredContacts::add`] is O(1) on average. A hash table finds a second contact with the same sender, receiver
 //!   and start, and isn't used while the contacts come in ascending order of start, sender and receiver.
-//! - [`GatheredRanges::add`] needs no search while the ranges come in ascending order of pair and start. Ranges that
-//!   come late are gathered, sorted and merged in batches.
+//! - [`GatheredRanges::add`] needs no search while the ranges come in ascending order of pair and start. After that it
+//!   uses a hash table of their pairs. All are sorted at the end.
 //! - Both have a `delete`, as [`Plan`](sabr_model::Plan) has.
 //!
 //! **Units.** Times are whole seconds since 1970-01-01T00:00:00Z, up to 253370764799. Rates are bytes per second, and
@@ -31,9 +31,7 @@ mod chains;
 mod gathered_contacts;
 mod gathered_ranges;
 mod known_openings;
-mod latest_ranges;
-mod merging;
-mod ordered_ranges;
+mod known_ranges;
 mod plan;
 
 pub use gathered_contacts::GatheredContacts;

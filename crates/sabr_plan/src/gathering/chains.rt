@@ -66,13 +66,3 @@ impl<A: Allocator + Copy> Chains<A> {
         self.befores.clear();
     }
 }
-
-/// Returns one more than the last index of a bucket, or 0 if it has none or no table is made.
-pub fn last_of(lasts: &[usize], bucket: usize) -> usize
-    ensures { result ≡ slice_index lasts.now bucket }
-{
-    match lasts.get(bucket) {
-        Some(last) => *last,
-        None => 0,
-    }
-}

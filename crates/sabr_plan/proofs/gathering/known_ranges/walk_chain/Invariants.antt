@@ -2,7 +2,7 @@ use Rattle.sabr_model.specs.declared.contact.Range.{Range}
 use Rattle.sabr_model.specs.plan.Plan.{overlap}
 use Rattle.sabr_plan.specs.Gathering.{pair_bucket}
 use Rattle.sabr_plan.proofs.ChainedPlaces.{IsWalked}
-use Rattle.sabr_plan.proofs.gathering.latest_ranges.look_along.Given as goal
+use Rattle.sabr_plan.proofs.gathering.known_ranges.walk_chain.Given as goal
 
 abbrev none : Range
 none = record { one = 0; other = 0; start = 0; end = 0; light = 0 }

@@ -1,8 +1,0 @@
-use Rattle.std.proofs.Common.{[], refl}
-use Rattle.std.proofs.lemmas.List.Sorted.{IsPermutation-refl}
-use Rattle.sabr_model.proofs.PlanLemmas.ContactLemmas.{IsPlan-empty}
-use Rattle.sabr_plan.proofs.ChainedPlaces.{chained_none}
-use Rattle.sabr_plan.proofs.gathering.latest_ranges.LatestRanges.new.Goals as goal
-
-pub invariant_of-result : goal.invariant_of-result
-invariant_of-result g c = rw (c.new.ensures.items, c.new-2.ensures.befores, c.new-2.ensures.lasts) ((IsPlan-empty, IsPermutation-refl []), (chained_none [], refl))

@@ -1,0 +1,160 @@
+//! What tells whether a range overlaps one of those that came before it. A range that begins after all others end needs
+//! no search.
+
+ghost use Rattle.std.specs.Prelude.{◌≡◌, ◌<◌, ◌≤◌, [], IsTrue, OnOk, false, drop, length, is_some, not};
+ghost use Rattle.std.specs.List.{list_any};
+ghost use Rattle.sabr_model.specs.plan.Plan.{overlap};
+ghost use Rattle.sabr_model.specs.plan.RangeOrder.{number_of_range};
+ghost use Rattle.sabr_plan.specs.ChainedPlaces.{AreChained};
+ghost use Rattle.sabr_plan.specs.Gathering.{EndBy, KnowsRanges, pair_bucket, range_buckets};
+
+use crate::gathering::chains::Chains;
+use sabr_model::{Range, comes_by};
+use std::alloc::{AllocError, Allocator};
+
+/// The number of buckets. With 4096, a plan of 10000 ranges by start takes 0.8 percent fewer instructions for one route,
+/// and one of 100 ranges 0.9 percent more. To vary it: `bench/figures.py --counts 1 --only cube,relay-moon-20000`.
+const BUCKETS: usize = 2048;
+
+/// The number of steps along chains, for each range, after which the ranges are put in order. With 1 and 2, 20000 ranges
+/// of one pair take more instructions.
+const LONG: usize = 4;
+
+/// The last end of ranges, by pair of nodes and second, and a hash table of ranges.
+///
+/// While each range begins after those before it end, the table is empty. From the first that doesn't, all ranges are
+/// in the table. When the walks along its chains took long, the ranges are put in order, and the table is of those that
+/// come after.
+#[derive(Drop)]
+pub struct KnownRanges<A: Allocator + Copy> {
+    /// The number of the first ranges that are in order.
+    pub placed: usize,
+    /// The hash table of the next ranges, by their ordered pairs.
+    pub chains: Chains<A>,
+    /// The number of steps along chains so far.
+    walked: usize,
+    /// Whether each range so far begins after those before it end.
+    pub rising: bool,
+    /// If so, no range ends after this, in the order of ranges: by pair of nodes and second.
+    pub last: (u64, u64, u64),
+}
+
+impl<A: Allocator + Copy> KnownRanges<A> {
+    /// Makes a value for no range. It doesn't allocate.
+    pub fn new(alloc: A) -> KnownRanges<A>
+        ensures lasts { result.chains.lasts.items ≡ [] }
+        ensures befores { result.chains.befores.items ≡ [] }
+        ensures placed { result.placed ≡ 0 }
+    {
+        KnownRanges {
+            placed: 0,
+            chains: Chains::new(alloc),
+            walked: 0,
+            rising: true,
+            last: (0, 0, 0),
+        }
+    }
+
+    /// Returns true if a range that is to come after these overlaps one of its ordered pair.
+    pub fn overlaps(&mut self, ranges: &[Range], range: &Range) -> bool
+        requires { KnowsRanges self.old.chains.befores.items self.old.chains.lasts.items self.old.rising self.old.last self.old.placed ranges.now }
+        ensures value { result ≡ list_any (overlap range.now) ranges.now }
+        ensures knows { KnowsRanges self.new.chains.befores.items self.new.chains.lasts.items self.new.rising self.new.last self.new.placed ranges.now }
+        ensures rises { IsTrue self.new.rising → EndBy (number_of_range range.now) ranges.now }
+    {
+        if self.rising && comes_by(self.last, (range.one, range.other, range.start)) {
+            return false;
+        }
+        self.rising = false;
+        if range.overlaps_some(&ranges[..self.placed]) {
+            return true;
+        }
+        let next = behind(ranges, self.placed);
+        let Ok(()) = chain_all(&mut self.chains, next) else {
+            return any_overlaps(next, range);
+        };
+        let Chains { lasts, befores } = &self.chains;
+        let walked = walk_chain(next, befores, lasts, range);
+        self.walked = self.walked.saturating_add(walked.unwrap_or(0));
+        walked.is_none()
+    }
+
+    /// Returns true if the chains of this number of ranges are so long that the ranges are to be put in order.
+    pub fn is_slow(&self, count: usize) -> bool {
+        self.walked / LONG > count
+    }
+
+    /// Forgets all ranges.
+    pub fn forget(&mut self)
+        ensures lasts { self.new.chains.lasts.items ≡ [] }
+        ensures befores { self.new.chains.befores.items ≡ [] }
+        ensures placed { self.new.placed ≡ 0 }
+        ensures rising { self.new.rising ≡ false }
+    {
+        self.placed = 0;
+        self.chains.clear();
+        self.walked = 0;
+        self.rising = false;
+    }
+}
+
+/// The bucket of an ordered pair.
+fn bucket_of(one: u64, other: u64) -> usize
+    ensures value { result ≡ pair_bucket one other }
+    ensures limit { result < 2048 }
+{
+    ((one % 2048 * 509 + other % 2048) % 2048) as usize
+}
+
+/// Returns the ranges after the first `count`.
+fn behind(ranges: &[Range], count: usize) -> &[Range]
+    requires { count ≤ length ranges.now }
+    ensures { result.now ≡ drop count ranges.now }
+{
+    &ranges[count..]
+}
+
+/// Adds the ranges that aren't in the hash table.
+fn chain_all<A: Allocator + Copy>(
+    chains: &mut Chains<A>,
+    ranges: &[Range],
+) -> Result<(), AllocError>
+    requires { AreChained (range_buckets ranges.now) chains.old.befores.items chains.old.lasts.items }
+    ensures sized { OnOk result (2048 ≤ length chains.new.lasts.items) }
+    ensures chained { AreChained (range_buckets ranges.now) chains.new.befores.items chains.new.lasts.items }
+    ensures all { OnOk result (length chains.new.befores.items ≡ length ranges.now) }
+{
+    chains.size(BUCKETS)?;
+    while chains.befores.len() < ranges.len() {
+        let Range { one, other, .. } = ranges[chains.befores.len()];
+        chains.push(bucket_of(one, other))?;
+    }
+    Ok(())
+}
+
+/// Returns the number of steps along a chain if none of the ranges, all of which are in the hash table, is of the same
+/// ordered pair as `range` and overlaps it, and `None` otherwise.
+fn walk_chain(ranges: &[Range], befores: &[usize], lasts: &[usize], range: &Range) -> Option<usize>
+    requires sized { 2048 ≤ length lasts.now }
+    requires chained { AreChained (range_buckets ranges.now) befores.now lasts.now }
+    requires all { length befores.now ≡ length ranges.now }
+    ensures { is_some result ≡ not (list_any (overlap range.now) ranges.now) }
+{
+    let mut walked = 0usize;
+    let mut at = lasts[bucket_of(range.one, range.other)];
+    while at > 0 {
+        if range.overlaps(&ranges[at - 1]) {
+            return None;
+        }
+        at = befores[at - 1];
+        walked = walked.saturating_add(1);
+    }
+    Some(walked)
+}
+
+/// Returns true if one of the ranges is of the same ordered pair as `range` and overlaps it.
+fn any_overlaps(ranges: &[Range], range: &Range) -> bool
+    ensures { result ≡ list_any (overlap range.now) ranges.now }
+{
+    ranges.iter().any(|r| range.overlaps(r))
+}
