@@ -16,10 +16,10 @@ use std::alloc::Allocator;
 use std::marker::Model;
 
 /// The largest number of bytes of a line without its LF (this project's profile).
-const MOST_LINE_BYTES: usize = 255;
+const MAX_LINE_BYTES: usize = 255;
 
 /// The largest number of lines of a text (this project's profile).
-const MOST_LINES: u32 = 1000000;
+const MAX_LINES: u32 = 1000000;
 
 /// The plan that the lines so far build, the number of these lines, and the bytes of the line after them.
 #[derive(Drop)]
@@ -29,7 +29,7 @@ pub struct PlanFeed<A: Allocator + Copy> {
     /// The plan that they build.
     reading: PlanReading<A>,
     /// The bytes of the line after them.
-    held: ArrayVec<u8, MOST_LINE_BYTES>,
+    held: ArrayVec<u8, MAX_LINE_BYTES>,
 }
 
 impl<A: Allocator + Copy> Model for PlanFeed<A> {
@@ -212,7 +212,7 @@ impl<A: Allocator + Copy> PlanFeed<A> {
         requires known { line_command self.old.reading.reference line.now ≡ Ok command }
         ensures { EndsLine self.old line.now result self.new }
     {
-        if self.lines >= MOST_LINES || line.len() > MOST_LINE_BYTES {
+        if self.lines >= MAX_LINES || line.len() > MAX_LINE_BYTES {
             return self.end_line(line);
         }
         if let Err(kind) = self.reading.judge_known(line, command) {
@@ -229,10 +229,10 @@ impl<A: Allocator + Copy> PlanFeed<A> {
         ensures lines { self.new.lines ≡ self.old.lines }
         ensures fits { OnOk result ((self.old.lines < most_lines) × (length self.old.held + length back.now ≤ most_line_bytes)) }
     {
-        if self.lines >= MOST_LINES {
+        if self.lines >= MAX_LINES {
             return Err(PlanKind::TooMany);
         }
-        if back.len() > MOST_LINE_BYTES - self.held.len() {
+        if back.len() > MAX_LINE_BYTES - self.held.len() {
             return Err(PlanKind::LineTooLong);
         }
         self.append(back);
@@ -259,14 +259,14 @@ impl<A: Allocator + Copy> PlanFeed<A> {
         ensures held { IsTrue (is_one_line self.old.held) }
         ensures err { IfErr result (λ f. (f ≡ broken_line (self.old.lines + 1) (self.old.held ++ bytes.now)) × (f.kind ≢ kind.Read)) }
     {
-        let full = self.lines >= MOST_LINES;
+        let full = self.lines >= MAX_LINES;
         if bytes.is_empty() {
             return Ok(());
         }
         if full {
             return Err(self.fault(PlanKind::TooMany));
         }
-        if bytes.len() > MOST_LINE_BYTES - self.held.len() {
+        if bytes.len() > MAX_LINE_BYTES - self.held.len() {
             return Err(self.fault(PlanKind::LineTooLong));
         }
         self.append(bytes);

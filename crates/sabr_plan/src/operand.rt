@@ -8,7 +8,7 @@ use crate::command::Target;
 use crate::fault::PlanKind;
 use crate::number::{digits_value, number_within};
 use crate::time::parse_time;
-use sabr_model::{LAST_TIME, MOST_LIGHT};
+use sabr_model::{LAST_TIME, MAX_LIGHT};
 use std::marker::Model;
 
 /// The second from which relative times count, if a line has set it.
@@ -106,7 +106,7 @@ pub fn greatest_value(target: Target) -> u64
 {
     match target {
         Target::Contact => u64::MAX,
-        Target::Range => MOST_LIGHT as u64,
+        Target::Range => MAX_LIGHT as u64,
     }
 }
 

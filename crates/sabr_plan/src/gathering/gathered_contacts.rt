@@ -8,7 +8,7 @@ ghost use Rattle.sabr_model.specs.declared.fault.AddFault.TheVariants.{NoMemory,
 ghost use Rattle.sabr_model.specs.plan.Adding.{next_contact, contact_refusal, with_contact, number_of_opening, without_contact};
 
 use crate::gathering::known_openings::KnownOpenings;
-use sabr_model::{AddFault, Contact, MOST_RECORDS, Opening};
+use sabr_model::{AddFault, Contact, MAX_RECORDS, Opening};
 use std::alloc::{Allocator, Global};
 use std::marker::Model;
 
@@ -69,7 +69,7 @@ impl<A: Allocator + Copy> GatheredContacts<A> {
         ensures ok { OnOk result (self.new ≡ with_contact self.old (next_contact self.old from to start end rate)) }
         ensures err { OnErr result (self.new ≡ self.old) }
     {
-        if start >= end || from == to || self.greatest as usize >= MOST_RECORDS {
+        if start >= end || from == to || self.greatest as usize >= MAX_RECORDS {
             return Err(self.fault(from, to, start, end));
         }
         let number = self.greatest + 1;
