@@ -25,13 +25,13 @@ use std::alloc::{Allocator, Global};
 use std::marker::Model;
 
 /// A listing of the routes of a plan for a request, as far as they were given. It keeps the parts that are left (Yen,
-/// Lawler), each with its least route.
+/// Lawler), each with its best route.
 ///
 /// Contracts see the plan, the request, the state, the states that `back` leads to, the latest first, the count of
 /// searches, and how often the finder was called.
 #[derive(Drop)]
 pub struct Session<'p, B: BestOf<A>, A: Allocator + Copy = Global> {
-    /// What finds the parts' least routes.
+    /// What finds the parts' best routes.
     asker: Asker<'p, B, A>,
     /// The parts and the routes given.
     tree: Tree<A>,
@@ -39,7 +39,7 @@ pub struct Session<'p, B: BestOf<A>, A: Allocator + Copy = Global> {
     pages: Vec<usize, A>,
     /// The searches of the last call that counts them.
     searches: u64,
-    /// Whether a search began it. Then each part carries its least route.
+    /// Whether a search began it. Then each part carries its best route.
     is_sure: bool,
 }
 
@@ -58,7 +58,7 @@ impl<'p, B: BestOf<A>, A: Allocator + Copy> Session<'p, B, A> {
     ///
     /// # Errors
     ///
-    /// [`NoMemory`] if a growth was refused. The finder is dropped.
+    /// [`NoMemory`] if an allocation failed. The finder is dropped.
     pub fn start(
         alloc: A,
         plan: &'p Plan<A>,
@@ -75,7 +75,7 @@ impl<'p, B: BestOf<A>, A: Allocator + Copy> Session<'p, B, A> {
     ///
     /// # Errors
     ///
-    /// [`NoMemory`] if a growth was refused. The index and the finder are dropped.
+    /// [`NoMemory`] if an allocation failed. The index and the finder are dropped.
     pub fn start_with_index(
         alloc: A,
         index: Index<'p, A>,
@@ -136,11 +136,11 @@ impl<'p, B: BestOf<A>, A: Allocator + Copy> Session<'p, B, A> {
     /// delivery, then by number of hops, then by contact numbers (this project's profile).
     ///
     /// A route takes a search for each of its hops after the prefix of the part that carried it. No part is copied. If
-    /// no route is asked for, or none is left, no memory is taken.
+    /// no route is asked for, or none is left, nothing is allocated.
     ///
     /// # Errors
     ///
-    /// [`NoMemory`] if a growth was refused. All is shown as before, and the same call can be made again. It took no
+    /// [`NoMemory`] if an allocation failed. All is shown as before, and the same call can be made again. It took no
     /// more searches than the page would have.
     pub fn page(&mut self, count: u32) -> Result<Vec<Route<A>, A>, NoMemory>
         requires { count ≤ most_routes }
@@ -150,7 +150,7 @@ impl<'p, B: BestOf<A>, A: Allocator + Copy> Session<'p, B, A> {
         ensures state { OnOk result (self.new.state ≡ (next_page self.old count).1) }
         ensures former { OnOk result (self.new.former ≡ former_then (next_page self.old count).0 self.old.state self.old.former) }
 
-        // So many searches were taken.
+        // It took this number of searches.
         ensures searches { OnOk result (self.new.searches ≡ page_searches self.old count) }
         ensures calls { OnOk result (self.new.calls ≡ self.old.calls + page_searches self.old count) }
 
@@ -159,7 +159,7 @@ impl<'p, B: BestOf<A>, A: Allocator + Copy> Session<'p, B, A> {
         ensures request { self.new.request ≡ self.old.request }
         ensures new_routes { GivesNewRoutes self.old.plan.plan self.old.request count self.old.state }
 
-        // After a refusal all but the calls is as before. A page without routes is never refused.
+        // If an allocation failed, all but the calls is as before. A page without routes allocates nothing.
         ensures err { OnErr result (self.new ≡ record self.old { calls = self.new.calls }) }
         ensures no_fewer { OnErr result (self.old.calls ≤ self.new.calls) }
         ensures at_most { OnErr result (self.new.calls ≤ self.old.calls + page_searches self.old count) }
@@ -190,7 +190,7 @@ impl<'p, B: BestOf<A>, A: Allocator + Copy> Session<'p, B, A> {
     }
 
     /// Takes back the last page that gave routes and wasn't taken back yet: the state is the one before it. Returns
-    /// false, and changes nothing, if there is none. It takes no memory, and a pass over the parts for each route.
+    /// false, and changes nothing, if there is none. It allocates nothing, and passes over the parts for each route.
     pub fn back(&mut self) -> bool
 
         // The state before the last page is back.
@@ -215,12 +215,12 @@ impl<'p, B: BestOf<A>, A: Allocator + Copy> Session<'p, B, A> {
     }
 
     /// Returns true if the state is that of the place `emitted` in the listing: the routes that it counts as given are
-    /// the first of them, and each part carries its least route. All is shown as before in any case. It takes a search
+    /// the first of them, and each part carries its best route. All is shown as before in any case. It takes a search
     /// for each part, and a pass over the routes given.
     ///
     /// # Errors
     ///
-    /// [`NoMemory`] if a growth was refused.
+    /// [`NoMemory`] if an allocation failed.
     pub fn certify(&mut self) -> Result<bool, NoMemory>
         ensures same { self.new ≡ record self.old { calls = self.new.calls } }
         ensures calls { self.new.calls ≤ self.old.calls + length self.old.state.parts }
@@ -273,7 +273,7 @@ impl<'p, B: BestOf<A>, A: Allocator + Copy> Session<'p, B, A> {
     }
 
     /// The parts, rising by prefix, all borrowed. Those without a route are among them. It takes a step for each, and
-    /// no memory.
+    /// allocates nothing.
     pub fn parts(&self) -> Parts<'_, A>
         ensures { seen_left result ≡ map (seen_part self.now.plan.plan self.now.request) self.now.state.parts }
     {
@@ -284,8 +284,8 @@ impl<'p, B: BestOf<A>, A: Allocator + Copy> Session<'p, B, A> {
         }
     }
 
-    /// How many searches, each a call of the finder, the last call of `start` or `page` took that wasn't refused; 0
-    /// after a `back` that was true.
+    /// The searches, each a call of the finder, of the last call of `start` or `page` that succeeded; 0 after a `back`
+    /// that was true.
     pub fn searches(&self) -> u64
         ensures { result ≡ self.now.searches }
     {

@@ -1,4 +1,4 @@
-//! Asking a finder for the least routes of parts.
+//! Asking a finder for the best routes of parts.
 
 ghost use Rattle.std.specs.Prelude.{◌≡◌, ◌+◌, IfOk, IsTrue};
 ghost use Rattle.std.specs.List.Sorted.{IsStrictlyIncreasing};
@@ -41,7 +41,7 @@ fn up_to<A: Allocator + Copy>(sought: Sought<A>, bound: Option<Bound>) -> Option
     None
 }
 
-/// A finder with what it is asked for, and what is kept for its searches. Contracts see the plan, the request, and how
+/// A finder with what it is asked for, and the cache of its searches. Contracts see the plan, the request, and how
 /// often the finder was called.
 #[derive(Drop)]
 pub struct Asker<'p, B: BestOf<A>, A: Allocator + Copy = Global> {
@@ -58,9 +58,9 @@ pub struct PausedAsker<B: BestOf<A>, A: Allocator + Copy = Global> {
     alloc: A,
     /// The request.
     request: Request,
-    /// The finder of a part's least route.
+    /// The finder of a part's best route.
     finder: B,
-    /// What is kept for its searches.
+    /// The cache of its searches.
     kept: Kept<A>,
     /// What is asked up to.
     bound: Option<Bound>,
@@ -78,11 +78,11 @@ impl<'p, B: BestOf<A>, A: Allocator + Copy> Model for Asker<'p, B, A> {
 }
 
 impl<'p, B: BestOf<A>, A: Allocator + Copy> Asker<'p, B, A> {
-    /// Makes the plan's index, and an asker that keeps nothing yet.
+    /// Makes the plan's index, and an asker with an empty cache.
     ///
     /// # Errors
     ///
-    /// [`NoMemory`] if a growth was refused. The finder is dropped.
+    /// [`NoMemory`] if an allocation failed. The finder is dropped.
     pub fn new(question: PlanRequest<'p, A>, finder: B) -> Result<Asker<'p, B, A>, NoMemory>
         ensures { IfOk result (λ asker. asker ≡ record { asked = asked_of question.entry; calls = B.calls_of finder }) }
     {
@@ -91,7 +91,7 @@ impl<'p, B: BestOf<A>, A: Allocator + Copy> Asker<'p, B, A> {
         Ok(Asker::over(alloc, index, question.request, finder))
     }
 
-    /// Makes an asker over an index. It keeps nothing yet.
+    /// Makes an asker over an index, with an empty cache.
     pub fn over(alloc: A, index: Index<'p, A>, request: Request, finder: B) -> Asker<'p, B, A>
         ensures { result ≡ record { asked = asked_over index.entry request; calls = B.calls_of finder } }
     {
@@ -151,8 +151,8 @@ impl<'p, B: BestOf<A>, A: Allocator + Copy> Asker<'p, B, A> {
         &self.rest.request
     }
 
-    /// Asks for the least route of a part whose excluded numbers rise, and none of whose routes delivers before the second
-    /// `floor`. One above the bound is none.
+    /// Asks for the best route of a part whose excluded numbers rise, and none of whose routes delivers before the
+    /// second `floor`. One above the bound is none.
     #[tactic(auto, unfolding(crate::specs::tree::Best::best_of))]
     pub fn ask<'x>(
         &mut self,
