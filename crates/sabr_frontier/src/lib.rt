@@ -14,7 +14,7 @@
 //! **Units.** Times are seconds, as in [`sabr_model`]. A page has at most 10000 routes.
 //!
 //! **Cost.** A route takes a search for each of its hops after the prefix of its part, and no part is copied.
-//! [`Session::searches`] counts the searches of a page.
+//! [`Session::searches`] counts the searches of a page, and [`Session::looks`] their uses of contacts' records.
 //!
 //! **Errors.** [`NoMemory`](sabr_model::NoMemory) is a failed allocation: the session is as before, and the same page
 //! can be asked for again. [`LoadFault`] says why parts are no state of a listing. No call panics.

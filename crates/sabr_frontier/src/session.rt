@@ -1,12 +1,13 @@
 //! A session over a listing of routes: the next routes a page at a time, and back.
 
-ghost use Rattle.std.specs.Prelude.{◌≡◌, ◌≢◌, ℕ, ◌+◌, ◌^◌, ◌<◌, ◌≤◌, ◌⊎◌, ◌↔◌, ◌∷◌, [], map, length, is_some, None, Ok, IfOk, OnOk, OnErr, IsOk, IsTrue, IsFalse};
+ghost use Rattle.std.specs.Prelude.{◌≡◌, ◌≢◌, ℕ, ◌+◌, ◌*◌, ◌^◌, ◌<◌, ◌≤◌, ◌⊎◌, ◌↔◌, ◌∷◌, [], map, length, is_some, None, Ok, IfOk, OnOk, OnErr, IsOk, IsTrue, IsFalse};
 ghost use Rattle.sabr_model.specs.plan.Plan.{IsPlan};
 ghost use Rattle.sabr_model.specs.routes.Asking.{IsRequest};
 ghost use Rattle.sabr_model.specs.routes.Record.{record_of};
 ghost use Rattle.sabr_frontier.specs.listing.Fresh.{GivesNewRoutes};
 ghost use Rattle.sabr_frontier.specs.listing.Listing.{most_routes, next_route, state_at};
 ghost use Rattle.sabr_frontier.specs.session.Session.{former_then, next_page, page_searches, session_over, seen_part, started};
+ghost use Rattle.sabr_frontier.specs.tree.Asking.{IsAtRest, call_looks};
 ghost use Rattle.sabr_frontier.specs.tree.Shape.{shape_of, shown};
 ghost use Rattle.sabr_frontier.specs.tree.Sound.{IsTree};
 ghost use Rattle.sabr_frontier.specs.tree.Undo.{IsRoomy};
@@ -28,7 +29,7 @@ use std::marker::Model;
 /// Lawler), each with its best route.
 ///
 /// Contracts see the plan, the request, the state, the states that `back` leads to, the latest first, the count of
-/// searches, and how often the finder was called.
+/// searches, their looks, and how often the finder was called.
 #[derive(Drop)]
 pub struct Session<'p, B: BestOf<A>, A: Allocator + Copy = Global> {
     /// What finds the parts' best routes.
@@ -39,18 +40,21 @@ pub struct Session<'p, B: BestOf<A>, A: Allocator + Copy = Global> {
     pages: Vec<usize, A>,
     /// The searches of the last call that counts them.
     searches: u64,
+    /// The looks that the searches of the last page took.
+    looks: u64,
     /// Whether a search began it. Then each part carries its best route.
     is_sure: bool,
 }
 
 impl<'p, B: BestOf<A>, A: Allocator + Copy> Model for Session<'p, B, A> {
     ghost use Rattle.sabr_frontier.specs.session.Session.{Seen, IsSession, seen};
+    ghost use Rattle.sabr_frontier.specs.tree.Asking.{IsAtRest};
 
     ghost Value = { Seen };
 
-    ghost view = { λ s. seen s.asker s.tree s.pages.items s.searches };
+    ghost view = { λ s. seen s.asker s.tree s.pages.items s.searches s.looks };
 
-    ghost invariant = { λ s. IsSession s.asker.asked s.tree s.pages.items s.is_sure };
+    ghost invariant = { λ s. IsSession s.asker.asked.plan s.asker.asked.request s.tree s.pages.items s.is_sure × IsAtRest s.asker };
 }
 
 impl<'p, B: BestOf<A>, A: Allocator + Copy> Session<'p, B, A> {
@@ -100,11 +104,13 @@ impl<'p, B: BestOf<A>, A: Allocator + Copy> Session<'p, B, A> {
         let alloc = asker.alloc();
         let found = asker.ask(&[], &[], 0)?;
         let tree = Tree::root(alloc, found)?;
+        asker.take_sum();
         Ok(Session {
             asker,
             tree,
             pages: Vec::new(alloc),
             searches: 1,
+            looks: 0,
             is_sure: true,
         })
     }
@@ -112,7 +118,7 @@ impl<'p, B: BestOf<A>, A: Allocator + Copy> Session<'p, B, A> {
     /// Makes a session over a tree that no page has changed.
     pub(crate) fn of_tree(asker: Asker<'p, B, A>, tree: Tree<A>) -> Session<'p, B, A>
         requires rules { IsPlan asker.asked.plan.plan }
-        requires unbounded { asker.asked.bound ≡ None }
+        requires rest { IsAtRest asker }
         requires limits { IsRequest asker.asked.request }
         requires sound { IsTree asker.asked.plan.plan asker.asked.request (shape_of tree) }
         requires fresh { tree.journal.items ≡ [] }
@@ -128,6 +134,7 @@ impl<'p, B: BestOf<A>, A: Allocator + Copy> Session<'p, B, A> {
             tree,
             pages,
             searches: 0,
+            looks: 0,
             is_sure: false,
         }
     }
@@ -154,6 +161,9 @@ impl<'p, B: BestOf<A>, A: Allocator + Copy> Session<'p, B, A> {
         ensures searches { OnOk result (self.new.searches ≡ page_searches self.old count) }
         ensures calls { OnOk result (self.new.calls ≡ self.old.calls + page_searches self.old count) }
 
+        // Together they took no more looks than that many calls of a finder take at most.
+        ensures looks { OnOk result (self.new.looks ≤ page_searches self.old count * call_looks self.old.plan.plan) }
+
         // The plan and the request stay, and no route comes twice.
         ensures plan { self.new.plan ≡ self.old.plan }
         ensures request { self.new.request ≡ self.old.request }
@@ -168,6 +178,7 @@ impl<'p, B: BestOf<A>, A: Allocator + Copy> Session<'p, B, A> {
         let mut given = Vec::new(self.asker.alloc());
         if count == 0 || self.tree.is_empty() {
             self.searches = 0;
+            self.looks = 0;
             return Ok(given);
         }
         self.pages.reserve(1)?;
@@ -180,10 +191,12 @@ impl<'p, B: BestOf<A>, A: Allocator + Copy> Session<'p, B, A> {
                 self.tree.settle(self.asker.alloc());
                 self.pages.push_reserved(start);
                 self.searches = searches;
+                self.looks = self.asker.take_sum();
                 Ok(given)
             }
             Err(refused) => {
                 self.tree.undo_to(start);
+                self.asker.take_sum();
                 Err(refused)
             }
         }
@@ -196,6 +209,7 @@ impl<'p, B: BestOf<A>, A: Allocator + Copy> Session<'p, B, A> {
         // The state before the last page is back.
         ensures yes { IsTrue result → self.new.state ∷ self.new.former ≡ self.old.former }
         ensures searches { IsTrue result → self.new.searches ≡ 0 }
+        ensures looks { IsTrue result → self.new.looks ≡ 0 }
 
         // The plan, the request and the calls stay.
         ensures plan { self.new.plan ≡ self.old.plan }
@@ -211,6 +225,7 @@ impl<'p, B: BestOf<A>, A: Allocator + Copy> Session<'p, B, A> {
         };
         self.tree.undo_to(start);
         self.searches = 0;
+        self.looks = 0;
         true
     }
 
@@ -227,7 +242,9 @@ impl<'p, B: BestOf<A>, A: Allocator + Copy> Session<'p, B, A> {
         ensures no_fewer { self.old.calls ≤ self.new.calls }
         ensures ok { IfOk result (λ yes. IsTrue yes ↔ (self.old.state ≡ state_at self.old.plan.plan self.old.request self.old.state.emitted)) }
     {
-        self.tree.is_placed(&mut self.asker)
+        let placed = self.tree.is_placed(&mut self.asker);
+        self.asker.take_sum();
+        placed
     }
 
     /// Returns true if there is a page to take back: one that gave routes and wasn't taken back yet.
@@ -290,6 +307,14 @@ impl<'p, B: BestOf<A>, A: Allocator + Copy> Session<'p, B, A> {
         ensures { result ≡ self.now.searches }
     {
         self.searches
+    }
+
+    /// The looks that the searches of the last page took, each a use of a contact's record: 0 if there was none yet, or
+    /// after a `back` that was true, and `u64::MAX` if they are more. A page that failed doesn't count.
+    pub fn looks(&self) -> u64
+        ensures { result ≡ self.now.looks }
+    {
+        self.looks
     }
 
     /// The plan whose routes are listed.

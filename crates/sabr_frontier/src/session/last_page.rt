@@ -27,7 +27,8 @@ use std::marker::Model;
 
 /// The last page of a session, which is gone. It keeps the session's index and finder for another request.
 ///
-/// Contracts see the plan, the routes, whether one is left after them, and how often the finder was called.
+/// Contracts see the plan, the routes, whether one is left after them, how often the finder was called, and the looks
+/// that the page took.
 #[derive(Drop)]
 pub struct LastPage<'p, B: BestOf<A>, A: Allocator + Copy = Global> {
     /// What found the routes.
@@ -36,7 +37,9 @@ pub struct LastPage<'p, B: BestOf<A>, A: Allocator + Copy = Global> {
     routes: Vec<Route<A>, A>,
     /// Whether a route is left after them.
     more: bool,
-    /// The looks that telling it took, besides those of the finder's calls.
+    /// The looks that the searches took.
+    looks: u64,
+    /// The looks that finding this out took besides.
     detour_looks: u64,
 }
 
@@ -45,7 +48,7 @@ impl<'p, B: BestOf<A>, A: Allocator + Copy> Model for LastPage<'p, B, A> {
 
     ghost Value = { LastSeen };
 
-    ghost view = { λ l. record { plan = l.asker.asked.plan; routes = l.routes.items; more = l.more; calls = l.asker.calls; detour_looks = l.detour_looks } };
+    ghost view = { λ l. record { plan = l.asker.asked.plan; routes = l.routes.items; more = l.more; calls = l.asker.calls; looks = l.looks; detour_looks = l.detour_looks } };
 }
 
 impl<'p, B: BestOf<A>, A: Allocator + Copy> Session<'p, B, A> {
@@ -65,16 +68,19 @@ impl<'p, B: BestOf<A>, A: Allocator + Copy> Session<'p, B, A> {
             mut tree,
             pages: _,
             searches: _,
+            looks: _,
             is_sure,
         } = self;
         let mut routes = Vec::new(asker.alloc());
-        let mut looks = Looks::many();
-        let more = tree.give_last(&mut asker, count, &mut routes, is_sure, &mut looks)?;
+        let mut detours = Looks::many();
+        let more = tree.give_last(&mut asker, count, &mut routes, is_sure, &mut detours)?;
+        let looks = asker.take_sum();
         Ok(LastPage {
             asker,
             routes,
             more,
-            detour_looks: looks.taken(),
+            looks,
+            detour_looks: detours.taken(),
         })
     }
 }
@@ -190,8 +196,15 @@ impl<'p, B: BestOf<A>, A: Allocator + Copy> LastPage<'p, B, A> {
         self.more
     }
 
-    /// How many looks the page took besides those of the finder's calls: fetches of contacts' records that told without
-    /// a search that a route is left.
+    /// The looks that the page's searches took, each a use of a contact's record; `u64::MAX` if they are more.
+    pub fn looks(&self) -> u64
+        ensures { result ≡ self.now.looks }
+    {
+        self.looks
+    }
+
+    /// The looks that the page took besides those of its searches: uses of contacts' records that showed without a
+    /// search that a route is left.
     pub fn detour_looks(&self) -> u64
         ensures { result ≡ self.now.detour_looks }
     {
@@ -221,6 +234,7 @@ impl<'p, B: BestOf<A>, A: Allocator + Copy> LastPage<'p, B, A> {
             asker,
             routes: _,
             more: _,
+            looks: _,
             detour_looks: _,
         } = self;
         let (asker, index) = asker.pause();

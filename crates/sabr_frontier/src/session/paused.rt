@@ -23,6 +23,8 @@ pub struct PausedSession<B: BestOf<A>, A: Allocator + Copy = Global> {
     pages: Vec<usize, A>,
     /// The searches of the last call that counts them.
     searches: u64,
+    /// The looks that the searches of the last page took.
+    looks: u64,
     /// Whether a search began it.
     is_sure: bool,
 }
@@ -41,6 +43,7 @@ impl<'p, B: BestOf<A>, A: Allocator + Copy> Session<'p, B, A> {
             tree,
             pages,
             searches,
+            looks,
             is_sure,
         } = self;
         let (asker, index) = asker.pause();
@@ -49,6 +52,7 @@ impl<'p, B: BestOf<A>, A: Allocator + Copy> Session<'p, B, A> {
             tree,
             pages,
             searches,
+            looks,
             is_sure,
         };
         (paused, index)
@@ -67,6 +71,7 @@ impl<B: BestOf<A>, A: Allocator + Copy> PausedSession<B, A> {
             tree,
             pages,
             searches,
+            looks,
             is_sure,
         } = self;
         let asker = asker.resume(index);
@@ -75,6 +80,7 @@ impl<B: BestOf<A>, A: Allocator + Copy> PausedSession<B, A> {
             tree,
             pages,
             searches,
+            looks,
             is_sure,
         }
     }
