@@ -152,8 +152,8 @@ fn ends_on<A: Allocator + Copy>(
     is_other(end, onward.number)
 }
 
-/// Returns true if the route may go on by a contact of this leg in place of its last one, and end on one more. Of the first
-/// only the first that hasn't ended is tried, and of the others the last.
+/// Returns true if the route may go on by a contact of this leg in place of its last one, and end on one more. Of the
+/// first only the first that hasn't ended is tried, and of the others the last.
 fn takes_detour<A: Allocator + Copy>(
     plan: &CountedPlan<'_, A>,
     looks: &mut Looks,
@@ -224,14 +224,14 @@ pub struct Ending<'a> {
     pub excluded: &'a [u32],
 }
 
-/// Returns true if a route may go on otherwise than by its last number: by one that isn't excluded, on which it ends, or
-/// after which one more leads to the destination. Of the first only the last pass of the link is tried.
+/// Returns true if a route may go on otherwise than by its last number: by one that isn't excluded, on which it ends,
+/// or after which one more leads to the destination. Of the first only the last pass of the link is tried.
 ///
 /// It takes a look for each contact of the route, and at most two for each link that is tried.
 ///
 /// # Errors
 ///
-/// [`NoMemory`] if a growth was refused.
+/// [`NoMemory`] if an allocation failed.
 pub fn goes_otherwise<A: Allocator + Copy>(
     alloc: A,
     plan: &CountedPlan<'_, A>,

@@ -72,7 +72,7 @@ fn start<A: Allocator + Copy>(
 ///
 /// # Errors
 ///
-/// [`NoMemory`] if a growth was refused.
+/// [`NoMemory`] if an allocation failed.
 pub fn follow_front<A: Allocator + Copy>(
     alloc: A,
     plan: &CountedPlan<'_, A>,
