@@ -34,7 +34,7 @@ started plan r calls = record { plan = plan; request = r; state = state_at plan.
 abbrev pub session_over : TabledPlan → RouteRequest → State → ℕ → Seen
 session_over plan r s calls = record { plan = plan; request = r; state = s; former = []; searches = 0; calls = calls; looks = 0 }
 
--- the next page of at most so many routes: its routes, and the state after it
+-- the next page of at most that many routes: its routes, and the state after it
 abbrev pub next_page : Seen → ℕ → List (List ℕ) × State
 next_page s count = steps s.plan.plan s.request count s.state
 

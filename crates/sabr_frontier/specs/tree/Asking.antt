@@ -19,8 +19,8 @@ pub record Asked : Type 0 where
   pub bound : Option Bound
   pub since : ℕ
 
--- what callers see of an asker: what it asks for, how often its finder was called, by it or before, the sum of the looks
--- of the calls since, and the looks of the last call
+-- what callers see of an asker: what it asks for, how often its finder was called, by it or before, the sum of the
+-- looks of the calls since, and the looks of the last call
 pub record Asking : Type 0 where
   pub asked : Asked
   pub calls : ℕ
@@ -32,7 +32,7 @@ pub record IsAtRest (a : Asking) : Type 0 where
   pub unbounded : a.asked.bound ≡ None
   pub begun : a.asked.since ≡ a.calls + 1
 
--- such a one, after so many calls, the last of which took so many looks
+-- such a one, after this many calls, the last of which took this many looks
 abbrev pub asking_first : TabledPlan → RouteRequest → ℕ → ℕ → Asking
 asking_first p r calls looks = record { asked = record { plan = p; request = r; bound = None; since = calls + 1 }; calls = calls; looks = 0; last_looks = looks }
 
@@ -61,6 +61,6 @@ steps_for a k s = steps a.plan.plan a.request k s
 abbrev pub records_for : Asked → List (List ℕ) → List RouteRecord
 records_for a routes = map (record_of a.plan.plan a.request) routes
 
--- the record of the least route of a part, up to the bound
+-- the record of the best route of a part, up to the bound
 abbrev pub best_for : Asked → List ℕ → List ℕ → Option RouteRecord
 best_for a = best_up_to a.plan.plan a.request a.bound

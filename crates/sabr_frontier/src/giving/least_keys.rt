@@ -62,7 +62,7 @@ impl<A: Allocator + Copy> LeastKeys<A> {
         self.keys.len();
     }
 
-    /// Notes a key: of one too many, the greatest goes.
+    /// Notes a key: of one too many, the largest goes.
     fn note(&mut self, key: u64) -> Result<(), NoMemory>
         ensures { OnOk result (AreNoted self.old (key ∷ []) self.new) }
     {
@@ -99,7 +99,7 @@ impl<A: Allocator + Copy> LeastKeys<A> {
         Ok(())
     }
 
-    /// The greatest key, as a bound, if there are as many as may be held; none if there are fewer.
+    /// The largest key, as a bound, if there are as many as may be held; none if there are fewer.
     pub fn bound(&self) -> Option<Bound>
         ensures { IsBoundOf self.now result }
     {

@@ -26,7 +26,7 @@ pub struct RouteFront<A: Allocator + Copy> {
     pub shut: Vec<bool, A>,
 }
 
-/// Shuts the nodes to avoid. All are open before.
+/// Forbids the nodes to avoid. All are open before.
 fn shut_avoided<A: Allocator + Copy>(
     shut: &mut Vec<bool, A>,
     plan: &CountedPlan<'_, A>,
