@@ -11,9 +11,9 @@ use Rattle.sabr_frontier.specs.session.Session.{Seen}
 abbrev pub AreLinksOf : {A : Type 0} → TabledPlan → PlanLinks A → Type 0
 AreLinksOf p l = IsIndex p l.linked l.incoming.starts.items l.incoming.named.items
 
--- what callers see of a listing: searches and calls of the finder aren't counted
+-- what callers see of a listing: searches, calls of the finder and looks aren't counted
 abbrev pub listing_of : Seen → Seen
-listing_of s = record s { searches = 0; calls = 0 }
+listing_of s = record s { searches = 0; calls = 0; looks = 0 }
 
 -- the listing of a paused session over a plan
 abbrev pub listing_over : {B A : Type 0} → TabledPlan → PausedSession B A → Seen

@@ -3,3 +3,4 @@ pub mod Detours
 pub mod KeptKeys
 pub mod EarlyRoutes
 pub mod CutWays
+pub mod Sums

@@ -55,7 +55,7 @@ impl<A: Allocator + Copy> Tree<A> {
         self.leaves.get(self.last?)
     }
 
-    /// The least route that a node carries, or none.
+    /// The best route that a node carries, or none.
     fn next_carried(&self) -> Option<&Route<A>>
         requires { IsRoomy self.now }
         ensures some { IfSome result (λ x. IsNext self.now.nodes.items x.now) }
@@ -64,7 +64,7 @@ impl<A: Allocator + Copy> Tree<A> {
         carried(self.nodes.as_slice(), self.least()?)
     }
 
-    /// Returns true if each part carries its least route: one search for each. It takes the memory of a search.
+    /// Returns true if each part carries its best route: one search for each. It allocates what a search does.
     fn carries_least<B: BestOf<A>>(&self, asker: &mut Asker<'_, B, A>) -> Result<bool, NoMemory>
         requires unbounded { asker.old.asked.bound ≡ None }
         requires tree { IsTree asker.old.asked.plan.plan asker.old.asked.request (shape_of self.now) }
@@ -84,7 +84,7 @@ impl<A: Allocator + Copy> Tree<A> {
     }
 
     /// Returns true if the state is that of the place that it counts: no route given is greater than the last one, each
-    /// carried route is, and each part carries its least route (law 5).
+    /// carried route is, and each part carries its best route (law 5).
     pub fn is_placed<B: BestOf<A>>(&self, asker: &mut Asker<'_, B, A>) -> Result<bool, NoMemory>
         requires plan { IsPlan asker.old.asked.plan.plan }
         requires unbounded { asker.old.asked.bound ≡ None }

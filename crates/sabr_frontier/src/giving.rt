@@ -1,4 +1,4 @@
-//! Giving the least routes that a tree carries, one after another.
+//! Giving the best routes that a tree carries, one after another.
 
 pub mod asker;
 mod divide;

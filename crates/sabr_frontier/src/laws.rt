@@ -8,7 +8,7 @@ pub fn law4()
     ensures { PartsDivide }
 {}
 
-/// States that a well-formed state has the parts of its leaves. If each part carries its least route, and the leaves
+/// States that a well-formed state has the parts of its leaves. If each part carries its best route, and the leaves
 /// come before all that is carried, it is the state of the place that it counts.
 pub fn law5()
     ensures { StatesAreTold }

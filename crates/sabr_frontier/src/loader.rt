@@ -27,7 +27,7 @@ use std::alloc::{Allocator, Global};
 use std::marker::Model;
 
 /// The parts of a state that will become a session. It runs no search: a carried route is checked to be a route of its
-/// part, but not to be its least. Contracts see the plan, the request, the parts so far, and how often the finder was
+/// part, but not to be its best. Contracts see the plan, the request, the parts so far, and how often the finder was
 /// called.
 #[derive(Drop)]
 pub struct Loader<'p, B: BestOf<A>, A: Allocator + Copy = Global> {
@@ -51,7 +51,7 @@ impl<'p, B: BestOf<A>, A: Allocator + Copy> Model for Loader<'p, B, A> {
 }
 
 impl<'p, B: BestOf<A>, A: Allocator + Copy> Loader<'p, B, A> {
-    /// Makes a loader without a part. It takes no memory.
+    /// Makes a loader without a part. It allocates nothing.
     pub fn new(alloc: A, plan: &'p Plan<A>, request: Request, finder: B) -> Loader<'p, B, A>
         ensures { result ≡ record { plan = plan.now; request = request; parts = []; calls = B.calls_of finder } }
     {
@@ -78,8 +78,8 @@ impl<'p, B: BestOf<A>, A: Allocator + Copy> Loader<'p, B, A> {
     ///
     /// [`LoadFault::BadOrder`] if the excluded numbers don't rise strictly, or the prefix isn't greater than the one
     /// before, by its numbers from the front. Else [`LoadFault::BadRoute`] if the carried list is no route that begins
-    /// with the prefix, is longer, and takes none of the excluded numbers next. Else [`LoadFault::NoMemory`] if a
-    /// growth was refused. The loader is then as it was.
+    /// with the prefix, is longer, and takes none of the excluded numbers next. Else [`LoadFault::NoMemory`] if an
+    /// allocation failed. The loader is then as it was.
     pub fn add_part(
         &mut self,
         prefix: &[u32],
@@ -87,11 +87,11 @@ impl<'p, B: BestOf<A>, A: Allocator + Copy> Loader<'p, B, A> {
         route: Option<&[u32]>,
     ) -> Result<(), LoadFault>
 
-        // It is refused for the first reason that holds, and else is added, or memory was refused.
+        // It is refused for the first reason that holds, and else is added, or an allocation failed.
         ensures refused { (f : LoadFault) → refusal_by self.old (part_with prefix.now excluded.now (option_copied route.entry)) ≡ Some f → result ≡ Err f }
         ensures accepted { refusal_by self.old (part_with prefix.now excluded.now (option_copied route.entry)) ≡ None → IsOkUnless result load.NoMemory }
 
-        // It stands after the others. After a refusal all is as before.
+        // It stands after the others. If it was refused, all is as before.
         ensures ok { OnOk result (self.new ≡ with_part self.old (part_with prefix.now excluded.now (option_copied route.entry))) }
         ensures err { OnErr result (self.new ≡ self.old) }
     {
@@ -111,8 +111,8 @@ impl<'p, B: BestOf<A>, A: Allocator + Copy> Loader<'p, B, A> {
     /// # Errors
     ///
     /// [`LoadFault::NotClosed`] if the parts aren't closed. Else [`LoadFault::BadCount`] if `emitted` isn't the number
-    /// of their leaves, or `last` isn't one of them, or isn't empty if there is none. Else [`LoadFault::NoMemory`] if a
-    /// growth was refused. The loader is dropped with its finder.
+    /// of their leaves, or `last` isn't one of them, or isn't empty if there is none. Else [`LoadFault::NoMemory`] if
+    /// an allocation failed. The loader is dropped with its finder.
     pub fn finish(self, emitted: u128, last: &[u32]) -> Result<Session<'p, B, A>, LoadFault>
         ensures ok { IfOk result (λ s. s ≡ session_with self.entry emitted last.now) }
         ensures formed { OnOk result (IsState self.entry.plan.plan self.entry.request (state_with self.entry.parts emitted last.now)) }

@@ -1,12 +1,13 @@
 //! A session over a listing of routes: the next routes a page at a time, and back.
 
-ghost use Rattle.std.specs.Prelude.{◌≡◌, ◌≢◌, ℕ, ◌+◌, ◌^◌, ◌<◌, ◌≤◌, ◌⊎◌, ◌↔◌, ◌∷◌, [], map, length, is_some, None, Ok, IfOk, OnOk, OnErr, IsOk, IsTrue, IsFalse};
+ghost use Rattle.std.specs.Prelude.{◌≡◌, ◌≢◌, ℕ, ◌+◌, ◌*◌, ◌^◌, ◌<◌, ◌≤◌, ◌⊎◌, ◌↔◌, ◌∷◌, [], map, length, is_some, None, Ok, IfOk, OnOk, OnErr, IsOk, IsTrue, IsFalse};
 ghost use Rattle.sabr_model.specs.plan.Plan.{IsPlan};
 ghost use Rattle.sabr_model.specs.routes.Asking.{IsRequest};
 ghost use Rattle.sabr_model.specs.routes.Record.{record_of};
 ghost use Rattle.sabr_frontier.specs.listing.Fresh.{GivesNewRoutes};
 ghost use Rattle.sabr_frontier.specs.listing.Listing.{most_routes, next_route, state_at};
 ghost use Rattle.sabr_frontier.specs.session.Session.{former_then, next_page, page_searches, session_over, seen_part, started};
+ghost use Rattle.sabr_frontier.specs.tree.Asking.{IsAtRest, call_looks};
 ghost use Rattle.sabr_frontier.specs.tree.Shape.{shape_of, shown};
 ghost use Rattle.sabr_frontier.specs.tree.Sound.{IsTree};
 ghost use Rattle.sabr_frontier.specs.tree.Undo.{IsRoomy};
@@ -25,13 +26,13 @@ use std::alloc::{Allocator, Global};
 use std::marker::Model;
 
 /// A listing of the routes of a plan for a request, as far as they were given. It keeps the parts that are left (Yen,
-/// Lawler), each with its least route.
+/// Lawler), each with its best route.
 ///
 /// Contracts see the plan, the request, the state, the states that `back` leads to, the latest first, the count of
-/// searches, and how often the finder was called.
+/// searches, their looks, and how often the finder was called.
 #[derive(Drop)]
 pub struct Session<'p, B: BestOf<A>, A: Allocator + Copy = Global> {
-    /// What finds the parts' least routes.
+    /// What finds the parts' best routes.
     asker: Asker<'p, B, A>,
     /// The parts and the routes given.
     tree: Tree<A>,
@@ -39,18 +40,21 @@ pub struct Session<'p, B: BestOf<A>, A: Allocator + Copy = Global> {
     pages: Vec<usize, A>,
     /// The searches of the last call that counts them.
     searches: u64,
-    /// Whether a search began it. Then each part carries its least route.
+    /// The looks that the searches of the last page took.
+    looks: u64,
+    /// Whether a search began it. Then each part carries its best route.
     is_sure: bool,
 }
 
 impl<'p, B: BestOf<A>, A: Allocator + Copy> Model for Session<'p, B, A> {
     ghost use Rattle.sabr_frontier.specs.session.Session.{Seen, IsSession, seen};
+    ghost use Rattle.sabr_frontier.specs.tree.Asking.{IsAtRest};
 
     ghost Value = { Seen };
 
-    ghost view = { λ s. seen s.asker s.tree s.pages.items s.searches };
+    ghost view = { λ s. seen s.asker s.tree s.pages.items s.searches s.looks };
 
-    ghost invariant = { λ s. IsSession s.asker.asked s.tree s.pages.items s.is_sure };
+    ghost invariant = { λ s. IsSession s.asker.asked.plan s.asker.asked.request s.tree s.pages.items s.is_sure × IsAtRest s.asker };
 }
 
 impl<'p, B: BestOf<A>, A: Allocator + Copy> Session<'p, B, A> {
@@ -58,7 +62,7 @@ impl<'p, B: BestOf<A>, A: Allocator + Copy> Session<'p, B, A> {
     ///
     /// # Errors
     ///
-    /// [`NoMemory`] if a growth was refused. The finder is dropped.
+    /// [`NoMemory`] if an allocation failed. The finder is dropped.
     pub fn start(
         alloc: A,
         plan: &'p Plan<A>,
@@ -75,7 +79,7 @@ impl<'p, B: BestOf<A>, A: Allocator + Copy> Session<'p, B, A> {
     ///
     /// # Errors
     ///
-    /// [`NoMemory`] if a growth was refused. The index and the finder are dropped.
+    /// [`NoMemory`] if an allocation failed. The index and the finder are dropped.
     pub fn start_with_index(
         alloc: A,
         index: Index<'p, A>,
@@ -100,11 +104,13 @@ impl<'p, B: BestOf<A>, A: Allocator + Copy> Session<'p, B, A> {
         let alloc = asker.alloc();
         let found = asker.ask(&[], &[], 0)?;
         let tree = Tree::root(alloc, found)?;
+        asker.take_sum();
         Ok(Session {
             asker,
             tree,
             pages: Vec::new(alloc),
             searches: 1,
+            looks: 0,
             is_sure: true,
         })
     }
@@ -112,7 +118,7 @@ impl<'p, B: BestOf<A>, A: Allocator + Copy> Session<'p, B, A> {
     /// Makes a session over a tree that no page has changed.
     pub(crate) fn of_tree(asker: Asker<'p, B, A>, tree: Tree<A>) -> Session<'p, B, A>
         requires rules { IsPlan asker.asked.plan.plan }
-        requires unbounded { asker.asked.bound ≡ None }
+        requires rest { IsAtRest asker }
         requires limits { IsRequest asker.asked.request }
         requires sound { IsTree asker.asked.plan.plan asker.asked.request (shape_of tree) }
         requires fresh { tree.journal.items ≡ [] }
@@ -128,6 +134,7 @@ impl<'p, B: BestOf<A>, A: Allocator + Copy> Session<'p, B, A> {
             tree,
             pages,
             searches: 0,
+            looks: 0,
             is_sure: false,
         }
     }
@@ -136,11 +143,11 @@ impl<'p, B: BestOf<A>, A: Allocator + Copy> Session<'p, B, A> {
     /// delivery, then by number of hops, then by contact numbers (this project's profile).
     ///
     /// A route takes a search for each of its hops after the prefix of the part that carried it. No part is copied. If
-    /// no route is asked for, or none is left, no memory is taken.
+    /// no route is asked for, or none is left, nothing is allocated.
     ///
     /// # Errors
     ///
-    /// [`NoMemory`] if a growth was refused. All is shown as before, and the same call can be made again. It took no
+    /// [`NoMemory`] if an allocation failed. All is shown as before, and the same call can be made again. It took no
     /// more searches than the page would have.
     pub fn page(&mut self, count: u32) -> Result<Vec<Route<A>, A>, NoMemory>
         requires { count ≤ most_routes }
@@ -150,16 +157,19 @@ impl<'p, B: BestOf<A>, A: Allocator + Copy> Session<'p, B, A> {
         ensures state { OnOk result (self.new.state ≡ (next_page self.old count).1) }
         ensures former { OnOk result (self.new.former ≡ former_then (next_page self.old count).0 self.old.state self.old.former) }
 
-        // So many searches were taken.
+        // It took this number of searches.
         ensures searches { OnOk result (self.new.searches ≡ page_searches self.old count) }
         ensures calls { OnOk result (self.new.calls ≡ self.old.calls + page_searches self.old count) }
+
+        // Together they took no more looks than that many calls of a finder take at most.
+        ensures looks { OnOk result (self.new.looks ≤ page_searches self.old count * call_looks self.old.plan.plan) }
 
         // The plan and the request stay, and no route comes twice.
         ensures plan { self.new.plan ≡ self.old.plan }
         ensures request { self.new.request ≡ self.old.request }
         ensures new_routes { GivesNewRoutes self.old.plan.plan self.old.request count self.old.state }
 
-        // After a refusal all but the calls is as before. A page without routes is never refused.
+        // If an allocation failed, all but the calls is as before. A page without routes allocates nothing.
         ensures err { OnErr result (self.new ≡ record self.old { calls = self.new.calls }) }
         ensures no_fewer { OnErr result (self.old.calls ≤ self.new.calls) }
         ensures at_most { OnErr result (self.new.calls ≤ self.old.calls + page_searches self.old count) }
@@ -168,6 +178,7 @@ impl<'p, B: BestOf<A>, A: Allocator + Copy> Session<'p, B, A> {
         let mut given = Vec::new(self.asker.alloc());
         if count == 0 || self.tree.is_empty() {
             self.searches = 0;
+            self.looks = 0;
             return Ok(given);
         }
         self.pages.reserve(1)?;
@@ -180,22 +191,25 @@ impl<'p, B: BestOf<A>, A: Allocator + Copy> Session<'p, B, A> {
                 self.tree.settle(self.asker.alloc());
                 self.pages.push_reserved(start);
                 self.searches = searches;
+                self.looks = self.asker.take_sum();
                 Ok(given)
             }
             Err(refused) => {
                 self.tree.undo_to(start);
+                self.asker.take_sum();
                 Err(refused)
             }
         }
     }
 
     /// Takes back the last page that gave routes and wasn't taken back yet: the state is the one before it. Returns
-    /// false, and changes nothing, if there is none. It takes no memory, and a pass over the parts for each route.
+    /// false, and changes nothing, if there is none. It allocates nothing, and passes over the parts for each route.
     pub fn back(&mut self) -> bool
 
         // The state before the last page is back.
         ensures yes { IsTrue result → self.new.state ∷ self.new.former ≡ self.old.former }
         ensures searches { IsTrue result → self.new.searches ≡ 0 }
+        ensures looks { IsTrue result → self.new.looks ≡ 0 }
 
         // The plan, the request and the calls stay.
         ensures plan { self.new.plan ≡ self.old.plan }
@@ -211,23 +225,26 @@ impl<'p, B: BestOf<A>, A: Allocator + Copy> Session<'p, B, A> {
         };
         self.tree.undo_to(start);
         self.searches = 0;
+        self.looks = 0;
         true
     }
 
     /// Returns true if the state is that of the place `emitted` in the listing: the routes that it counts as given are
-    /// the first of them, and each part carries its least route. All is shown as before in any case. It takes a search
+    /// the first of them, and each part carries its best route. All is shown as before in any case. It takes a search
     /// for each part, and a pass over the routes given.
     ///
     /// # Errors
     ///
-    /// [`NoMemory`] if a growth was refused.
+    /// [`NoMemory`] if an allocation failed.
     pub fn certify(&mut self) -> Result<bool, NoMemory>
         ensures same { self.new ≡ record self.old { calls = self.new.calls } }
         ensures calls { self.new.calls ≤ self.old.calls + length self.old.state.parts }
         ensures no_fewer { self.old.calls ≤ self.new.calls }
         ensures ok { IfOk result (λ yes. IsTrue yes ↔ (self.old.state ≡ state_at self.old.plan.plan self.old.request self.old.state.emitted)) }
     {
-        self.tree.is_placed(&mut self.asker)
+        let placed = self.tree.is_placed(&mut self.asker);
+        self.asker.take_sum();
+        placed
     }
 
     /// Returns true if there is a page to take back: one that gave routes and wasn't taken back yet.
@@ -273,7 +290,7 @@ impl<'p, B: BestOf<A>, A: Allocator + Copy> Session<'p, B, A> {
     }
 
     /// The parts, rising by prefix, all borrowed. Those without a route are among them. It takes a step for each, and
-    /// no memory.
+    /// allocates nothing.
     pub fn parts(&self) -> Parts<'_, A>
         ensures { seen_left result ≡ map (seen_part self.now.plan.plan self.now.request) self.now.state.parts }
     {
@@ -284,12 +301,20 @@ impl<'p, B: BestOf<A>, A: Allocator + Copy> Session<'p, B, A> {
         }
     }
 
-    /// How many searches, each a call of the finder, the last call of `start` or `page` took that wasn't refused; 0
-    /// after a `back` that was true.
+    /// The searches, each a call of the finder, of the last call of `start` or `page` that succeeded; 0 after a `back`
+    /// that was true.
     pub fn searches(&self) -> u64
         ensures { result ≡ self.now.searches }
     {
         self.searches
+    }
+
+    /// The looks that the searches of the last page took, each a use of a contact's record: 0 if there was none yet, or
+    /// after a `back` that was true, and `u64::MAX` if they are more. A page that failed doesn't count.
+    pub fn looks(&self) -> u64
+        ensures { result ≡ self.now.looks }
+    {
+        self.looks
     }
 
     /// The plan whose routes are listed.

@@ -26,7 +26,7 @@ pub struct Node<A: Allocator + Copy = Global> {
     pub length: usize,
     /// The numbers that no route of the part takes right after the prefix.
     pub excluded: ExcludedNumbers<A>,
-    /// The least route of the part, if it has one.
+    /// The best route of the part, if it has one.
     pub route: Option<Route<A>>,
 }
 
@@ -49,7 +49,7 @@ pub struct Tree<A: Allocator + Copy = Global> {
     pub index: Vec<NodeId, A>,
     /// Room for the numbers of a page's nodes, until they are put among the others. Else empty.
     pub late: Vec<NodeId, A>,
-    /// Slot `k` names the node with the least route among node `k` and the winners of slots `2k + 1` and `2k + 2`.
+    /// Slot `k` names the node with the best route among node `k` and the winners of slots `2k + 1` and `2k + 2`.
     pub winners: Vec<NodeId, A>,
     /// The routes given, in the order of the parts that they made.
     pub leaves: Vec<Route<A>, A>,

@@ -9,14 +9,14 @@ use sabr_model::Route;
 use std::alloc::{Allocator, Global};
 
 /// A part: the routes that begin with the prefix, are longer, and whose next number is not excluded. It comes with its
-/// least route, or none if it has no route.
+/// best route, or none if it has no route.
 #[derive(Drop)]
 pub struct PartView<'a, A: Allocator + Copy = Global> {
     /// The contact numbers that each route of the part begins with.
     pub prefix: &'a [u32],
     /// The contact numbers that no route of the part takes next, rising.
     pub excluded: &'a [u32],
-    /// The least route of the part by key.
+    /// The best route of the part by key.
     pub route: Option<&'a Route<A>>,
 }
 

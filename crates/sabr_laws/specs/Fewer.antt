@@ -36,7 +36,7 @@ LostContactsTakeTheirRoutes =
     (p : ContactPlan) (r : RouteRequest) (from to start n : ℕ) → IsPlan p → number_of_opening p from to start ≡ Some n
     → LeavesOf p r (without_contact p from to start) r (λ s. not (has n s))
 
--- whether a list has at most so many hops, and goes over no avoided node
+-- whether a list has at most that many hops, and goes over no avoided node
 abbrev pub keeps_limits : ContactPlan → ℕ → List ℕ → List ℕ → Bool
 keeps_limits p max_hops avoided s = nat_le (length s) max_hops && list_all (λ v. not (has v avoided)) (receivers p s)
 

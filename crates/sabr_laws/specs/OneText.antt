@@ -6,8 +6,8 @@ use Rattle.sabr_model.specs.routes.Listing.{routes}
 use Rattle.sabr_model.specs.routes.Record.{record_of}
 use Rattle.sabr_plan.specs.Canonical.{canonical_text}
 
--- both have the same contacts, with their numbers, and the same ranges, and so the same listings, and the same record of
--- each list of contacts; only the greatest number ever given may differ, which is in none of these
+-- both have the same contacts, with their numbers, and the same ranges, and so the same listings, and the same record
+-- of each list of contacts; only the largest number ever given may differ, which is in none of these
 pub record RouteAlike (p q : ContactPlan) : Type 0 where
   pub contacts : p.contacts ≡ q.contacts
   pub ranges : p.ranges ≡ q.ranges

@@ -1,8 +1,9 @@
 //! Answers that are kept for later questions of the same plan and request.
 //!
-//! The answer for a node, a second, excluded numbers, shut nodes and hops left is the answer to every later question that
-//! shuts more, starts no earlier and leaves no more hops, as long as its way may be taken and delivers at the same second.
-//! Where there was none, there is none; and where each way was above a bound, each is above a lesser one.
+//! The answer for a node, a second, excluded numbers, forbidden nodes and hops left is the answer to every later
+//! question that forbids more, starts no earlier and leaves no more hops, as long as its way may be taken and delivers
+//! at the same second. Where there was none, there is none; and where each way was above a bound, each is above a
+//! smaller one.
 
 mod lists;
 pub mod payoff;
@@ -27,42 +28,42 @@ use sabr_index::Looks;
 use std::alloc::{Allocator, Global};
 use std::mem::replace;
 
-/// So many answers are kept; the oldest goes. With 1024, 1000 routes took 7 percent more instructions over a grid of 64 nodes
-/// and 10 over one of two satellite plans; with 16384 they took up to 2 percent more, over nine plans. To vary this and the
-/// next: `bench/figures.py --counts 1000 --only
-/// grid-8,relay-mars-500,relay-mars-2000,iridium,cube,dense-60,walker-66-5000,sparse-2000`; they were varied in a copy of
-/// this design in plain Rust.
+/// This many answers are kept; the oldest goes. With 1024, 1000 routes took 7 percent more instructions over a grid of
+/// 64 nodes and 10 over one of two satellite plans; with 16384 they took up to 2 percent more, over nine plans. To vary
+/// this and the next: `bench/figures.py --counts 1000 --only
+/// grid-8,relay-mars-500,relay-mars-2000,iridium,cube,dense-60,walker-66-5000,sparse-2000`; they were varied in a copy
+/// of this design in plain Rust.
 const SLOTS: usize = 4096;
 
-/// So many answers are compared for a question. With 4, relays took up to 17 percent more, satellites up to 31, and a small
-/// relay 3 percent fewer; with 64, the grid took 14 percent more and a satellite plan 16 percent fewer.
+/// This many answers are compared for a question. With 4, relays took up to 17 percent more, satellites up to 31, and a
+/// small relay 3 percent fewer; with 64, the grid took 14 percent more and a satellite plan 16 percent fewer.
 const COMPARED: usize = 16;
 
-/// Questions that exclude more numbers aren't kept, since each list is copied. With 16, 60 nodes that all see each other took
-/// 7 percent more; with 256 nothing changed. Without a limit the ten thousandth route of a line of 20000 contacts took 4.25
-/// times the instructions of a native program, with this one 1.18. To vary it: `bench/further.py --parts long --only
-/// line-1000,dense-60`.
-const MOST_EXCLUDED: usize = 64;
+/// Questions that exclude more numbers aren't kept, since each list is copied. With 16, 60 nodes that all see each
+/// other took 7 percent more; with 256 nothing changed. Without a limit the ten thousandth route of a line of 20000
+/// contacts took 4.25 times the instructions of a native program, with this one 1.18. To vary it: `bench/further.py
+/// --parts long --only line-1000,dense-60`.
+const MAX_EXCLUDED: usize = 64;
 
-/// Questions after a longer prefix aren't kept: an answer lists the nodes that were shut. Without a limit 4096 answers of a
-/// line of 20000 contacts would take some 600 MB, with this one 4 MB. With 64 the half of all questions over a grid of 1600
-/// nodes weren't kept. To vary it: `bench/figures.py --counts 1000 --only grid-40,line-19998`.
-const MOST_PREFIX: usize = 128;
+/// Questions after a longer prefix aren't kept: an answer lists the nodes that were forbidden. Without a limit 4096
+/// answers of a line of 20000 contacts would take some 600 MB, with this one 4 MB. With 64 the half of all questions
+/// over a grid of 1600 nodes weren't kept. To vary it: `bench/figures.py --counts 1000 --only grid-40,line-19998`.
+const MAX_PREFIX: usize = 128;
 
 /// The place of no answer.
 const NONE: usize = usize::MAX;
 
-/// An answer that would be the answer to a question, too, if its way passed no shut node.
+/// An answer that would be the answer to a question, too, if its way passed no forbidden node.
 #[derive(Clone, Copy)]
 pub struct Near<'a> {
     /// The nodes that its question shut.
     pub shut: &'a [u32],
-    /// The first shut node that its way passes.
+    /// The first forbidden node that its way passes.
     pub node: usize,
 }
 
-/// What the answers that are kept tell of a question: the place of its answer, or else the near one whose question shut most
-/// nodes.
+/// What the answers that are kept tell of a question: the place of its answer, or else the near one whose question
+/// forbade most nodes.
 #[derive(Clone, Copy)]
 pub struct Recalled<'a> {
     pub place: Option<usize>,
@@ -76,7 +77,7 @@ pub struct Answer<A: Allocator + Copy = Global> {
     pub from: Visit,
     /// The most hops that its way might have.
     pub hops: usize,
-    /// The numbers that no way takes first, the nodes that were shut, and the least way.
+    /// The numbers that no way takes first, the nodes that were forbidden, and the best way.
     pub lists: Lists<A>,
     /// When the way delivers.
     pub delivery: u64,
@@ -105,7 +106,7 @@ pub struct Answers<A: Allocator + Copy = Global> {
     spare: Lists<A>,
 }
 
-/// Of two near answers, the one whose question shut more nodes, or else the second.
+/// Of two near answers, the one whose question forbade more nodes, or else the second.
 fn more_shut<'a>(first: Option<Near<'a>>, second: Near<'a>) -> Option<Near<'a>> {
     if let Some(other) = first
         && second.shut.len() < other.shut.len()
@@ -115,7 +116,8 @@ fn more_shut<'a>(first: Option<Near<'a>>, second: Near<'a>) -> Option<Near<'a>> 
     Some(second)
 }
 
-/// Returns whether each of these nodes is shut. It begins with the last, since prefixes that begin alike differ at their ends.
+/// Returns whether each of these nodes is forbidden. It begins with the last, since prefixes that begin alike differ at
+/// their ends.
 fn are_shut(flags: &[bool], nodes: &[u32]) -> bool
     ensures { IsTrue result → AllShut flags.now nodes.now }
 {
@@ -131,8 +133,8 @@ fn are_shut(flags: &[bool], nodes: &[u32]) -> bool
 }
 
 impl<A: Allocator + Copy> Answer<A> {
-    /// Returns whether a question starts at the same node and no earlier, excludes the same numbers, shuts these nodes,
-    /// too, and leaves no more hops.
+    /// Returns whether a question starts at the same node and no earlier, excludes the same numbers, forbids these
+    /// nodes, too, and leaves no more hops.
     fn covers(&self, task: &Task<'_, A>, hops: usize) -> bool
         ensures { IsTrue result → Covers self.now task.now hops }
     {
@@ -145,8 +147,8 @@ impl<A: Allocator + Copy> Answer<A> {
         self.lists.excluded() == task.excluded()
     }
 
-    /// Goes along its way from where a question stands, a look for each contact; returns whether it delivers at the same
-    /// second, within the looks that are left. Notes the first shut node that it passes.
+    /// Goes along its way from where a question stands, a look for each contact; returns whether it delivers at the
+    /// same second, within the looks that are left. Notes the first forbidden node that it passes.
     fn leads(&self, task: &Task<'_, A>, looks: &mut Looks, passed: &mut usize) -> bool
         requires task { IsTask task.now }
         requires goal { slice_get task.now.table task.now.goal ≡ Some task.now.request.destination }
@@ -176,8 +178,8 @@ impl<A: Allocator + Copy> Answer<A> {
         from.node == task.goal() && from.at == self.delivery
     }
 
-    /// Returns whether it is the answer to a question up to a bound, too, as far as the looks that are left show it. If its
-    /// way passes a shut node, notes that.
+    /// Returns whether it is the answer to a question up to a bound, too, as far as the looks that are left show it. If
+    /// its way passes a forbidden node, notes that.
     fn answers(
         &self,
         task: &Task<'_, A>,
@@ -205,14 +207,14 @@ impl<A: Allocator + Copy> Answer<A> {
     }
 }
 
-/// Returns whether the answer to a question is kept: not if the prefix is empty, since no other one ends at the source, and
-/// not if too many numbers are excluded or the prefix is too long.
+/// Returns whether the answer to a question is kept: not if the prefix is empty, since no other one ends at the source,
+/// and not if too many numbers are excluded or the prefix is too long.
 fn is_kept<A: Allocator + Copy>(asked: &Question<'_, '_, '_, A>) -> bool
     ensures { result ≡ is_kept_after asked.now.prefix.now asked.now.task.now.excluded }
 {
     !asked.prefix.is_empty()
-        && asked.prefix.len() <= MOST_PREFIX
-        && asked.task.excluded().len() <= MOST_EXCLUDED
+        && asked.prefix.len() <= MAX_PREFIX
+        && asked.task.excluded().len() <= MAX_EXCLUDED
 }
 
 /// Puts an answer in place of another one, and returns the lists of that.
@@ -266,7 +268,8 @@ impl<A: Allocator + Copy> Answers<A> {
         }
     }
 
-    /// The place of an answer that is the answer to this question, too; or else the near one whose question shut most nodes.
+    /// The place of an answer that is the answer to this question, too; or else the near one whose question forbade
+    /// most nodes.
     pub fn recall(&self, asked: &Question<'_, '_, '_, A>, looks: &mut Looks) -> Recalled<'_>
         requires asked { IsAsked asked.now.task.now asked.now.prefix.now }
         requires kept { All (IsAnswer (tabled_of asked.now.task.now) asked.now.task.now.request) self.now.slots.items }
@@ -328,8 +331,8 @@ impl<A: Allocator + Copy> Answers<A> {
         true
     }
 
-    /// Puts an answer into a new slot, or in place of the oldest one if there are enough, and returns its place; or leaves it
-    /// out, where a growth is refused.
+    /// Puts an answer into a new slot, or in place of the oldest one if there are enough, and returns its place; or
+    /// leaves it out, where an allocation failed.
     fn put(&mut self, answer: Answer<A>) -> Option<usize>
         ensures put { IsPut self.old.slots.items self.new.slots.items answer }
         ensures few { length self.old.slots.items ≤ most_answers → length self.new.slots.items ≤ most_answers }
@@ -356,7 +359,7 @@ impl<A: Allocator + Copy> Answers<A> {
         }
     }
 
-    /// Makes the answer to a question from what was found; or none, where nothing was or a growth is refused.
+    /// Makes the answer to a question from what was found; or none, where nothing was or an allocation failed.
     fn made(
         &mut self,
         task: &Task<'_, A>,
@@ -394,7 +397,8 @@ impl<A: Allocator + Copy> Answers<A> {
         })
     }
 
-    /// Keeps the answer to a question, and returns its place; or leaves it out, where nothing was found or a growth is refused.
+    /// Keeps the answer to a question, and returns its place; or leaves it out, where nothing was found or an
+    /// allocation failed.
     pub fn keep(
         &mut self,
         task: &Task<'_, A>,

@@ -1,4 +1,4 @@
-//! The law of finders: the least route of a part.
+//! The law of finders: the best route of a part.
 
 ghost use Rattle.std.specs.Prelude.{◌≡◌, ℕ, ◌+◌, ◌*◌, ◌≤◌, IfOk, IsTrue, length};
 ghost use Rattle.sabr_search.specs.questions.Part.{IsLeast};
@@ -15,7 +15,7 @@ use sabr_index::Index;
 use sabr_model::{NoMemory, Plan, Request, Route};
 use std::alloc::Allocator;
 
-/// A finder of the least route of a part of the routes.
+/// A finder of the best route of a part of the routes.
 pub trait BestOf<A: Allocator + Copy>: Drop {
     /// The looks of the last call of `best`: how often it used a contact's record.
     ghost looks_of: { Self → ℕ };
@@ -23,14 +23,14 @@ pub trait BestOf<A: Allocator + Copy>: Drop {
     /// How often `best` was called, refused calls among them.
     ghost calls_of: { Self → ℕ };
 
-    /// Returns the least route of the part by key (delivery, number of hops, contact numbers), or none if the part has
+    /// Returns the best route of the part by key (delivery, number of hops, contact numbers), or none if the part has
     /// no route.
     ///
     /// The part's prefix is one that `fits`. The answer doesn't depend on what was asked before.
     ///
     /// # Errors
     ///
-    /// [`NoMemory`] if a growth was refused. The finder can be used again.
+    /// [`NoMemory`] if an allocation failed. The finder can be used again.
     fn best(
         &mut self,
         plan: &Plan<A>,
@@ -49,7 +49,7 @@ pub trait BestOf<A: Allocator + Copy>: Drop {
     ///
     /// # Errors
     ///
-    /// [`NoMemory`] where a growth was refused. The finder and what is kept can be used again.
+    /// [`NoMemory`] where an allocation failed. The finder and what is kept can be used again.
     fn best_beside(
         &mut self,
         kept: &mut Kept<A>,
@@ -74,13 +74,13 @@ pub trait BestOf<A: Allocator + Copy>: Drop {
         self.best(index.plan(), request, part)
     }
 
-    /// Does the same as `best_beside` for the least route up to a bound. A greater route needn't be told.
+    /// Does the same as `best_beside` for the best route up to a bound. A worse route needn't be told.
     ///
     /// The caller promises that no route of the part delivers before its floor.
     ///
     /// # Errors
     ///
-    /// [`NoMemory`] where a growth was refused. The finder and what is kept can be used again.
+    /// [`NoMemory`] where an allocation failed. The finder and what is kept can be used again.
     fn best_up_to(
         &mut self,
         kept: &mut Kept<A>,
@@ -107,8 +107,8 @@ pub trait BestOf<A: Allocator + Copy>: Drop {
         Ok(Sought::of(found))
     }
 
-    /// How many looks the last call of `best` took, each a use of a contact's record; 0 before the first call. Bounds beside
-    /// contacts, among them the starts that binary searches compare, aren't counted.
+    /// How many looks the last call of `best` took, each a use of a contact's record; 0 before the first call. Bounds
+    /// beside contacts, among them the starts that binary searches compare, aren't counted.
     fn looks(&self) -> u64
         ensures { result ≡ looks_of self.now };
 }

@@ -27,7 +27,7 @@ impl Bound {
         }
     }
 
-    /// Returns true if a route with this delivery and so many hops is up to it.
+    /// Returns true if a route with this delivery and that many hops is up to it.
     pub fn holds(&self, delivery: u64, hops: usize) -> bool
         ensures { result ≡ is_up_to self.now delivery hops }
     {
@@ -48,7 +48,7 @@ impl Bound {
         other.holds(self.delivery, self.hops)
     }
 
-    /// What it leaves after so many hops.
+    /// What it leaves after that many hops.
     pub fn after(&self, hops: usize) -> Bound
         ensures { result ≡ bound_after self.now hops }
     {
@@ -91,7 +91,7 @@ impl Bound {
     }
 }
 
-/// A part whose least route is asked for, if it is up to a bound.
+/// A part whose best route is asked for, if it is up to a bound.
 #[derive(Clone, Copy)]
 pub struct BoundedPart<'a> {
     /// The contact numbers that each route of the part begins with.
@@ -104,10 +104,10 @@ pub struct BoundedPart<'a> {
     pub floor: u64,
 }
 
-/// The answer to a question for the least route of a part up to a bound.
+/// The answer to a question for the best route of a part up to a bound.
 #[derive(Drop)]
 pub enum Sought<A: Allocator + Copy = Global> {
-    /// The least route. It may be above the bound.
+    /// The best route. It may be above the bound.
     Route(Route<A>),
     /// The part has no route.
     None,

@@ -90,7 +90,7 @@ impl<A: Allocator + Copy> Course<A> {
     /// Goes along a prefix that fits, and returns where it leads: one look for each number after those that it has in
     /// common with the last prefix.
     ///
-    /// If a growth is refused, the course is of no more use.
+    /// If an allocation failed, the course is of no more use.
     pub fn go(
         &mut self,
         looks: &mut Looks,

@@ -1,4 +1,4 @@
-//! What a search for the least way finds.
+//! What a search for the best way finds.
 
 ghost use Rattle.std.specs.Prelude.{IsTrue};
 ghost use Rattle.sabr_search.specs.answers.Found.{IsEnough};
@@ -13,10 +13,10 @@ pub struct FoundWay<A: Allocator + Copy = Global> {
     pub delivery: u64,
 }
 
-/// What a search for the least way finds.
+/// What a search for the best way finds.
 #[derive(Drop)]
 pub enum Found<A: Allocator + Copy = Global> {
-    /// The least way.
+    /// The best way.
     Way(FoundWay<A>),
     /// Each way is above this bound; there is none if everything is up to it.
     Beyond(Bound),
@@ -25,8 +25,8 @@ pub enum Found<A: Allocator + Copy = Global> {
 }
 
 impl<A: Allocator + Copy> Found<A> {
-    /// Returns true if it is enough for a question up to this bound: if it is a way, or if all that is up to the bound is up to
-    /// what each way is above.
+    /// Returns true if it is enough for a question up to this bound: if it is a way, or if all that is up to the bound
+    /// is up to what each way is above.
     pub fn is_enough(&self, bound: Bound) -> bool
         ensures { IsTrue result → IsEnough bound self.now }
     {

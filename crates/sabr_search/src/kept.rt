@@ -21,7 +21,7 @@ use std::alloc::{Allocator, Global};
 
 /// What is kept for the searches of one plan and request.
 ///
-/// An answer doesn't depend on what is kept. If a growth is refused, what it was for is left out.
+/// An answer doesn't depend on what is kept. If an allocation failed, what it was for is left out.
 #[derive(Drop)]
 pub struct Kept<A: Allocator + Copy = Global> {
     /// Where it takes its memory.
@@ -41,7 +41,7 @@ pub struct Kept<A: Allocator + Copy = Global> {
 }
 
 impl<A: Allocator + Copy> Kept<A> {
-    /// Makes an empty value. It takes no memory.
+    /// Makes an empty value. It doesn't allocate.
     pub fn new(alloc: A) -> Kept<A>
         ensures { (p : TabledPlan) (r : RouteRequest) → IsKept p r result }
     {
@@ -56,8 +56,8 @@ impl<A: Allocator + Copy> Kept<A> {
         }
     }
 
-    /// Begins a question whose ways deliver no sooner than this. Makes layers for that delivery if the questions so far have
-    /// taken enough looks.
+    /// Begins a question whose ways deliver no sooner than this. Makes layers for that delivery if the questions so far
+    /// have taken enough looks.
     fn open_level(
         &mut self,
         looks: &mut Looks,
@@ -81,8 +81,8 @@ impl<A: Allocator + Copy> Kept<A> {
         self.spending.pay(before.saturating_sub(looks.left()));
     }
 
-    /// Begins a question: finds the reach, and layers for the part's floor, if they are due. Nothing is found if two looks at
-    /// each contact aren't enough, or if a growth is refused.
+    /// Begins a question: finds the reach, and layers for the part's floor, if they are due. Nothing is found if two
+    /// looks at each contact aren't enough, or if an allocation failed.
     pub fn open(
         &mut self,
         looks: &mut Looks,
@@ -102,7 +102,8 @@ impl<A: Allocator + Copy> Kept<A> {
         looks.put_back(aside);
     }
 
-    /// Takes the course out, or opens one if there is none. None unless the plan has both the source and the destination.
+    /// Takes the course out, or opens one if there is none. None unless the plan has both the source and the
+    /// destination.
     pub fn take_course(
         &mut self,
         alloc: A,

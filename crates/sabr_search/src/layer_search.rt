@@ -1,4 +1,4 @@
-//! A search by layers alone: forward for the least delivery within a limit on hops, and backward for its least way.
+//! A search by layers alone: forward for the earliest delivery within a limit on hops, and backward for its best way.
 
 ghost use Rattle.std.specs.Prelude.{◌+◌, ◌*◌, ◌≤◌, ◌<◌, IfOk, length};
 ghost use Rattle.sabr_search.specs.questions.Task.{IsTask, most_nodes};
@@ -20,16 +20,16 @@ use std::alloc::Allocator;
 /// Layers forward from the start, and layers backward from the goal, kept from call to call.
 #[derive(Drop)]
 pub struct LayerSearch<A: Allocator + Copy> {
-    /// Layers forward, for the least delivery within a limit on hops.
+    /// Layers forward, for the earliest delivery within a limit on hops.
     forward: Layers<A>,
-    /// Layers backward, for the least way with a delivery.
+    /// Layers backward, for the best way with a delivery.
     backward: Deadlines<A>,
     /// A pick by these or by layers for one delivery.
     pub walk: Walk<A>,
 }
 
 impl<A: Allocator + Copy> LayerSearch<A> {
-    /// Has no layers. It takes no memory.
+    /// Has no layers. It doesn't allocate.
     pub fn new(alloc: A) -> LayerSearch<A> {
         LayerSearch {
             forward: Layers::new(alloc),
@@ -38,8 +38,8 @@ impl<A: Allocator + Copy> LayerSearch<A> {
         }
     }
 
-    /// Returns the least way of at most so many hops, if it is up to a bound, where the least delivery of such ways is the one
-    /// aimed at; else that each is above the bound. It gives up if more looks might be needed than are left.
+    /// Returns the best way of at most that many hops, if it is up to a bound, where the earliest delivery of such ways
+    /// is the one aimed at; else that each is above the bound. It gives up if more looks might be needed than are left.
     pub fn least_up_to(
         &mut self,
         aim: &Aim<'_, '_, '_, A>,
@@ -80,8 +80,8 @@ impl<A: Allocator + Copy> LayerSearch<A> {
         Ok(Found::Way(self.walk.way(self.backward.alloc)?))
     }
 
-    /// Returns the least way of at most so many hops, if it is up to a bound; else that each is above it. No way delivers sooner
-    /// than is aimed at. It gives up if more looks might be needed than are left.
+    /// Returns the best way of at most that many hops, if it is up to a bound; else that each is above it. No way
+    /// delivers sooner than is aimed at. It gives up if more looks might be needed than are left.
     pub fn least_within(
         &mut self,
         aim: &Aim<'_, '_, '_, A>,

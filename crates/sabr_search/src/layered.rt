@@ -24,8 +24,8 @@ use sabr_index::{CountedPlan, Index, Looks};
 use sabr_model::{GhostCount, NoMemory, Plan, Request, Route, Told};
 use std::alloc::{Allocator, Global};
 
-/// A finder that makes layers forward for the least delivery, layers backward for its route, and then picks the least
-/// numbers from the front.
+/// A finder that makes layers forward for the earliest delivery, layers backward for its route, and then picks the
+/// least numbers from the front.
 ///
 /// A call costs at most `(3 * N + 1) * C` looks, for N nodes and C contacts. Its memory is kept from call to call.
 #[derive(Drop)]
@@ -43,7 +43,7 @@ pub struct Layered<A: Allocator + Copy = Global> {
 }
 
 impl<A: Allocator + Copy> Layered<A> {
-    /// Makes a finder that wasn't called. It takes no memory.
+    /// Makes a finder that wasn't called. It doesn't allocate.
     pub fn new(alloc: A) -> Layered<A>
         ensures looks { looks_taken result.looks ≡ 0 }
         ensures calls { result.calls.count ≡ 0 }
@@ -66,7 +66,7 @@ impl<A: Allocator + Copy> Layered<A> {
         self.looks = looks;
     }
 
-    /// The least route after the prefix, by layers alone. No way comes to a node before its second in `since`.
+    /// The best route after the prefix, by layers alone. No way comes to a node before its second in `since`.
     fn least_after(
         &mut self,
         task: &Task<'_, A>,
@@ -113,7 +113,7 @@ impl<A: Allocator + Copy> Layered<A> {
         }
     }
 
-    /// Finds the least route of a part.
+    /// Finds the best route of a part.
     fn find(
         &mut self,
         index: &CountedPlan<'_, A>,

@@ -1,7 +1,8 @@
 //! Layers backward over the whole graph for one delivery: what they tell of every question about it.
 //!
-//! Parts come in order of delivery, so that many questions in a row have the same floor. The layers shut only what every
-//! question of the request shuts. So they leave out no way of a part; and where they have none in time, there is none.
+//! Parts come in order of delivery, so that many questions in a row have the same floor. The layers forbid only what
+//! every question of the request forbids. So they leave out no way of a part; and where they have none in time, there
+//! is none.
 
 pub mod spending;
 pub mod walk;
@@ -34,7 +35,7 @@ pub struct Level<A: Allocator + Copy> {
 }
 
 impl<A: Allocator + Copy> Level<A> {
-    /// Has no layers. It takes no memory.
+    /// Has no layers. It doesn't allocate.
     pub fn new(alloc: A) -> Level<A>
         ensures { (p : TabledPlan) (r : RouteRequest) → IsLevel p r result }
     {
@@ -51,7 +52,8 @@ impl<A: Allocator + Copy> Level<A> {
         self.delivery > 0 && self.delivery == delivery
     }
 
-    /// Makes layers for a delivery. There are none if they might need more looks than are left, or if a growth is refused.
+    /// Makes layers for a delivery. There are none if they might need more looks than are left, or if an allocation
+    /// failed.
     pub fn make(
         &mut self,
         looks: &mut Looks,
@@ -76,7 +78,7 @@ impl<A: Allocator + Copy> Level<A> {
         self.make_for(&whole, looks, soon, delivery)
     }
 
-    /// Makes them for a question that shuts no more than each of the request, and excludes nothing.
+    /// Makes them for a question that forbids no more than each of the request, and excludes nothing.
     fn make_for(
         &mut self,
         task: &Task<'_, A>,
@@ -108,8 +110,8 @@ impl<A: Allocator + Copy> Level<A> {
         Ok(())
     }
 
-    /// Returns true if the layers tell that the start of a question is too late for so many hops. They tell nothing of the
-    /// source, which is shut in them.
+    /// Returns true if the layers tell that the start of a question is too late for that many hops. They tell nothing
+    /// of the source, which is forbidden in them.
     pub fn is_late(&self, task: &Task<'_, A>, hops: usize) -> bool
         requires task { IsTask task.now }
         requires level { IsLevelOf task.now self.now.delivery hops self.now.layers }

@@ -1,4 +1,4 @@
-//! The least route of a part of the routes.
+//! The best route of a part of the routes.
 #![tactic(auto)]
 
 mod answers;

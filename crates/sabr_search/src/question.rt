@@ -15,10 +15,10 @@ use crate::bound::{Bound, Sought};
 use crate::found::Found;
 use crate::task::Task;
 use sabr_index::{CountedPlan, Looks};
-use sabr_model::{MOST_HOPS, NoMemory, Told};
+use sabr_model::{MAX_HOPS, NoMemory, Told};
 use std::alloc::Allocator;
 
-/// What is asked for a part: the least route after its prefix, up to a bound. The task is the search for its way.
+/// What is asked for a part: the best route after its prefix, up to a bound. The task is the search for its way.
 #[derive(Drop)]
 pub struct Question<'t, 'a, 'p, A: Allocator + Copy> {
     /// The search after the prefix.
@@ -47,8 +47,8 @@ fn joined<A: Allocator + Copy>(
     Ok(contacts)
 }
 
-/// Finds what these numbers tell, from what the first of them tell: one look for each, though no contact of the first is
-/// read.
+/// Finds what these numbers tell, from what the first of them tell: one look for each, though no contact of the first
+/// is read.
 fn told_from<A: Allocator + Copy>(
     plan: &CountedPlan<'_, A>,
     looks: &mut Looks,
@@ -78,7 +78,7 @@ impl<'t, 'a, 'p, A: Allocator + Copy> Question<'t, 'a, 'p, A> {
     {
         let others = self.task.shut().len() - 1;
         let max_hops = self.task.request().max_hops();
-        if max_hops == MOST_HOPS {
+        if max_hops == MAX_HOPS {
             return others;
         }
         let left = max_hops as usize - self.prefix.len();
@@ -92,7 +92,7 @@ impl<'t, 'a, 'p, A: Allocator + Copy> Question<'t, 'a, 'p, A> {
         self.bound.after(self.prefix.len())
     }
 
-    /// The answer with the route that goes on by the least way.
+    /// The answer with the route that goes on by the best way.
     ///
     /// It takes one look for each contact of the route: those of the prefix count, too, though what they tell is known.
     pub fn route(

@@ -17,15 +17,15 @@ use sabr_model::{NoMemory, Request};
 use std::alloc::Allocator;
 
 /// How many questions are asked before any of this is found. Finding it takes as long as several searches,
-/// and a list's first route, with the question whether another follows, takes two. With 1, runs for one route take 4 percent
-/// more instructions, the mean of 24 questions; with 3, those for ten routes take 0.3 percent more. To vary it:
+/// and a list's first route, with the question whether another follows, takes two. With 1, runs for one route take 4
+/// percent more instructions, the mean of 24 questions; with 3, those for ten routes take 0.3 percent more. To vary it:
 /// `bench/figures.py --counts 1,10`, over all plans.
 const FIRST_QUESTIONS: u32 = 2;
 
-/// How many questions later last seconds are found for a bound, at the earliest; each time after it is twice as many. With 8
-/// and four times as many, runs for ten routes take 1 percent more instructions, the mean of 24 questions; with 256, those
-/// for 100 routes over sparse-20000 take 29 percent more: in a copy of this design in plain Rust. To vary it:
-/// `bench/figures.py --counts 10,100`, over all plans.
+/// How many questions later last seconds are found for a bound, at the earliest; each time after it is twice as many.
+/// With 8 and four times as many, runs for ten routes take 1 percent more instructions, the mean of 24 questions; with
+/// 256, those for 100 routes over sparse-20000 take 29 percent more: in a copy of this design in plain Rust. To vary
+/// it: `bench/figures.py --counts 10,100`, over all plans.
 const FIRST_GAP: u32 = 128;
 
 /// What is known of the ways of every question of a request.
@@ -37,7 +37,7 @@ pub struct Reach<A: Allocator + Copy> {
     late_until: Vec<u64, A>,
     /// The second after the least bound for which that was looked for; `NEVER` before any of this was.
     until: u64,
-    /// For each node, the least seconds of a way to the destination; 0 after the list's end.
+    /// For each node, the fewest seconds of a way to the destination; 0 after the list's end.
     pub costs: Vec<u64, A>,
     /// For each node, the hops of such a way, as far as the list goes.
     pub hops: Vec<u64, A>,
@@ -50,7 +50,7 @@ pub struct Reach<A: Allocator + Copy> {
 }
 
 impl<A: Allocator + Copy> Reach<A> {
-    /// Knows nothing of any node. It takes no memory.
+    /// Knows nothing of any node. It doesn't allocate.
     pub fn new(alloc: A) -> Reach<A>
         ensures { (p : TabledPlan) (r : RouteRequest) → IsReach p r result }
     {
@@ -77,8 +77,8 @@ impl<A: Allocator + Copy> Reach<A> {
     }
 
     /// Begins a question for ways that deliver before `until`. After the first questions it finds what holds for all;
-    /// and each time after twice as many, last seconds for a lower bound. What might need more looks than are left, or a
-    /// growth that is refused, isn't known.
+    /// and each time after twice as many, last seconds for a lower bound. What might need more looks than are left, or
+    /// a growth that is refused, isn't known.
     pub fn open(
         &mut self,
         alloc: A,
@@ -104,8 +104,8 @@ impl<A: Allocator + Copy> Reach<A> {
         let _found = self.find(alloc, looks, plan, request, is_first);
     }
 
-    /// Finds last seconds for `until`, or the first time what doesn't depend on it. Finds nothing if the plan hasn't both
-    /// ends of the request.
+    /// Finds last seconds for `until`, or the first time what doesn't depend on it. Finds nothing if the plan hasn't
+    /// both ends of the request.
     fn find(
         &mut self,
         alloc: A,

@@ -1,4 +1,4 @@
-//! One search for the least way of a question.
+//! One search for the best way of a question.
 
 ghost use Rattle.std.specs.Prelude.{◌+◌, ◌*◌, ◌^◌, ◌≤◌, ◌<◌, IfOk, length};
 ghost use Rattle.sabr_search.specs.questions.FirstSteps.{tabled_of};
@@ -24,17 +24,17 @@ use sabr_index::Looks;
 use sabr_model::NoMemory;
 use std::alloc::Allocator;
 
-/// How many questions whose limit on hops may bind settle nodes first, until it counts how many of them that answered. With
-/// 64 of them and half as the least, 1000 routes over eight plans took 3 percent more instructions, and over dense-60, whose
-/// limit mostly binds, 11; with 32, 1 and 3; and with no layers first, 16 and 87: all in a copy of this design in plain Rust.
-/// To vary it: `bench/further.py --parts limits`.
+/// How many questions whose limit on hops may bind settle nodes first, until it counts how many of them that answered.
+/// With 64 of them and half as the least, 1000 routes over eight plans took 3 percent more instructions, and over
+/// dense-60, whose limit mostly binds, 11; with 32, 1 and 3; and with no layers first, 16 and 87: all in a copy of this
+/// design in plain Rust. To vary it: `bench/further.py --parts limits`.
 const TRIES: u32 = 16;
 
 /// How many of them it must answer. With 4, the same eight took 0.4 percent more, and with 12 they took 0.1.
 const LEAST: u64 = 8;
 
-/// How many such questions begin with layers forward otherwise. With 256, dense-60 took 4 percent more; with 4096 nothing
-/// changed.
+/// How many such questions begin with layers forward otherwise. With 256, dense-60 took 4 percent more; with 4096
+/// nothing changed.
 const PAUSE: u32 = 1024;
 
 /// What a search keeps from call to call.
@@ -53,7 +53,7 @@ pub struct Search<A: Allocator + Copy> {
 }
 
 impl<A: Allocator + Copy> Search<A> {
-    /// Makes an empty value. It takes no memory.
+    /// Makes an empty value. It doesn't allocate.
     pub fn new(alloc: A) -> Search<A> {
         Search {
             alloc,
@@ -64,8 +64,9 @@ impl<A: Allocator + Copy> Search<A> {
         }
     }
 
-    /// Returns the least way of at most so many hops up to a bound by layers for a delivery, before which none delivers; or
-    /// what each way is above. It gives up if that would take too many looks, or came to too many dead ends.
+    /// Returns the best way of at most that many hops up to a bound by layers for a delivery, before which none
+    /// delivers; or what each way is above. It gives up if that would take too many looks, or came to too many dead
+    /// ends.
     pub fn run_level(
         &mut self,
         task: &Task<'_, A>,
@@ -100,7 +101,8 @@ impl<A: Allocator + Copy> Search<A> {
         }))
     }
 
-    /// Returns what [`run`](Search::run) does, by layers forward for the least delivery and layers backward for its way.
+    /// Returns what [`run`](Search::run) does, by layers forward for the earliest delivery and layers backward for its
+    /// way.
     fn run_within(
         &mut self,
         task: &Task<'_, A>,
@@ -130,10 +132,10 @@ impl<A: Allocator + Copy> Search<A> {
         self.layers.least_within(&aim, looks, hops, bound)
     }
 
-    /// Returns the least way of at most so many hops up to a bound, or what each way is above. If the first way that settling
-    /// finds has no more hops, its delivery is the least, and layers backward find the least way. Otherwise layers forward
-    /// find the least delivery before; where that was so mostly of late, they come first. It gives up if more looks might be
-    /// needed than are left.
+    /// Returns the best way of at most that many hops up to a bound, or what each way is above. If the first way that
+    /// settling finds has no more hops, its delivery is the least, and layers backward find the best way. Otherwise
+    /// layers forward find the earliest delivery before; where that was so mostly of late, they come first. It gives up
+    /// if more looks might be needed than are left.
     pub fn run(
         &mut self,
         task: &Task<'_, A>,

@@ -1,4 +1,4 @@
-//! The finder that settles nodes first, and then makes only the layers that the least route needs.
+//! The finder that settles nodes first, and then makes only the layers that the best route needs.
 
 ghost use Rattle.std.specs.Prelude.{◌≡◌, false, ◌≤◌, ◌+◌, ◌*◌, List, IfOk, IfSome, IsTrue, length};
 ghost use Rattle.sabr_model.specs.routes.Route.{is_prefix};
@@ -51,8 +51,8 @@ enum Early<A: Allocator + Copy> {
 }
 
 impl<A: Allocator + Copy> Search<A> {
-    /// What the layers for the question's floor tell. None if there are no such layers, if they don't pay just now, or if they
-    /// don't tell enough for the bound.
+    /// What the layers for the question's floor tell. None if there are no such layers, if they don't pay just now, or
+    /// if they don't tell enough for the bound.
     fn find_level(
         &mut self,
         level: &Level<A>,
@@ -77,7 +77,8 @@ impl<A: Allocator + Copy> Search<A> {
         Ok(Early::Found(found))
     }
 
-    /// The place of an answer to a wide question that is the answer to the question, too, if there is one; the answer is kept.
+    /// The place of an answer to a wide question that is the answer to the question, too, if there is one; the answer
+    /// is kept.
     fn find_wide(
         &mut self,
         kept: &mut Kept<A>,
@@ -106,8 +107,8 @@ impl<A: Allocator + Copy> Search<A> {
         Ok(kept.answers.recall_at(place, asked, looks))
     }
 
-    /// The answer to the question within the looks that are left, if it is one that is kept, one by layers for its floor, or
-    /// that of a wide question. The own search's looks were set aside before.
+    /// The answer to the question within the looks that are left, if it is one that is kept, one by layers for its
+    /// floor, or that of a wide question. The own search's looks were set aside before.
     fn find_early(
         &mut self,
         kept: &mut Kept<A>,
@@ -165,7 +166,7 @@ impl<A: Allocator + Copy> Search<A> {
         )
     }
 
-    /// The least route after the prefix up to the bound: by an early answer, or else by the question's own search, whose
+    /// The best route after the prefix up to the bound: by an early answer, or else by the question's own search, whose
     /// answer is kept.
     fn least_beside(
         &mut self,
@@ -244,8 +245,8 @@ impl<A: Allocator + Copy> Search<A> {
     }
 }
 
-/// A finder that settles nodes in order of their arrival and of what the goal costs from there, up to the first delivery,
-/// and then makes layers backward from the goal for it.
+/// A finder that settles nodes in order of their arrival and of what the goal costs from there, up to the first
+/// delivery, and then makes layers backward from the goal for it.
 ///
 /// A call costs at most `(3 * N + 1) * C` looks, for N nodes and C contacts. Without a limit on hops it costs at most
 /// `(3 * r + 3) * C`, for r hops of the answer after the prefix. Its memory is kept from call to call.
@@ -262,7 +263,7 @@ pub struct Settled<A: Allocator + Copy = Global> {
 }
 
 impl<A: Allocator + Copy> Settled<A> {
-    /// Makes a finder that wasn't called. It takes no memory.
+    /// Makes a finder that wasn't called. It doesn't allocate.
     pub fn new(alloc: A) -> Settled<A>
         ensures looks { looks_taken result.looks ≡ 0 }
         ensures calls { result.calls.count ≡ 0 }
@@ -284,7 +285,7 @@ impl<A: Allocator + Copy> Settled<A> {
         self.looks = looks;
     }
 
-    /// Finds the least route of a part up to a bound, by what is kept or else by a search.
+    /// Finds the best route of a part up to a bound, by what is kept or else by a search.
     fn find(
         &mut self,
         kept: &mut Kept<A>,
@@ -318,7 +319,7 @@ impl<A: Allocator + Copy> Settled<A> {
         answer
     }
 
-    /// Finds the least route of a part, whatever it is.
+    /// Finds the best route of a part, whatever it is.
     fn find_whole(
         &mut self,
         kept: &mut Kept<A>,

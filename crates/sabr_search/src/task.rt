@@ -20,15 +20,15 @@ use sabr_model::{Hop, Request};
 use std::alloc::Allocator;
 use std::marker::Model;
 
-/// What a search looks for: the least way from a node and a second to the goal, to no node that is shut, which takes no
-/// excluded number first.
+/// What a search looks for: the best way from a node and a second to the goal, to no node that is forbidden, which
+/// takes no excluded number first.
 #[derive(Drop)]
 pub struct Task<'a, A: Allocator + Copy> {
     /// The plan that is searched.
     index: &'a CountedPlan<'a, A>,
     /// The request.
     request: &'a Request,
-    /// For each node, whether it is shut.
+    /// For each node, whether it is forbidden.
     shut: &'a Shut<A>,
     /// The numbers that no way takes first.
     excluded: Excluded<'a>,
@@ -71,7 +71,7 @@ impl<'a, A: Allocator + Copy> Task<'a, A> {
         }
     }
 
-    /// The same search with these nodes shut.
+    /// The same search with these forbidden nodes.
     pub fn with_shut<'b>(&self, shut: &'b Shut<A>) -> Task<'b, A>
     where
         'a: 'b,
@@ -141,14 +141,14 @@ impl<'a, A: Allocator + Copy> Task<'a, A> {
         self.goal
     }
 
-    /// For each node, whether it is shut.
+    /// For each node, whether it is forbidden.
     pub fn shut(&self) -> &[bool]
         ensures { result.now ≡ self.now.shut }
     {
         self.shut.flags()
     }
 
-    /// The nodes that are shut.
+    /// The nodes that are forbidden.
     pub fn shut_nodes(&self) -> &[u32]
         ensures { AreListed self.now.shut result.now }
     {
@@ -163,7 +163,7 @@ impl<'a, A: Allocator + Copy> Task<'a, A> {
     }
 
     /// Returns where a contact leads that is taken at this second, and when, if it leads to an open node in time: one
-    /// look. If it leads to a shut node, notes that.
+    /// look. If it leads to a forbidden node, notes that.
     #[inline(always)]
     pub fn arrive_by(
         &self,

@@ -39,8 +39,8 @@ pub record ArrivesBy (p : TabledPlan) (r : RouteRequest) (at : ℕ) (x : Pass) (
   pub named : contact_named p.plan x.number ≡ Some contact
   pub arrives : arrival p.plan r at contact ≡ Some o.at
 
--- the front leads there and may go on by a contact to the destination, which has this index; the nodes are shut that no
--- route goes on to after it
+-- the front leads there and may go on by a contact to the destination, which has this index; the nodes are forbidden
+-- that no route goes on to after it
 pub record IsRouteEnd (p : TabledPlan) (r : RouteRequest) (e : RouteEnd) : Type 0 where
   pub plan : IsPlan p.plan
   pub nodes : HasNodes p.plan p.table
@@ -54,7 +54,7 @@ pub record IsRouteEnd (p : TabledPlan) (r : RouteRequest) (e : RouteEnd) : Type 
 abbrev pub most_links : ℕ
 most_links = 64
 
--- at most how many looks it takes to tell that a route of so many hops goes on otherwise: one for each of its contacts, and
--- two for each of these links
+-- at most how many looks it takes to tell that a route of that many hops goes on otherwise: one for each of its
+-- contacts, and two for each of these links
 abbrev pub detour_looks : ℕ → ℕ
 detour_looks hops = hops + 2 * most_links

@@ -1,4 +1,4 @@
--- The least keys of routes that were found.
+-- The smallest keys of routes that were found.
 use Rattle.std.specs.Prelude.{◌≡◌, ℕ, ◌+◌, ◌*◌, ◌^◌, ◌≤◌, ◌<◌, All, Contains, List, [], ◌∷◌, ◌++◌, length, min}
 use Rattle.std.specs.List.Sorted.{IsPermutation}
 use Rattle.std.specs.declared.option.Option.{Option}

@@ -21,7 +21,7 @@ PartsDivide =
     (p : ContactPlan) (r : RouteRequest) (given : List (List ℕ)) → ((s : List ℕ) → Contains given s → IsTrue (is_route p r s))
     → (s : List ℕ) → IsTrue (is_route p r s) → IsDivided given s
 
--- each part carries its least route
+-- each part carries its best route
 abbrev pub CarriesLeast : ContactPlan → RouteRequest → State → Type 0
 CarriesLeast p r s = (t : PartState) → Member t s.parts → t.carried ≡ least_in p r t.prefix t.excluded
 
@@ -30,7 +30,7 @@ pub record LeavesComeFirst (p : ContactPlan) (r : RouteRequest) (s : State) : Ty
   pub to_last : (l : List ℕ) → Member l (leaves_in p r s) → IsFalse (before p r s.last l)
   pub to_carried : (l : List ℕ) (t : PartState) (c : List ℕ) → Member l (leaves_in p r s) → Member t s.parts → t.carried ≡ Some c → IsTrue (before p r l c)
 
--- A well-formed state has the pairs of the tree of its leaves. If each part carries its least route and the leaves come
+-- A well-formed state has the pairs of the tree of its leaves. If each part carries its best route and the leaves come
 -- first, the state is the one of the place that it counts.
 pub record IsTold (p : ContactPlan) (r : RouteRequest) (s : State) : Type 0 where
   pub pairs : map pair_of s.parts ≡ tree (leaves_in p r s)

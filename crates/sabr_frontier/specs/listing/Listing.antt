@@ -24,7 +24,7 @@ leaves_in p r s = leaves (is_route p r) (map pair_of s.parts)
 abbrev pub IsState : ContactPlan → RouteRequest → State → Type 0
 IsState p r s = IsWellFormed (is_route p r) (is_path p r) (is_prefix p r) s
 
--- the least route by key that a part carries
+-- the best route by key that a part carries
 abbrev pub next_route : ContactPlan → RouteRequest → State → Option (List ℕ)
 next_route p r s = least_carried (by_key p r) s.parts
 
@@ -37,7 +37,7 @@ one_step p r s = step (is_route p r) (least_in p r) (by_key p r) s
 abbrev pub given_first : List ℕ → List (List ℕ) × State → List (List ℕ) × State
 given_first s rest = (s ∷ rest.0, rest.1)
 
--- the greatest number of routes of a page
+-- the largest number of routes of a page
 abbrev pub most_routes : ℕ
 most_routes = 10000
 

@@ -1,5 +1,5 @@
 -- The state of given routes, and the one step from a state to the next, for any test of routes and any
--- choice of a part's least route.
+-- choice of a part's best route.
 use Rattle.std.specs.Prelude.{ℕ, ◌+◌, Bool, ◌&&◌, List, [], ◌∷◌, ◌++◌, map, length, Option, Some, None, if◌then◌else◌}
 use Rattle.std.specs.Ordering.{is_eq, is_lt}
 use Rattle.std.specs.declared.cmp.Ordering.{Ordering}
@@ -21,13 +21,13 @@ better cmp None b = b
 better cmp (Some r) None = Some r
 better cmp (Some r) (Some s) = if is_lt (cmp s r) then Some s else Some r
 
--- the least route that a part carries
+-- the best route that a part carries
 abbrev pub least_carried : (List ℕ → List ℕ → Ordering) → List PartState → Option (List ℕ)
 least_carried cmp [] = None
 least_carried cmp (t ∷ ts) = better cmp t.carried (least_carried cmp ts)
 
 module _ (least : List ℕ → List ℕ → Option (List ℕ)) where
-  -- the part of a pair, with its least route
+  -- the part of a pair, with its best route
   abbrev pub full : List ℕ × List ℕ → PartState
   full e = record { prefix = e.0; excluded = e.1; carried = least e.0 e.1 }
 
@@ -52,7 +52,7 @@ module _ (route : List ℕ → Bool) (least : List ℕ → List ℕ → Option (
   step_of s None = None
   step_of s (Some r) = Some (given s r)
 
-  -- the least route that a part carries is given, if there is one
+  -- the best route that a part carries is given, if there is one
   abbrev pub step : (List ℕ → List ℕ → Ordering) → State → Option (List ℕ × State)
   step cmp s = step_of s (least_carried cmp s.parts)
 

@@ -59,7 +59,7 @@ with_part l t = record l { parts = l.parts ++ t ∷ [] }
 abbrev pub state_with : List PartState → ℕ → List ℕ → State
 state_with parts emitted last = record { emitted = emitted; last = last; parts = parts }
 
--- what callers see of the session over a loader's parts, after so many routes and this last one
+-- what callers see of the session over a loader's parts, after that many routes and this last one
 abbrev pub session_with : Loaded → ℕ → List ℕ → Seen
 session_with l emitted last = session_over l.plan l.request (state_with l.parts emitted last) l.calls
 

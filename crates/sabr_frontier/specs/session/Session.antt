@@ -1,12 +1,12 @@
 -- What a session shows, and what holds of it.
-use Rattle.std.specs.Prelude.{◌≡◌, IsTrue, Bool, ℕ, ◌-◌, ◌<◌, zero, suc, List, [], ◌∷◌, length, reverse, Option, None}
+use Rattle.std.specs.Prelude.{◌≡◌, IsTrue, Bool, ℕ, ◌-◌, ◌<◌, zero, suc, List, [], ◌∷◌, length, reverse, Option}
 use Rattle.std.specs.Option.{option_map}
 use Rattle.sabr_model.specs.plan.Plan.{ContactPlan, TabledPlan, IsPlan}
 use Rattle.sabr_model.specs.routes.Arrival.{RouteRequest}
 use Rattle.sabr_model.specs.routes.Asking.{IsRequest}
 use Rattle.sabr_model.specs.routes.Record.{RouteRecord, record_of}
 use Rattle.sabr_frontier.specs.declared.tree.Tree.{Tree}
-use Rattle.sabr_frontier.specs.tree.Asking.{Asked, Asking}
+use Rattle.sabr_frontier.specs.tree.Asking.{Asking}
 use Rattle.sabr_frontier.specs.listing.State.{State, PartState}
 use Rattle.sabr_frontier.specs.listing.Listing.{searches_in, state_at, steps}
 use Rattle.sabr_frontier.specs.tree.Shape.{Shape, shape_of, shown}
@@ -15,7 +15,8 @@ use Rattle.sabr_frontier.specs.tree.Sound.{IsTree}
 use Rattle.sabr_frontier.specs.tree.Floors.{CarriesOnlyLeast}
 
 -- what callers see: the plan and the request, the state, the states that can be gone back to, the latest first,
--- how many searches the last call made, and how often the finder was called, by this session or before
+-- how many searches the last call made, how often the finder was called, by this session or before, and the looks that
+-- the searches of the last page took
 pub record Seen : Type 0 where
   pub plan : TabledPlan
   pub request : RouteRequest
@@ -23,16 +24,17 @@ pub record Seen : Type 0 where
   pub former : List State
   pub searches : ℕ
   pub calls : ℕ
+  pub looks : ℕ
 
 -- a session just started: no route was given yet, by one search
 abbrev pub started : TabledPlan → RouteRequest → ℕ → Seen
-started plan r calls = record { plan = plan; request = r; state = state_at plan.plan r 0; former = []; searches = 1; calls = calls }
+started plan r calls = record { plan = plan; request = r; state = state_at plan.plan r 0; former = []; searches = 1; calls = calls; looks = 0 }
 
 -- a session over a state that was loaded: nothing can be taken back, and no search was counted
 abbrev pub session_over : TabledPlan → RouteRequest → State → ℕ → Seen
-session_over plan r s calls = record { plan = plan; request = r; state = s; former = []; searches = 0; calls = calls }
+session_over plan r s calls = record { plan = plan; request = r; state = s; former = []; searches = 0; calls = calls; looks = 0 }
 
--- the next page of at most so many routes: its routes, and the state after it
+-- the next page of at most that many routes: its routes, and the state after it
 abbrev pub next_page : Seen → ℕ → List (List ℕ) × State
 next_page s count = steps s.plan.plan s.request count s.state
 
@@ -69,20 +71,19 @@ abbrev pub AreSure : {A : Type 0} → ContactPlan → RouteRequest → List ℕ 
 AreSure p r [] t = CarriesOnlyLeast p r t
 AreSure p r (s ∷ ss) t = CarriesOnlyLeast p r t × AreSure p r ss (tree_before s t)
 
-abbrev pub seen : {A : Type 0} → Asking → Tree A → List ℕ → ℕ → Seen
-seen asker tree pages searches =
-    record (session_over asker.asked.plan asker.asked.request (shown (shape_of tree)) asker.calls) { former = former_of (reverse pages) (shape_of tree); searches = searches }
+abbrev pub seen : {A : Type 0} → Asking → Tree A → List ℕ → ℕ → ℕ → Seen
+seen asker tree pages searches looks =
+    record (session_over asker.asked.plan asker.asked.request (shown (shape_of tree)) asker.calls) { former = former_of (reverse pages) (shape_of tree); searches = searches; looks = looks }
 
 -- what holds of a session; if a search began it, each route that a part carries is its least
-pub record IsSession {A : Type 0} (asked : Asked) (tree : Tree A) (pages : List ℕ) (is_sure : Bool) : Type 0 where
-  pub rules : IsPlan asked.plan.plan
-  pub unbounded : asked.bound ≡ None
-  pub limits : IsRequest asked.request
-  pub sound : IsSound asked.plan.plan asked.request (shape_of tree)
+pub record IsSession {A : Type 0} (p : TabledPlan) (r : RouteRequest) (tree : Tree A) (pages : List ℕ) (is_sure : Bool) : Type 0 where
+  pub rules : IsPlan p.plan
+  pub limits : IsRequest r
+  pub sound : IsSound p.plan r (shape_of tree)
   pub starts : AreStarts (reverse pages) (length tree.journal.items)
   pub index : tree.index.items ≡ (shape_of tree).index
   pub room : IsRoomy tree
-  pub sure : IsTrue is_sure → AreSure asked.plan.plan asked.request (reverse pages) (shape_of tree)
+  pub sure : IsTrue is_sure → AreSure p.plan r (reverse pages) (shape_of tree)
 
 -- a state before a page that gave no routes, and before one that gave some
 abbrev pub former_then : List (List ℕ) → State → List State → List State

@@ -1,6 +1,7 @@
 -- What an asker shows.
-use Rattle.std.specs.Prelude.{ℕ, List, map, Option, None}
-use Rattle.sabr_model.specs.plan.Plan.{TabledPlan}
+use Rattle.std.specs.Prelude.{◌≡◌, ℕ, ◌+◌, ◌-◌, ◌*◌, List, length, map, Option, None}
+use Rattle.sabr_model.specs.plan.Plan.{ContactPlan, TabledPlan}
+use Rattle.sabr_model.specs.plan.Table.{node_count}
 use Rattle.sabr_model.specs.routes.Arrival.{RouteRequest}
 use Rattle.sabr_model.specs.routes.Record.{RouteRecord, record_of}
 use Rattle.sabr_frontier.specs.declared.giving.asker.PausedAsker.{PausedAsker}
@@ -10,30 +11,47 @@ use Rattle.sabr_frontier.specs.tree.Best.{best_up_to}
 use Rattle.sabr_frontier.specs.listing.State.{State}
 use Rattle.sabr_frontier.specs.listing.Listing.{steps}
 
--- a plan, a request for its routes, and a bound up to which they are asked for, if there is one
+-- a plan, a request for its routes, a bound up to which they are asked for, if there is one, and which call of the
+-- finder, counted from 1, is the first whose looks are summed
 pub record Asked : Type 0 where
   pub plan : TabledPlan
   pub request : RouteRequest
   pub bound : Option Bound
+  pub since : ℕ
 
--- what callers see of an asker: what it asks for, and how often its finder was called, by it or before
+-- what callers see of an asker: what it asks for, how often its finder was called, by it or before, the sum of the
+-- looks of the calls since, and the looks of the last call
 pub record Asking : Type 0 where
   pub asked : Asked
   pub calls : ℕ
+  pub looks : ℕ
+  pub last_looks : ℕ
 
-abbrev pub asked_over : TabledPlan → RouteRequest → Asked
-asked_over p r = record { plan = p; request = r; bound = None }
+-- one that asks without a bound, and whose sum begins with the next call
+pub record IsAtRest (a : Asking) : Type 0 where
+  pub unbounded : a.asked.bound ≡ None
+  pub begun : a.asked.since ≡ a.calls + 1
+
+-- such a one, after this many calls, the last of which took this many looks
+abbrev pub asking_first : TabledPlan → RouteRequest → ℕ → ℕ → Asking
+asking_first p r calls looks = record { asked = record { plan = p; request = r; bound = None; since = calls + 1 }; calls = calls; looks = 0; last_looks = looks }
 
 abbrev pub asked_of : {A : Type 0} → PlanRequest A → Asked
-asked_of q = asked_over q.plan.now q.request
+asked_of q = (asking_first q.plan.now q.request 0 0).asked
 
--- what a paused asker asks for over a plan
-abbrev pub asked_again : {B A : Type 0} → TabledPlan → PausedAsker B A → Asked
-asked_again p a = record { plan = p; request = a.request; bound = a.bound }
+-- one over a plan with a bound, that sums the looks of so many calls, if its finder's calls and looks are counted so
+abbrev pub asking_over : {B A : Type 0} → (B → ℕ) → (B → ℕ) → TabledPlan → PausedAsker B A → Option Bound → ℕ → ℕ → Asking
+asking_over calls_of looks_of p a bound summed looks =
+    record {
+      asked = record { plan = p; request = a.request; bound = bound; since = calls_of a.finder + 1 - summed };
+      calls = calls_of a.finder;
+      looks = looks;
+      last_looks = looks_of a.finder;
+    }
 
--- what it shows there, if its finder's calls are counted so
-abbrev pub asking_over : {B A : Type 0} → (B → ℕ) → TabledPlan → PausedAsker B A → Asking
-asking_over calls_of p a = record { asked = asked_again p a; calls = calls_of a.finder }
+-- at most how many looks a call of a finder takes
+abbrev pub call_looks : ContactPlan → ℕ
+call_looks p = (3 * node_count p.contacts + 1) * length p.contacts
 
 -- at most k steps from a state
 abbrev pub steps_for : Asked → ℕ → State → List (List ℕ) × State
@@ -43,6 +61,6 @@ steps_for a k s = steps a.plan.plan a.request k s
 abbrev pub records_for : Asked → List (List ℕ) → List RouteRecord
 records_for a routes = map (record_of a.plan.plan a.request) routes
 
--- the record of the least route of a part, up to the bound
+-- the record of the best route of a part, up to the bound
 abbrev pub best_for : Asked → List ℕ → List ℕ → Option RouteRecord
 best_for a = best_up_to a.plan.plan a.request a.bound

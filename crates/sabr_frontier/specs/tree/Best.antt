@@ -12,7 +12,7 @@ use Rattle.sabr_model.specs.routes.Arrival.{RouteRequest}
 use Rattle.sabr_model.specs.routes.Parts.{least_in}
 use Rattle.sabr_model.specs.routes.Record.{RouteRecord, record_of}
 
--- the record of the least route of a part, or none if the part has no route
+-- the record of the best route of a part, or none if the part has no route
 unfoldable pub best_of : ContactPlan → RouteRequest → List ℕ → List ℕ → Option RouteRecord
 best_of p r prefix excluded = option_map (record_of p r) (least_in p r prefix excluded)
 
@@ -33,7 +33,7 @@ found_by (Route x) (Some b) = up_to b (Some x)
 found_by NoRoute o = None
 found_by Beyond o = None
 
--- the record of the least route of a part if it is up to the bound, where there is one
+-- the record of the best route of a part if it is up to the bound, where there is one
 abbrev pub best_up_to : ContactPlan → RouteRequest → Option Bound → List ℕ → List ℕ → Option RouteRecord
 best_up_to p r None prefix excluded = best_of p r prefix excluded
 best_up_to p r (Some b) prefix excluded = up_to b (best_of p r prefix excluded)

@@ -1,4 +1,4 @@
--- Room in a tree's vectors, so that a change takes no memory.
+-- Room in a tree's vectors, so that a change doesn't allocate.
 use Rattle.std.specs.Prelude.{ℕ, ◌+◌, ◌<◌, ◌≤◌, vec_len, vec_capacity}
 use Rattle.sabr_frontier.specs.declared.tree.Tree.{Tree}
 

@@ -82,11 +82,11 @@ divided_with best t node n x =
     let q = take (n.length + 1) s in
     divided_by t node x (passing (stands_before t.leaves t.nodes q) t.index) (wide_of n s) (best (take n.length s) (wide_of n s)) (fresh_nodes best (length t.leaves) q (drop (n.length + 1) s))
 
--- that for the least routes
+-- that for the best routes
 abbrev pub divided : {A : Type 0} → ContactPlan → RouteRequest → Shape A → NodeId → Node A → RouteRecord → Shape A
 divided p r = divided_with (best_of p r)
 
--- the least route that a node carries was given, with this number of searches: one for each hop of the route after the
+-- the best route that a node carries was given, with this number of searches: one for each hop of the route after the
 -- node's prefix
 pub record IsTaken {A : Type 0} (best : List ℕ → List ℕ → Option RouteRecord) (t u : Shape A) (before after : List RouteRecord) (count : ℕ) : Type 0 where
   pub node : NodeId

@@ -1,4 +1,4 @@
--- The node with the least route, found as in a tournament: slot k names the winner among node k and the winners of slots
+-- The node with the best route, found as in a tournament: slot k names the winner among node k and the winners of slots
 -- 2k + 1 and 2k + 2.
 use Rattle.std.specs.Prelude.{slice_get, ◌≡◌, ◌≢◌, ℕ, ◌+◌, ◌*◌, ◌-◌, ◌/◌, ◌<◌, ◌≤◌, ◌⊎◌, zero, suc, Bool, true, false, get_or, length, List, Option, Some, None}
 use Rattle.std.specs.Option.{option_and_then}
@@ -99,7 +99,7 @@ pub record IsSettled {A : Type 0} (nodes : List (Node A)) (old ids : List NodeId
   pub others : (k : ℕ) → (k < a) ⊎ (b ≤ k) → winner_at ids k ≡ winner_at old k
   pub long : length ids ≡ length old
 
--- slot k, over the slot `at`, names a winner but for that slot; or what it names carries a greater route than the node
+-- slot k, over the slot `at`, names a winner but for that slot; or what it names carries a worse route than the node
 pub record IsBeside {A : Type 0} (nodes : List (Node A)) (ids : List NodeId) (k at : ℕ) (id : NodeId) : Type 0 where
   pub own : IsNoGreater (route_at nodes (winner_at ids k)) (route_at nodes (record { 0 = k }))
   pub over : (c : ℕ) → k * 2 + 1 ≤ c → c ≤ k * 2 + 2 → c < length ids → c ≢ at → IsNoGreater (route_at nodes (winner_at ids k)) (route_at nodes (winner_at ids c))

@@ -39,7 +39,7 @@ pub fn numbers<A: Allocator + Copy>(route: &Route<A>) -> &[u32]
     route.contacts.as_slice()
 }
 
-/// What is told of a route that is given.
+/// What is known of a route that is given.
 #[derive(Clone, Copy)]
 pub struct Given {
     /// The leaf that it is then.
@@ -48,8 +48,8 @@ pub struct Given {
     pub floor: u64,
 }
 
-/// Asks for the least route that begins with the first `count` numbers of a route and takes another number next. None that
-/// goes on after these delivers before the second `floor`.
+/// Asks for the best route that begins with the first `count` numbers of a route and takes another number next. None
+/// that goes on after these delivers before the second `floor`.
 #[tactic(auto, using(crate::proofs::ListingLemmas::Paths::beginning_fits, crate::proofs::TreeLemmas::Floors::floor_one))]
 pub fn ask_after<B: BestOf<A>, A: Allocator + Copy>(
     asker: &mut Asker<'_, B, A>,
@@ -78,7 +78,7 @@ fn fresh_node<B: BestOf<A>, A: Allocator + Copy>(
     requires route { IsTrue (is_route asker.old.asked.plan.plan asker.old.asked.request route.now) }
     requires longer { count < length route.now }
 
-    // It finds the node by one search, which may be refused. The question stays.
+    // It finds the node by one search, which may fail. The question stays.
     ensures node { IfOk result (λ n. n ≡ fresh_node (best_for asker.old.asked) given.leaf route.now count) }
     ensures called { asker.new.calls ≡ asker.old.calls + 1 }
     ensures same { asker.new.asked ≡ asker.old.asked }
@@ -93,7 +93,7 @@ fn fresh_node<B: BestOf<A>, A: Allocator + Copy>(
 }
 
 /// Adds the nodes of a leaf for the beginnings of a route from `first` numbers on, each with its next number excluded.
-/// There is room for them. After a refusal some may have been added.
+/// There is room for them. If an allocation failed, some may have been added.
 #[tactic(auto, using(crate::proofs::TreeLemmas::ListFronts::fresh_push, crate::proofs::TreeLemmas::ListFronts::fresh_all))]
 fn fresh_nodes<B: BestOf<A>, A: Allocator + Copy>(
     asker: &mut Asker<'_, B, A>,
@@ -111,7 +111,7 @@ fn fresh_nodes<B: BestOf<A>, A: Allocator + Copy>(
     ensures nodes { OnOk result (nodes.new.items ≡ nodes.old.items ++ fresh_nodes (best_for asker.old.asked) given.leaf (take first route.now) (drop first route.now)) }
     ensures called { OnOk result (asker.new.calls + vec_len nodes.old ≡ asker.old.calls + vec_len nodes.new) }
 
-    // A refusal comes after some of the searches, and may leave some of the nodes.
+    // If an allocation failed, some of the searches were taken, and some of the nodes may stay.
     ensures no_fewer { OnErr result (asker.old.calls ≤ asker.new.calls) }
     ensures at_most { OnErr result (asker.new.calls + first ≤ asker.old.calls + length route.now) }
 
@@ -127,8 +127,8 @@ fn fresh_nodes<B: BestOf<A>, A: Allocator + Copy>(
     Ok(())
 }
 
-/// Finds what a node carries next, for the numbers that it excludes, and adds the new nodes of its route, which is then a
-/// leaf. It takes one search for the node itself, and one for each new node.
+/// Finds what a node carries next, for the numbers that it excludes, and adds the new nodes of its route, which is then
+/// a leaf. It takes one search for the node itself, and one for each new node.
 #[tactic(auto, using(crate::proofs::ListingLemmas::Paths::beginning_fits, crate::proofs::TreeLemmas::ModifiedPlaces::get_there, crate::proofs::TreeLemmas::TestBoundaries::increasing))]
 fn search<B: BestOf<A>, A: Allocator + Copy>(
     asker: &mut Asker<'_, B, A>,
@@ -150,7 +150,7 @@ fn search<B: BestOf<A>, A: Allocator + Copy>(
     ensures nodes { OnOk result (OfNode nodes.old.items node (λ n. nodes.new.items ≡ nodes.old.items ++ fresh_after (best_for asker.old.asked) given.leaf n route.now)) }
     ensures called { OnOk result (asker.new.calls + vec_len nodes.old ≡ asker.old.calls + (vec_len nodes.new + 1)) }
 
-    // A refusal comes after some of the searches, and may leave some of the nodes.
+    // If an allocation failed, some of the searches were taken, and some of the nodes may stay.
     ensures no_fewer { OnErr result (asker.old.calls ≤ asker.new.calls) }
     ensures at_most { OnErr result (OfNode nodes.old.items node (λ n. asker.new.calls + n.length ≤ asker.old.calls + length route.now)) }
 
@@ -166,7 +166,7 @@ fn search<B: BestOf<A>, A: Allocator + Copy>(
     Ok(found)
 }
 
-/// Excludes the number that a route takes after the node's prefix, or changes nothing if memory was refused.
+/// Excludes the number that a route takes after the node's prefix, or changes nothing if an allocation failed.
 #[tactic(auto, using(crate::proofs::TreeLemmas::ModifiedPlaces::get_there))]
 fn exclude_next<A: Allocator + Copy>(
     nodes: &mut Vec<Node<A>, A>,
@@ -186,7 +186,7 @@ fn exclude_next<A: Allocator + Copy>(
     Ok(())
 }
 
-/// Includes the number again that a route takes after the node's prefix. It takes no memory.
+/// Includes the number again that a route takes after the node's prefix. It allocates nothing.
 fn include_next<A: Allocator + Copy>(nodes: &mut Vec<Node<A>, A>, node: NodeId, route: &[u32])
     requires in_range { node.0 < vec_len nodes.old }
     requires longer { OfNode nodes.old.items node (λ n. n.length < length route.now) }
@@ -198,7 +198,7 @@ fn include_next<A: Allocator + Copy>(nodes: &mut Vec<Node<A>, A>, node: NodeId, 
 }
 
 /// Divides the part of a node by a route of it, which is then a leaf: the node excludes one number more, and
-/// the new parts come after the others. There is room for them. It returns what the node carries then. After a refusal
+/// the new parts come after the others. There is room for them. It returns what the node carries then. If it fails,
 /// the nodes are as they were.
 #[tactic(auto, using(crate::proofs::TreeLemmas::ModifiedPlaces::get_same))]
 pub fn divide<B: BestOf<A>, A: Allocator + Copy>(
@@ -219,7 +219,7 @@ pub fn divide<B: BestOf<A>, A: Allocator + Copy>(
     ensures ok { OnOk result (OfNode nodes.old.items node (λ n. nodes.new.items ≡ parted (best_for asker.old.asked) given.leaf nodes.old.items node route.now n)) }
     ensures called { OnOk result (asker.new.calls + vec_len nodes.old ≡ asker.old.calls + (vec_len nodes.new + 1)) }
 
-    // A refusal comes after some of the searches, and leaves the nodes as they were.
+    // If an allocation failed, some of the searches were taken, and the nodes are as they were.
     ensures no_fewer { OnErr result (asker.old.calls ≤ asker.new.calls) }
     ensures at_most { OnErr result (OfNode nodes.old.items node (λ n. asker.new.calls + n.length ≤ asker.old.calls + length route.now)) }
     ensures err { OnErr result (nodes.new.items ≡ nodes.old.items) }

@@ -18,8 +18,8 @@ use std::alloc::Allocator;
 
 impl<A: Allocator + Copy> Tree<A> {
     /// Gives the next `count` routes, or all that are left if they are fewer, and returns how many searches that took.
-    /// After a refusal the routes given so far can be taken back. It may be sure that each node carries the least route of
-    /// its part, and then each still does.
+    /// If an allocation failed, the routes given so far can be taken back. It may be sure that each node carries the
+    /// best route of its part, and then each still does.
     pub fn gather<B: BestOf<A>>(
         &mut self,
         asker: &mut Asker<'_, B, A>,
@@ -41,7 +41,7 @@ impl<A: Allocator + Copy> Tree<A> {
         ensures entries { OnOk result (length self.new.journal.items ≡ length self.old.journal.items + length (steps_for asker.old.asked count (shown (shape_of self.old))).0) }
         ensures sure { OnOk result (IsTrue sure → CarriesOnlyLeast asker.old.asked.plan.plan asker.old.asked.request (shape_of self.new)) }
 
-        // It takes so many searches, and no more if it is refused.
+        // It takes this number of searches, and no more if an allocation failed.
         ensures searches { IfOk result (λ n. n ≡ searches_in asker.old.asked.plan.plan asker.old.asked.request count (shown (shape_of self.old))) }
         ensures called { IfOk result (λ n. asker.new.calls ≡ asker.old.calls + n) }
         ensures no_fewer { OnErr result (asker.old.calls ≤ asker.new.calls) }

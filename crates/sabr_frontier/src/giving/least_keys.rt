@@ -1,4 +1,4 @@
-//! The least keys of the routes that were found for a last page.
+//! The smallest keys of the routes that were found for a last page.
 
 ghost use Rattle.std.specs.Prelude.{◌≡◌, ◌≤◌, ◌∷◌, [], Some, OnOk, length};
 ghost use Rattle.sabr_model.specs.routes.Record.{RouteRecord};
@@ -14,7 +14,8 @@ use std::marker::Model;
 /// More than the most hops of a route.
 const HOPS: u64 = 65536;
 
-/// The key of a route without its numbers: the lesser, the sooner it delivers; of two at one second, the fewer hops it has.
+/// The key of a route without its numbers: the lesser, the sooner it delivers; of two at one second, the fewer hops it
+/// has.
 fn key_of<A: Allocator + Copy>(route: &Route<A>) -> u64
     requires { FitsKey route.now }
     ensures { result ≡ key_of route.now }
@@ -22,7 +23,7 @@ fn key_of<A: Allocator + Copy>(route: &Route<A>) -> u64
     route.delivery * HOPS + route.contacts.as_slice().len() as u64
 }
 
-/// The least keys of routes, at most so many.
+/// The smallest keys of routes, up to a number of them.
 #[derive(Drop)]
 pub struct LeastKeys<A: Allocator + Copy> {
     /// How many.
@@ -44,7 +45,7 @@ impl<A: Allocator + Copy> Model for LeastKeys<A> {
 }
 
 impl<A: Allocator + Copy> LeastKeys<A> {
-    /// Has no key yet. It takes no memory.
+    /// Has no key yet. It allocates nothing.
     pub fn new(alloc: A, most: usize) -> LeastKeys<A>
         ensures { result ≡ record { most = most; keys = [] } }
     {
@@ -54,14 +55,14 @@ impl<A: Allocator + Copy> LeastKeys<A> {
         }
     }
 
-    /// States that no more keys are kept than may be, for contracts. It does nothing.
+    /// States that no more keys are held than may be, for contracts. It does nothing.
     fn tell_few(&self)
         ensures { length self.now.keys ≤ self.now.most }
     {
         self.keys.len();
     }
 
-    /// Notes a key: of one too many, the greatest goes.
+    /// Notes a key: of one too many, the largest goes.
     fn note(&mut self, key: u64) -> Result<(), NoMemory>
         ensures { OnOk result (AreNoted self.old (key ∷ []) self.new) }
     {
@@ -98,7 +99,7 @@ impl<A: Allocator + Copy> LeastKeys<A> {
         Ok(())
     }
 
-    /// The greatest of so many keys, as a bound; none if there are fewer.
+    /// The largest key, as a bound, if there are as many as may be held; none if there are fewer.
     pub fn bound(&self) -> Option<Bound>
         ensures { IsBoundOf self.now result }
     {

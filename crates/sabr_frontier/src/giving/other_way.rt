@@ -19,10 +19,10 @@ use std::alloc::Allocator;
 /// cube-1-2, 3 over walker-66-5000 and 1 over iridium-1-2 and sparse-2000; with 32, 1 percent more over the first two;
 /// with all links, none takes 0.1 percent fewer. To vary it: `bench/further.py --parts many`, `bench/figures.py
 /// --counts 1`.
-const MOST_LINKS: usize = 64;
+const MAX_LINKS: usize = 64;
 
-/// The numbers of a route before its last one, where they lead, the nodes that are shut after them, the index of the
-/// destination, the last number, and numbers that may not take its place.
+/// The numbers of a route before its last one, where they lead, the nodes that are forbidden after them, the index of
+/// the destination, the last number, and numbers that may not take its place.
 #[derive(Clone, Copy)]
 pub struct RouteEnd<'a> {
     pub front: &'a [u32],
@@ -152,8 +152,8 @@ fn ends_on<A: Allocator + Copy>(
     is_other(end, onward.number)
 }
 
-/// Returns true if the route may go on by a contact of this leg in place of its last one, and end on one more. Of the first
-/// only the first that hasn't ended is tried, and of the others the last.
+/// Returns true if the route may go on by a contact of this leg in place of its last one, and end on one more. Of the
+/// first only the first that hasn't ended is tried, and of the others the last.
 fn takes_detour<A: Allocator + Copy>(
     plan: &CountedPlan<'_, A>,
     looks: &mut Looks,
@@ -206,7 +206,7 @@ fn detours<A: Allocator + Copy>(
     if end.front.len() + 1 >= request.max_hops() as usize {
         return false;
     }
-    for place in 0..MOST_LINKS {
+    for place in 0..MAX_LINKS {
         let Some(leg) = leg_at(plan, end.here.node, place) else {
             return false;
         };
@@ -224,14 +224,14 @@ pub struct Ending<'a> {
     pub excluded: &'a [u32],
 }
 
-/// Returns true if a route may go on otherwise than by its last number: by one that isn't excluded, on which it ends, or
-/// after which one more leads to the destination. Of the first only the last pass of the link is tried.
+/// Returns true if a route may go on otherwise than by its last number: by one that isn't excluded, on which it ends,
+/// or after which one more leads to the destination. Of the first only the last pass of the link is tried.
 ///
 /// It takes a look for each contact of the route, and at most two for each link that is tried.
 ///
 /// # Errors
 ///
-/// [`NoMemory`] if a growth was refused.
+/// [`NoMemory`] if an allocation failed.
 pub fn goes_otherwise<A: Allocator + Copy>(
     alloc: A,
     plan: &CountedPlan<'_, A>,

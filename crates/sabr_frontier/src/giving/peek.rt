@@ -1,4 +1,4 @@
-//! Telling the least route that the tree carries, and whether a route would be left after it. Nothing is given.
+//! Looking at the best route that the tree carries, and whether a route would be left after it. Nothing is given.
 
 ghost use Rattle.std.specs.Prelude.{◌≡◌, ◌+◌, ◌≤◌, ◌<◌, ◌++◌, ◌||◌, None, take, drop, length, is_some, IfOk, OnOk, IsTrue};
 ghost use Rattle.sabr_model.specs.plan.Plan.{IsPlan};
@@ -136,8 +136,9 @@ impl<A: Allocator + Copy> Tree<A> {
         part_goes_on(asker, &self.nodes[node.0], route, floor, looks)
     }
 
-    /// Puts the least route that a node carries after others, and tells whether a route would be left once it is given.
-    /// If no other node carries one, it asks for the parts that the route would make, up to the first that has a route.
+    /// Puts the best route that a node carries after others, and returns whether a route would be left once it is
+    /// given. If no other node carries one, it asks for the parts that the route would make, up to the first that has a
+    /// route.
     pub fn peek<B: BestOf<A>>(
         &self,
         asker: &mut Asker<'_, B, A>,
@@ -152,7 +153,8 @@ impl<A: Allocator + Copy> Tree<A> {
         requires room { IsRoomy self.now }
         requires sure { IsTrue sure → CarriesOnlyLeast asker.old.asked.plan.plan asker.old.asked.request (shape_of self.now) }
 
-        // The route is the one that a step gives, or none if none is left. It tells whether one is left after the step.
+        // The route is the one that a step gives, or none if none is left. The answer is whether one is left after the
+        // step.
         ensures routes { OnOk result (routes.new.items ≡ routes.old.items ++ records_for asker.old.asked (steps_for asker.old.asked 1 (shown (shape_of self.now))).0) }
         ensures more { IfOk result (λ more. more ≡ is_some (next_route asker.old.asked.plan.plan asker.old.asked.request (steps_for asker.old.asked 1 (shown (shape_of self.now))).1)) }
 

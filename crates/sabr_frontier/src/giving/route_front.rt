@@ -26,7 +26,7 @@ pub struct RouteFront<A: Allocator + Copy> {
     pub shut: Vec<bool, A>,
 }
 
-/// Shuts the nodes to avoid. All are open before.
+/// Forbids the nodes to avoid. All are open before.
 fn shut_avoided<A: Allocator + Copy>(
     shut: &mut Vec<bool, A>,
     plan: &CountedPlan<'_, A>,
@@ -72,7 +72,7 @@ fn start<A: Allocator + Copy>(
 ///
 /// # Errors
 ///
-/// [`NoMemory`] if a growth was refused.
+/// [`NoMemory`] if an allocation failed.
 pub fn follow_front<A: Allocator + Copy>(
     alloc: A,
     plan: &CountedPlan<'_, A>,

@@ -1,4 +1,4 @@
-//! Giving the least route that the tree carries.
+//! Giving the best route that the tree carries.
 
 ghost use Rattle.std.specs.Prelude.{◌≡◌, ◌+◌, ◌≤◌, Some, IsSome, IsTrue, IsFalse, IfOk, OnErr};
 ghost use Rattle.sabr_model.specs.plan.Plan.{IsPlan};
@@ -19,7 +19,7 @@ use sabr_model::{NoMemory, Route};
 use sabr_search::BestOf;
 use std::alloc::Allocator;
 
-/// A second before which no route of a part delivers: when its least route does, if it is sure that this is the least.
+/// A second before which no route of a part delivers: when its best route does, if it is sure that this is the best.
 pub fn floor_of<A: Allocator + Copy>(route: &Route<A>, sure: bool) -> u64
     ensures yes { IsTrue sure → result ≡ route.now.delivery }
     ensures no { IsFalse sure → result ≡ 0 }
@@ -42,9 +42,9 @@ impl<A: Allocator + Copy> Tree<A> {
         copied(alloc, route)
     }
 
-    /// Gives the least route that a node carries, and returns how many searches that took. Room for all is reserved
-    /// first. Then come the searches, and a refused one leaves the parts as they were. If it is sure that each node carries
-    /// the least route of its part, no route of the new parts delivers before the one that is given.
+    /// Gives the best route that a node carries, and returns how many searches that took. Room for all is reserved
+    /// first. Then come the searches, and one that fails leaves the parts as they were. If it is sure that each node
+    /// carries the best route of its part, no route of the new parts delivers before the one that is given.
     pub fn take<B: BestOf<A>>(
         &mut self,
         asker: &mut Asker<'_, B, A>,
@@ -57,11 +57,11 @@ impl<A: Allocator + Copy> Tree<A> {
         requires room { IsRoomy self.old }
         requires sure { IsTrue sure → CarriesOnlyLeast asker.old.asked.plan.plan asker.old.asked.request (shape_of self.old) }
 
-        // The route is given, by so many searches.
+        // The route is given, by this number of searches.
         ensures ok { IfOk result (IsTaken (best_for asker.old.asked) (shape_of self.old) (shape_of self.new) given.old.items given.new.items) }
         ensures called { IfOk result (λ n. asker.new.calls ≡ asker.old.calls + n) }
 
-        // A refusal takes no more searches, and leaves the tree as it was.
+        // If an allocation failed, it took no more searches, and the tree is as it was.
         ensures no_fewer { OnErr result (asker.old.calls ≤ asker.new.calls) }
         ensures at_most { OnErr result (asker.new.calls ≤ asker.old.calls + searches_in asker.old.asked.plan.plan asker.old.asked.request 1 (shown (shape_of self.old))) }
         ensures err { OnErr result (shape_of self.new ≡ shape_of self.old) }

@@ -58,7 +58,7 @@ fn delivery<A: Allocator + Copy>(
 ///
 /// # Errors
 ///
-/// [`LoadFault::BadRoute`] if it is no route of the part, else [`LoadFault::NoMemory`] if a growth was refused.
+/// [`LoadFault::BadRoute`] if it is no route of the part, else [`LoadFault::NoMemory`] if an allocation failed.
 pub fn carried<A: Allocator + Copy>(
     question: &PlanRequest<'_, A>,
     prefix: &[u32],

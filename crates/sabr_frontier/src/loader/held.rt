@@ -23,7 +23,7 @@ use std::cmp::Ordering;
 use std::mem::replace;
 
 /// The parts so far, the leaves that they made, and the prefixes that are owed: those that must still come as parts. As
-/// soon as a part isn't the least that is owed, the parts alone are kept.
+/// soon as a part isn't the first that is owed, the parts alone are held.
 #[derive(Drop)]
 pub struct Held<A: Allocator + Copy = Global> {
     /// The prefixes of the parts, rising.
@@ -34,9 +34,9 @@ pub struct Held<A: Allocator + Copy = Global> {
     pub nodes: Vec<Node<A>, A>,
     /// The leaves that the parts made.
     pub leaves: Vec<Route<A>, A>,
-    /// The prefixes that are owed, the least last, each with where it leads.
+    /// The prefixes that are owed, the first last, each with where it leads.
     pub owed: Vec<Owed, A>,
-    /// Whether each part so far was the least that was owed.
+    /// Whether each part so far was the first that was owed.
     pub sound: bool,
     /// Room in which the next part is judged.
     pub room: Judged<A>,
@@ -67,7 +67,7 @@ pub fn last_place<A: Allocator + Copy>(
 }
 
 impl<A: Allocator + Copy> Held<A> {
-    /// Makes an empty value. It takes no memory.
+    /// Makes an empty value. It allocates nothing.
     pub fn new(alloc: A) -> Held<A>
         ensures { holding_of result ≡ nothing_held }
     {
@@ -102,7 +102,7 @@ impl<A: Allocator + Copy> Held<A> {
         self.comes_after(prefix)
     }
 
-    /// Returns where a prefix leads if it is the least that is owed, or none. The first that is owed is empty.
+    /// Returns where a prefix leads if it is the first that is owed, or none. That of the first part is empty.
     pub fn due(&self, question: &PlanRequest<'_, A>, prefix: &[u32]) -> Option<Lead>
         requires { IsTrue self.now.sound → AreOwed question.now.plan.now.plan question.now.request self.now.last.items self.now.owed.items }
         ensures due { is_some result ≡ is_due (holding_of self.now) prefix.now }
@@ -123,7 +123,7 @@ impl<A: Allocator + Copy> Held<A> {
         None
     }
 
-    /// Returns what a part leads to, or none if it isn't the least that is owed, if one of its excluded numbers makes
+    /// Returns what a part leads to, or none if it isn't the first that is owed, if one of its excluded numbers makes
     /// no path, or if it excludes none and isn't the first.
     fn judge(
         &mut self,
@@ -147,7 +147,7 @@ impl<A: Allocator + Copy> Held<A> {
         judge(question, prefix, excluded, lead, room)
     }
 
-    /// Reserves room for a part whose prefix has so many numbers, and for what it leads to.
+    /// Reserves room for a part whose prefix has `count` numbers, and for what it leads to.
     fn reserve(&mut self, numbers: usize, leaves: usize, onward: usize) -> Result<(), NoMemory>
         ensures same { holding_of self.new ≡ holding_of self.old }
         ensures ok { OnOk result (HasPlaces self.new numbers leaves onward) }
@@ -179,7 +179,7 @@ impl<A: Allocator + Copy> Held<A> {
         let Ok(()) = kept else { unreachable!() };
     }
 
-    /// Adds the part that was owed, and what it leads to. What may be refused comes before the first change.
+    /// Adds the part that was owed, and what it leads to. What may fail comes before the first change.
     fn answer(
         &mut self,
         prefix: &[u32],
@@ -202,7 +202,7 @@ impl<A: Allocator + Copy> Held<A> {
         Ok(())
     }
 
-    /// Adds a part that wasn't owed, or isn't right: from now on the parts alone are kept.
+    /// Adds a part that wasn't owed, or isn't right: from now on the parts alone are held.
     fn add(
         &mut self,
         prefix: &[u32],
@@ -219,7 +219,7 @@ impl<A: Allocator + Copy> Held<A> {
     }
 
     /// Adds a part that comes after the others, with the record of the route that it carries. If its prefix is the
-    /// least that is owed, `due` is where that leads.
+    /// first that is owed, `due` is where that leads.
     pub fn take_in(
         &mut self,
         question: &PlanRequest<'_, A>,
@@ -241,7 +241,7 @@ impl<A: Allocator + Copy> Held<A> {
         }
     }
 
-    /// Returns true if there is a part, each part was the least that was owed, and none is owed any more.
+    /// Returns true if there is a part, each part was the first that was owed, and none is owed any more.
     pub fn is_paid(&self) -> bool
         ensures { result ≡ is_paid (holding_of self.now) }
     {

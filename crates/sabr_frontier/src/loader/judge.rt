@@ -20,7 +20,7 @@ pub struct Judged<A: Allocator + Copy = Global> {
 }
 
 impl<A: Allocator + Copy> Judged<A> {
-    /// Makes an empty value. It takes no memory.
+    /// Makes an empty value. It allocates nothing.
     pub fn none(alloc: A) -> Judged<A>
         ensures leaves { result.leaves.items ≡ [] }
         ensures onward { result.onward.items ≡ [] }

@@ -18,7 +18,7 @@ pub enum LoadFault {
     /// The parts are closed, but the count isn't that of their leaves, or the last route isn't one of them.
     #[error("the count or the last route is wrong")]
     BadCount,
-    /// Memory was refused.
+    /// An allocation failed.
     #[error("out of memory")]
     NoMemory,
 }

@@ -27,7 +27,8 @@ use std::marker::Model;
 
 /// The last page of a session, which is gone. It keeps the session's index and finder for another request.
 ///
-/// Contracts see the plan, the routes, whether one is left after them, and how often the finder was called.
+/// Contracts see the plan, the routes, whether one is left after them, how often the finder was called, and the looks
+/// that the page took.
 #[derive(Drop)]
 pub struct LastPage<'p, B: BestOf<A>, A: Allocator + Copy = Global> {
     /// What found the routes.
@@ -36,7 +37,9 @@ pub struct LastPage<'p, B: BestOf<A>, A: Allocator + Copy = Global> {
     routes: Vec<Route<A>, A>,
     /// Whether a route is left after them.
     more: bool,
-    /// The looks that telling it took, besides those of the finder's calls.
+    /// The looks that the searches took.
+    looks: u64,
+    /// The looks that finding this out took besides.
     detour_looks: u64,
 }
 
@@ -45,17 +48,17 @@ impl<'p, B: BestOf<A>, A: Allocator + Copy> Model for LastPage<'p, B, A> {
 
     ghost Value = { LastSeen };
 
-    ghost view = { λ l. record { plan = l.asker.asked.plan; routes = l.routes.items; more = l.more; calls = l.asker.calls; detour_looks = l.detour_looks } };
+    ghost view = { λ l. record { plan = l.asker.asked.plan; routes = l.routes.items; more = l.more; calls = l.asker.calls; looks = l.looks; detour_looks = l.detour_looks } };
 }
 
 impl<'p, B: BestOf<A>, A: Allocator + Copy> Session<'p, B, A> {
     /// Returns the next `count` routes, at most 10000, or all that are left if they are fewer, and whether a route is
-    /// left after them. The last of them isn't given: only so much is searched for after it as tells whether one is
-    /// left. And the parts aren't put in order.
+    /// left after them. The last of them isn't given: after it, the searches end once it is known whether one is left.
+    /// And the parts aren't put in order.
     ///
     /// # Errors
     ///
-    /// [`NoMemory`] if a growth was refused. The finder is dropped.
+    /// [`NoMemory`] if an allocation failed. The finder is dropped.
     pub fn last_page(self, count: u32) -> Result<LastPage<'p, B, A>, NoMemory>
         requires { count ≤ most_routes }
         ensures { IfOk result (IsLastPage self.entry count) }
@@ -65,24 +68,27 @@ impl<'p, B: BestOf<A>, A: Allocator + Copy> Session<'p, B, A> {
             mut tree,
             pages: _,
             searches: _,
+            looks: _,
             is_sure,
         } = self;
         let mut routes = Vec::new(asker.alloc());
-        let mut looks = Looks::many();
-        let more = tree.give_last(&mut asker, count, &mut routes, is_sure, &mut looks)?;
+        let mut detours = Looks::many();
+        let more = tree.give_last(&mut asker, count, &mut routes, is_sure, &mut detours)?;
+        let looks = asker.take_sum();
         Ok(LastPage {
             asker,
             routes,
             more,
-            detour_looks: looks.taken(),
+            looks,
+            detour_looks: detours.taken(),
         })
     }
 }
 
 impl<A: Allocator + Copy> Tree<A> {
-    /// Puts the next `count` routes after others, or all that are left if they are fewer, and tells whether a route is
-    /// left after them. It borrows what [`last_page`](Session::last_page) owns. It may be sure that each node carries the
-    /// least route of its part.
+    /// Puts the next `count` routes after others, or all that are left if they are fewer, and returns whether a route
+    /// is left after them. It borrows what [`last_page`](Session::last_page) owns. It may be sure that each node
+    /// carries the best route of its part.
     fn give_last<B: BestOf<A>>(
         &mut self,
         asker: &mut Asker<'_, B, A>,
@@ -100,7 +106,7 @@ impl<A: Allocator + Copy> Tree<A> {
         requires room { IsRoomy self.old }
         requires sure { IsTrue sure → CarriesOnlyLeast asker.old.asked.plan.plan asker.old.asked.request (shape_of self.old) }
 
-        // The routes are those of the steps, and it tells whether one is left after these.
+        // The routes are those of the steps, and the answer is whether one is left after these.
         ensures routes { OnOk result (routes.new.items ≡ routes.old.items ++ records_for asker.old.asked (steps_for asker.old.asked count (shown (shape_of self.old))).0) }
         ensures more { IfOk result (λ more. more ≡ is_some (next_route asker.old.asked.plan.plan asker.old.asked.request (steps_for asker.old.asked count (shown (shape_of self.old))).1)) }
 
@@ -119,8 +125,8 @@ impl<A: Allocator + Copy> Tree<A> {
         self.peek(asker, routes, sure, looks)
     }
 
-    /// Gives the next `count` routes, or all that are left if they are fewer. Of the parts that they make, it looks for no
-    /// route that comes after so many that one more than them is still given before it.
+    /// Gives the next `count` routes, or all that are left if they are fewer. Of the parts that they make, it looks for
+    /// no route that comes after two more routes than are still to be given.
     fn gather_up_to<B: BestOf<A>>(
         &mut self,
         asker: &mut Asker<'_, B, A>,
@@ -135,8 +141,8 @@ impl<A: Allocator + Copy> Tree<A> {
         requires room { IsRoomy self.old }
         requires sure { IsTrue sure → CarriesOnlyLeast asker.old.asked.plan.plan asker.old.asked.request (shape_of self.old) }
 
-        // The routes are those of the steps. The tree shows the state after them, but for routes that its nodes don't carry,
-        // each after two others at the least.
+        // The routes are those of the steps. The tree shows the state after them, but for routes that its nodes don't
+        // carry, each after two others at least.
         ensures routes { OnOk result (routes.new.items ≡ routes.old.items ++ records_for asker.old.asked (steps_for asker.old.asked count (shown (shape_of self.old))).0) }
         ensures state { OnOk result (ShowsCut asker.old.asked 2 (steps_for asker.old.asked count (shown (shape_of self.old))).1 (shape_of self.new)) }
         ensures room { OnOk result (IsRoomy self.new) }
@@ -162,7 +168,8 @@ impl<A: Allocator + Copy> Tree<A> {
         Ok(())
     }
 
-    /// Notes the keys of what the node of a journal's last entry carries, and of what the nodes carry that it didn't count.
+    /// Notes the keys of what the node of a journal's last entry carries, and of what the nodes carry that it didn't
+    /// count.
     fn note_new(&self, entry: Entry, keys: &mut LeastKeys<A>) -> Result<(), NoMemory>
         requires in_range { entry.node.0 < length self.now.nodes.items }
         requires within { entry.nodes ≤ length self.now.nodes.items }
@@ -189,7 +196,14 @@ impl<'p, B: BestOf<A>, A: Allocator + Copy> LastPage<'p, B, A> {
         self.more
     }
 
-    /// How many looks the page took besides those of the finder's calls: fetches of contacts' records that told without a
+    /// The looks that the page's searches took, each a use of a contact's record; `u64::MAX` if they are more.
+    pub fn looks(&self) -> u64
+        ensures { result ≡ self.now.looks }
+    {
+        self.looks
+    }
+
+    /// The looks that the page took besides those of its searches: uses of contacts' records that showed without a
     /// search that a route is left.
     pub fn detour_looks(&self) -> u64
         ensures { result ≡ self.now.detour_looks }
@@ -197,12 +211,12 @@ impl<'p, B: BestOf<A>, A: Allocator + Copy> LastPage<'p, B, A> {
         self.detour_looks
     }
 
-    /// Starts a session over the same plan for another request, as [`start`](Session::start) does, with this one's index
-    /// and finder.
+    /// Starts a session over the same plan for another request, as [`start`](Session::start) does, with this one's
+    /// index and finder.
     ///
     /// # Errors
     ///
-    /// [`NoMemory`] if a growth was refused. The finder is dropped.
+    /// [`NoMemory`] if an allocation failed. The finder is dropped.
     pub fn start_again(self, request: Request) -> Result<Session<'p, B, A>, NoMemory>
         ensures { IfOk result (λ s. s ≡ started self.entry.plan request (self.entry.calls + 1)) }
     {
@@ -220,6 +234,7 @@ impl<'p, B: BestOf<A>, A: Allocator + Copy> LastPage<'p, B, A> {
             asker,
             routes: _,
             more: _,
+            looks: _,
             detour_looks: _,
         } = self;
         let (asker, index) = asker.pause();

@@ -10,12 +10,12 @@ use sabr_index::Index;
 use sabr_search::BestOf;
 use std::alloc::{Allocator, Global};
 
-/// A paused session: a [`Session`] without the index of its plan. So it borrows no plan, and an owner of the plan can keep
-/// it. It has the parts that are left, the routes given, the pages that can be taken back, the finder, and the answers
-/// that are kept for its searches: a session that was paused goes on at the cost of one that wasn't.
+/// A paused session: a [`Session`] without the index of its plan. So it borrows no plan, and an owner of the plan can
+/// keep it. It has the parts that are left, the routes given, the pages that can be taken back, the finder, and the
+/// cache of its searches: a session that was paused goes on at the cost of one that wasn't.
 #[derive(Drop)]
 pub struct PausedSession<B: BestOf<A>, A: Allocator + Copy = Global> {
-    /// What finds the parts' least routes.
+    /// What finds the parts' best routes.
     asker: PausedAsker<B, A>,
     /// The parts and the routes given.
     tree: Tree<A>,
@@ -23,6 +23,8 @@ pub struct PausedSession<B: BestOf<A>, A: Allocator + Copy = Global> {
     pages: Vec<usize, A>,
     /// The searches of the last call that counts them.
     searches: u64,
+    /// The looks that the searches of the last page took.
+    looks: u64,
     /// Whether a search began it.
     is_sure: bool,
 }
@@ -41,6 +43,7 @@ impl<'p, B: BestOf<A>, A: Allocator + Copy> Session<'p, B, A> {
             tree,
             pages,
             searches,
+            looks,
             is_sure,
         } = self;
         let (asker, index) = asker.pause();
@@ -49,6 +52,7 @@ impl<'p, B: BestOf<A>, A: Allocator + Copy> Session<'p, B, A> {
             tree,
             pages,
             searches,
+            looks,
             is_sure,
         };
         (paused, index)
@@ -67,6 +71,7 @@ impl<B: BestOf<A>, A: Allocator + Copy> PausedSession<B, A> {
             tree,
             pages,
             searches,
+            looks,
             is_sure,
         } = self;
         let asker = asker.resume(index);
@@ -75,6 +80,7 @@ impl<B: BestOf<A>, A: Allocator + Copy> PausedSession<B, A> {
             tree,
             pages,
             searches,
+            looks,
             is_sure,
         }
     }

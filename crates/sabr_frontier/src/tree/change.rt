@@ -31,7 +31,7 @@ fn carry<A: Allocator + Copy>(
 }
 
 impl<A: Allocator + Copy> Tree<A> {
-    /// The node that carries the least route, if some node carries one.
+    /// The node that carries the best route, if some node carries one.
     pub fn least(&self) -> Option<NodeId>
         requires { IsRoomy self.now }
         ensures some { IfSome result (λ id. (x : RouteRecord) × IsFirst self.now.nodes.items id x) }
@@ -77,8 +77,8 @@ impl<A: Allocator + Copy> Tree<A> {
         Ok(())
     }
 
-    /// Gives the route of a node: the node carries another or none. Its new nodes stand after the others already, and have
-    /// no winners yet. There is room for all of it.
+    /// Gives the route of a node: the node carries another or none. Its new nodes stand after the others already, and
+    /// have no winners yet. There is room for all of it.
     pub fn change(&mut self, node: NodeId, found: Option<Route<A>>)
         requires in_range { node.0 < vec_len self.old.winners }
         requires within { vec_len self.old.winners ≤ vec_len self.old.nodes }

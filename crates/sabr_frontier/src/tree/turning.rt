@@ -4,8 +4,9 @@ ghost use Rattle.std.specs.Prelude.{◌≡◌, ◌+◌, ◌-◌, ◌≤◌, ◌+
 
 use crate::tree::NodeId;
 
-/// So many nodes at most wait on the stack while others take their places. With 16 or 1024, 1000 routes over four plans took
-/// as many instructions. To vary it: `bench/figures.py --counts 1000 --only relay-mars-500,line-19998,grid-8,dense-60`.
+/// The most nodes that wait on the stack while others take their places. With 16 or 1024, 1000 routes over four plans
+/// took as many instructions. To vary it: `bench/figures.py --counts 1000 --only
+/// relay-mars-500,line-19998,grid-8,dense-60`.
 const ROOM: usize = 128;
 
 /// Moves all but the last `by` nodes of a list `by` places on; they wait on the stack meanwhile. What stands in front

@@ -31,7 +31,7 @@ fn give_back<A: Allocator + Copy>(nodes: &mut Vec<Node<A>, A>, node: NodeId, rou
 }
 
 impl<A: Allocator + Copy> Tree<A> {
-    /// Takes the last route back. It needs no memory, and leaves the index and the winners as they were.
+    /// Takes the last route back. It allocates nothing, and leaves the index and the winners as they were.
     fn undo(&mut self)
         requires possible { CanUndo (shape_of self.old) }
         requires room { IsSpacious self.old }
@@ -50,8 +50,8 @@ impl<A: Allocator + Copy> Tree<A> {
         self.last = entry.last;
     }
 
-    /// Takes routes back until the journal has as many entries as it had then. It needs no memory, and leaves the index
-    /// and the winners as they were.
+    /// Takes routes back until the journal has as many entries as it had then. It allocates nothing, and leaves the
+    /// index and the winners as they were.
     fn undo_each(&mut self, start: usize)
         requires possible { CanUndoTimes (length self.old.journal.items - start) (shape_of self.old) }
         requires room { IsSpacious self.old }
@@ -64,7 +64,7 @@ impl<A: Allocator + Copy> Tree<A> {
         }
     }
 
-    /// Takes routes back until the journal has as many entries as it had then. It needs no memory.
+    /// Takes routes back until the journal has as many entries as it had then. It allocates nothing.
     pub fn undo_to(&mut self, start: usize)
         requires possible { CanUndoTimes (length self.old.journal.items - start) (shape_of self.old) }
         requires index { IsIndexBack (undone_times (length self.old.journal.items - start) (shape_of self.old)) self.old.index.items }

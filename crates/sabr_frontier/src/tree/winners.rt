@@ -1,4 +1,4 @@
-//! The node with the least route, found as in a tournament: slot `k` names the winner among node `k` and the winners of
+//! The node with the best route, found as in a tournament: slot `k` names the winner among node `k` and the winners of
 //! slots `2k + 1` and `2k + 2`.
 
 ghost use Rattle.std.specs.Prelude.{◌≡◌, ◌+◌, ◌<◌, ◌≤◌, length, vec_len, vec_capacity};

@@ -1,7 +1,7 @@
 -- The lists of an answer that is kept.
 use Rattle.std.specs.Prelude.{ℕ, List}
 
--- the numbers that no way takes first, the nodes that were shut, and the least way: no numbers where there is none
+-- the numbers that no way takes first, the nodes that were forbidden, and the best way: no numbers where there is none
 pub record AnswerLists : Type 0 where
   pub excluded : List ℕ
   pub shut : List ℕ

@@ -10,11 +10,11 @@ use Rattle.sabr_search.specs.questions.Ways.{Leads}
 use Rattle.sabr_search.specs.questions.Task.{SearchTask, HasNodes, Takes, left_of}
 use Rattle.sabr_search.specs.layers.Picks.{IsLeastWay}
 
--- the same search, with these nodes shut and from this second on
+-- the same search, with these forbidden nodes and from this second on
 abbrev pub narrowed : SearchTask → List Bool → ℕ → SearchTask
 narrowed task shut at = record task { shut = shut; at = at }
 
--- the search starts no earlier, and each node that was shut is still shut
+-- the search starts no earlier, and each node that was forbidden is still forbidden
 pub record Narrows (task : SearchTask) (shut : List Bool) (at : ℕ) : Type 0 where
   pub later : task.at ≤ at
   pub shuts : (k : ℕ) → slice_index_or shut k false ≡ false → slice_index_or task.shut k false ≡ false
@@ -27,9 +27,9 @@ HasNoWayWithin task hops = (ns : List ℕ) (e : ℕ) → length ns ≤ hops → 
 abbrev pub IsWayBeyond : SearchTask → ℕ → Bound → Type 0
 IsWayBeyond task hops b = (ns : List ℕ) (e : ℕ) → length ns ≤ hops → Leads (Takes task) task.start task.at ns task.goal e → is_up_to b e (length ns) ≡ false
 
--- The least way stays the least if more nodes are shut, the search starts no earlier and no more hops are left. It has
--- to be one that may still be taken and delivers at the same second. If there was no way, there still is none. If each way
--- was above a bound, each is above whatever is up to that.
+-- The best way stays the best if more nodes are forbidden, the search starts no earlier and no more hops are left. It
+-- has to be one that may still be taken and delivers at the same second. If there was no way, there still is none. If
+-- each way was above a bound, each is above whatever is up to that.
 pub record AnswersStay : Type 0 where
   pub least : (task : SearchTask) (shut : List Bool) (at hops fewer ceiling : ℕ) (s : List ℕ) (d : ℕ) → HasNodes task.plan task.table → Narrows task shut at → fewer ≤ hops
       → IsLeastWay task hops ceiling s d → length s ≤ fewer → Leads (Takes (narrowed task shut at)) task.start at s task.goal d
@@ -39,7 +39,7 @@ pub record AnswersStay : Type 0 where
   pub beyond : (task : SearchTask) (shut : List Bool) (at hops fewer : ℕ) (b c : Bound) → HasNodes task.plan task.table → Narrows task shut at → fewer ≤ hops
       → IsTrue (is_up_to b c.delivery c.hops) → IsWayBeyond task hops b → IsWayBeyond (narrowed task shut at) fewer c
 
--- the answer after a prefix: the route goes on by the least way, or no way leads to the goal
+-- the answer after a prefix: the route goes on by the best way, or no way leads to the goal
 abbrev pub IsAnswered : SearchTask → List ℕ → Option RouteRecord → Type 0
 IsAnswered task prefix None = HasNoWayWithin task (left_of task prefix)
 IsAnswered task prefix (Some route) = (s : List ℕ) × (route.contacts ≡ prefix ++ s) × IsLeastWay task (left_of task prefix) (route.delivery + 1) s route.delivery × IsTold task.plan route

@@ -5,7 +5,7 @@ use Rattle.sabr_search.specs.declared.bound.Sought.{Sought}
 use Rattle.sabr_search.specs.declared.question.Question.{Question}
 use Rattle.sabr_search.specs.questions.Bounded.{IsCutUpTo}
 
--- without a limit on hops, what was found with so many hops took no more than two passes for each, and three more
+-- without a limit on hops, what was found with that many hops took no more than two passes for each, and three more
 abbrev pub IsCutBefore : {A : Type 0} → Question A → ℕ → ℕ → Type 0
 IsCutBefore asked hops looks = asked.task.now.request.max_hops ≡ most_hops → looks ≤ (2 * hops + 3) * length asked.task.now.plan.contacts
 

@@ -1,4 +1,4 @@
--- What a search for the least way finds.
+-- What a search for the best way finds.
 use Rattle.std.specs.Prelude.{⊤, ℕ, ◌+◌, IsTrue, length, if◌then◌else◌}
 use Rattle.sabr_search.specs.declared.bound.Bound.{Bound}
 use Rattle.sabr_search.specs.declared.found.Found.{Found}
@@ -8,13 +8,14 @@ use Rattle.sabr_search.specs.layers.Picks.{IsLeastWay}
 use Rattle.sabr_search.specs.questions.Bounded.{is_none, is_up_to}
 use Rattle.sabr_search.specs.questions.Task.{SearchTask}
 
--- it is the least way of at most `hops` hops, or each is above the bound
+-- it is the best way of at most `hops` hops, or each is above the bound
 abbrev pub IsFound : {A : Type 0} → SearchTask → ℕ → Found A → Type 0
 IsFound task hops (Way way) = IsLeastWay task hops (way.delivery + 1) way.numbers.items way.delivery
 IsFound task hops (Beyond b) = IsWayBeyond task hops b
 IsFound task hops GaveUp = ⊤
 
--- it is a way, or all that is up to the bound asked for is up to what each way is above; it gives up for this reason alone
+-- it is a way, or all that is up to the bound asked for is up to what each way is above; it gives up for this reason
+-- alone
 abbrev pub IsEnoughUnless : {A : Type 0} → Type 0 → Bound → Found A → Type 0
 IsEnoughUnless reason b (Way way) = ⊤
 IsEnoughUnless reason b (Beyond own) = IsTrue (is_up_to own b.delivery b.hops)

@@ -13,30 +13,30 @@ use Rattle.sabr_search.specs.declared.bound.Bound.{Bound}
 use Rattle.sabr_search.specs.questions.Bounded.{is_up_to}
 use Rattle.sabr_search.specs.answers.Answers.{IsWayBeyond}
 
--- what was asked, with these nodes shut and this goal
+-- what was asked, with these forbidden nodes and this goal
 abbrev pub asked : {A : Type 0} → TabledPlan → RouteRequest → Answer A → List Bool → ℕ → SearchTask
 asked p r a shut goal = record { plan = p.plan; request = r; table = p.table; shut = shut; excluded = a.lists.excluded; start = a.from.node; goal = goal; at = a.from.at }
 
--- the places of the nodes that are shut are listed
+-- the places of the nodes that are forbidden are listed
 abbrev pub AreListed : List Bool → List ℕ → Type 0
 AreListed shut nodes = (k : ℕ) → slice_index_or shut k false ≡ true → (i : ℕ) × (slice_get nodes i ≡ Some k)
 
--- each of these nodes is shut
+-- each of these nodes is forbidden
 abbrev pub AllShut : List Bool → List ℕ → Type 0
 AllShut shut nodes = (i k : ℕ) → slice_get nodes i ≡ Some k → slice_index_or shut k false ≡ true
 
--- these nodes are those that are shut, each once
+-- these nodes are those that are forbidden, each once
 pub record IsListing (shut : List Bool) (nodes : List ℕ) : Type 0 where
   pub listed : AreListed shut nodes
   pub all : AllShut shut nodes
   pub once : (i j k : ℕ) → slice_get nodes i ≡ Some k → slice_get nodes j ≡ Some k → i ≡ j
 
--- the numbers of the least way and when it delivers, or no numbers where each way is above the bound
+-- the numbers of the best way and when it delivers, or no numbers where each way is above the bound
 pub record IsFoundWay (task : SearchTask) (hops : ℕ) (numbers : List ℕ) (delivery : ℕ) (b : Bound) : Type 0 where
   pub none : numbers ≡ [] → IsWayBeyond task hops b
   pub some : 0 < length numbers → IsLeastWay task hops (delivery + 1) numbers delivery
 
--- the answer to a question to the destination: the least way, or no numbers where each is above its bound
+-- the answer to a question to the destination: the best way, or no numbers where each is above its bound
 pub record IsAnswer {A : Type 0} (p : TabledPlan) (r : RouteRequest) (a : Answer A) : Type 0 where
   pub flags : List Bool
   pub goal : ℕ
@@ -44,7 +44,7 @@ pub record IsAnswer {A : Type 0} (p : TabledPlan) (r : RouteRequest) (a : Answer
   pub listed : AreListed flags a.lists.shut
   pub found : IsFoundWay (asked p r a flags goal) a.hops a.lists.way a.delivery a.bound
 
--- so many answers are kept
+-- this many answers are kept
 abbrev pub most_answers : ℕ
 most_answers = 4096
 
@@ -52,12 +52,13 @@ most_answers = 4096
 abbrev pub AreAnswers : {A : Type 0} → TabledPlan → RouteRequest → List (Answer A) → Type 0
 AreAnswers p r answers = All (IsAnswer p r) answers × (length answers ≤ most_answers)
 
--- the answer after a prefix is kept if that has some contacts, since no other prefix ends at the source, and not too many,
--- and if not too many numbers are excluded
+-- the answer after a prefix is kept if that has some contacts, since no other prefix ends at the source, and not too
+-- many, and if not too many numbers are excluded
 abbrev pub is_kept_after : List ℕ → List ℕ → Bool
 is_kept_after prefix excluded = nat_lt 0 (length prefix) && (nat_le (length prefix) 128 && nat_le (length excluded) 64)
 
--- the search starts at the same node and no earlier, excludes the same numbers, shuts these nodes, too, and leaves no more hops
+-- the search starts at the same node and no earlier, excludes the same numbers, forbids these nodes, too, and leaves no
+-- more hops
 pub record Covers {A : Type 0} (a : Answer A) (task : SearchTask) (hops : ℕ) : Type 0 where
   pub node : a.from.node ≡ task.start
   pub later : a.from.at ≤ task.at
@@ -65,8 +66,8 @@ pub record Covers {A : Type 0} (a : Answer A) (task : SearchTask) (hops : ℕ) :
   pub same : a.lists.excluded ≡ task.excluded
   pub shuts : AllShut task.shut a.lists.shut
 
--- and its way, if it has one, may be taken still, and delivers at the same second; else all that is up to the bound is up to
--- its own
+-- and its way, if it has one, may be taken still, and delivers at the same second; else all that is up to the bound is
+-- up to its own
 pub record IsAnswerTo {A : Type 0} (a : Answer A) (task : SearchTask) (hops : ℕ) (b : Bound) : Type 0 where
   pub covers : Covers a task hops
   pub none : a.lists.way ≡ [] → IsTrue (is_up_to a.bound b.delivery b.hops)

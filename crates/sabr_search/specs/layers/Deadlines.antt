@@ -10,11 +10,11 @@ use Rattle.sabr_search.specs.layers.Lists.{nodes_from}
 abbrev pub HasDeadline : List ℕ → List Deadline → Entries
 HasDeadline ends entries h v x = (p : ℕ) × (slice_index ends h ≤ p) × (p < slice_index ends (h + 1)) × (slice_get entries p ≡ Some (record { node = v; before = x }))
 
--- whoever is at node u at second t is in time for its entry in a layer of at most so many hops
+-- a bundle at node u at second t is in time for its entry in a layer of at most that many hops
 abbrev pub IsInTimeWithin : List ℕ → List Deadline → ℕ → ℕ → ℕ → Type 0
 IsInTimeWithin ends entries hops u t = (i : ℕ) × (x : ℕ) × (i ≤ hops) × HasDeadline ends entries i u x × (t < x)
 
--- the layer of so many hops has each node once
+-- the layer of that many hops has each node once
 abbrev pub IsApart : List ℕ → List Deadline → ℕ → Type 0
 IsApart ends entries hops =
     (p q : ℕ) (e f : Deadline) → slice_index ends hops ≤ p → slice_index ends hops ≤ q → p < slice_index ends (hops + 1) → q < slice_index ends (hops + 1) → slice_get entries p ≡ Some e → slice_get entries q ≡ Some f → e.node ≡ f.node → p ≡ q
@@ -49,7 +49,7 @@ pub record AreChained {A : Type 0} (s : Deadlines A) : Type 0 where
 abbrev pub IsLatestWithin : List Deadline → ℕ → ℕ → ℕ → Type 0
 IsLatestWithin entries v end before = (p : ℕ) (e : Deadline) → p < end → slice_get entries p ≡ Some e → e.node ≡ v → e.before ≤ before
 
--- where the entries of at most so many hops end
+-- where the entries of at most that many hops end
 abbrev pub end_within : List ℕ → ℕ → ℕ
 end_within ends hops = slice_index ends (min (length ends - 1) (hops + 1))
 

@@ -22,7 +22,7 @@ pub record AreArrivals (task : SearchTask) (since : List ℕ) : Type 0 where
   pub flags : length since ≡ length task.table
   pub least : AreSince task since
 
--- whoever is at node w at second b is in time for an entry at the places from `first` to before `begin`
+-- a bundle at node w at second b is in time for an entry at the places from `first` to before `begin`
 abbrev pub InTimeFor : List Deadline → ℕ → ℕ → ℕ → ℕ → Type 0
 InTimeFor entries first begin w b = (p : ℕ) × (e : Deadline) × (first ≤ p) × (p < begin) × (slice_get entries p ≡ Some e) × (e.node ≡ w) × (b < e.before)
 
@@ -51,8 +51,8 @@ pub record AreLate (task : SearchTask) (first begin : ℕ) (late place : List �
 abbrev pub AreLateAfter : SearchTask → List ℕ → ℕ → List ℕ → List ℕ → List Deadline → Type 0
 AreLateAfter task ends left late place entries = AreLate task (slice_index ends left) (slice_index ends (left + 1)) late place entries
 
--- node u is too late from x on: its entry in the layer that begins at `begin` says so, or a new one does; the place after its
--- last one is `head`
+-- node u is too late from x on: its entry in the layer that begins at `begin` says so, or a new one does; the place
+-- after its last one is `head`
 abbrev pub IsNotedLate : {A : Type 0} → ℕ → ℕ → ℕ → ℕ → Deadlines A → Deadlines A → Type 0
 IsNotedLate head begin u x s t =
     ((begin < head) × (t.place.items ≡ s.place.items) × (t.entries.items ≡ slice_set s.entries.items (head - 1) (record { node = u; before = x })) × (t.fewer.items ≡ s.fewer.items))
@@ -115,14 +115,14 @@ pub record IsMet (task : SearchTask) (left : ℕ) (ends : List ℕ) (entries : L
   pub entry : HasDeadline ends entries left w x
   pub in_time : b < x
 
--- no way of at most so many hops leads to the goal before second d
+-- no way of at most that many hops leads to the goal before second d
 abbrev pub IsNoneSooner : SearchTask → ℕ → ℕ → Type 0
 IsNoneSooner task hops d = (ns : List ℕ) (e : ℕ) → length ns ≤ hops → Leads (Takes task) task.start task.at ns task.goal e → d ≤ e
 
--- some way of at most so many hops leads to the goal at second d
+-- some way of at most that many hops leads to the goal at second d
 abbrev pub HasWayAt : SearchTask → ℕ → ℕ → Type 0
 HasWayAt task hops d = (ns : List ℕ) × (length ns ≤ hops) × Leads (Takes task) task.start task.at ns task.goal d
 
--- no way of at most so many hops leads to the goal by second d
+-- no way of at most that many hops leads to the goal by second d
 abbrev pub IsNoneWithin : SearchTask → ℕ → ℕ → Type 0
 IsNoneWithin task hops d = (ns : List ℕ) (e : ℕ) → length ns ≤ hops → Leads (Takes task) task.start task.at ns task.goal e → d < e

@@ -7,7 +7,7 @@ use Rattle.sabr_index.specs.declared.link.Pass.{Pass}
 use Rattle.sabr_search.specs.questions.Linked.{HasNumber}
 use Rattle.sabr_search.specs.questions.Task.{SearchTask, IsTask, Takes, is_closed}
 
--- the whole graph: no node is shut but the source and those to avoid, and no number is excluded
+-- the whole graph: no node is forbidden but the source and those to avoid, and no number is excluded
 pub record IsWhole (task : SearchTask) : Type 0 where
   pub is : IsTask task
   pub goal_is : slice_get task.table task.goal ≡ Some task.request.destination
@@ -26,8 +26,8 @@ IsLeftOver task late u passes w before = (n t b : ℕ) → HasNumber passes n �
 abbrev pub IsTakenBy : SearchTask → List ℕ → ℕ → Type 0
 IsTakenBy task late w = (n u t b : ℕ) → Takes task n u t w b → b < slice_index late w → IsLeftBy task late u t
 
--- who goes on from node u at t, no earlier than the request begins, and is at node w at b is no nearer to the goal there than
--- the seconds on the way make it, if u is an open node and not the goal
+-- who goes on from node u at t, no earlier than the request begins, and is at node w at b is no nearer to the goal
+-- there than the seconds on the way make it, if u is an open node and not the goal
 abbrev pub IsNear : SearchTask → List ℕ → ℕ → ℕ → ℕ → ℕ → Type 0
 IsNear task near u t w b = slice_index_or task.shut u false ≡ false → u ≢ task.goal → task.request.at ≤ t → slice_index near w + t ≤ slice_index near u + b
 

@@ -19,12 +19,12 @@ use Rattle.sabr_search.specs.layers.Late.{AreSince, IsToldBy}
 use Rattle.sabr_search.specs.layers.Picks.{IsPicked}
 use Rattle.sabr_search.specs.layers.Reach.{AreSoonFor}
 
--- from node u at second t or later no way of so many hops or fewer delivers by second d
+-- from node u at second t or later no way of that many hops or fewer delivers by second d
 abbrev pub IsDeadEnd : SearchTask → ℕ → ℕ → ℕ → ℕ → Type 0
 IsDeadEnd task d u t hops = (ns : List ℕ) (s e : ℕ) → t ≤ s → length ns ≤ hops → Leads (Takes task) u s ns task.goal e → d < e
 
--- layers backward from the goal: whoever steps in time to an entry of fewer hops than `most` is in time for one of at most one
--- hop more
+-- layers backward from the goal: a bundle that steps in time to an entry of fewer hops than `most` is in time for one
+-- of at most one hop more
 pub record AreWhole {A : Type 0} (task : SearchTask) (since : List ℕ) (d most : ℕ) (s : Deadlines A) : Type 0 where
   pub nodes : length s.place.items ≡ length task.table
   pub chained : AreChained s
@@ -35,15 +35,16 @@ pub record AreWhole {A : Type 0} (task : SearchTask) (since : List ℕ) (d most 
   pub unshut : (p v : ℕ) → IsOf s.entries.items p v → slice_index_or task.shut v false ≡ false
   pub taken : (j w x n u t b : ℕ) → j < most → HasDeadline s.ends.items s.entries.items j w x → b < x → Takes task n u t w b → IsToldBy task since (HasDeadline s.ends.items s.entries.items) j u t
 
--- the layers of a level were made for a question that shuts no more than each question of the request, and excludes nothing
+-- the layers of a level were made for a question that forbids no more than each question of the request, and excludes
+-- nothing
 pub record IsMadeFor {A : Type 0} (whole : SearchTask) (level : Level A) : Type 0 where
   pub none : whole.excluded ≡ []
   pub since : List ℕ
   pub soon : AreSoonFor (tabled_of whole) whole.request since
   pub layers : (most : ℕ) → AreWhole whole since level.delivery most level.layers
 
--- the layers are, as far as so many hops, of a question that takes each step of this one to the same goal, and begin no node later than a way of this
--- one may come there; nor its start, if they don't shut that
+-- the layers are, as far as that many hops, of a question that takes each step of this one to the same goal, and begin
+-- no node later than a way of this one may come there; nor its start, if they don't forbid that
 pub record IsLevelOf {A : Type 0} (task : SearchTask) (d hops : ℕ) (s : Deadlines A) : Type 0 where
   pub most : ℕ
   pub within : hops ≤ most
@@ -68,14 +69,14 @@ IsLevel p r level = 0 < level.delivery → (task : SearchTask) (prefix : List �
 abbrev pub AreSound : {A : Type 0} → SearchTask → ℕ → Deadlines A → Type 0
 AreSound task d s = (h v x t : ℕ) → HasDeadline s.ends.items s.entries.items h v x → t < x → IsDeadEnd task d v t h → ⊥
 
--- a question's own layers, up to so many hops from the goal: one hop more delivers in time, and as many hops do not
+-- a question's own layers, up to that many hops from the goal: one hop more delivers in time, and as many hops do not
 pub record AreMet {A : Type 0} (task : SearchTask) (d left : ℕ) (s : Deadlines A) : Type 0 where
   pub level : IsLevelOf task d left s
   pub sound : AreSound task d s
   pub fewer : IsDeadEnd task d task.start task.at left
   pub met : IsDeadEnd task d task.start task.at (left + 1) → ⊥
 
--- a pick by layers in which each entry in time leads on, for a question of which so many hops deliver in time
+-- a pick by layers in which each entry in time leads on, for a question of which that many hops deliver in time
 pub record LeadOn {A : Type 0} (task : SearchTask) (hops : ℕ) (s : Deadlines A) (walk : Walk A) : Type 0 where
   pub begun : walk.ends.items ≡ []
   pub sound : AreSound task walk.delivery s
@@ -85,8 +86,8 @@ pub record LeadOn {A : Type 0} (task : SearchTask) (hops : ℕ) (s : Deadlines A
 abbrev pub AreDeadEnds : SearchTask → ℕ → List DeadEnd → Type 0
 AreDeadEnds task d ends = All (λ end. IsDeadEnd task d end.node end.at end.hops) ends
 
--- a step after which so many hops are left: none of a lesser number leads on in as many, and with none left it is at the goal
--- by second d
+-- a step after which that many hops are left: none of a smaller number leads on in as many, and with none left it is at
+-- the goal by second d
 pub record IsStepOn (task : SearchTask) (d hops : ℕ) (from : Visit) (s : Step) : Type 0 where
   pub step : Takes task s.number from.node from.at s.node s.at
   pub last : hops ≡ 0 → (s.node ≡ task.goal) × (s.at ≤ d)
@@ -97,7 +98,7 @@ abbrev pub last_visit : Visit → List Step → Visit
 last_visit from [] = from
 last_visit from (s ∷ steps) = last_visit (record { node = s.node; at = s.at }) steps
 
--- how a pick of so many hops ended; it gives up for this reason alone
+-- how a pick of that many hops ended; it gives up for this reason alone
 abbrev pub IsWalked : {A : Type 0} → SearchTask → ℕ → ℕ → Type 0 → Walk A → Walked → Type 0
 IsWalked task d hops reason walk Picked = IsPicked task hops d (map (λ x. x.number) walk.steps.items)
 IsWalked task d hops reason walk NoWay = IsDeadEnd task d task.start task.at hops

@@ -1,4 +1,4 @@
--- The lists that keep hop layers: for each node the least arrival so far and the place of an entry, and the entries.
+-- The lists that keep hop layers: for each node the earliest arrival so far and the place of an entry, and the entries.
 use Rattle.std.specs.Prelude.{◌≡◌, ◌≢◌, ℕ, ◌≤◌, ◌<◌, ◌⊎◌, List, length, map, take, drop, Bool, true, false, slice_get, slice_index, slice_index_or}
 use Rattle.sabr_search.specs.declared.visit.Visit.{Visit}
 use Rattle.sabr_search.specs.declared.forward.layers.Layers.{Layers}
@@ -16,7 +16,7 @@ pub record IsLinked (shut : List Bool) (arrival place : List ℕ) (reached : Lis
   pub node : (k : ℕ) (d : Visit) → k < length arrival → slice_index_or shut k false ≡ false → slice_index arrival k < never → (slice_index_or reached (slice_index place k) d).node ≡ k
   pub time : (k : ℕ) (d : Visit) → k < length arrival → slice_index_or shut k false ≡ false → slice_index arrival k < never → (slice_index_or reached (slice_index place k) d).at ≡ slice_index arrival k
 
--- whatever nodes were shut, the open ones that are reached still have such entries
+-- whatever nodes were forbidden, the open ones that are reached still have such entries
 abbrev pub StayLinked : {A : Type 0} → Layers A → Layers A → Type 0
 StayLinked old new = (shut : List Bool) → IsLinked shut old.arrival.items old.place.items old.reached.items → IsLinked shut new.arrival.items new.place.items new.reached.items
 
@@ -30,7 +30,7 @@ abbrev pub AddsOnly : List Visit → List Visit → ℕ → ℕ → Type 0
 AddsOnly xs ys k t = (p : ℕ) (d : Visit) → p < length ys →
     ((p < length xs) × (slice_index_or ys p d ≡ slice_index_or xs p d)) ⊎ (((slice_index_or ys p d).node ≡ k) × ((slice_index_or ys p d).at ≡ t))
 
--- nothing that arrives at t or later improves a shut node
+-- nothing that arrives at t or later improves a forbidden node
 abbrev pub AreClosed : List Bool → List ℕ → ℕ → Type 0
 AreClosed shut arrival t = (k : ℕ) → slice_index_or shut k false ≡ true → slice_index arrival k ≤ t
 
@@ -79,8 +79,8 @@ nodes_from node entries first place = map node (drop first (take place entries))
 abbrev pub nodes_between : List Visit → ℕ → ℕ → List ℕ
 nodes_between reached first place = nodes_from (λ e. e.node) reached first place
 
--- the entries from `first` to before `begin` are of different nodes, and none is reached before the search begins or after
--- every arrival
+-- the entries from `first` to before `begin` are of different nodes, and none is reached before the search begins or
+-- after every arrival
 pub record AreSources (task : SearchTask) (reached : List Visit) (first begin : ℕ) : Type 0 where
   pub inside : (p : ℕ) (e : Visit) → slice_get reached p ≡ Some e → e.node < length task.table
   pub since : (p : ℕ) (e : Visit) → slice_get reached p ≡ Some e → task.at ≤ e.at

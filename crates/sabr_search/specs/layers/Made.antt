@@ -19,13 +19,14 @@ pub record AreOpened (task : SearchTask) (late arrival : List ℕ) : Type 0 wher
   pub start : slice_index arrival task.start ≡ task.at
   pub unreached : (k : ℕ) → k < length arrival → slice_index_or task.shut k false ≡ false → slice_index arrival k ≡ slice_index_or late k never
 
--- no delivery is found before second `until`, or one within so many hops
+-- no delivery is found before second `until`, or one within that many hops
 abbrev pub IsFound : SearchTask → ℕ → ℕ → Best → Type 0
 IsFound task until hop best =
     ((best.hops ≡ 0) × (best.delivery ≡ until))
     ⊎ ((0 < best.hops) × (best.hops ≤ hop) × (best.delivery < until) × ((ns : List ℕ) × (length ns ≡ best.hops) × Leads (Takes task) task.start task.at ns task.goal best.delivery))
 
--- the least delivery within so many hops, and the hops of a way with it; no hops if no way delivers before second `until`
+-- the earliest delivery within that many hops, and the hops of a way with it; no hops if no way delivers before second
+-- `until`
 pub record IsBestWithin (task : SearchTask) (until hops : ℕ) (best : Best) : Type 0 where
   pub least : (ns : List ℕ) (e : ℕ) → length ns ≤ hops → Leads (Takes task) task.start task.at ns task.goal e → best.delivery ≤ e
   pub found : IsFound task until hops best

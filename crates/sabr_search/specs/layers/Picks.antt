@@ -1,4 +1,4 @@
--- The least numbers from the front, and the least way of a search.
+-- The smallest numbers from the front, and the best way of a search.
 use Rattle.std.specs.Prelude.{◌≡◌, ℕ, ◌≤◌, ◌<◌, List, length, false, slice_index_or}
 use Rattle.std.specs.declared.option.Option.{Option}
 use Rattle.std.specs.declared.option.Option.TheVariants.{Some, None}
@@ -22,7 +22,8 @@ pub record IsPicked (task : SearchTask) (hops d : ℕ) (s : List ℕ) : Type 0 w
   pub way : Leads (Takes task) task.start task.at s task.goal d
   pub front : (ns : List ℕ) (e : ℕ) → length ns ≡ hops → Leads (Takes task) task.start task.at ns task.goal e → e ≤ d → IsNotAfter s ns
 
--- the way of the least delivery, hops and numbers among those of at most `hops` hops, with a delivery before `ceiling`
+-- the way of the earliest delivery, hops and numbers among those of at most `hops` hops, with a delivery before
+-- `ceiling`
 pub record IsLeastWay (task : SearchTask) (hops ceiling : ℕ) (s : List ℕ) (d : ℕ) : Type 0 where
   pub some : 0 < length s
   pub within : length s ≤ hops

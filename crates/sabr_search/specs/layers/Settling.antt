@@ -12,13 +12,13 @@ use Rattle.sabr_search.specs.questions.Task.{SearchTask, Takes, never, latest_ar
 use Rattle.sabr_search.specs.questions.Steps.{senders}
 use Rattle.sabr_search.specs.layers.Lists.{AreClosed, IsKnown}
 
--- by node a second before which no way comes there, or from which on none delivers before d, if that is sooner; nothing is
--- said of a node after the list's end
+-- by node a second before which no way comes there, or from which on none delivers before d, if that is sooner; nothing
+-- is said of a node after the list's end
 abbrev pub AreArrivalsBy : SearchTask → List ℕ → List ℕ → ℕ → Type 0
 AreArrivalsBy task costs arrival d = (ns : List ℕ) (v t : ℕ) → 0 < length ns → Leads (Takes task) task.start task.at ns v t → min (slice_index arrival v) (d - slice_index costs v) ≤ t
 
--- by node a second from which on no way is at the goal before second `until`, as far as the list goes; and what a way from
--- there to the goal costs at the least, which no step lowers by more than its seconds
+-- by node a second from which on no way is at the goal before second `until`, as far as the list goes; and what a way
+-- from there to the goal costs at the least, which no step lowers by more than its seconds
 pub record IsBound (task : SearchTask) (until : ℕ) (late costs : List ℕ) : Type 0 where
   pub goal : until ≤ slice_index_or late task.goal never
   pub steps : (n u t w b : ℕ) → Takes task n u t w b → slice_index_or task.shut u false ≡ false → u ≢ task.goal → slice_index_or late u never ≤ t → slice_index_or late w never ≤ b
@@ -30,7 +30,7 @@ pub record IsBound (task : SearchTask) (until : ℕ) (late costs : List ℕ) : T
 abbrev pub AreReal : SearchTask → List Visit → Type 0
 AreReal task first = (k : ℕ) (s : Visit) → slice_get first k ≡ Some s → (n : ℕ) × Takes task n task.start task.at s.node s.at
 
--- whoever comes to a settled open node may be at the goal by second t, by what it costs at the least
+-- a bundle that comes to a settled open node may be at the goal by second t, by what it costs at the least
 abbrev pub AreSettledBy : SearchTask → List ℕ → List Bool → List ℕ → ℕ → Type 0
 AreSettledBy task costs settled arrival t = (k : ℕ) → slice_index_or settled k false ≡ true → slice_index_or task.shut k false ≡ false → slice_index arrival k + slice_index costs k ≤ t
 
@@ -50,7 +50,8 @@ sent_by_settled task settled = count_by (λ k. slice_index_or settled k false) (
 abbrev pub IsWayTo : SearchTask → ℕ → ℕ → ℕ → Type 0
 IsWayTo task v h t = (ns : List ℕ) × (length ns ≡ h) × Leads (Takes task) task.start task.at ns v t
 
--- what the queue holds between two steps: an event's second is the arrival at its node and what the goal costs from there
+-- what the queue holds between two steps: an event's second is the arrival at its node and what the goal costs from
+-- there
 pub record IsQueue (task : SearchTask) (bounds costs : List ℕ) (settled : List Bool) (arrival : List ℕ) (queue : List Visit) : Type 0 where
   -- an open node that is reached before it is too late there, and not settled, waits with its arrival
   pub waits : (k : ℕ) → k < length arrival → slice_index_or task.shut k false ≡ false → slice_index_or settled k false ≡ false → slice_index arrival k < slice_index_or bounds k never → IsWaiting queue k (slice_index arrival k + slice_index costs k)
@@ -65,13 +66,14 @@ pub record IsQueue (task : SearchTask) (bounds costs : List ℕ) (settled : List
   pub unshut : All (λ (e : Visit). slice_index_or task.shut e.node false ≡ false) queue
   pub other : All (λ (e : Visit). e.node ≢ task.goal) queue
 
--- by node the hops of a way with its arrival, no more than there are settled nodes, if it is an open node that is reached
--- before it is too late there
+-- by node the hops of a way with its arrival, no more than there are settled nodes, if it is an open node that is
+-- reached before it is too late there
 pub record AreHops (task : SearchTask) (late : List ℕ) (settled : List Bool) (arrival hops : List ℕ) : Type 0 where
   pub many : length hops ≡ length task.shut
   pub ways : (k : ℕ) → k < length arrival → slice_index_or task.shut k false ≡ false → slice_index arrival k < slice_index_or late k never → (slice_index hops k ≤ settled_count settled) × IsWayTo task k (slice_index hops k) (slice_index arrival k)
 
--- no delivery is found before second `until`, or one that is sooner by a way of no more hops than there are settled nodes
+-- no delivery is found before second `until`, or one that is sooner by a way of no more hops than there are settled
+-- nodes
 abbrev pub IsFirst : SearchTask → ℕ → List Bool → Best → Type 0
 IsFirst task until settled best =
     ((best.hops ≡ 0) × (best.delivery ≡ until))
@@ -136,8 +138,8 @@ pub record AreSettled (task : SearchTask) (until : ℕ) (late costs : List ℕ) 
 abbrev pub StaySettled : {A : Type 0} → SearchTask → ℕ → (late costs : List ℕ) → Settling A → Best → Type 0
 StaySettled task until late costs s best = AreSettled task until late costs s.settled.items s.arrival.items s.hops.items s.queue best
 
--- what a search before second `until` found: no way to the goal comes before the delivery, and some way comes then with that
--- number of hops, fewer than there are nodes; or no way comes there before that second
+-- what a search before second `until` found: no way to the goal comes before the delivery, and some way comes then with
+-- that number of hops, fewer than there are nodes; or no way comes there before that second
 pub record IsFirstWay (task : SearchTask) (until : ℕ) (best : Best) : Type 0 where
   pub least : (ns : List ℕ) (e : ℕ) → Leads (Takes task) task.start task.at ns task.goal e → best.delivery ≤ e
   pub none : best.hops ≡ 0 → (ns : List ℕ) (e : ℕ) → Leads (Takes task) task.start task.at ns task.goal e → until ≤ e

@@ -22,11 +22,11 @@ no_bound = record { delivery = never; hops = never }
 abbrev pub is_none : Bound → Bool
 is_none b = nat_lt latest_arrival b.delivery
 
--- what it leaves after so many hops
+-- what it leaves after that many hops
 abbrev pub bound_after : Bound → ℕ → Bound
 bound_after b hops = record { delivery = b.delivery; hops = b.hops - hops }
 
--- a delivery with so many hops is sooner, or at the bound's second with no more hops
+-- a delivery with that many hops is sooner, or at the bound's second with no more hops
 abbrev pub is_up_to : Bound → ℕ → ℕ → Bool
 is_up_to b delivery hops = nat_lt delivery b.delivery || ((delivery == b.delivery) && nat_le hops b.hops)
 
@@ -42,7 +42,7 @@ IsBeyond p r prefix excluded b = (s : List ℕ) → IsTrue (in_part p r prefix e
 abbrev pub IsFloor : ContactPlan → RouteRequest → List ℕ → List ℕ → ℕ → Type 0
 IsFloor p r prefix excluded d = (s : List ℕ) → IsTrue (in_part p r prefix excluded s) → d ≤ delivery_of p r s
 
--- the answer is the least route of the part, that it has none, or that each is above the bound
+-- the answer is the best route of the part, that it has none, or that each is above the bound
 abbrev pub IsSought : {A : Type 0} → ContactPlan → RouteRequest → List ℕ → List ℕ → Bound → Sought A → Type 0
 IsSought p r prefix excluded b (Route route) = IsLeast p r prefix excluded (Some route)
 IsSought p r prefix excluded b NoRoute = IsLeast p r prefix excluded None

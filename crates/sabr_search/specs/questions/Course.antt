@@ -1,4 +1,4 @@
--- Where a prefix leads, stop by stop, and which nodes are shut after it.
+-- Where a prefix leads, stop by stop, and which nodes are forbidden after it.
 use Rattle.std.specs.Prelude.{◌≡◌, ℕ, ◌+◌, Bool, false, List, length, take, slice_get, slice_index_or, IsTrue}
 use Rattle.std.specs.declared.option.Option.TheVariants.{Some}
 use Rattle.sabr_model.specs.plan.Plan.{TabledPlan, IsPlan}
@@ -12,7 +12,7 @@ use Rattle.sabr_search.specs.declared.course.Course.{Course}
 use Rattle.sabr_search.specs.declared.course.Stop.{Stop}
 use Rattle.sabr_search.specs.questions.Task.{IsTask, IsBehind, task_of, is_closed}
 
--- the nodes that pass the test are shut, and no other
+-- the nodes that pass the test are forbidden, and no other
 pub record AreShut (table : List ℕ) (shut : List Bool) (test : ℕ → Bool) : Type 0 where
   pub many : length shut ≡ length table
   pub flag : (k x : ℕ) → slice_get table k ≡ Some x → slice_index_or shut k false ≡ test x
@@ -30,7 +30,7 @@ abbrev pub AreStops : TabledPlan → RouteRequest → List ℕ → List Stop →
 AreStops p r numbers stops = (i : ℕ) (stop : Stop) → slice_get stops i ≡ Some stop → IsStop p r (take i numbers) stop
 
 -- the course is of this plan and request, which keep their rules: its numbers fit, it has their stops and no other, and
--- shuts the nodes that no route goes on to after them
+-- forbids the nodes that no route goes on to after them
 pub record IsCourse {A : Type 0} (p : TabledPlan) (r : RouteRequest) (course : Course A) : Type 0 where
   pub plan : IsPlan p.plan
   pub tabled : IsTabled p

@@ -7,7 +7,7 @@ use Rattle.sabr_model.specs.routes.Arrival.{RouteRequest, arrival, arrival_after
 use Rattle.sabr_model.specs.routes.Asking.{most_hops}
 use Rattle.sabr_model.specs.routes.Route.{chain_end, receivers, is_prefix}
 
--- the plan, the request, the nodes of the plan in their table, which of them are shut by their places there, the
+-- the plan, the request, the nodes of the plan in their table, which of them are forbidden by their places there, the
 -- numbers excluded at the start, where and when the search starts, and its goal
 pub record SearchTask : Type 0 where
   pub plan : ContactPlan
@@ -41,8 +41,8 @@ never = 2 ^ 64 - 1
 abbrev pub latest_arrival : ℕ
 latest_arrival = 253372764799
 
--- what holds for every search: the plan and the request obey their rules, each node has a flag, they are few, the start is
--- shut, and the goal is open
+-- what holds for every search: the plan and the request obey their rules, each node has a flag, they are few, the start
+-- is shut, and the goal is open
 pub record IsTask (task : SearchTask) : Type 0 where
   pub plan : IsPlan task.plan
   pub nodes : HasNodes task.plan task.table
@@ -69,7 +69,7 @@ pub record Takes (task : SearchTask) (n u t w b : ℕ) : Type 0 where
 abbrev pub is_closed : ContactPlan → RouteRequest → List ℕ → ℕ → Bool
 is_closed p r prefix x = has x (r.source ∷ receivers p prefix) || has x r.avoided
 
--- the search starts where the prefix ends, when it arrives there, and all nodes that no route goes on to are shut
+-- the search starts where the prefix ends, when it arrives there, and all nodes that no route goes on to are forbidden
 pub record IsBehind (task : SearchTask) (prefix : List ℕ) : Type 0 where
   pub nodes : HasNodes task.plan task.table
   pub last_node : ℕ
@@ -79,8 +79,8 @@ pub record IsBehind (task : SearchTask) (prefix : List ℕ) : Type 0 where
   pub goal_is : slice_get task.table task.goal ≡ Some task.request.destination
   pub shuts : (k x : ℕ) → slice_get task.table k ≡ Some x → slice_index_or task.shut k false ≡ is_closed task.plan task.request prefix x
 
--- the goal is the destination, the search starts no earlier than the request begins, and no node is open that the request
--- closes: the source, and those to avoid
+-- the goal is the destination, the search starts no earlier than the request begins, and no node is open that the
+-- request closes: the source, and those to avoid
 pub record IsOfRequest (task : SearchTask) : Type 0 where
   pub goal_is : slice_get task.table task.goal ≡ Some task.request.destination
   pub since : task.request.at ≤ task.at

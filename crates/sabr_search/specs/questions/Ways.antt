@@ -11,7 +11,7 @@ abbrev pub Leads : StepRelation → ℕ → ℕ → List ℕ → ℕ → ℕ →
 Leads T u t [] v e = (u ≡ v) × (t ≡ e)
 Leads T u t (n ∷ ns) v e = (w : ℕ) × (b : ℕ) × T n u t w b × Leads T w b ns v e
 
--- no step goes back in time, whoever comes earlier arrives, too, and no later, and a number names one step
+-- no step goes back in time, a bundle that comes earlier arrives, too, and no later, and a number names one step
 pub record IsTimely (T : StepRelation) : Type 0 where
   pub later : (n u t w b : ℕ) → T n u t w b → t ≤ b
   pub earlier : (n u t w b s : ℕ) → T n u t w b → s ≤ t → (a : ℕ) × (a ≤ b) × T n u s w a

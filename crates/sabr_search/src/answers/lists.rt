@@ -10,7 +10,7 @@ use std::marker::Model;
 #[derive(Drop)]
 pub struct Lists<A: Allocator + Copy = Global> {
     items: Vec<u32, A>,
-    /// The place of the first node that was shut.
+    /// The place of the first node that was forbidden.
     shut_from: usize,
     /// The place of the way's first number.
     way_from: usize,
@@ -28,7 +28,7 @@ impl<A: Allocator + Copy> Model for Lists<A> {
 }
 
 impl<A: Allocator + Copy> Lists<A> {
-    /// Has no item. It takes no memory.
+    /// Has no item. It doesn't allocate.
     pub fn new(alloc: A) -> Lists<A> {
         Lists {
             items: Vec::new(alloc),
@@ -37,8 +37,8 @@ impl<A: Allocator + Copy> Lists<A> {
         }
     }
 
-    /// Takes these in place of its own, in the memory that it has if they fit. If a growth is refused, its items are of no
-    /// more use.
+    /// Takes these in place of its own, in the memory that it has if they fit. If an allocation failed, its items are
+    /// of no more use.
     pub fn set(&mut self, excluded: &[u32], shut: &[u32], way: &[u32]) -> Result<(), NoMemory>
         ensures { OnOk result (self.new ≡ record { excluded = excluded.now; shut = shut.now; way = way.now }) }
     {
@@ -61,14 +61,14 @@ impl<A: Allocator + Copy> Lists<A> {
         &self.items[..self.shut_from]
     }
 
-    /// The indices of the nodes that were shut.
+    /// The indices of the nodes that were forbidden.
     pub fn shut(&self) -> &[u32]
         ensures { result.now ≡ self.now.shut }
     {
         &self.items[self.shut_from..self.way_from]
     }
 
-    /// The contact numbers of the least way; none if there is no way.
+    /// The contact numbers of the best way; none if there is no way.
     pub fn way(&self) -> &[u32]
         ensures { result.now ≡ self.now.way }
     {

@@ -3,7 +3,7 @@
 /// What tries of late cost and saved, and how many go by before the next one.
 #[derive(Clone, Copy)]
 pub struct Payoff {
-    /// So many tries must save what they cost and `least` more, or `pause` go by.
+    /// This many tries must save what they cost and `least` more, or `pause` go by.
     tries: u32,
     least: u64,
     pause: u32,
@@ -16,7 +16,7 @@ pub struct Payoff {
 }
 
 impl Payoff {
-    /// No try was made. So many must save what they cost and `least` more, or `pause` go by.
+    /// No try was made. This many must save what they cost and `least` more, or `pause` go by.
     pub fn new(tries: u32, least: u64, pause: u32) -> Payoff {
         Payoff {
             tries,

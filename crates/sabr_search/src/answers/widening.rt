@@ -1,4 +1,4 @@
-//! Wide questions: they shut fewer nodes than the question of a part, so that their answers serve other parts, too.
+//! Wide questions: they forbid fewer nodes than the question of a part, so that their answers serve other parts, too.
 
 ghost use Rattle.std.specs.Prelude.{IfOk, IfSome, OnOk};
 ghost use Rattle.sabr_search.specs.questions.Task.{IsTask, IsOfRequest};
@@ -14,16 +14,16 @@ use crate::task::Task;
 use sabr_model::NoMemory;
 use std::alloc::{Allocator, Global};
 
-/// So many tries must save the looks that they take, or `PAUSE` go by. With 64 and 1024, 100 routes took 3 percent more
-/// instructions in the mean of the plans of `bench/figures.py`, and relays up to 16 percent more; 1000 routes as many in the
-/// mean, and `walker-24-5000` 9 percent fewer: in a copy of this design in plain Rust.
+/// This many tries must save the looks that they take, or `PAUSE` go by. With 64 and 1024, 100 routes took 3 percent
+/// more instructions in the mean of the plans of `bench/figures.py`, and relays up to 16 percent more; 1000 routes as
+/// many in the mean, and `walker-24-5000` 9 percent fewer: in a copy of this design in plain Rust.
 const TRIES: u32 = 16;
 
-/// So many questions go by before one is tried again.
+/// This many questions go by before one is tried again.
 const PAUSE: u32 = 256;
 
-/// Which nodes a question shuts: those of its prefix, those that each search from its start shuts, or these and those that an
-/// earlier answer needs shut.
+/// Which nodes a question forbids: those of its prefix, those that each search from its start forbids, or these and
+/// those that an earlier answer needs forbidden.
 #[derive(Clone, Copy)]
 pub enum Breadth {
     Own,
@@ -45,7 +45,7 @@ pub struct Widening<A: Allocator + Copy = Global> {
     pub shut: Shut<A>,
 }
 
-/// Shuts the nodes that each search from the start of this one shuts: the source, those to avoid, and the start.
+/// Forbids the nodes that each search from the start of this one forbids: the source, those to avoid, and the start.
 fn shut_few<A: Allocator + Copy>(shut: &mut Shut<A>, task: &Task<'_, A>) -> Result<(), NoMemory>
     requires task { IsTask task.now }
     requires request { IsOfRequest task.now }
@@ -58,7 +58,7 @@ fn shut_few<A: Allocator + Copy>(shut: &mut Shut<A>, task: &Task<'_, A>) -> Resu
     Ok(())
 }
 
-/// Shuts one node more, if it is shut in the search.
+/// Forbids one node more, if it is forbidden in the search.
 fn shut_one<A: Allocator + Copy>(
     shut: &mut Shut<A>,
     task: &Task<'_, A>,
@@ -77,7 +77,7 @@ fn shut_one<A: Allocator + Copy>(
     Ok(())
 }
 
-/// Shuts the nodes that a near answer needs shut, and the one that its way passes.
+/// Forbids the nodes that a near answer needs forbidden, and the one that its way passes.
 fn shut_near<A: Allocator + Copy>(
     shut: &mut Shut<A>,
     task: &Task<'_, A>,
@@ -97,7 +97,7 @@ fn shut_near<A: Allocator + Copy>(
 }
 
 impl<A: Allocator + Copy> Widening<A> {
-    /// Has asked no wide question. It takes no memory.
+    /// Has asked no wide question. It doesn't allocate.
     pub fn new(alloc: A) -> Widening<A> {
         Widening {
             wide: Payoff::new(TRIES, 0, PAUSE),
@@ -108,8 +108,8 @@ impl<A: Allocator + Copy> Widening<A> {
         }
     }
 
-    /// Returns whether a wide question is to be asked for this one, to which an answer may be near: it must shut fewer nodes,
-    /// and such questions must pay.
+    /// Returns whether a wide question is to be asked for this one, to which an answer may be near: it must forbid
+    /// fewer nodes, and such questions must pay.
     fn pays(&mut self, near: Option<Near<'_>>, asked: &Question<'_, '_, '_, A>) -> bool {
         if asked.prefix.len() < 2 {
             return false;
@@ -123,8 +123,8 @@ impl<A: Allocator + Copy> Widening<A> {
         self.near.takes()
     }
 
-    /// Shuts the nodes of the wide question to ask for this one, to which an answer may be near, and returns which they are.
-    /// None if no wide question is to be asked.
+    /// Forbids the nodes of the wide question to ask for this one, to which an answer may be near, and returns which
+    /// they are. None if no wide question is to be asked.
     pub fn next(
         &mut self,
         near: Option<Near<'_>>,
@@ -146,7 +146,7 @@ impl<A: Allocator + Copy> Widening<A> {
         Ok(Some(Breadth::Near))
     }
 
-    /// Counts a search that took so many looks.
+    /// Counts a search that took that many looks.
     pub fn count_search(&mut self, breadth: Breadth, looks: u64) {
         match breadth {
             Breadth::Own => {
@@ -158,8 +158,8 @@ impl<A: Allocator + Copy> Widening<A> {
         }
     }
 
-    /// Counts a question that has been answered by a kept answer. That of a wide question has saved the looks of a search, in
-    /// the mean.
+    /// Counts a question that has been answered by a kept answer. That of a wide question has saved the looks of a
+    /// search, in the mean.
     pub fn count_win(&mut self, breadth: Breadth) {
         let looks = self.looks / self.searched.max(1);
         match breadth {

@@ -1,11 +1,13 @@
-//! Deadlines of layers that were made backward: for each layer and node, the first second that is too late for the rest.
+//! Deadlines of layers that were made backward: for each layer and node, the first second that is too late for the
+//! rest.
 
 ghost use Rattle.std.specs.Prelude.{◌≡◌, ℕ, ◌<◌, Some, ◌≤◌, ◌+◌, length, slice_get};
 ghost use Rattle.sabr_search.specs.layers.Deadlines.{AreChained, IsLatestWithin, end_within, head_of};
 
 use std::alloc::Allocator;
 
-/// A node of a layer, and the first second that is too late there: whoever leaves it before is at the goal in time.
+/// A node of a layer, and the first second that is too late there: a bundle that leaves it before is at the goal in
+/// time.
 #[derive(Clone, Copy)]
 pub struct Deadline {
     pub node: usize,
@@ -30,7 +32,7 @@ pub struct Deadlines<A: Allocator + Copy> {
 }
 
 impl<A: Allocator + Copy> Deadlines<A> {
-    /// Starts without layers. It takes no memory.
+    /// Starts without layers. It doesn't allocate.
     pub fn new(alloc: A) -> Deadlines<A> {
         Deadlines {
             alloc,
@@ -58,7 +60,7 @@ impl<A: Allocator + Copy> Deadlines<A> {
         last + 1
     }
 
-    /// Returns the place after the entries of at most so many hops.
+    /// Returns the place after the entries of at most that many hops.
     #[inline(always)]
     pub fn end_of(&self, hops: usize) -> usize
         requires { 0 < length self.now.ends.items }

@@ -1,4 +1,5 @@
-//! For each node, what a way to the destination costs, by the bounds of links alone: from the goal backward over the whole graph.
+//! For each node, what a way to the destination costs, by the bounds of links alone: from the goal backward over the
+//! whole graph.
 
 ghost use Rattle.sabr_index.specs.Links.{SentLink};
 ghost use Rattle.std.specs.Prelude.{◌≡◌, ◌≢◌, ℕ, ◌+◌, ◌≤◌, ◌<◌, [], Some, IfOk, OnOk, IsTrue, false, length, slice_get, slice_index, slice_index_or};
@@ -13,7 +14,7 @@ use crate::forward::queue::LAST_AT;
 use crate::task::Task;
 use crate::visit::{NEVER, Visit};
 use sabr_index::Senders;
-use sabr_model::{MOST_LIGHT, NoMemory};
+use sabr_model::{MAX_LIGHT, NoMemory};
 use std::alloc::Allocator;
 
 /// Notes that a way from a node goes on as that from another one, with a hop more. Returns its hops.
@@ -27,8 +28,8 @@ fn note_hops<A: Allocator + Copy>(hops: &mut Vec<u64, A>, node: usize, next: usi
 }
 
 impl<A: Allocator + Copy> Latest<A> {
-    /// Takes the bounds of the link at a place among those to a node, unless it has ended when the request begins. Its end
-    /// is read only if it makes the sender nearer.
+    /// Takes the bounds of the link at a place among those to a node, unless it has ended when the request begins. Its
+    /// end is read only if it makes the sender nearer.
     fn near_sender(
         &mut self,
         task: &Task<'_, A>,
@@ -58,7 +59,7 @@ impl<A: Allocator + Copy> Latest<A> {
         if task.shut()[node] {
             return Ok(());
         }
-        let cost = task.cost(head.least_light.min(MOST_LIGHT));
+        let cost = task.cost(head.least_light.min(MAX_LIGHT));
         let latest = self.late[node];
         let last = self.late[to].saturating_sub(cost);
         if last <= latest {
@@ -138,9 +139,9 @@ fn turn<A: Allocator + Copy>(seconds: &mut Vec<u64, A>)
     }
 }
 
-/// Returns for each node what a way to the destination costs: the least sum of the links' least costs on a way over the
-/// links that haven't ended when the request begins. The hops of such a way are noted in `hops`. Nothing is known of any
-/// node if the links of more nodes than two for each contact would be taken.
+/// Returns for each node what a way to the destination costs: the smallest sum of the links' smallest costs on a way
+/// over the links that haven't ended when the request begins. The hops of such a way are noted in `hops`. Nothing is
+/// known of any node if the links of more nodes than two for each contact would be taken.
 pub fn costs_of<A: Allocator + Copy>(
     alloc: A,
     task: &Task<'_, A>,

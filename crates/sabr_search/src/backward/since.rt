@@ -4,15 +4,15 @@ ghost use Rattle.std.specs.Prelude.{◌≡◌, ◌≤◌, ◌<◌, ◌^◌, ℕ,
 
 use std::marker::Model;
 
-/// For each node, a second before which no way comes there. Contracts see a list of them. Each is found when it is asked
-/// for, since layers ask for few nodes of a large plan.
+/// For each node, a second before which no way comes there. Contracts see a list of them. Each is found when it is
+/// asked for, since layers ask for few nodes of a large plan.
 #[derive(Drop)]
 pub struct Since<'a> {
     /// How many nodes there are.
     pub nodes: usize,
-    /// For each node, its least arrival, or a later second; 0 after the list's end.
+    /// For each node, its earliest arrival, or a later second; 0 after the list's end.
     pub arrival: &'a [u64],
-    /// For each node, the least seconds of a way to the goal; 0 after the list's end.
+    /// For each node, the fewest seconds of a way to the goal; 0 after the list's end.
     pub costs: &'a [u64],
     /// For each node, a second before which no way comes there; 0 after the list's end.
     pub soon: &'a [u64],
@@ -55,7 +55,7 @@ impl<'a> Since<'a> {
         }
     }
 
-    /// The seconds of a list, for so many nodes.
+    /// The seconds of a list, for that many nodes.
     pub fn soonest(nodes: usize, soon: &'a [u64]) -> Since<'a>
         ensures many { length result ≡ nodes }
         ensures each { (k : ℕ) → slice_index result k ≤ slice_index soon.now k }
@@ -75,7 +75,8 @@ impl<'a> Since<'a> {
         requires { node < length self.now }
         ensures { result ≡ slice_index self.now node }
     {
-        // The last second there from which the delivery can be met. Arrivals from then on weren't settled, and aren't known.
+        // The last second there from which the delivery can be met. Arrivals from then on weren't settled, and aren't
+        // known.
         let last = self.delivery.saturating_sub(seconds_of(self.costs, node));
         let arrival = seconds_of(self.arrival, node);
         if arrival < last {

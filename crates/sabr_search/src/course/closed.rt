@@ -10,7 +10,7 @@ use sabr_index::CountedPlan;
 use sabr_model::{NoMemory, Request};
 use std::alloc::Allocator;
 
-/// Shuts the nodes to avoid. All are open before.
+/// Forbids the nodes to avoid. All are open before.
 fn shut_avoided<A: Allocator + Copy>(
     shut: &mut Shut<A>,
     plan: &CountedPlan<'_, A>,
@@ -29,7 +29,7 @@ fn shut_avoided<A: Allocator + Copy>(
     Ok(())
 }
 
-/// Shuts the source and the nodes to avoid. All are open before.
+/// Forbids the source and the nodes to avoid. All are open before.
 pub fn shut_closed<A: Allocator + Copy>(
     shut: &mut Shut<A>,
     plan: &CountedPlan<'_, A>,

@@ -8,7 +8,8 @@ use sabr_model::NoMemory;
 use std::alloc::{Allocator, Global};
 use std::marker::Model;
 
-/// The nodes that a search may not enter: a flag by node, and a list of those that are shut. Contracts see the flags.
+/// The nodes that a search may not enter: a flag by node, and a list of those that are forbidden. Contracts see the
+/// flags.
 #[derive(Drop)]
 pub struct Shut<A: Allocator + Copy = Global> {
     flags: Vec<bool, A>,
@@ -43,7 +44,7 @@ fn last_place(nodes: &[u32], node: u32) -> Option<usize>
 }
 
 impl<A: Allocator + Copy> Shut<A> {
-    /// Has no node. It takes no memory.
+    /// Has no node. It doesn't allocate.
     pub fn new(alloc: A) -> Shut<A>
         ensures { result ≡ [] }
     {
@@ -65,7 +66,7 @@ impl<A: Allocator + Copy> Shut<A> {
         Ok(())
     }
 
-    /// Shuts a node.
+    /// Forbids a node.
     pub fn put(&mut self, node: usize) -> Result<(), NoMemory>
         requires { node < length self.old }
         ensures { OnOk result (self.new ≡ slice_set self.old node true) }
@@ -77,7 +78,7 @@ impl<A: Allocator + Copy> Shut<A> {
         Ok(())
     }
 
-    /// Opens a node, in one step if it is the one that was shut last.
+    /// Opens a node, in one step if it is the one that was forbidden last.
     pub fn open(&mut self, node: usize)
         requires { node < length self.old }
         ensures { self.new ≡ slice_set self.old node false }
@@ -88,14 +89,14 @@ impl<A: Allocator + Copy> Shut<A> {
         }
     }
 
-    /// By node whether it is shut.
+    /// By node whether it is forbidden.
     pub fn flags(&self) -> &[bool]
         ensures { result.now ≡ self.now }
     {
         self.flags.as_slice()
     }
 
-    /// The nodes that are shut, each once.
+    /// The nodes that are forbidden, each once.
     pub fn nodes(&self) -> &[u32]
         ensures { IsListing self.now result.now }
     {

@@ -24,7 +24,7 @@ fn too_late<A: Allocator + Copy>(
     Ok(())
 }
 
-/// Lets nothing improve a node that is shut.
+/// Lets nothing improve a node that is forbidden.
 fn shut_out<A: Allocator + Copy>(arrival: &mut Vec<u64, A>, shut: &[bool], node: usize)
     requires { length arrival.old.items ≡ length shut.now }
     ensures many { length arrival.new.items ≡ length arrival.old.items }
@@ -37,7 +37,7 @@ fn shut_out<A: Allocator + Copy>(arrival: &mut Vec<u64, A>, shut: &[bool], node:
     }
 }
 
-/// Marks every open node as reached when it is too late there, and lets nothing improve a shut one.
+/// Marks every open node as reached when it is too late there, and lets nothing improve a forbidden one.
 pub fn open_nodes<A: Allocator + Copy>(
     arrival: &mut Vec<u64, A>,
     task: &Task<'_, A>,

@@ -24,7 +24,7 @@ pub struct Best {
     pub hops: usize,
 }
 
-/// The layer that is made: where its entries begin, and the least delivery so far.
+/// The layer that is made: where its entries begin, and the earliest delivery so far.
 #[derive(Clone, Copy)]
 struct Layer {
     begin: usize,
@@ -34,7 +34,7 @@ struct Layer {
 /// The layers, and what is known of each node.
 #[derive(Drop)]
 pub struct Layers<A: Allocator + Copy> {
-    /// For each node, the least arrival so far.
+    /// For each node, the earliest arrival so far.
     pub arrival: Vec<u64, A>,
     /// For each node, the place of an entry; 0 if it has none.
     pub place: Vec<usize, A>,
@@ -43,7 +43,7 @@ pub struct Layers<A: Allocator + Copy> {
 }
 
 impl<A: Allocator + Copy> Layers<A> {
-    /// Starts without layers. It takes no memory.
+    /// Starts without layers. It doesn't allocate.
     pub fn new(alloc: A) -> Layers<A> {
         Layers {
             arrival: Vec::new(alloc),
@@ -78,7 +78,7 @@ impl<A: Allocator + Copy> Layers<A> {
         Ok(())
     }
 
-    /// Takes one link of a node that is reached at `at`. Returns the least delivery so far.
+    /// Takes one link of a node that is reached at `at`. Returns the earliest delivery so far.
     fn take_link(
         &mut self,
         task: &Task<'_, A>,
@@ -111,7 +111,7 @@ impl<A: Allocator + Copy> Layers<A> {
         Ok(layer.best)
     }
 
-    /// Takes every contact of a node that is reached. Returns the least delivery so far.
+    /// Takes every contact of a node that is reached. Returns the earliest delivery so far.
     fn take_all(
         &mut self,
         task: &Task<'_, A>,
@@ -144,8 +144,8 @@ impl<A: Allocator + Copy> Layers<A> {
         Ok(least)
     }
 
-    /// Takes every contact of every node of the last layer, whose entries are those from `first` to before `begin`. Returns
-    /// the least delivery so far.
+    /// Takes every contact of every node of the last layer, whose entries are those from `first` to before `begin`.
+    /// Returns the earliest delivery so far.
     fn next_layer(
         &mut self,
         task: &Task<'_, A>,
@@ -172,7 +172,8 @@ impl<A: Allocator + Copy> Layers<A> {
         Ok(least)
     }
 
-    /// Takes every link to the goal from an open node that is reached, as the last layer. Returns the least delivery so far.
+    /// Takes every link to the goal from an open node that is reached, as the last layer. Returns the earliest delivery
+    /// so far.
     fn last_layer(&self, task: &Task<'_, A>, looks: &mut Looks, best: u64) -> u64
         requires task { IsTask task.now }
         requires few { length task.now.plan.contacts ≤ looks.old.left }
@@ -223,9 +224,9 @@ impl<A: Allocator + Copy> Layers<A> {
         Ok(())
     }
 
-    /// Makes layers until the goal is reached by `lower`, before which no way delivers, no node is new, or the hops are used
-    /// up. Returns the least delivery, without hops if none comes before `until`; none if more looks might be needed than
-    /// are left.
+    /// Makes layers until the goal is reached by `lower`, before which no way delivers, no node is new, or the hops are
+    /// used up. Returns the earliest delivery, without hops if none comes before `until`; none if more looks might be
+    /// needed than are left.
     pub fn make(
         &mut self,
         task: &Task<'_, A>,

@@ -14,9 +14,9 @@ use std::marker::Model;
 /// The last second that an event may have. A key of 64 bits has 40 for it, 8 for the rank and 16 for the node.
 pub const LAST_AT: u64 = 1099511627775;
 
-/// The ranks that are told apart; higher ones count as the last. With one rank, 100 routes over a grid of 1600 nodes took
-/// half more instructions, and 1000 over a satellite plan a third more, in a copy of this design in plain Rust. To vary it:
-/// `bench/figures.py --counts 100,1000 --only grid-40,iridium,cube`.
+/// The ranks that are told apart; higher ones count as the last. With one rank, 100 routes over a grid of 1600 nodes
+/// took half more instructions, and 1000 over a satellite plan a third more, in a copy of this design in plain Rust. To
+/// vary it: `bench/figures.py --counts 100,1000 --only grid-40,iridium,cube`.
 const RANKS: u64 = 256;
 
 /// The nodes that an event may have. A plan has at most 40000.
@@ -65,7 +65,7 @@ impl<A: Allocator + Copy> Model for Queue<A> {
 }
 
 impl<A: Allocator + Copy> Queue<A> {
-    /// Makes an empty queue. It takes no memory.
+    /// Makes an empty queue. It doesn't allocate.
     pub fn new(alloc: A) -> Queue<A>
         ensures { result ≡ [] }
     {

@@ -28,7 +28,7 @@ pub struct Forward<'t, 'a, 'b, A: Allocator + Copy> {
     pub task: &'t Task<'a, A>,
     /// For each node, a second from which on no way is at the goal before `until`; none is known after the list's end.
     pub late: &'b [u64],
-    /// For each node, the least seconds of a way to the goal; 0 after the list's end.
+    /// For each node, the fewest seconds of a way to the goal; 0 after the list's end.
     pub costs: &'b [u64],
     /// For each node, the hops of such a way, as far as the list goes.
     pub hops: &'b [u64],
@@ -37,7 +37,7 @@ pub struct Forward<'t, 'a, 'b, A: Allocator + Copy> {
 }
 
 impl<'t, 'a, 'b, A: Allocator + Copy> Forward<'t, 'a, 'b, A> {
-    /// Returns the least seconds of a way from a node to the goal.
+    /// Returns the fewest seconds of a way from a node to the goal.
     #[inline(always)]
     fn cost(&self, node: usize) -> u64
         ensures { result ≡ slice_index self.now.costs.now node }
@@ -54,8 +54,8 @@ impl<'t, 'a, 'b, A: Allocator + Copy> Forward<'t, 'a, 'b, A> {
         }
     }
 
-    /// Returns the second before which an arrival at a node is news: from then on, no way over it delivers before `delivery`.
-    /// The goal's own arrival is no sooner than that.
+    /// Returns the second before which an arrival at a node is news: from then on, no way over it delivers before
+    /// `delivery`. The goal's own arrival is no sooner than that.
     #[inline(always)]
     fn news(&self, arrival: &[u64], to: usize, delivery: u64) -> u64
         requires node { to < length arrival.now }
@@ -68,7 +68,8 @@ impl<'t, 'a, 'b, A: Allocator + Copy> Forward<'t, 'a, 'b, A> {
     }
 }
 
-/// For each node, its least arrival so far, the hops of a way with it, and whether it is settled; and the waiting arrivals.
+/// For each node, its earliest arrival so far, the hops of a way with it, and whether it is settled; and the waiting
+/// arrivals.
 #[derive(Drop)]
 pub struct Settling<A: Allocator + Copy> {
     pub arrival: Vec<u64, A>,
@@ -78,7 +79,7 @@ pub struct Settling<A: Allocator + Copy> {
 }
 
 impl<A: Allocator + Copy> Settling<A> {
-    /// Makes an empty value. It takes no memory.
+    /// Makes an empty value. It doesn't allocate.
     pub fn new(alloc: A) -> Settling<A> {
         Settling {
             arrival: Vec::new(alloc),
@@ -255,9 +256,9 @@ impl<A: Allocator + Copy> Settling<A> {
         Ok(best)
     }
 
-    /// Settles nodes, until no event comes before the first delivery at the goal. Returns that delivery and the hops of a
-    /// way with it; no hops if no way leads there. Looks at each contact of another node than the start at most once. None
-    /// if more looks might be needed than are left.
+    /// Settles nodes, until no event comes before the first delivery at the goal. Returns that delivery and the hops of
+    /// a way with it; no hops if no way leads there. Looks at each contact of another node than the start at most once.
+    /// None if more looks might be needed than are left.
     fn settle_all(
         &mut self,
         forward: &Forward<'_, '_, '_, A>,
@@ -296,9 +297,9 @@ impl<A: Allocator + Copy> Settling<A> {
         Ok(Some(best))
     }
 
-    /// Settles as many nodes as it takes to find the first delivery at the goal. Returns it and the hops of a way with it;
-    /// no hops if no way leads there. No way that may deliver by then comes to a node before its arrival. None if more
-    /// looks might be needed than are left.
+    /// Settles as many nodes as it takes to find the first delivery at the goal. Returns it and the hops of a way with
+    /// it; no hops if no way leads there. No way that may deliver by then comes to a node before its arrival. None if
+    /// more looks might be needed than are left.
     pub fn run(
         &mut self,
         forward: &Forward<'_, '_, '_, A>,

@@ -2,22 +2,23 @@
 
 use crate::answers::payoff::Payoff;
 
-/// Layers are made once the searches with a floor have taken so many times the looks that the last layers took. With 8,
-/// 1000 routes over a relay took 6 percent more instructions, and a grid of 64 nodes 5 percent more; 60 nodes that all see
-/// each other as many. It was varied in a copy of this design in plain Rust.
+/// Layers are made once the searches with a floor have taken this many times the looks that the last layers took. With
+/// 8, 1000 routes over a relay took 6 percent more instructions, and a grid of 64 nodes 5 percent more; 60 nodes that
+/// all see each other as many. It was varied in a copy of this design in plain Rust.
 const TIMES: u64 = 32;
 
 /// The looks that the first layers are taken to need. With 1, 1000 routes over `walker-24-5000` took 19 percent more
-/// instructions, and over `grid-8` 5 percent more; with 1024, over `dense-60` 33 percent more, and over `iridium-6-10` 4
-/// percent more. This and the next were varied as `TIMES` was, over seven plans of `bench/figures.py`.
+/// instructions, and over `grid-8` 5 percent more; with 1024, over `dense-60` 33 percent more, and over `iridium-6-10`
+/// 4 percent more. This and the next were varied as `TIMES` was, over seven plans of `bench/figures.py`.
 const FIRST_PRICE: u64 = 64;
 
-/// So many questions are asked of layers before it is counted how many they answered. With 16, `iridium-6-10` took 13 percent
-/// more and `grid-8` 6 fewer, with 0.7 more in the mean of twelve plans; with 64, `relay-moon-2000` took 4 more.
+/// This many questions are asked of layers before it is counted how many they answered. With 16, `iridium-6-10` took 13
+/// percent more and `grid-8` 6 fewer, with 0.7 more in the mean of twelve plans; with 64, `relay-moon-2000` took 4
+/// more.
 const TRIES: u32 = 32;
 
-/// If they answered fewer, `PAUSE` questions aren't asked of them. With 0, `relay-moon-2000` took 7 percent more; with 20,
-/// `iridium-6-10` took 20 percent more, and `grid-8` 9 percent fewer.
+/// If they answered fewer, `PAUSE` questions aren't asked of them. With 0, `relay-moon-2000` took 7 percent more; with
+/// 20, `iridium-6-10` took 20 percent more, and `grid-8` 9 percent fewer.
 const LEAST: u64 = 10;
 
 /// With 1024, `walker-24-5000` took 5 percent more, and `relay-moon-2000` 1 percent fewer.
@@ -60,7 +61,7 @@ impl Spending {
         self.paid = false;
     }
 
-    /// Counts a question that was searched with so many looks.
+    /// Counts a question that was searched with that many looks.
     pub fn search(&mut self, looks: u64) {
         self.spent = self.spent.saturating_add(looks);
     }

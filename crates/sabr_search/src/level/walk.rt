@@ -1,4 +1,5 @@
-//! A pick of the least numbers, by layers that know no shut node and no excluded number, which goes back from dead ends.
+//! A pick of the smallest numbers, by layers that know no forbidden node and no excluded number, which goes back from
+//! dead ends.
 
 ghost use Rattle.std.specs.Prelude.{◌≡◌, ◌⊎◌, ℕ, ◌+◌, ◌*◌, ◌≤◌, ◌<◌, Some, [], map, IfOk, IfSome, IfNone, OnOk, List, ◌-◌, length, slice_get};
 ghost use Rattle.sabr_search.specs.questions.Task.{IsTask, Takes};
@@ -16,12 +17,12 @@ use sabr_index::{Links, Looks};
 use sabr_model::NoMemory;
 use std::alloc::Allocator;
 
-/// A question gives up after so many dead ends. With 3, 1000 routes over a grid of 1600 nodes took 73 percent more
-/// instructions, and over one of 64 nodes 17 percent; with 32, the smaller grid took 4 percent more. It was varied in a copy
-/// of this design in plain Rust.
-const MOST_ENDS: usize = 8;
+/// A question gives up after this many dead ends. With 3, 1000 routes over a grid of 1600 nodes took 73 percent more
+/// instructions, and over one of 64 nodes 17 percent; with 32, the smaller grid took 4 percent more. It was varied in a
+/// copy of this design in plain Rust.
+const MAX_ENDS: usize = 8;
 
-/// Where nothing leads on: from this node, at this second or later, no way of so many hops or fewer delivers in time.
+/// Where nothing leads on: from this node, at this second or later, no way of that many hops or fewer delivers in time.
 #[derive(Clone, Copy)]
 pub struct DeadEnd {
     node: usize,
@@ -31,9 +32,9 @@ pub struct DeadEnd {
 
 /// How a pick ended.
 pub enum Walked {
-    /// With the least way of so many hops.
+    /// With the best way of that many hops.
     Picked,
-    /// There is no way of so many hops.
+    /// There is no way of that many hops.
     None,
     /// It came to too many dead ends, or would have taken too many looks.
     GaveUp,
@@ -49,7 +50,7 @@ pub struct Walk<A: Allocator + Copy> {
 }
 
 impl<A: Allocator + Copy> Walk<A> {
-    /// Has no step. It takes no memory.
+    /// Has no step. It doesn't allocate.
     pub fn new(alloc: A) -> Walk<A> {
         Walk {
             delivery: 0,
@@ -98,7 +99,7 @@ impl<A: Allocator + Copy> Walk<A> {
         }
     }
 
-    /// Returns this second, or an earlier one from which on a dead end at the node with so many hops left is known.
+    /// Returns this second, or an earlier one from which on a dead end at the node with that many hops left is known.
     #[inline(always)]
     fn before_end(&self, node: usize, hops: usize, before: u64) -> u64
         ensures upper { result ≤ before }
@@ -114,8 +115,8 @@ impl<A: Allocator + Copy> Walk<A> {
         least
     }
 
-    /// Returns the step of least number from a visit after which so many hops may still lead to the goal in time, as far as
-    /// the layers and the dead ends tell.
+    /// Returns the step of smallest number from a visit after which that many hops may still lead to the goal in time,
+    /// as far as the layers and the dead ends tell.
     fn next(
         &self,
         layers: &Deadlines<A>,
@@ -155,8 +156,8 @@ impl<A: Allocator + Copy> Walk<A> {
         least
     }
 
-    /// Picks the least numbers of so many hops from the start to the goal by the layers' delivery, and goes back from dead
-    /// ends. No way of fewer hops delivers by then. By a question's own layers it comes to no dead end.
+    /// Picks the smallest numbers of that many hops from the start to the goal by the layers' delivery, and goes back
+    /// from dead ends. No way of fewer hops delivers by then. By a question's own layers it comes to no dead end.
     pub fn pick(
         &mut self,
         layers: &Deadlines<A>,
@@ -176,7 +177,7 @@ impl<A: Allocator + Copy> Walk<A> {
         ensures counted { LeadOn task.now hops layers.now self.old → looks.old.left ≤ looks.new.left + hops * length task.now.plan.contacts }
     {
         self.steps.clear();
-        while self.ends.len() < MOST_ENDS {
+        while self.ends.len() < MAX_ENDS {
             let from = self.here(task);
             let left = hops - 1 - self.steps.len();
             let links = task.links(from.node);

@@ -23,8 +23,8 @@ pub struct WalkedLink<'a> {
     pub bounds: LinkBounds,
 }
 
-/// Returns true if, by what bounds the arrivals over a whole link, nothing that is at its sender at `at` or later arrives
-/// before `before`.
+/// Returns true if, by what bounds the arrivals over a whole link, nothing that is at its sender at `at` or later
+/// arrives before `before`.
 pub fn is_soonest(soonest: u64, least_light: u32, at: u64, before: u64) -> bool
     ensures late { IsTrue result → (before ≤ soonest) ⊎ (before ≤ at + least_light) }
     ensures early { result ≡ false → at < before }
@@ -54,8 +54,8 @@ pub fn first_open(passes: &[Pass], at: u64) -> usize
     passes.partition_point(|pass| pass.latest_end <= at)
 }
 
-/// Returns true if, by its start and the light times from it on, what is at the sender at `at` arrives at `before` or later
-/// over this pass and over each one after it. The margin is left out.
+/// Returns true if, by its start and the light times from it on, what is at the sender at `at` arrives at `before` or
+/// later over this pass and over each one after it. The margin is left out.
 pub fn comes_late(pass: &Looked<'_>, at: u64, before: u64) -> bool
     ensures { IsTrue result → before ≤ max at pass.now.start + pass.now.least_light_behind }
 {
@@ -98,7 +98,7 @@ impl<'a, A: Allocator + Copy> Task<'a, A> {
         }
     }
 
-    /// Returns the least arrival over a link of what is at its sender at `at`, if it is before `before`; otherwise
+    /// Returns the earliest arrival over a link of what is at its sender at `at`, if it is before `before`; otherwise
     /// `before`. It takes a binary search and one look for each pass in question, mostly two. Excluded passes with
     /// consecutive numbers take one look.
     #[inline(always)]

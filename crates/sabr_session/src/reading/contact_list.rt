@@ -5,7 +5,7 @@ ghost use Rattle.sabr_session.specs.SessionWords.{words_of, contacts_of};
 ghost use Rattle.sabr_session.specs.SessionLists.{FindsDash, FindsList, FindsNumbers};
 
 use crate::reading::words::{first_number, first_word, is_word};
-use sabr_model::{MOST_RECORDS, NoMemory};
+use sabr_model::{MAX_RECORDS, NoMemory};
 use std::alloc::Allocator;
 
 /// How a list ends: whether at `/`, and the words after it.
@@ -61,7 +61,7 @@ fn numbers_to_slash<'a, A: Allocator + Copy>(
                 rest: others,
             }));
         };
-        if numbers.len() == MOST_RECORDS {
+        if numbers.len() == MAX_RECORDS {
             return Ok(None);
         }
         numbers.push(number as u32)?;

@@ -9,9 +9,9 @@ use std::alloc::Allocator;
 use std::marker::Model;
 
 /// The largest number of bytes of a line without its LF.
-pub(crate) const MOST_BYTES: usize = 660008;
+pub(crate) const MAX_BYTES: usize = 660008;
 
-/// At most [`MOST_BYTES`] bytes without LF. Contracts see the bytes.
+/// At most [`MAX_BYTES`] bytes without LF. Contracts see the bytes.
 #[derive(Drop)]
 pub(crate) struct HeldLine<A: Allocator + Copy> {
     bytes: Vec<u8, A>,

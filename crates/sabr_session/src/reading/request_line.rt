@@ -7,8 +7,8 @@ ghost use Rattle.sabr_session.specs.SessionLines.{four_of, unlimited_of, limited
 
 use crate::reading::first_lines::{Version, after_label};
 use crate::reading::node_list::nodes_of;
-use crate::reading::words::{MOST_NUMBER, first_word, is_word};
-use sabr_model::{MOST_HOPS, NodeList, RequestValues};
+use crate::reading::words::{MAX_NUMBER, first_word, is_word};
+use sabr_model::{MAX_HOPS, NodeList, RequestValues};
 use sabr_plan::{number_within, parse_time};
 
 /// Returns the first four words, and the text after them. `None` if there are fewer.
@@ -29,13 +29,13 @@ fn four_of(from: &[u8], to: &[u8], time: &[u8], margin: &[u8]) -> Option<Request
     let from = number_within(from, 0, u64::MAX)?;
     let to = number_within(to, 0, u64::MAX)?;
     let at = parse_time(time)?;
-    let margin_ppm = number_within(margin, 0, MOST_NUMBER)? as u32;
+    let margin_ppm = number_within(margin, 0, MAX_NUMBER)? as u32;
     Some(RequestValues {
         from,
         to,
         at,
         margin_ppm,
-        max_hops: MOST_HOPS,
+        max_hops: MAX_HOPS,
         avoid: NodeList::new(),
     })
 }
@@ -62,7 +62,7 @@ fn limited_of(text: &[u8]) -> Option<RequestValues>
         return None;
     }
     let avoid = nodes_of(rest?)?;
-    let max_hops = number_within(hops, 0, MOST_NUMBER)? as u32;
+    let max_hops = number_within(hops, 0, MAX_NUMBER)? as u32;
     let values = four_of(from, to, time, margin)?;
     Some(RequestValues {
         max_hops,

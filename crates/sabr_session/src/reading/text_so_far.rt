@@ -7,7 +7,7 @@ ghost use Rattle.sabr_session.specs.SessionRead.{misspelled, most_bytes, read_li
 ghost use Rattle.sabr_session.specs.SessionFed.{GoesOn, IsRefusedFront, IsRefusedPiece, IsSessionFrom, is_bad_front, opened_over, outcome_of, weight, weight_bound};
 ghost use Rattle.sabr_session.specs.SessionLeaving.{Leaves};
 
-use crate::reading::held_line::{HeldLine, MOST_BYTES};
+use crate::reading::held_line::{HeldLine, MAX_BYTES};
 use crate::reading::lines_read::LinesRead;
 use crate::session_fault::SessionFault;
 use sabr_frontier::Session;
@@ -107,7 +107,7 @@ impl<'p, B: BestOf<A>, A: Allocator + Copy> TextSoFar<'p, B, A> {
         ensures calls { self.new.calls ≡ self.old.calls }
     {
         let number = self.lines.next_number();
-        if back.len() > MOST_BYTES - self.held.len() {
+        if back.len() > MAX_BYTES - self.held.len() {
             return Err(misspelled(number));
         }
         if self.held.len() == 0 {
@@ -129,7 +129,7 @@ impl<'p, B: BestOf<A>, A: Allocator + Copy> TextSoFar<'p, B, A> {
         ensures err { IfErr result (IsRefusedFront self.old bytes.now) }
     {
         let number = self.lines.next_number();
-        let room = MOST_BYTES - self.held.len();
+        let room = MAX_BYTES - self.held.len();
         if bytes.is_empty() {
             return Ok(());
         }

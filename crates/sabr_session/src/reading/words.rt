@@ -10,7 +10,7 @@ ghost use Rattle.sabr_session.specs.SessionWords.{is_space, words_of, words_afte
 use sabr_plan::{leading_number, number_within};
 
 /// The largest number of 32 bits, the type of contact numbers, margins and limits on hops.
-pub(crate) const MOST_NUMBER: u64 = u32::MAX as u64;
+pub(crate) const MAX_NUMBER: u64 = u32::MAX as u64;
 
 /// Finds the first space.
 fn first_space(text: &[u8]) -> Option<usize>
@@ -45,7 +45,7 @@ fn plain_number(text: &[u8]) -> Option<(&[u8], u64, Option<&[u8]>)>
     ensures number { IfSome result (λ r. number_within 1 most_number r.0.now ≡ Some r.1) }
     ensures limit { IfSome result (λ r. r.1 ≤ most_number) }
 {
-    let (value, word, after) = leading_number(text, 1, MOST_NUMBER)?;
+    let (value, word, after) = leading_number(text, 1, MAX_NUMBER)?;
     if after.is_empty() {
         return Some((word, value, None));
     }
@@ -65,5 +65,5 @@ pub(crate) fn first_number(text: &[u8]) -> (&[u8], Option<u64>, Option<&[u8]>)
         return (word, Some(number), rest);
     }
     let (word, rest) = first_word(text);
-    (word, number_within(word, 1, MOST_NUMBER), rest)
+    (word, number_within(word, 1, MAX_NUMBER), rest)
 }

@@ -8,7 +8,7 @@ use Rattle.sabr_model.specs.routes.Record.{RouteRecord, record_of}
 use Rattle.sabr_frontier.specs.declared.loader.held.Held.{Held}
 use Rattle.sabr_frontier.specs.declared.loader.load_fault.LoadFault.{LoadFault}
 use Rattle.sabr_frontier.specs.declared.loader.load_fault.LoadFault.TheVariants.{NoMemory}
-use Rattle.sabr_frontier.specs.tree.Asking.{Asking}
+use Rattle.sabr_frontier.specs.tree.Asking.{Asking, IsAtRest}
 use Rattle.sabr_frontier.specs.listing.Listing.{IsState, leaves_in}
 use Rattle.sabr_frontier.specs.loading.Loading.{IsClosedState, IsCounted, IsRefusedBy, Loaded, session_with, state_with}
 use Rattle.sabr_frontier.specs.session.Session.{session_over}
@@ -332,6 +332,9 @@ of_tree-requires-clause-rules g c = subst (λ (a : Asking). IsPlan a.asked.plan.
 
 pub of_tree-requires-clause-limits : goal.of_tree-requires-clause-limits
 of_tree-requires-clause-limits g c = subst (λ (a : Asking). IsRequest a.asked.request) (sym c.in_ok-asker.ensures) c.self.invariant.limits
+
+pub of_tree-requires-clause-rest : goal.of_tree-requires-clause-rest
+of_tree-requires-clause-rest g c = subst IsAtRest (sym c.in_ok-asker.ensures) (record { unbounded = refl; begun = refl })
 
 pub of_tree-requires-clause-sound : goal.of_tree-requires-clause-sound
 of_tree-requires-clause-sound g c =

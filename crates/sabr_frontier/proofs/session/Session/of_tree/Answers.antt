@@ -7,14 +7,15 @@ pub invariant_of-result : goal.invariant_of-result
 invariant_of-result g c =
     let p = c.args.asker.asked.plan.plan in
     let r = c.args.asker.asked.request in
-    let none : length c.args.tree.journal.items ≡ 0 = ap length c.requires.fresh in
-    record {
-      rules = c.requires.rules;
-      unbounded = c.requires.unbounded;
-      limits = c.requires.limits;
-      sound = subst (λ n. IsSoundFor p r n (shape_of c.args.tree)) (sym none) c.requires.sound;
-      starts = subst (λ z. AreStarts (reverse z) (length c.args.tree.journal.items)) (sym c.new-pages.ensures.items) none;
-      index = c.requires.index;
-      room = c.requires.room;
-      sure = λ is. absurd (true≢false (sym is));
-    }
+    let none : length c.args.tree.journal.items ≡ 0 = ap length c.requires.fresh in (
+      record {
+        rules = c.requires.rules;
+        limits = c.requires.limits;
+        sound = subst (λ n. IsSoundFor p r n (shape_of c.args.tree)) (sym none) c.requires.sound;
+        starts = subst (λ z. AreStarts (reverse z) (length c.args.tree.journal.items)) (sym c.new-pages.ensures.items) none;
+        index = c.requires.index;
+        room = c.requires.room;
+        sure = λ is. absurd (true≢false (sym is));
+      },
+      c.requires.rest,
+    )

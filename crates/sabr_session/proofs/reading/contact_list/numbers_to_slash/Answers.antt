@@ -7,8 +7,8 @@ use Rattle.sabr_session.proofs.WordLemmas.ReadNumbers.{with_front-on, with_front
 use Rattle.sabr_session.proofs.WordLemmas.SlashLists.{before-on, after-on, has-on, number_no_slash}
 use Rattle.sabr_session.proofs.reading.contact_list.numbers_to_slash.Goals as goal
 
-pub returns-then-len-eq-MOST_RECORDS : goal.returns-then-len-eq-MOST_RECORDS
-returns-then-len-eq-MOST_RECORDS g c =
+pub returns-then-len-eq-MAX_RECORDS : goal.returns-then-len-eq-MAX_RECORDS
+returns-then-len-eq-MAX_RECORDS g c =
     let word : List ℕ = c.first_number-number.result.0.now in
     let others : List (List ℕ) = words_after (option_copied c.first_number-number.result.2) in
     let here : words_after (option_copied c.loop-left.left) ≡ word ∷ others = ap (λ o. words_after (option_copied o)) c.in-Some.is ∙ c.first_number-number.ensures.words in
@@ -16,7 +16,7 @@ returns-then-len-eq-MOST_RECORDS g c =
     with_front-full (number_within 1 most_number) 20000 _ _ _ (before_slash others) word c.in-Some-number.number c.loop-left.invariant.read
     (ap before_slash here ∙ before-on word others (number_no_slash 1 most_number c.in-Some-number.number word (omega arith) read))
     read
-    (omega (arith, c.len.ensures, c.if-len-eq-MOST_RECORDS.true))
+    (omega (arith, c.len.ensures, c.if-len-eq-MAX_RECORDS.true))
 
 pub loop-left-preserved : goal.loop-left-preserved
 loop-left-preserved g c =
@@ -27,7 +27,7 @@ loop-left-preserved g c =
     let other = number_no_slash 1 most_number c.in-Some-number.number word (omega arith) read in
     let pushed : c.push.new.self.items ≡ c.loop-left.numbers.items ++ c.in-Some-number.number ∷ [] = c.in_ok-push.ensures.items in
     record {
-      few = rw pushed (omega (arith, length-append c.loop-left.numbers.items (c.in-Some-number.number ∷ []), c.loop-left.invariant.few, c.len.ensures, c.if-len-eq-MOST_RECORDS.false));
+      few = rw pushed (omega (arith, length-append c.loop-left.numbers.items (c.in-Some-number.number ∷ []), c.loop-left.invariant.few, c.len.ensures, c.if-len-eq-MAX_RECORDS.false));
       read = rw pushed (with_front-on (number_within 1 most_number) _ _ _ (before_slash others) word c.in-Some-number.number c.loop-left.invariant.read
           (ap before_slash here ∙ before-on word others other)
           read);

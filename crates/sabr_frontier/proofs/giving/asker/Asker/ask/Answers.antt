@@ -1,7 +1,8 @@
-use Rattle.std.proofs.Common.{ap, subst, ◌∙◌}
+use Rattle.std.proofs.Common.{◌≤◌, ap, sym, subst, ◌∙◌}
 use Rattle.sabr_model.specs.plan.Plan.{IsPlan, TabledPlan}
 use Rattle.sabr_search.specs.questions.Bounded.{IsSought, IsWhole}
-use Rattle.sabr_frontier.specs.tree.Asking.{Asking, best_for}
+use Rattle.sabr_frontier.specs.tree.Asking.{Asking, best_for, call_looks}
+use Rattle.sabr_frontier.proofs.GivingLemmas.Sums.{sum_on}
 use Rattle.sabr_frontier.proofs.TreeLemmas.BoundedAnswers.{found_by_best}
 use Rattle.sabr_frontier.proofs.giving.asker.Asker.ask.Goals as goal
 
@@ -14,5 +15,12 @@ returns-clause-best g c =
     let sought = c.in_ok-sought.sought in
     let good : IsPlan p = subst (λ (t : TabledPlan). IsPlan t.plan) c.plan.ensures c.tell_rules.ensures in
     c.up_to.ensures
-    ∙ found_by_best p r good c.self.inside.rest.bound q X sought (subst (λ b. IsSought p r q X b sought) c.bound_in.ensures c.in_ok-sought.ensures.sought) (subst (λ b. IsWhole b sought) c.bound_in.ensures c.in_ok-sought.ensures.whole)
+    ∙ found_by_best p r good c.self.inside.bound q X sought (subst (λ b. IsSought p r q X b sought) c.bound_in.ensures c.in_ok-sought.ensures.sought) (subst (λ b. IsWhole b sought) c.bound_in.ensures c.in_ok-sought.ensures.whole)
     ∙ ap (λ (a : Asking). best_for a.asked q X) c.self.view_is
+
+pub invariant_of-self : goal.invariant_of-self
+invariant_of-self g c =
+    let s = c.self.inside in (
+      c.best_up_to-found.ensures.kept,
+      sum_on s.summed.count c.add.new.self.count (call_looks s.index.plan) s.looks c.looks.result c.saturating_add-self-inside.result c.add.ensures c.self.invariant.1 (subst (λ n. n ≤ call_looks s.index.plan) (sym c.looks.ensures) c.best_up_to-found.ensures.bound) c.saturating_add-self-inside.ensures,
+    )

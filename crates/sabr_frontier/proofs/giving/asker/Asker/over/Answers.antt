@@ -1,4 +1,4 @@
 use Rattle.sabr_frontier.proofs.giving.asker.Asker.over.Goals as goal
 
-pub invariant_of-result : goal.invariant_of-result
-invariant_of-result g c = c.new.ensures _ _
+pub resume-requires : goal.resume-requires
+resume-requires g c = c.new.ensures _ _
