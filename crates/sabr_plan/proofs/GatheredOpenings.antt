@@ -1,47 +1,55 @@
 -- What no two gathered contacts share, as the chains beside them have it.
-use Rattle.std.proofs.Common.{◌≡◌, ℕ, ◌<◌, ◌≤◌, Bool, true, false, cond, ◌&&◌, ◌||◌, eqb, List, [], ◌∷◌, ◌++◌, refl, sym, ap, ◌∙◌, arith}
+use Rattle.std.proofs.Common.{◌≡◌, ℕ, zero, suc, ◌<◌, ◌≤◌, Bool, true, false, cond, ◌&&◌, ◌||◌, not, ltb, List, [], ◌∷◌, ◌++◌, filter, length, get_or, set, refl, sym, ap, subst, ◌∙◌, arith}
 use Rattle.sabr_model.proofs.ListLemmas.Ordered.{all_weaker}
-use Rattle.std.specs.List.{list_any}
+use Rattle.std.specs.Prelude.{slice_get, option_map, is_some}
+use Rattle.std.specs.List.{list_any, find, position, position_or_len}
 use Rattle.sabr_model.specs.declared.contact.Contact.{Contact}
 use Rattle.sabr_model.specs.declared.opening.Opening.{Opening}
-use Rattle.std.proofs.lemmas.Bool.{lt-leb, ne_eqb, and_parts, eqb-true, false_from_ne_true}
+use Rattle.std.proofs.lemmas.Bool.{lt-leb, lt-ltb, le-ltb, ne_eqb, and_parts, or_parts, not-true, ltb-false, both_ways, false_from_ne_true}
+use Rattle.std.proofs.lemmas.Option.{slice_get-get_or}
+use Rattle.std.proofs.lemmas.List.Folds.{list_any_at}
+use Rattle.std.proofs.lemmas.List.Quantifiers.{position-Some}
+use Rattle.std.proofs.lemmas.List.Recursion.{or_from_places}
+use Rattle.std.proofs.lemmas.List.Sums.{fails_before_first}
+use Rattle.std.proofs.lemmas.List.Elements.{filter-append}
+use Rattle.std.specs.declared.option.Option.{Option}
 use Rattle.std.specs.declared.option.Option.TheVariants.{Some, None}
 use Rattle.sabr_model.specs.declared.fault.AddFault.TheVariants.{DuplicateContact}
-use Rattle.sabr_model.specs.plan.Plan.{ContactPlan, opens}
+use Rattle.sabr_model.specs.plan.Plan.{ContactPlan, opens, same_opening, none_twice}
 use Rattle.sabr_model.specs.plan.Adding.{contact_refusal}
 use Rattle.sabr_model.specs.plan.Openings.{opening_of}
-use Rattle.sabr_plan.specs.ChainedPlaces.{AreChained}
-use Rattle.sabr_plan.specs.Gathering.{opening_number, opening_bucket, contact_buckets, OpenBy, KnowsSome}
+use Rattle.sabr_plan.specs.Gathering.{stands, standing, stands_at, IsFound, opening_number, opening_bucket, OpenBy, KnowsSome}
 use Rattle.sabr_model.proofs.PlanLemmas.ContactLemmas.{all_push}
+use Rattle.sabr_model.proofs.PlanLemmas.Deletions.{opens_parts}
 use Rattle.sabr_plan.proofs.ChainedPlaces.{chained_push}
 
 -- what opens alike is of one bucket
-pub same_bucket : (o : Opening) (c : Contact) → opens o.from o.to o.start c ≡ true → opening_bucket (opening_of c) ≡ opening_bucket o
+pub same_bucket : (o : Opening) (c : Contact) → stands_at o c ≡ true → opening_bucket (opening_of c) ≡ opening_bucket o
 same_bucket o c passes =
-    let a = and_parts (eqb o.from c.from && eqb o.to c.to) (eqb o.start c.start) passes in
-    let b = and_parts (eqb o.from c.from) (eqb o.to c.to) a.0 in
-    sym (rw (eqb-true o.from c.from b.0, eqb-true o.to c.to b.1, eqb-true o.start c.start a.1) refl)
+    let e = opens_parts o.from o.to o.start c (and_parts (opens o.from o.to o.start c) (stands c) passes).0 in
+    sym (rw (e.0, e.1, e.2) refl)
 
 -- ---- contacts that open by a last opening
 
 -- none has an opening that comes after it
-pub after_all : (o last : Opening) (cs : List Contact) → OpenBy last cs → opening_number last < opening_number o → list_any (opens o.from o.to o.start) cs ≡ false
+pub after_all : (o last : Opening) (cs : List Contact) → OpenBy last cs → opening_number last < opening_number o → list_any (stands_at o) cs ≡ false
 after_all o last [] all lt = refl
 after_all o last (c ∷ cs) all lt =
-    ap (λ b. b || list_any (opens o.from o.to o.start) cs)
+    ap (λ b. (b && stands c) || list_any (stands_at o) cs)
     (false_from_ne_true (opens o.from o.to o.start c) (λ yes.
-    let a = and_parts (eqb o.from c.from && eqb o.to c.to) (eqb o.start c.start) yes in
-    let b = and_parts (eqb o.from c.from) (eqb o.to c.to) a.0 in
-    omega (arith, all.0, lt, eqb-true o.from c.from b.0, eqb-true o.to c.to b.1, eqb-true o.start c.start a.1)))
+    let e = opens_parts o.from o.to o.start c yes in
+    omega (arith, all.0, lt, e.0, e.1, e.2)))
     ∙ after_all o last cs all.1 lt
 
--- a contact that opens after the last opening
-pub some_push_last : (befores lasts : List ℕ) (last o : Opening) (cs : List Contact) → AreChained (contact_buckets cs) befores lasts → OpenBy last cs → opening_number last < opening_number o → (rising : Bool) (c : Contact) → opening_of c ≡ o → KnowsSome befores lasts rising o (cs ++ c ∷ [])
-some_push_last befores lasts last o cs h all lt rising c is = (
-  chained_push (λ d. opening_bucket (opening_of d)) cs c befores lasts h,
-  λ _. all_push (λ d. opening_number (opening_of d) ≤ opening_number o) cs c
-      (all_weaker (λ d. opening_number (opening_of d) ≤ opening_number last) (λ d. opening_number (opening_of d) ≤ opening_number o) (λ d le. omega (arith, le, lt)) cs all)
-      (let same = ap opening_number is in omega (arith, same)),
+-- and they open by a later one
+pub later_opening : (o last : Opening) (cs : List Contact) → OpenBy last cs → opening_number last < opening_number o → OpenBy o cs
+later_opening o last cs all lt = all_weaker (λ d. opening_number (opening_of d) ≤ opening_number last) (λ d. opening_number (opening_of d) ≤ opening_number o) (λ d le. omega (arith, le, lt)) cs all
+
+-- one more contact, whose opening is the last one
+pub knows_push : (befores lasts : List ℕ) (rising : Bool) (last o : Opening) (cs : List Contact) → KnowsSome befores lasts rising last cs → (rising ≡ true → OpenBy o cs) → (c : Contact) → opening_of c ≡ o → KnowsSome befores lasts rising o (cs ++ c ∷ [])
+knows_push befores lasts rising last o cs h by c is = (
+  chained_push (λ d. opening_bucket (opening_of d)) cs c befores lasts h.0,
+  λ up. all_push (λ d. opening_number (opening_of d) ≤ opening_number o) cs c (by up) (let same = ap opening_number is in omega (arith, same)),
 )
 
 -- over a window, between two nodes, and where there is room, a contact is refused as a duplicate or not at all
@@ -51,3 +59,123 @@ module _ (p : ContactPlan) (from to start end : ℕ) (window : start < end) (apa
 
   pub new_accepted : list_any (opens from to start) p.contacts ≡ false → contact_refusal p from to start end ≡ None
   new_accepted new = refused_by_opening ∙ ap (λ b. cond b (Some DuplicateContact) None) new
+
+-- ---- contacts that stand
+
+-- a test of those that stand
+pub any_standing : (p : Contact → Bool) (cs : List Contact) → list_any (λ c. p c && stands c) cs ≡ list_any p (standing cs)
+any_standing p [] = refl
+any_standing p (c ∷ cs) =
+    elim (stands c) as (λ b. ((p c && b) || list_any (λ d. p d && stands d) cs) ≡ list_any p (cond b (c ∷ standing cs) (standing cs))) [
+      | true ↦ elim (p c) as (λ b. ((b && true) || list_any (λ d. p d && stands d) cs) ≡ (b || list_any p (standing cs))) [ true ↦ refl | false ↦ any_standing p cs ]
+      | false ↦ elim (p c) as (λ b. ((b && false) || list_any (λ d. p d && stands d) cs) ≡ list_any p (standing cs)) [ true ↦ any_standing p cs | false ↦ any_standing p cs ]
+    ]
+
+-- what an index past the end gives
+abbrev pub no_contact : Contact
+no_contact = record { number = 0; from = 0; to = 0; start = 0; end = 0; rate = 0 }
+
+module _ (o : Opening) (cs : List Contact) where
+  -- the contact at an index stands
+  pub found_at : (k : ℕ) → k < length cs → stands_at o (get_or cs k no_contact) ≡ true → option_map (stands_at o) (slice_get cs k) ≡ Some true
+  found_at k lt passes = ap (option_map (stands_at o)) (slice_get-get_or cs k no_contact lt) ∙ ap Some passes
+
+  pub stands_found : (k : ℕ) → k < length cs → option_map (stands_at o) (slice_get cs k) ≡ Some true → stands_at o (get_or cs k no_contact) ≡ true
+  stands_found k lt is = let e : Some (stands_at o (get_or cs k no_contact)) ≡ Some true = sym (ap (option_map (stands_at o)) (slice_get-get_or cs k no_contact lt)) ∙ is in cc
+
+  -- one is found if there is one
+  pub found_any : (r : Option ℕ) → IsFound o cs r → is_some r ≡ list_any (stands_at o) cs
+  found_any None h = sym h
+  found_any (Some k) h = sym (list_any_at (stands_at o) cs k no_contact h.0 (stands_found k h.0 h.1))
+
+  -- by a pass
+  pub by_pass : (r : Option ℕ) → r ≡ position (stands_at o) cs → IsFound o cs r
+  by_pass (Some k) e = let q = position-Some (stands_at o) cs k no_contact (sym e) in (q.0, found_at k q.0 q.1)
+  by_pass None e =
+      let n = position_or_len (stands_at o) cs in
+      let all = ltb-false n (length cs) (false_from_ne_true (ltb n (length cs)) (λ yes. let no : None ≡ Some n = e ∙ ap (λ b. cond b (Some n) None) yes in absurd cc)) in
+      or_from_places (list_any (stands_at o)) (stands_at o) refl (λ x ys. refl) cs no_contact (λ j lt. fails_before_first (stands_at o) cs j no_contact (omega (arith, lt, all)))
+
+-- the element at an index, by any value past the end
+pub there : (cs : List Contact) (k : ℕ) (c : Contact) → k < length cs → c ≡ get_or cs k c → c ≡ get_or cs k no_contact
+there cs k c lt is = let e : Some (get_or cs k c) ≡ Some (get_or cs k no_contact) = sym (slice_get-get_or cs k c lt) ∙ slice_get-get_or cs k no_contact lt in let same : get_or cs k c ≡ get_or cs k no_contact = cc in is ∙ same
+
+-- one more that stands
+pub standing_push : (cs : List Contact) (c : Contact) → c.start < c.end → standing (cs ++ c ∷ []) ≡ standing cs ++ c ∷ []
+standing_push cs c lt = filter-append stands cs (c ∷ []) ∙ ap (λ b. standing cs ++ cond b (c ∷ []) []) (lt-ltb c.start c.end lt)
+
+-- a contact that is deleted
+abbrev pub ended : Contact → ℕ → Contact
+ended c end = record { number = c.number; from = c.from; to = c.to; start = c.start; end = end; rate = c.rate }
+
+-- if no element passes, all stay
+all_stay : (p : Contact → Bool) (cs : List Contact) → list_any p cs ≡ false → filter (λ c. not (p c)) cs ≡ cs
+all_stay p [] fails = refl
+all_stay p (c ∷ cs) fails =
+    let parts = or_parts (p c) (list_any p cs) fails in
+    ap (λ b. cond (not b) (c ∷ filter (λ d. not (p d)) cs) (filter (λ d. not (p d)) cs)) parts.0 ∙ ap (λ ds. c ∷ ds) (all_stay p cs parts.1)
+
+-- and none is found
+nothing : (p : Contact → Bool) (cs : List Contact) → list_any p cs ≡ false → find p cs ≡ None
+nothing p [] fails = refl
+nothing p (c ∷ cs) fails = let parts = or_parts (p c) (list_any p cs) fails in ap (λ b. cond b (Some c) (find p cs)) parts.0 ∙ nothing p cs parts.1
+
+-- an element that is found passes for some
+any_found : (p : Contact → Bool) (cs : List Contact) (c : Contact) → find p cs ≡ Some c → list_any p cs ≡ true
+any_found p [] c is = absurd cc
+any_found p (d ∷ ds) c is =
+    elim (p d) as (λ b. cond b (Some d) (find p ds) ≡ Some c → (b || list_any p ds) ≡ true) [ true ↦ λ e. refl | false ↦ λ e. any_found p ds c e ] is
+
+-- one that stands ends at its start, and then it and no other is gone
+module _ (o : Opening) where
+  abbrev pub p : Contact → Bool
+  p = opens o.from o.to o.start
+
+  -- only one contact opens so
+  alone : (c : Contact) (cs : List Contact) → p c ≡ true → list_any (same_opening c) cs ≡ false → list_any p cs ≡ false
+  alone c cs passes none_same = let e = opens_parts o.from o.to o.start c passes in rw (e.0, e.1, e.2) none_same
+
+  ends : (c : Contact) → p c ≡ true → stands (ended c o.start) ≡ false
+  ends c passes = let q = opens_parts o.from o.to o.start c passes in le-ltb c.start o.start (let s = q.2 in omega (arith, s))
+
+  pub deleted : (cs : List Contact) (k : ℕ) → k < length cs → stands_at o (get_or cs k no_contact) ≡ true → none_twice same_opening (standing cs) ≡ true
+      → (standing (set cs k (ended (get_or cs k no_contact) o.start)) ≡ filter (λ c. not (p c)) (standing cs)) × (find p (standing cs) ≡ Some (get_or cs k no_contact))
+  deleted [] k lt at apart = absurd (omega (arith, lt))
+  deleted (c ∷ cs) zero lt at apart =
+      let both = and_parts (p c) (stands c) at in
+      let parts = and_parts (not (list_any (same_opening c) (standing cs))) (none_twice same_opening (standing cs)) (subst (λ b. none_twice same_opening (cond b (c ∷ standing cs) (standing cs)) ≡ true) both.1 apart) in
+      let left = alone c (standing cs) both.0 (not-true (list_any (same_opening c) (standing cs)) parts.0) in (
+        ap (λ b. cond b (ended c o.start ∷ standing cs) (standing cs)) (ends c both.0)
+            ∙ sym (ap (λ b. filter (λ d. not (p d)) (cond b (c ∷ standing cs) (standing cs))) both.1
+            ∙ ap (λ b. cond (not b) (c ∷ filter (λ d. not (p d)) (standing cs)) (filter (λ d. not (p d)) (standing cs))) both.0
+            ∙ all_stay p (standing cs) left),
+        ap (λ b. find p (cond b (c ∷ standing cs) (standing cs))) both.1 ∙ ap (λ b. cond b (Some c) (find p (standing cs))) both.0,
+      )
+  deleted (c ∷ cs) (suc k) lt at apart =
+      elim (stands c) as (λ b. none_twice same_opening (cond b (c ∷ standing cs) (standing cs)) ≡ true
+      → (cond b (c ∷ standing (set cs k (ended (get_or cs k no_contact) o.start))) (standing (set cs k (ended (get_or cs k no_contact) o.start))) ≡ filter (λ d. not (p d)) (cond b (c ∷ standing cs) (standing cs)))
+      × (find p (cond b (c ∷ standing cs) (standing cs)) ≡ Some (get_or cs k no_contact))) [
+        | true ↦ λ h.
+            let parts = and_parts (not (list_any (same_opening c) (standing cs))) (none_twice same_opening (standing cs)) h in
+            let rest = deleted cs k (omega (arith, lt)) at parts.1 in
+            let other = false_from_ne_true (p c) (λ yes. both_ways (list_any p (standing cs)) (alone c (standing cs) yes (not-true (list_any (same_opening c) (standing cs)) parts.0)) (any_found p (standing cs) _ rest.1)) in (
+              ap (λ ds. c ∷ ds) rest.0 ∙ sym (ap (λ b. cond (not b) (c ∷ filter (λ d. not (p d)) (standing cs)) (filter (λ d. not (p d)) (standing cs))) other),
+              ap (λ b. cond b (Some c) (find p (standing cs))) other ∙ rest.1,
+            )
+        | false ↦ λ h. deleted cs k (omega (arith, lt)) at h
+      ] apart
+
+  -- the contact that is found is gone then
+  pub deletes : (cs : List Contact) (k : ℕ) → IsFound o cs (Some k) → none_twice same_opening (standing cs) ≡ true
+      → (standing (set cs k (ended (get_or cs k no_contact) o.start)) ≡ filter (λ c. not (p c)) (standing cs)) × (find p (standing cs) ≡ Some (get_or cs k no_contact))
+  deletes cs k h apart = deleted cs k h.0 (stands_found o cs k h.0 h.1) apart
+
+  -- without one none is found
+  pub none_found : (cs : List Contact) → list_any (stands_at o) cs ≡ false → find p (standing cs) ≡ None
+  none_found cs h = nothing p (standing cs) (sym (any_standing p cs) ∙ h)
+
+-- no opening changes
+pub open_by_set : (last : Opening) (cs : List Contact) (k e : ℕ) → OpenBy last cs → OpenBy last (set cs k (ended (get_or cs k no_contact) e))
+open_by_set last [] k e all = tt
+open_by_set last (c ∷ cs) zero e all = all
+open_by_set last (c ∷ cs) (suc k) e all = (all.0, open_by_set last cs k e all.1)

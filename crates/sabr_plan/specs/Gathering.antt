@@ -1,7 +1,7 @@
 -- Contacts that are gathered with what no two of them share; and ranges that are gathered in any order, and sorted at
 -- the end.
-use Rattle.std.specs.Prelude.{◌≡◌, ℕ, ◌+◌, ◌*◌, ◌/◌, ◌%◌, ◌^◌, ◌≤◌, Bool, false, true, nat_lt, List, [], ◌∷◌, ◌++◌, length, take, drop, map, IsPermutation}
-use Rattle.std.specs.List.{list_any, AllByRecursion}
+use Rattle.std.specs.Prelude.{◌≡◌, ℕ, ◌+◌, ◌*◌, ◌/◌, ◌%◌, ◌^◌, ◌<◌, ◌≤◌, Bool, false, true, ◌&&◌, nat_lt, List, [], ◌∷◌, length, take, drop, map, slice_get, option_map, IsPermutation}
+use Rattle.std.specs.List.{filter, list_any, AllByRecursion}
 use Rattle.std.specs.declared.option.Option.{Option}
 use Rattle.std.specs.declared.option.Option.TheVariants.{Some, None}
 use Rattle.sabr_model.specs.declared.contact.Contact.{Contact}
@@ -17,6 +17,17 @@ use Rattle.sabr_plan.specs.ChainedPlaces.{AreChained}
 -- contacts alone and the largest number assigned, as a plan without ranges
 abbrev pub plan_of_contacts : List Contact → ℕ → ContactPlan
 plan_of_contacts contacts greatest = record { contacts = contacts; ranges = []; greatest = greatest }
+
+-- a contact stands if it wasn't deleted: one that was ends at its start
+abbrev pub stands : Contact → Bool
+stands c = nat_lt c.start c.end
+
+abbrev pub standing : List Contact → List Contact
+standing contacts = filter stands contacts
+
+-- the contact stands and has this opening
+abbrev pub stands_at : Opening → Contact → Bool
+stands_at o c = opens o.from o.to o.start c && stands c
 
 -- the rules of a plan, for these alone
 abbrev pub ContactsObey : List Contact → ℕ → Type 0
@@ -42,12 +53,10 @@ OpenBy last contacts = AllByRecursion (λ c. opening_number (opening_of c) ≤ o
 abbrev pub KnowsSome : List ℕ → List ℕ → Bool → Opening → List Contact → Type 0
 KnowsSome befores lasts rising last contacts = AreChained (contact_buckets contacts) befores lasts × (rising ≡ true → OpenBy last contacts)
 
--- an opening that no contact has was noted, one that a contact has was found, or neither
-abbrev pub IsNoted : List Contact → Opening → Option Bool → List ℕ → List ℕ → Bool → Opening → Type 0
-IsNoted contacts o (Some true) befores lasts rising last =
-    (list_any (opens o.from o.to o.start) contacts ≡ false) × ((c : Contact) → opening_of c ≡ o → KnowsSome befores lasts rising last (contacts ++ c ∷ []))
-IsNoted contacts o (Some false) befores lasts rising last = (list_any (opens o.from o.to o.start) contacts ≡ true) × KnowsSome befores lasts rising last contacts
-IsNoted contacts o None befores lasts rising last = KnowsSome befores lasts rising last contacts
+-- the index of a contact that stands and has this opening, or none does
+abbrev pub IsFound : Opening → List Contact → Option ℕ → Type 0
+IsFound o contacts (Some k) = (k < length contacts) × (option_map (stands_at o) (slice_get contacts k) ≡ Some true)
+IsFound o contacts None = list_any (stands_at o) contacts ≡ false
 
 -- ranges alone, as a plan without contacts
 abbrev pub plan_of_ranges : List Range → ContactPlan

@@ -7,7 +7,7 @@ ghost use Rattle.sabr_model.specs.declared.fault.AddFault.{AddFault};
 ghost use Rattle.sabr_model.specs.declared.fault.AddFault.TheVariants.{NoMemory, NothingToDelete};
 ghost use Rattle.sabr_model.specs.plan.Adding.{next_contact, contact_refusal, with_contact, number_of_opening, without_contact};
 
-use crate::gathering::known_openings::KnownOpenings;
+use crate::gathering::known_openings::{KnownOpenings, find_by_pass, find_standing};
 use sabr_model::{AddFault, Contact, MAX_RECORDS, Opening};
 use std::alloc::{Allocator, Global};
 use std::marker::Model;
@@ -17,20 +17,24 @@ use std::marker::Model;
 /// A hash table of their senders, receivers and starts finds a duplicate in O(1) on average.
 #[derive(Drop)]
 pub struct GatheredContacts<A: Allocator + Copy = Global> {
+    /// The contacts that were added. A deleted one ends at its start.
     contacts: Vec<Contact, A>,
     openings: KnownOpenings<A>,
     greatest: u32,
+    /// Whether a contact may have been deleted.
+    deleted: bool,
 }
 
 impl<A: Allocator + Copy> Model for GatheredContacts<A> {
     ghost use Rattle.sabr_model.specs.plan.Plan.{ContactPlan};
-    ghost use Rattle.sabr_plan.specs.Gathering.{plan_of_contacts, ContactsObey, KnowsSome};
+    ghost use Rattle.std.specs.Prelude.{◌≡◌, false};
+    ghost use Rattle.sabr_plan.specs.Gathering.{plan_of_contacts, standing, ContactsObey, KnowsSome};
 
     ghost Value = { ContactPlan };
 
-    ghost view = { λ g. plan_of_contacts g.contacts.items g.greatest };
+    ghost view = { λ g. plan_of_contacts (standing g.contacts.items) g.greatest };
 
-    ghost invariant = { λ g. ContactsObey g.contacts.items g.greatest × KnowsSome g.openings.chains.befores.items g.openings.chains.lasts.items g.openings.rising g.openings.last g.contacts.items };
+    ghost invariant = { λ g. ContactsObey (standing g.contacts.items) g.greatest × KnowsSome g.openings.chains.befores.items g.openings.chains.lasts.items g.openings.rising g.openings.last g.contacts.items × (g.deleted ≡ false → standing g.contacts.items ≡ g.contacts.items) };
 }
 
 impl<A: Allocator + Copy> GatheredContacts<A> {
@@ -42,11 +46,13 @@ impl<A: Allocator + Copy> GatheredContacts<A> {
             contacts: Vec::new(alloc),
             openings: KnownOpenings::new(alloc),
             greatest: 0,
+            deleted: false,
         }
     }
 
     /// Adds a contact, as `Plan::add_contact` does, and returns its number: nodes, times in seconds since
-    /// 1970-01-01T00:00:00Z, rate in bytes per second, and the same errors. It is O(1) on average.
+    /// 1970-01-01T00:00:00Z, rate in bytes per second, and the same errors. It is O(1) on average, and a pass over the
+    /// contacts if it returns an error.
     #[inline(always)]
     pub fn add(
         &mut self,
@@ -72,17 +78,11 @@ impl<A: Allocator + Copy> GatheredContacts<A> {
         if start >= end || from == to || self.greatest as usize >= MAX_RECORDS {
             return Err(self.fault(from, to, start, end));
         }
-        let number = self.greatest + 1;
-        if self.contacts.reserve(1).is_err() {
-            return Err(self.fault(from, to, start, end));
-        }
         let opening = Opening { from, to, start };
-        let Some(is_new) = self.openings.note(&self.contacts, opening) else {
+        if self.contacts.reserve(1).is_err() || self.openings.has(&self.contacts, opening) {
             return Err(self.fault(from, to, start, end));
-        };
-        if !is_new {
-            return Err(AddFault::DuplicateContact);
         }
+        let number = self.greatest + 1;
         self.contacts.push_reserved(Contact {
             number,
             from,
@@ -91,6 +91,7 @@ impl<A: Allocator + Copy> GatheredContacts<A> {
             end,
             rate,
         });
+        self.openings.last = opening;
         self.greatest = number;
         Ok(number)
     }
@@ -110,14 +111,14 @@ impl<A: Allocator + Copy> GatheredContacts<A> {
     fn has_opening(&self, from: u64, to: u64, start: u64) -> bool
         ensures { result ≡ list_any (opens from to start) self.now.contacts }
     {
-        self.contacts.iter().any(|c| c.opens(from, to, start))
+        let opening = Opening { from, to, start };
+        find_by_pass(&self.contacts, &opening).is_some()
     }
 
     /// Deletes the contact with this sender, receiver and start, and returns its number, which is never assigned again.
     /// The start is in seconds since 1970-01-01T00:00:00Z.
     ///
-    ///
-    /// It doesn't allocate. It is a pass over the contacts.
+    /// It is O(1) on average, and a pass over the contacts if an allocation fails.
     ///
     /// # Errors
     ///
@@ -127,12 +128,13 @@ impl<A: Allocator + Copy> GatheredContacts<A> {
         ensures ok { OnOk result (self.new ≡ without_contact self.old from to start) }
         ensures err { OnErr result (self.new ≡ self.old) }
     {
-        let Some(contact) = Contact::find(&self.contacts, from, to, start) else {
+        let opening = Opening { from, to, start };
+        let Some(index) = find_standing(&mut self.openings.chains, &self.contacts, &opening) else {
             return Err(AddFault::NothingToDelete);
         };
-        let number = contact.number;
-        self.openings.chains.clear();
-        self.contacts.retain(|c| !c.opens(from, to, start));
+        let number = self.contacts[index].number;
+        self.contacts[index].end = start;
+        self.deleted = true;
         Ok(number)
     }
 
@@ -144,10 +146,14 @@ impl<A: Allocator + Copy> GatheredContacts<A> {
         ensures rules { IsPlan self }
     {
         let GatheredContacts {
-            contacts,
+            mut contacts,
             openings: _,
             greatest,
+            deleted,
         } = self;
+        if deleted {
+            contacts.retain(|c| c.start < c.end);
+        }
         (contacts, greatest)
     }
 }

@@ -2,10 +2,9 @@
 //! duplicate.
 
 ghost use Rattle.std.specs.Prelude.{◌≡◌, ◌<◌, ◌≤◌, ◌↔◌, [], IsTrue, OnOk, length};
-ghost use Rattle.std.specs.List.{list_any};
-ghost use Rattle.sabr_model.specs.plan.Plan.{opens};
+ghost use Rattle.std.specs.List.{list_any, position};
 ghost use Rattle.sabr_plan.specs.ChainedPlaces.{AreChained};
-ghost use Rattle.sabr_plan.specs.Gathering.{opening_number, opening_bucket, contact_buckets, KnowsSome, IsNoted};
+ghost use Rattle.sabr_plan.specs.Gathering.{opening_number, opening_bucket, contact_buckets, stands_at, OpenBy, KnowsSome, IsFound};
 
 use crate::gathering::chains::Chains;
 use sabr_model::{Contact, Opening, comes_by};
@@ -48,46 +47,48 @@ impl<A: Allocator + Copy> KnownOpenings<A> {
         }
     }
 
-    /// Notes the opening of a contact that is to come after these. Returns false if one of them has it, and `None` if
-    /// an allocation failed.
+    /// Returns true if one of these contacts stands and has this opening, that of a contact that is to come after them.
     #[inline(always)]
-    pub fn note(&mut self, contacts: &[Contact], opening: Opening) -> Option<bool>
+    pub fn has(&mut self, contacts: &[Contact], opening: Opening) -> bool
         requires { KnowsSome self.old.chains.befores.items self.old.chains.lasts.items self.old.rising self.old.last contacts.now }
-        ensures { IsNoted contacts.now opening result self.new.chains.befores.items self.new.chains.lasts.items self.new.rising self.new.last }
+        ensures value { result ≡ list_any (stands_at opening) contacts.now }
+        ensures knows { KnowsSome self.new.chains.befores.items self.new.chains.lasts.items self.new.rising self.new.last contacts.now }
+        ensures rises { IsTrue self.new.rising → OpenBy opening contacts.now }
     {
         if self.rising && comes_after(&opening, &self.last) {
-            self.last = opening;
-            return Some(true);
+            return false;
         }
+        self.rising = false;
         // A copy, so that an opening that comes last stays in registers.
         let late = opening;
-        self.note_in_chain(contacts, &late)
+        find_standing(&mut self.chains, contacts, &late).is_some()
     }
+}
 
-    /// Notes the opening of a contact that is to come after these, by the hash table. Returns false if one of them has
-    /// it, and `None` if an allocation failed.
-    #[cold]
-    #[inline(never)]
-    fn note_in_chain(&mut self, contacts: &[Contact], opening: &Opening) -> Option<bool>
-        requires { AreChained (contact_buckets contacts.now) self.old.chains.befores.items self.old.chains.lasts.items }
-        ensures { IsNoted contacts.now opening.now result self.new.chains.befores.items self.new.chains.lasts.items self.new.rising self.new.last }
-    {
-        self.rising = false;
-        let Ok(()) = self.chains.size(BUCKETS) else {
-            return None;
-        };
-        let Ok(()) = chain_all(&mut self.chains, contacts) else {
-            return None;
-        };
-        let Chains { lasts, befores } = &self.chains;
-        if opens_in_chain(contacts, befores, lasts, opening) {
-            return Some(false);
-        }
-        let Ok(()) = self.chains.push(bucket_of(opening)) else {
-            return None;
-        };
-        Some(true)
-    }
+/// Returns the index of the contact that stands and has this opening, or `None`. It is O(1) on average with all
+/// contacts in the hash table, and a pass over them if an allocation for it fails.
+#[cold]
+#[inline(never)]
+pub fn find_standing<A: Allocator + Copy>(
+    chains: &mut Chains<A>,
+    contacts: &[Contact],
+    opening: &Opening,
+) -> Option<usize>
+    requires { AreChained (contact_buckets contacts.now) chains.old.befores.items chains.old.lasts.items }
+    ensures found { IsFound opening.now contacts.now result }
+    ensures chained { AreChained (contact_buckets contacts.now) chains.new.befores.items chains.new.lasts.items }
+{
+    let Ok(()) = chain_all(chains, contacts) else {
+        return find_by_pass(contacts, opening);
+    };
+    find_in_chain(contacts, &chains.befores, &chains.lasts, opening)
+}
+
+/// Returns true if the contact stands and has this opening.
+fn stands_at(contact: &Contact, opening: &Opening) -> bool
+    ensures { result ≡ stands_at opening.now contact.now }
+{
+    contact.opens(opening.from, opening.to, opening.start) && contact.start < contact.end
 }
 
 /// Returns true if an opening comes after another, by start, sender and receiver.
@@ -117,12 +118,12 @@ fn chain_all<A: Allocator + Copy>(
     chains: &mut Chains<A>,
     contacts: &[Contact],
 ) -> Result<(), AllocError>
-    requires sized { 4096 ≤ length chains.old.lasts.items }
-    requires chained { AreChained (contact_buckets contacts.now) chains.old.befores.items chains.old.lasts.items }
-    ensures sized { 4096 ≤ length chains.new.lasts.items }
+    requires { AreChained (contact_buckets contacts.now) chains.old.befores.items chains.old.lasts.items }
+    ensures sized { OnOk result (4096 ≤ length chains.new.lasts.items) }
     ensures chained { AreChained (contact_buckets contacts.now) chains.new.befores.items chains.new.lasts.items }
     ensures all { OnOk result (length chains.new.befores.items ≡ length contacts.now) }
 {
+    chains.size(BUCKETS)?;
     while chains.befores.len() < contacts.len() {
         let Contact {
             from,
@@ -135,24 +136,31 @@ fn chain_all<A: Allocator + Copy>(
     Ok(())
 }
 
-/// Returns true if one of the contacts, all of which are in the hash table, has this opening.
-fn opens_in_chain(
+/// Returns the index of the contact that stands and has this opening, or `None`. All contacts are in the hash table.
+fn find_in_chain(
     contacts: &[Contact],
     befores: &[usize],
     lasts: &[usize],
     opening: &Opening,
-) -> bool
+) -> Option<usize>
     requires sized { 4096 ≤ length lasts.now }
     requires chained { AreChained (contact_buckets contacts.now) befores.now lasts.now }
     requires all { length befores.now ≡ length contacts.now }
-    ensures { result ≡ list_any (opens opening.now.from opening.now.to opening.now.start) contacts.now }
+    ensures { IsFound opening.now contacts.now result }
 {
     let mut at = lasts[bucket_of(opening)];
     while at > 0 {
-        if contacts[at - 1].opens(opening.from, opening.to, opening.start) {
-            return true;
+        if stands_at(&contacts[at - 1], opening) {
+            return Some(at - 1);
         }
         at = befores[at - 1];
     }
-    false
+    None
+}
+
+/// Returns the index of the contact that stands and has this opening, or `None`. It is a pass over the contacts.
+pub fn find_by_pass(contacts: &[Contact], opening: &Opening) -> Option<usize>
+    ensures { result ≡ position (stands_at opening.now) contacts.now }
+{
+    contacts.iter().position(|c| stands_at(c, opening))
 }

@@ -1,36 +1,72 @@
--- The contact goes, and its opening.
-use Rattle.std.proofs.Common.{◌∙◌, ◌≤◌, ap, not, rules, List}
-use Rattle.std.proofs.lemmas.Fn.{filter_same}
+-- The contact ends at its start, and its opening stays in its chain.
+use Rattle.std.proofs.Common.{◌≡◌, ◌∙◌, get_or, set, not, true, false, refl, sym, ap, subst}
+use Rattle.std.proofs.Math.Seq.{map-set_same}
+use Rattle.std.specs.Option.{option_map}
+use Rattle.std.specs.Prelude.{Some, None, ok_or}
+use Rattle.std.specs.declared.option.Option.{Option}
 use Rattle.sabr_model.specs.declared.contact.Contact.{Contact}
+use Rattle.sabr_model.specs.declared.opening.Opening.{Opening}
+use Rattle.sabr_model.specs.declared.fault.AddFault.TheVariants.{NothingToDelete}
 use Rattle.sabr_model.specs.plan.Plan.{ContactPlan, opens}
-use Rattle.sabr_model.specs.plan.Adding.{without_contact}
+use Rattle.sabr_model.specs.plan.Adding.{without_contact, number_of_opening}
 use Rattle.sabr_model.specs.plan.Openings.{opening_of}
-use Rattle.sabr_plan.specs.Gathering.{plan_of_contacts, opening_number}
-use Rattle.sabr_model.proofs.PlanLemmas.Deletions.{IsPlan-fewer_contacts, all_filter}
-use Rattle.sabr_plan.proofs.ChainedPlaces.{chained_none}
+use Rattle.sabr_model.proofs.PlanLemmas.Deletions.{IsPlan-fewer_contacts}
+use Rattle.sabr_plan.specs.ChainedPlaces.{AreChained}
+use Rattle.sabr_plan.specs.Gathering.{plan_of_contacts, standing, opening_bucket, contact_buckets, ContactsObey, KnowsSome, IsFound}
+use Rattle.sabr_plan.proofs.GatheredOpenings.{ended, no_contact, deletes, none_found, open_by_set, there}
 use Rattle.sabr_plan.proofs.gathering.gathered_contacts.GatheredContacts.delete.Goals as goal
 
 pub invariant_of-self : goal.invariant_of-self
 invariant_of-self g c =
-    let from = c.args.from in
-    let to = c.args.to in
-    let start = c.args.start in
+    let k = c.find_standing.new.chains in
+    (c.self.invariant.0, (subst (λ ds. AreChained (contact_buckets ds) k.befores.items k.lasts.items) c.deref.ensures.value c.find_standing.ensures.chained, c.self.invariant.1.1), c.self.invariant.2)
+
+pub returns-in_default-clause-value : goal.returns-in_default-clause-value
+returns-in_default-clause-value g c =
+    let o : Opening = record { from = c.args.from; to = c.args.to; start = c.args.start } in
     let cs = c.self.inside.contacts.items in
-    let kept = filter_same _ (λ (d : Contact). not (opens from to start d)) _ (λ d b f' k. search rules) _ _ c.retain.ensures.filtered in
-    let forgot = c.clear.ensures in
-    let last = c.self.inside.openings.last in
-    rw (kept, forgot.befores, forgot.lasts) (
-      IsPlan-fewer_contacts (plan_of_contacts cs c.self.inside.greatest) (λ d. not (opens from to start d)) c.self.invariant.0,
+    let found : IsFound o cs None = subst (λ ds. IsFound o ds None) c.deref.ensures.value (c.in_default.ensures {u = tt}).found in
+    ap (λ (r : Option Contact). ok_or (option_map (λ (d : Contact). d.number) r) NothingToDelete) (sym (none_found o cs found))
+    ∙ ap (λ (q : ContactPlan). ok_or (number_of_opening q o.from o.to o.start) NothingToDelete) c.self.view_is
+
+pub invariant_of-self-2 : goal.invariant_of-self-2
+invariant_of-self-2 g c =
+    let o : Opening = record { from = c.args.from; to = c.args.to; start = c.args.start } in
+    let s = c.self.inside in
+    let cs = s.contacts.items in
+    let k = c.in-Some.index in
+    let chains = c.find_standing.new.chains in
+    let found : IsFound o cs (Some k) = subst (λ ds. IsFound o ds (Some k)) c.deref.ensures.value (c.in-Some.ensures {u = tt}).found in
+    let left = deletes o cs k found c.self.invariant.0.openings_differ in
+    let then = ended (get_or cs k no_contact) c.args.start in
+    let chained = subst (λ ds. AreChained (contact_buckets ds) chains.befores.items chains.lasts.items) c.deref.ensures.value c.find_standing.ensures.chained in
+    subst (λ x. ContactsObey (standing (set cs k (ended x c.args.start))) s.greatest × KnowsSome chains.befores.items chains.lasts.items s.openings.rising s.openings.last (set cs k (ended x c.args.start)) × (true ≡ false → standing (set cs k (ended x c.args.start)) ≡ set cs k (ended x c.args.start))) (sym (there cs k c.index_mut.result.now found.0 c.index_mut.ensures.value)) (
+      subst (λ ds. ContactsObey ds s.greatest) (sym left.0) (IsPlan-fewer_contacts (plan_of_contacts (standing cs) s.greatest) (λ d. not (opens o.from o.to o.start d)) c.self.invariant.0),
       (
-        chained_none _,
-        λ up. all_filter (λ d. opening_number (opening_of d) ≤ opening_number last) (λ d. not (opens from to start d)) cs (c.self.invariant.1.1 up),
+        subst (λ ks. AreChained ks chains.befores.items chains.lasts.items) (sym (map-set_same (λ (d : Contact). opening_bucket (opening_of d)) cs k then no_contact refl)) chained,
+        λ up. open_by_set s.openings.last cs k c.args.start (c.self.invariant.1.1 up),
       ),
+      λ no. absurd cc,
     )
+
+pub returns-clause-value : goal.returns-clause-value
+returns-clause-value g c =
+    let o : Opening = record { from = c.args.from; to = c.args.to; start = c.args.start } in
+    let cs = c.self.inside.contacts.items in
+    let k = c.in-Some.index in
+    let found : IsFound o cs (Some k) = subst (λ ds. IsFound o ds (Some k)) c.deref.ensures.value (c.in-Some.ensures {u = tt}).found in
+    ap (λ (d : Contact). ok_or (Some d.number) NothingToDelete) (there cs k c.index.result.now found.0 c.index.ensures)
+    ∙ ap (λ (r : Option Contact). ok_or (option_map (λ (d : Contact). d.number) r) NothingToDelete) (sym (deletes o cs k found c.self.invariant.0.openings_differ).1)
+    ∙ ap (λ (q : ContactPlan). ok_or (number_of_opening q o.from o.to o.start) NothingToDelete) c.self.view_is
 
 pub returns-clause-ok : goal.returns-clause-ok
 returns-clause-ok g c =
-    let from = c.args.from in
-    let to = c.args.to in
-    let start = c.args.start in
-    let kept = filter_same _ (λ (d : Contact). not (opens from to start d)) _ (λ d b f' k. search rules) _ _ c.retain.ensures.filtered in
-    ap (λ (xs : List Contact). plan_of_contacts xs c.self.inside.greatest) kept ∙ ap (λ (q : ContactPlan). without_contact q from to start) c.self.view_is
+    let o : Opening = record { from = c.args.from; to = c.args.to; start = c.args.start } in
+    let s = c.self.inside in
+    let cs = s.contacts.items in
+    let k = c.in-Some.index in
+    let found : IsFound o cs (Some k) = subst (λ ds. IsFound o ds (Some k)) c.deref.ensures.value (c.in-Some.ensures {u = tt}).found in
+    let left = deletes o cs k found c.self.invariant.0.openings_differ in
+    ap (λ x. plan_of_contacts (standing (set cs k (ended x c.args.start))) s.greatest) (there cs k c.index_mut.result.now found.0 c.index_mut.ensures.value)
+    ∙ ap (λ ds. plan_of_contacts ds s.greatest) left.0
+    ∙ ap (λ (q : ContactPlan). without_contact q c.args.from c.args.to c.args.start) c.self.view_is

@@ -1,7 +1,7 @@
-use Rattle.std.proofs.Common.{[]}
+use Rattle.std.proofs.Common.{[], refl}
 use Rattle.sabr_model.proofs.PlanLemmas.ContactLemmas.{IsPlan-empty}
 use Rattle.sabr_plan.proofs.ChainedPlaces.{chained_none}
 use Rattle.sabr_plan.proofs.gathering.gathered_contacts.GatheredContacts.new.Goals as goal
 
 pub invariant_of-result : goal.invariant_of-result
-invariant_of-result g c = rw (c.new.ensures.items, c.new-2.ensures.befores, c.new-2.ensures.lasts) (IsPlan-empty, (chained_none [], λ up. tt))
+invariant_of-result g c = rw (c.new.ensures.items, c.new-2.ensures.befores, c.new-2.ensures.lasts) (IsPlan-empty, (chained_none [], λ up. tt), λ no. refl)
