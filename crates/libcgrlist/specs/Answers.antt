@@ -28,7 +28,7 @@ abbrev pub AnswersBest : ContactPlan → Result RouteRequest RequestError → �
 AnswersBest p (Err e) status row numbers = status ≡ request_status e
 AnswersBest p (Ok r) status row numbers = (status ≡ no_memory) ⊎ WritesBest (map (record_of p r) (routes p r)) status row numbers
 
--- a page may have at most so many routes
+-- a page may have at most that many routes
 abbrev pub count_refusal : ℕ → Option ℕ
 count_refusal count = if nat_lt most_routes count then Some value_count else None
 
@@ -41,7 +41,7 @@ abbrev pub asked_status : Result RouteRequest RequestError → Result RouteReque
 asked_status (Err e) = Err (request_status e)
 asked_status (Ok r) = Ok r
 
--- the request of a page of so many routes, or the status of the refusal of its count or its request
+-- the request of a page of that many routes, or the status of the refusal of its count or its request
 abbrev pub asked_page : ℕ → Result RouteRequest RequestError → Result RouteRequest ℕ
 asked_page count asked = refused_or (count_refusal count) (asked_status asked)
 

@@ -15,7 +15,7 @@ use Rattle.libcgrlist.specs.Status.{change_status, done, has_listing, no_memory,
 abbrev pub Becomes : OpenPlan → ContactPlan → OpenPlan → Type 0
 Becomes old p new = (new.plan.plan ≡ p) × (new.listing ≡ old.listing)
 
--- a change that takes no memory is refused by a status, and nothing changes; or it is done
+-- a change that doesn't allocate is refused by a status, and nothing changes; or it is done
 abbrev pub Changes : OpenPlan → Result ContactPlan ℕ → ℕ → OpenPlan → Type 0
 Changes old (Err s) status new = (status ≡ s) × (new ≡ old)
 Changes old (Ok p) status new = (status ≡ done) × Becomes old p new
@@ -30,7 +30,7 @@ abbrev pub change_or : Option AddFault → ContactPlan → Result ContactPlan �
 change_or (Some f) p = Err (change_status f)
 change_or None p = Ok p
 
--- nothing is changed while a listing is open, no node is 0, and no time is above the greatest
+-- nothing is changed while a listing is open, no node is 0, and no time is above the largest
 abbrev pub value_refusal : OpenPlan → ℕ → ℕ → ℕ → ℕ → Option ℕ
 value_refusal o one other start end =
     if is_some o.listing then Some has_listing
@@ -38,7 +38,7 @@ value_refusal o one other start end =
     else if nat_lt last_time start || nat_lt last_time end then Some value_time
     else None
 
--- no light time is above the greatest
+-- no light time is above the largest
 abbrev pub light_refusal : ℕ → Option ℕ
 light_refusal light = if nat_lt most_light light then Some value_light else None
 

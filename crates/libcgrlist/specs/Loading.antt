@@ -22,7 +22,7 @@ session_status fault.BadCount = 86
 session_status fault.Read = no_memory
 session_status fault.NoMemory = no_memory
 
--- the line that a fault names, or the greatest number of 64 bits if that is less; 0 if it names none
+-- the line that a fault names, or the largest number of 64 bits if that is less; 0 if it names none
 abbrev pub session_line : SessionFault → ℕ
 session_line fault.BadHeader = 0
 session_line (fault.BadLine n) = min n 18446744073709551615

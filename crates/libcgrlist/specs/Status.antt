@@ -43,11 +43,11 @@ no_listing = 7
 abbrev pub value_node : ℕ
 value_node = 64
 
--- a time of a change is above the greatest
+-- a time of a change is above the largest
 abbrev pub value_time : ℕ
 value_time = 65
 
--- a light time of a change is above the greatest
+-- a light time of a change is above the largest
 abbrev pub value_light : ℕ
 value_light = 66
 

@@ -9,8 +9,8 @@ use Rattle.libcgrlist.specs.Status.{done, no}
 use Rattle.libcgrlist.specs.declared.views.Counts.{Counts}
 use Rattle.libcgrlist.specs.declared.views.ContactRow.{ContactRow}
 
--- how many contacts and ranges stand, how many nodes send or receive a standing contact, how many standing contacts have
--- no light time at their start, and the greatest number ever assigned
+-- how many contacts and ranges stand, how many nodes send or receive a standing contact, how many standing contacts
+-- have no light time at their start, and the largest number ever assigned
 abbrev pub counts_of : ContactPlan → Counts
 counts_of p = record {
   contacts = length p.contacts;

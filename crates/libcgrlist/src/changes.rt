@@ -9,11 +9,11 @@ ghost use Rattle.libcgrlist.specs.Open.{Calls, IsWhole};
 use crate::handle::PlanHandle;
 use crate::opened::{NewContact, Opened};
 use crate::status::{CLOSED, DONE, LISTING, VALUE_LIGHT, VALUE_NODE, VALUE_TIME, of_change};
-use sabr_model::{LAST_TIME, MOST_LIGHT, Range};
+use sabr_model::{LAST_TIME, MAX_LIGHT, Range};
 use std::alloc::Global;
 
 /// Returns the status of the first reason to refuse any change: a listing is open, a node is 0, or a time is above the
-/// greatest.
+/// largest.
 fn value_refusal(opened: &Opened, one: u64, other: u64, start: u64, end: u64) -> Option<u32>
     ensures value { result ≡ value_refusal opened.now one other start end }
     ensures listing { IfNone result (IsFalse (is_some opened.now.listing)) }
@@ -57,7 +57,7 @@ fn add_range(opened: &mut Opened, new: &Range) -> u32
     if let Some(status) = value_refusal(opened, new.one, new.other, new.start, new.end) {
         return status;
     }
-    if new.light > MOST_LIGHT {
+    if new.light > MAX_LIGHT {
         return VALUE_LIGHT;
     }
     match opened.add_range(new) {

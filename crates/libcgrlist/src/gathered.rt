@@ -15,7 +15,7 @@ pub struct Gathered {
 }
 
 impl Gathered {
-    /// Returns a writer that took no bytes yet. It takes no memory.
+    /// Returns a writer that took no bytes yet. It doesn't allocate.
     pub fn new(alloc: Global) -> Gathered
         ensures bytes { result.bytes.items ≡ [] }
         ensures failures { result.failures.count ≡ 0 }

@@ -80,7 +80,7 @@ impl Opened {
     ///
     /// # Errors
     ///
-    /// [`NoMemory`] if a growth was refused.
+    /// [`NoMemory`] if an allocation failed.
     pub fn take_links(&mut self, alloc: Global) -> Result<PlanLinks<Global>, NoMemory>
         ensures links { IfOk result (AreLinksOf self.old.plan) }
         ensures same { self.new ≡ self.old }
@@ -158,8 +158,8 @@ pub struct NewContact {
     pub rate: u64,
 }
 
-/// The changes of the plan, while no listing is open. Each forgets what was made for the plan before. After an error the
-/// plan is as it was.
+/// The changes of the plan, while no listing is open. Each forgets what was made for the plan before. After an error
+/// the plan is as it was.
 impl Opened {
     ghost use Rattle.std.specs.Prelude.{◌≡◌, ◌+◌, ◌<◌, ◌≤◌, ◌↔◌, None, Some, Err, IfOk, IfErr, IsOk, OnOk, OnErr, IsFalse, IsOkUnless, IsTrue, is_some, ok_or};
     ghost use Rattle.std.specs.List.{list_any};

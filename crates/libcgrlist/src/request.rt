@@ -3,7 +3,7 @@
 ghost use Rattle.std.specs.Prelude.{◌≡◌};
 ghost use Rattle.libcgrlist.specs.Request.{asked_request};
 
-use sabr_model::{MOST_HOPS, Request, RequestError};
+use sabr_model::{MAX_HOPS, Request, RequestError};
 
 /// `cgrlist_request`: what a request asks, but for the nodes to avoid.
 #[repr(C)]
@@ -32,7 +32,7 @@ impl Asked {
     {
         let request = Request::new(self.from, self.to, self.at, self.margin_ppm)?;
         let max_hops = if self.max_hops == 0 {
-            MOST_HOPS
+            MAX_HOPS
         } else {
             self.max_hops
         };

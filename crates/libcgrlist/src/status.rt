@@ -29,7 +29,7 @@ pub const NO_LISTING: u32 = 7;
 pub const SAME_NODE: u32 = 16;
 /// A node of the request is 0.
 pub const BAD_NODE: u32 = 17;
-/// The request's time is above the greatest time.
+/// The request's time is above the latest time.
 pub const BAD_TIME: u32 = 18;
 /// The margin is above 1000000.
 pub const BAD_MARGIN: u32 = 19;
@@ -82,7 +82,7 @@ pub const NOTHING_TO_DELETE: u32 = 53;
 
 /// A node is 0.
 pub const VALUE_NODE: u32 = 64;
-/// A time is above the greatest time.
+/// A time is above the latest time.
 pub const VALUE_TIME: u32 = 65;
 /// A light time is above 1000000.
 pub const VALUE_LIGHT: u32 = 66;

@@ -26,7 +26,7 @@ pub struct Counts {
     pub nodes: u64,
     /// The standing contacts that have no light time at their start.
     pub without_light: u64,
-    /// The greatest number ever given to a contact, 0 at first.
+    /// The largest number ever given to a contact, 0 at first.
     pub greatest: u64,
 }
 
