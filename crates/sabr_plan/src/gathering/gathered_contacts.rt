@@ -21,20 +21,20 @@ pub struct GatheredContacts<A: Allocator + Copy = Global> {
     contacts: Vec<Contact, A>,
     openings: KnownOpenings<A>,
     greatest: u32,
-    /// Whether a contact may have been deleted.
-    deleted: bool,
+    /// The number of those that were deleted.
+    deleted: usize,
 }
 
 impl<A: Allocator + Copy> Model for GatheredContacts<A> {
     ghost use Rattle.sabr_model.specs.plan.Plan.{ContactPlan};
-    ghost use Rattle.std.specs.Prelude.{◌≡◌, false};
+    ghost use Rattle.std.specs.Prelude.{◌≡◌};
     ghost use Rattle.sabr_plan.specs.Gathering.{plan_of_contacts, standing, ContactsObey, KnowsSome};
 
     ghost Value = { ContactPlan };
 
     ghost view = { λ g. plan_of_contacts (standing g.contacts.items) g.greatest };
 
-    ghost invariant = { λ g. ContactsObey (standing g.contacts.items) g.greatest × KnowsSome g.openings.chains.befores.items g.openings.chains.lasts.items g.openings.rising g.openings.last g.contacts.items × (g.deleted ≡ false → standing g.contacts.items ≡ g.contacts.items) };
+    ghost invariant = { λ g. ContactsObey (standing g.contacts.items) g.greatest × KnowsSome g.openings.chains.befores.items g.openings.chains.lasts.items g.openings.rising g.openings.last g.contacts.items × (g.deleted ≡ 0 → standing g.contacts.items ≡ g.contacts.items) };
 }
 
 impl<A: Allocator + Copy> GatheredContacts<A> {
@@ -46,7 +46,7 @@ impl<A: Allocator + Copy> GatheredContacts<A> {
             contacts: Vec::new(alloc),
             openings: KnownOpenings::new(alloc),
             greatest: 0,
-            deleted: false,
+            deleted: 0,
         }
     }
 
@@ -115,6 +115,20 @@ impl<A: Allocator + Copy> GatheredContacts<A> {
         find_by_pass(&self.contacts, &opening).is_some()
     }
 
+    /// Removes the deleted contacts from the list if they are more than an eighth of it.
+    ///
+    /// It changes the speed of later calls, and not the contacts.
+    fn sweep(&mut self)
+        ensures { self.new ≡ self.old }
+    {
+        if self.deleted <= self.contacts.len() / 8 {
+            return;
+        }
+        self.deleted = 0;
+        self.openings.chains.clear();
+        self.contacts.retain(|c| c.start < c.end);
+    }
+
     /// Deletes the contact with this sender, receiver and start, and returns its number, which is never assigned again.
     /// The start is in seconds since 1970-01-01T00:00:00Z.
     ///
@@ -128,13 +142,14 @@ impl<A: Allocator + Copy> GatheredContacts<A> {
         ensures ok { OnOk result (self.new ≡ without_contact self.old from to start) }
         ensures err { OnErr result (self.new ≡ self.old) }
     {
+        self.sweep();
         let opening = Opening { from, to, start };
         let Some(index) = find_standing(&mut self.openings.chains, &self.contacts, &opening) else {
             return Err(AddFault::NothingToDelete);
         };
         let number = self.contacts[index].number;
         self.contacts[index].end = start;
-        self.deleted = true;
+        self.deleted = self.deleted.saturating_add(1);
         Ok(number)
     }
 
@@ -151,7 +166,7 @@ impl<A: Allocator + Copy> GatheredContacts<A> {
             greatest,
             deleted,
         } = self;
-        if deleted {
+        if deleted > 0 {
             contacts.retain(|c| c.start < c.end);
         }
         (contacts, greatest)

@@ -1,5 +1,5 @@
 -- The contact ends at its start, and its opening stays in its chain.
-use Rattle.std.proofs.Common.{◌≡◌, ◌∙◌, get_or, set, not, true, false, refl, sym, ap, subst}
+use Rattle.std.proofs.Common.{arith, ◌≡◌, ◌∙◌, get_or, set, not, refl, sym, ap, subst}
 use Rattle.std.proofs.Math.Seq.{map-set_same}
 use Rattle.std.specs.Option.{option_map}
 use Rattle.std.specs.Prelude.{Some, None, ok_or}
@@ -27,7 +27,7 @@ returns-in_default-clause-value g c =
     let cs = c.self.inside.contacts.items in
     let found : IsFound o cs None = subst (λ ds. IsFound o ds None) c.deref.ensures.value (c.in_default.ensures {u = tt}).found in
     ap (λ (r : Option Contact). ok_or (option_map (λ (d : Contact). d.number) r) NothingToDelete) (sym (none_found o cs found))
-    ∙ ap (λ (q : ContactPlan). ok_or (number_of_opening q o.from o.to o.start) NothingToDelete) c.self.view_is
+    ∙ ap (λ (q : ContactPlan). ok_or (number_of_opening q o.from o.to o.start) NothingToDelete) (c.self.view_is ∙ c.sweep.ensures)
 
 pub invariant_of-self-2 : goal.invariant_of-self-2
 invariant_of-self-2 g c =
@@ -40,13 +40,13 @@ invariant_of-self-2 g c =
     let left = deletes o cs k found c.self.invariant.0.openings_differ in
     let then = ended (get_or cs k no_contact) c.args.start in
     let chained = subst (λ ds. AreChained (contact_buckets ds) chains.befores.items chains.lasts.items) c.deref.ensures.value c.find_standing.ensures.chained in
-    subst (λ x. ContactsObey (standing (set cs k (ended x c.args.start))) s.greatest × KnowsSome chains.befores.items chains.lasts.items s.openings.rising s.openings.last (set cs k (ended x c.args.start)) × (true ≡ false → standing (set cs k (ended x c.args.start)) ≡ set cs k (ended x c.args.start))) (sym (there cs k c.index_mut.result.now found.0 c.index_mut.ensures.value)) (
+    subst (λ x. ContactsObey (standing (set cs k (ended x c.args.start))) s.greatest × KnowsSome chains.befores.items chains.lasts.items s.openings.rising s.openings.last (set cs k (ended x c.args.start)) × (c.saturating_add-self-inside.result ≡ 0 → standing (set cs k (ended x c.args.start)) ≡ set cs k (ended x c.args.start))) (sym (there cs k c.index_mut.result.now found.0 c.index_mut.ensures.value)) (
       subst (λ ds. ContactsObey ds s.greatest) (sym left.0) (IsPlan-fewer_contacts (plan_of_contacts (standing cs) s.greatest) (λ d. not (opens o.from o.to o.start d)) c.self.invariant.0),
       (
         subst (λ ks. AreChained ks chains.befores.items chains.lasts.items) (sym (map-set_same (λ (d : Contact). opening_bucket (opening_of d)) cs k then no_contact refl)) chained,
         λ up. open_by_set s.openings.last cs k c.args.start (c.self.invariant.1.1 up),
       ),
-      λ no. absurd cc,
+      λ no. absurd (let e = c.saturating_add-self-inside.ensures in omega (arith, e, no)),
     )
 
 pub returns-clause-value : goal.returns-clause-value
@@ -57,7 +57,7 @@ returns-clause-value g c =
     let found : IsFound o cs (Some k) = subst (λ ds. IsFound o ds (Some k)) c.deref.ensures.value (c.in-Some.ensures {u = tt}).found in
     ap (λ (d : Contact). ok_or (Some d.number) NothingToDelete) (there cs k c.index.result.now found.0 c.index.ensures)
     ∙ ap (λ (r : Option Contact). ok_or (option_map (λ (d : Contact). d.number) r) NothingToDelete) (sym (deletes o cs k found c.self.invariant.0.openings_differ).1)
-    ∙ ap (λ (q : ContactPlan). ok_or (number_of_opening q o.from o.to o.start) NothingToDelete) c.self.view_is
+    ∙ ap (λ (q : ContactPlan). ok_or (number_of_opening q o.from o.to o.start) NothingToDelete) (c.self.view_is ∙ c.sweep.ensures)
 
 pub returns-clause-ok : goal.returns-clause-ok
 returns-clause-ok g c =
@@ -69,4 +69,4 @@ returns-clause-ok g c =
     let left = deletes o cs k found c.self.invariant.0.openings_differ in
     ap (λ x. plan_of_contacts (standing (set cs k (ended x c.args.start))) s.greatest) (there cs k c.index_mut.result.now found.0 c.index_mut.ensures.value)
     ∙ ap (λ ds. plan_of_contacts ds s.greatest) left.0
-    ∙ ap (λ (q : ContactPlan). without_contact q c.args.from c.args.to c.args.start) c.self.view_is
+    ∙ ap (λ (q : ContactPlan). without_contact q c.args.from c.args.to c.args.start) (c.self.view_is ∙ c.sweep.ensures)
