@@ -1,4 +1,3 @@
 -- Texts, part by part.
-pub mod TextsInTurn
 pub mod SpelledTimes
 pub mod Explained

@@ -1,8 +1,8 @@
 -- Lists on the command line, the words of commands, and texts of requests and of lists.
 pub mod ListedNumbers
 pub mod RequestWords
-pub mod RequestLines
+pub mod TextLines
 pub mod ListLines
-pub mod RequestsRead
+pub mod LinesRead
 pub mod BuiltWords
 pub mod NamedWords

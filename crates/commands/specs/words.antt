@@ -3,4 +3,4 @@ pub mod Lists
 pub mod Paths
 pub mod Values
 pub mod CommandLine
-pub mod Requests
+pub mod Lines

@@ -11,7 +11,7 @@ ghost use Rattle.commands.specs.runs.Calls.{RunsCheck, RunsExplain, RunsFirst, R
 use crate::command::CommandName;
 use crate::failure::Failure;
 use crate::files::{
-    FileSystem, keep_if_done, make_session, open_lists, open_plan, open_requests, open_session,
+    FileSystem, LISTS, REQUESTS, keep_if_done, make_session, open_file, open_plan, open_session,
     session_out,
 };
 use crate::runs::{run_check, run_explain, run_first, run_follow, run_many, run_next, run_verify};
@@ -39,31 +39,13 @@ pub fn first<'w, D: FileSystem<'w>, O: Write, E: Write>(
     let request = values.request.unwrap();
     let mut plan = open_plan(files, words)?;
     let Some(path) = session_out(words) else {
-        let mut nowhere = Device::new(io::sink());
-        let status = run_first(
-            alloc,
-            &mut plan,
-            request,
-            count,
-            out,
-            false,
-            &mut nowhere,
-            err,
-        );
+        let mut sink = Device::new(io::sink());
+        let status = run_first(alloc, &mut plan, request, count, out, false, &mut sink, err);
         return Ok(status);
     };
-    let mut session = make_session(files, path)?;
-    let status = run_first(
-        alloc,
-        &mut plan,
-        request,
-        count,
-        out,
-        true,
-        &mut session,
-        err,
-    );
-    keep_if_done(files, session, status);
+    let mut new = make_session(files, path)?;
+    let status = run_first(alloc, &mut plan, request, count, out, true, &mut new, err);
+    keep_if_done(files, new, status);
     Ok(status)
 }
 
@@ -84,16 +66,9 @@ pub fn next<'w, D: FileSystem<'w>, O: Write, E: Write>(
     let mut plan = open_plan(files, words)?;
     let mut old = open_session(files, words)?;
     let Some(path) = session_out(words) else {
-        let mut nowhere = Device::new(io::sink());
+        let mut none = Device::new(io::sink());
         let status = run_next(
-            alloc,
-            &mut plan,
-            &mut old,
-            count,
-            out,
-            false,
-            &mut nowhere,
-            err,
+            alloc, &mut plan, &mut old, count, out, false, &mut none, err,
         );
         return Ok(status);
     };
@@ -115,6 +90,7 @@ pub fn verify<'w, D: FileSystem<'w>, O: Write, E: Write>(
     ensures stopped { IfErr result (StopsBefore D.rules command.Verify (found_of words.now)) }
     ensures not_run { OnErr result ((O.output out.new ≡ O.output out.old) × (E.output err.new ≡ E.output err.old)) }
 {
+    values_of(alloc, CommandName::Verify, words)?;
     let mut plan = open_plan(files, words)?;
     let mut old = open_session(files, words)?;
     Ok(run_verify(alloc, &mut plan, &mut old, out, err))
@@ -132,6 +108,7 @@ pub fn check<'w, D: FileSystem<'w>, O: Write, E: Write>(
     ensures stopped { IfErr result (StopsBefore D.rules command.Check (found_of words.now)) }
     ensures not_run { OnErr result ((O.output out.new ≡ O.output out.old) × (E.output err.new ≡ E.output err.old)) }
 {
+    values_of(alloc, CommandName::Check, words)?;
     let mut plan = open_plan(files, words)?;
     Ok(run_check(alloc, &mut plan, out, err))
 }
@@ -170,7 +147,7 @@ pub fn many<'w, D: FileSystem<'w>, O: Write, E: Write>(
     let values = values_of(alloc, CommandName::Many, words)?;
     let count = values.count.unwrap();
     let mut plan = open_plan(files, words)?;
-    let mut requests = open_requests(files, words)?;
+    let mut requests = open_file(files, words, REQUESTS, Failure::CannotOpenRequests)?;
     Ok(run_many(alloc, &mut plan, &mut requests, count, out, err))
 }
 
@@ -186,7 +163,8 @@ pub fn follow<'w, D: FileSystem<'w>, O: Write, E: Write>(
     ensures stopped { IfErr result (StopsBefore D.rules command.Follow (found_of words.now)) }
     ensures not_run { OnErr result ((O.output out.new ≡ O.output out.old) × (E.output err.new ≡ E.output err.old)) }
 {
+    values_of(alloc, CommandName::Follow, words)?;
     let mut plan = open_plan(files, words)?;
-    let mut lists = open_lists(files, words)?;
+    let mut lists = open_file(files, words, LISTS, Failure::CannotOpenLists)?;
     Ok(run_follow(alloc, &mut plan, &mut lists, out, err))
 }

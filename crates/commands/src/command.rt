@@ -4,7 +4,7 @@ ghost use Rattle.std.specs.Prelude.{◌≡◌, IfErr, IfOk, OnErr, Some};
 ghost use Rattle.clap.specs.Matches.{found_of};
 ghost use Rattle.commands.specs.runs.Calls.{RunsCommand, StopsBefore};
 ghost use Rattle.commands.specs.words.CommandLine.{command_text};
-ghost use Rattle.commands.specs.words.Values.{command_named, has_request, has_session, has_requests, has_lists, has_count, keeps_session, has_contacts};
+ghost use Rattle.commands.specs.words.Values.{command_named, has_request, has_count, has_contacts};
 
 use crate::calls::{check, explain, first, follow, many, next, verify};
 use crate::failure::Failure;
@@ -33,7 +33,7 @@ pub enum CommandName {
     Follow,
 }
 
-/// The declaration of a command. Each command has a plan; its other words come in this order.
+/// The texts of a command.
 #[derive(Clone, Copy)]
 pub struct Declared<'a> {
     /// Its name on the command line.
@@ -42,34 +42,13 @@ pub struct Declared<'a> {
     pub about: &'a str,
     /// Calls of it, for its help.
     pub examples: &'a str,
-    /// Whether it has words for a request.
-    pub has_request: bool,
-    /// Whether it has the word for an old session.
-    pub has_session: bool,
-    /// Whether it has the word for a file of requests.
-    pub has_requests: bool,
-    /// Whether it has the word for a file of lists.
-    pub has_lists: bool,
-    /// Whether it has the word for the number of routes of a page.
-    pub has_count: bool,
-    /// Whether it has the word for the file that keeps its session.
-    pub keeps_session: bool,
-    /// Whether it has the word for contacts.
-    pub has_contacts: bool,
 }
 
 impl CommandName {
-    /// The declaration of the command.
+    /// The texts of the command.
     pub fn declared<'a>(self) -> Declared<'a>
         ensures name { command_named result.name.now ≡ Some self }
         ensures text { result.name.now ≡ command_text self }
-        ensures request { result.has_request ≡ has_request self }
-        ensures session { result.has_session ≡ has_session self }
-        ensures requests { result.has_requests ≡ has_requests self }
-        ensures lists { result.has_lists ≡ has_lists self }
-        ensures count { result.has_count ≡ has_count self }
-        ensures keeps { result.keeps_session ≡ keeps_session self }
-        ensures contacts { result.has_contacts ≡ has_contacts self }
     {
         match self {
             CommandName::First => Declared {
@@ -79,13 +58,6 @@ impl CommandName {
   cgrlist first --plan plan.txt --from 31 --to 1 --at 2030/01/01-00:45:00 --count 5
   cgrlist first --plan plan.txt --from 31 --to 1 --at 2030/01/01-00:45:00 --count 3 --avoid 12 --max-hops 4
   cgrlist first --plan plan.txt --from 31 --to 1 --at 2030/01/01-00:45:00 --count 5 --session-out page1",
-                has_request: true,
-                has_session: false,
-                has_requests: false,
-                has_lists: false,
-                has_count: true,
-                keeps_session: true,
-                has_contacts: false,
             },
             CommandName::Next => Declared {
                 name: "next",
@@ -93,26 +65,12 @@ impl CommandName {
                 examples: "Examples:
   cgrlist next --plan plan.txt --session page1 --count 5
   cgrlist next --plan plan.txt --session page1 --count 5 --session-out page2",
-                has_request: false,
-                has_session: true,
-                has_requests: false,
-                has_lists: false,
-                has_count: true,
-                keeps_session: true,
-                has_contacts: false,
             },
             CommandName::Verify => Declared {
                 name: "verify",
                 about: "Tells whether a session is one of the plan's, whoever wrote it",
                 examples: "Examples:
   cgrlist verify --plan plan.txt --session page1",
-                has_request: false,
-                has_session: true,
-                has_requests: false,
-                has_lists: false,
-                has_count: false,
-                keeps_session: false,
-                has_contacts: false,
             },
             CommandName::Check => Declared {
                 name: "check",
@@ -120,13 +78,6 @@ impl CommandName {
                 examples: "Examples:
   cgrlist check --plan plan.txt
   cgrlist check --plan /dev/stdin <plan.txt",
-                has_request: false,
-                has_session: false,
-                has_requests: false,
-                has_lists: false,
-                has_count: false,
-                keeps_session: false,
-                has_contacts: false,
             },
             CommandName::Explain => Declared {
                 name: "explain",
@@ -134,13 +85,6 @@ impl CommandName {
                 examples: "Examples:
   cgrlist explain --plan plan.txt --from 31 --to 1 --at 2030/01/01-00:45:00 --contacts 4,11,2
   cgrlist explain --plan plan.txt --from 31 --to 1 --at 2030/01/01-00:45:00 --contacts 5,12,2 --margin-ppm 1000",
-                has_request: true,
-                has_session: false,
-                has_requests: false,
-                has_lists: false,
-                has_count: false,
-                keeps_session: false,
-                has_contacts: true,
             },
             CommandName::Many => Declared {
                 name: "many",
@@ -150,13 +94,6 @@ impl CommandName {
 A request is a line FROM TO TIME, and after it, if need be, PPM, HOPS and NODES in this order, with single spaces:
   31 1 2030/01/01-00:45:00
   31 1 2030/01/01-00:45:00 0 4 12,15",
-                has_request: false,
-                has_session: false,
-                has_requests: true,
-                has_lists: false,
-                has_count: true,
-                keeps_session: false,
-                has_contacts: false,
             },
             CommandName::Follow => Declared {
                 name: "follow",
@@ -166,15 +103,32 @@ A request is a line FROM TO TIME, and after it, if need be, PPM, HOPS and NODES 
 A list is a line NUMBERS FROM TO TIME, and after it, if need be, PPM, HOPS and NODES in this order, with single spaces:
   4,11,2 31 1 2030/01/01-00:45:00
   5,12,2 31 1 2030/01/01-00:45:00 0 4 22",
-                has_request: false,
-                has_session: false,
-                has_requests: false,
-                has_lists: true,
-                has_count: false,
-                keeps_session: false,
-                has_contacts: false,
             },
         }
+    }
+
+    /// Whether its words give a request.
+    pub fn has_request(self) -> bool
+        ensures { result ≡ has_request self }
+    {
+        matches!(self, CommandName::First | CommandName::Explain)
+    }
+
+    /// Whether its words give the number of routes of a page.
+    pub fn has_count(self) -> bool
+        ensures { result ≡ has_count self }
+    {
+        matches!(
+            self,
+            CommandName::First | CommandName::Next | CommandName::Many
+        )
+    }
+
+    /// Whether its words give contacts.
+    pub fn has_contacts(self) -> bool
+        ensures { result ≡ has_contacts self }
+    {
+        matches!(self, CommandName::Explain)
     }
 
     /// Runs the command over its words and the files that they name. The report goes to `out`, and messages go to `err`.
@@ -182,8 +136,8 @@ A list is a line NUMBERS FROM TO TIME, and after it, if need be, PPM, HOPS and N
     ///
     /// # Errors
     ///
-    /// What stopped the command before its run: a bad value, refused memory, or a file that can't be opened or made.
-    /// Then nothing was written, and no file was made.
+    /// What stopped the command before its run: a bad value, a failed allocation, or a file that can't be opened or
+    /// made. Then nothing was written, and no file was made.
     pub fn run<'w, D: FileSystem<'w>, O: Write, E: Write>(
         self,
         alloc: Global,

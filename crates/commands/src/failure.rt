@@ -2,10 +2,10 @@
 
 ghost use Rattle.std.specs.Prelude.{◌≡◌};
 ghost use Rattle.commands.specs.declared.failure.Failure.TheVariants as failure;
-ghost use Rattle.commands.specs.texts.Messages.{status_of, failure_of_plan, failure_of_requests, failure_of_session, failure_of_value};
+ghost use Rattle.commands.specs.texts.Messages.{status_of, failure_of_plan, failure_of_lines, failure_of_session, failure_of_value};
 
 use crate::status::Status;
-use crate::words::{LineForm, RequestKind, RequestsFault, ValueFault, ValueName};
+use crate::words::{LineForm, LineKind, LinesFault, ValueFault, ValueName};
 use sabr_model::{NoMemory, WriteFault};
 use sabr_plan::{PlanFault, PlanKind};
 use sabr_session::SessionFault;
@@ -36,18 +36,18 @@ pub enum Failure {
     /// The file of requests can't be opened.
     CannotOpenRequests,
     /// The line of requests of this number is bad.
-    RequestsLine(u32, RequestKind),
+    RequestsLine(u32, LineKind),
     /// The reader of the requests failed.
-    RequestsRead,
+    LinesRead,
     /// The file of lists can't be opened.
     CannotOpenLists,
     /// The line of lists of this number is bad.
-    ListsLine(u32, RequestKind),
+    ListsLine(u32, LineKind),
     /// The reader of the lists failed.
     ListsRead,
     /// A writer failed.
     Write,
-    /// Memory was refused.
+    /// An allocation failed.
     NoMemory,
     /// A word of the command line isn't UTF-8.
     NotUtf8,
@@ -67,7 +67,7 @@ impl Failure {
             }
             Failure::PlanRead | Failure::SessionRead | Failure::Write => Status::Io,
             Failure::RequestsLine(_, _) | Failure::ListsLine(_, _) => Status::Session,
-            Failure::CannotOpenRequests | Failure::RequestsRead => Status::Io,
+            Failure::CannotOpenRequests | Failure::LinesRead => Status::Io,
             Failure::CannotOpenLists | Failure::ListsRead => Status::Io,
             Failure::NoMemory => Status::Memory,
             Failure::NotUtf8 => Status::Usage,
@@ -75,17 +75,17 @@ impl Failure {
     }
 
     /// The failure that refused lines of this form are.
-    pub fn of_lines(form: LineForm, fault: RequestsFault) -> Failure
-        ensures { result ≡ failure_of_requests form fault }
+    pub fn of_lines(form: LineForm, fault: LinesFault) -> Failure
+        ensures { result ≡ failure_of_lines form fault }
     {
         match (form, fault) {
-            (_, RequestsFault::NoMemory) => Failure::NoMemory,
-            (LineForm::Requests, RequestsFault::Read) => Failure::RequestsRead,
-            (LineForm::Requests, RequestsFault::Line(line, kind)) => {
+            (_, LinesFault::NoMemory) => Failure::NoMemory,
+            (LineForm::Requests, LinesFault::Read) => Failure::LinesRead,
+            (LineForm::Requests, LinesFault::Line(line, kind)) => {
                 Failure::RequestsLine(line, kind)
             }
-            (LineForm::Lists, RequestsFault::Read) => Failure::ListsRead,
-            (LineForm::Lists, RequestsFault::Line(line, kind)) => Failure::ListsLine(line, kind),
+            (LineForm::Lists, LinesFault::Read) => Failure::ListsRead,
+            (LineForm::Lists, LinesFault::Line(line, kind)) => Failure::ListsLine(line, kind),
         }
     }
 }
@@ -108,7 +108,7 @@ impl From<ValueFault> for Failure {
 impl From<PlanFault> for Failure {
     ghost from_gives = { λ fault e. e ≡ failure_of_plan fault };
 
-    /// Separates a failed reader and refused memory from a bad line.
+    /// Separates a failed reader and a failed allocation from a bad line.
     fn from(fault: PlanFault) -> Failure {
         match fault.kind {
             PlanKind::Read => Failure::PlanRead,
@@ -122,7 +122,7 @@ impl From<PlanFault> for Failure {
 impl From<SessionFault> for Failure {
     ghost from_gives = { λ fault e. e ≡ failure_of_session fault };
 
-    /// Separates a failed reader and refused memory from a bad text.
+    /// Separates a failed reader and a failed allocation from a bad text.
     fn from(fault: SessionFault) -> Failure {
         match fault {
             SessionFault::Read => Failure::SessionRead,
@@ -141,7 +141,7 @@ impl From<WriteFault> for Failure {
     }
 }
 
-/// Refused memory.
+/// A failed allocation.
 impl From<NoMemory> for Failure {
     ghost from_gives = { λ _ e. e ≡ failure.NoMemory };
 

@@ -8,7 +8,7 @@ ghost use Rattle.clap.specs.Matches.{first_value, found_of};
 ghost use Rattle.commands.specs.declared.failure.Failure.TheVariants as failure;
 ghost use Rattle.commands.specs.runs.Calls.{IsUnopened};
 ghost use Rattle.commands.specs.runs.Files.{KeepsIfDone, Makes};
-ghost use Rattle.commands.specs.words.Paths.{lists_word, path_under, plan_word, requests_word, session_out_word, session_word};
+ghost use Rattle.commands.specs.words.Paths.{path_under, plan_word, session_out_word, session_word};
 
 use crate::failure::Failure;
 use crate::status::Status;
@@ -38,11 +38,27 @@ fn path_under<'w>(words: &ArgMatches<'w>, word: &str) -> &'w str
     words.get_str(word).unwrap_or("")
 }
 
-/// Opens the plan.
+/// Opens the file that a word of the command line gives.
 ///
 /// # Errors
 ///
-/// [`Failure::CannotOpenPlan`] if it can't be opened.
+/// `refusal` if it can't be opened.
+pub fn open_file<'w, D: FileSystem<'w>>(
+    files: &D,
+    words: &ArgMatches<'w>,
+    word: &str,
+    refusal: Failure,
+) -> Result<D::File, Failure>
+    ensures opened { IfOk result (λ file. D.rules.opened (path_under (found_of words.now) word.now) (D.File.input file)) }
+    ensures refused { IfErr result (λ f. (f ≡ refusal) × IsUnopened D.rules (found_of words.now) word.now) }
+{
+    match files.open(path_under(words, word)) {
+        Ok(file) => Ok(file),
+        Err(_) => Err(refusal),
+    }
+}
+
+/// Opens the plan, as [`open_file`].
 pub fn open_plan<'w, D: FileSystem<'w>>(
     files: &D,
     words: &ArgMatches<'w>,
@@ -50,17 +66,10 @@ pub fn open_plan<'w, D: FileSystem<'w>>(
     ensures opened { IfOk result (λ file. D.rules.opened (path_under (found_of words.now) plan_word) (D.File.input file)) }
     ensures refused { IfErr result (λ f. (f ≡ failure.CannotOpenPlan) × IsUnopened D.rules (found_of words.now) plan_word) }
 {
-    match files.open(path_under(words, PLAN)) {
-        Ok(file) => Ok(file),
-        Err(_) => Err(Failure::CannotOpenPlan),
-    }
+    open_file(files, words, PLAN, Failure::CannotOpenPlan)
 }
 
-/// Opens the old session.
-///
-/// # Errors
-///
-/// [`Failure::CannotOpenSession`] if it can't be opened.
+/// Opens the old session, as [`open_file`].
 pub fn open_session<'w, D: FileSystem<'w>>(
     files: &D,
     words: &ArgMatches<'w>,
@@ -68,46 +77,7 @@ pub fn open_session<'w, D: FileSystem<'w>>(
     ensures opened { IfOk result (λ file. D.rules.opened (path_under (found_of words.now) session_word) (D.File.input file)) }
     ensures refused { IfErr result (λ f. (f ≡ failure.CannotOpenSession) × IsUnopened D.rules (found_of words.now) session_word) }
 {
-    match files.open(path_under(words, SESSION)) {
-        Ok(file) => Ok(file),
-        Err(_) => Err(Failure::CannotOpenSession),
-    }
-}
-
-/// Opens the file of requests.
-///
-/// # Errors
-///
-/// [`Failure::CannotOpenRequests`] if it can't be opened.
-pub fn open_requests<'w, D: FileSystem<'w>>(
-    files: &D,
-    words: &ArgMatches<'w>,
-) -> Result<D::File, Failure>
-    ensures opened { IfOk result (λ file. D.rules.opened (path_under (found_of words.now) requests_word) (D.File.input file)) }
-    ensures refused { IfErr result (λ f. (f ≡ failure.CannotOpenRequests) × IsUnopened D.rules (found_of words.now) requests_word) }
-{
-    match files.open(path_under(words, REQUESTS)) {
-        Ok(file) => Ok(file),
-        Err(_) => Err(Failure::CannotOpenRequests),
-    }
-}
-
-/// Opens the file of lists.
-///
-/// # Errors
-///
-/// [`Failure::CannotOpenLists`] if it can't be opened.
-pub fn open_lists<'w, D: FileSystem<'w>>(
-    files: &D,
-    words: &ArgMatches<'w>,
-) -> Result<D::File, Failure>
-    ensures opened { IfOk result (λ file. D.rules.opened (path_under (found_of words.now) lists_word) (D.File.input file)) }
-    ensures refused { IfErr result (λ f. (f ≡ failure.CannotOpenLists) × IsUnopened D.rules (found_of words.now) lists_word) }
-{
-    match files.open(path_under(words, LISTS)) {
-        Ok(file) => Ok(file),
-        Err(_) => Err(Failure::CannotOpenLists),
-    }
+    open_file(files, words, SESSION, Failure::CannotOpenSession)
 }
 
 /// The path of the file for the new session. `None` if it isn't kept.

@@ -23,7 +23,7 @@ pub fn every_run()
 
 /// Shows that a run `next` over the session text of a place of the list writes the report of the next page, with ranks
 /// that go on from that place, and then the session text of the place after it. If one of its writers fails, that
-/// writer holds a beginning. If memory is refused or the session's reader fails, nothing is written.
+/// writer holds a beginning. If an allocation fails or the session's reader fails, nothing is written.
 pub fn next_goes_on()
     ensures { NextGoesOn }
 {}

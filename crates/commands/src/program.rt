@@ -21,7 +21,7 @@ use std::alloc::Global;
 /// command over these. The report goes to `out`, and messages and help go to `err`.
 ///
 /// The status is [`Status::Usage`] if the words are refused or ask for help, [`Status::Io`] if a file can't be opened
-/// or made, and [`Status::Memory`] if memory was refused before the run. Then nothing is written to `out`. Else the
+/// or made, and [`Status::Memory`] if an allocation failed before the run. Then nothing is written to `out`. Else the
 /// status is the run's. The file that was made for a session is kept if the status is [`Status::Done`], and else
 /// removed; if that fails, it stays.
 pub fn run_words<'w, D: FileSystem<'w>, O: Write, E: Write>(

@@ -18,7 +18,7 @@ pub enum Status {
     Session,
     /// Input or output failed.
     Io,
-    /// Memory was refused.
+    /// An allocation failed.
     Memory,
 }
 

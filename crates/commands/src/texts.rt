@@ -8,4 +8,4 @@ mod messages;
 
 pub use check_text::write_check_text;
 pub use explanation::write_explanation;
-pub use messages::tell;
+pub use messages::{tell, write_pieces};

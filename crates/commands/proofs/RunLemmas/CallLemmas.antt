@@ -1,60 +1,17 @@
--- Why a command ends before its run, the values of commands that have none, and what is left of files.
-use Rattle.std.proofs.Common.{◌≡◌, ℕ, List, [], ◌∷◌, IfOk, IsTrue, Result, Ok, Err, Option, None, Some, Box, box_value, option_map, inr, refl, ap, subst}
+-- What is left of files after a command, and what names it.
+use Rattle.std.proofs.Common.{◌≡◌, ℕ, List, ◌∷◌, IfOk, Result, Ok, Err, Option, None, Some, Box, box_value, option_map, refl, ap, subst}
 use Rattle.sabr_model.specs.Devices.{Output}
 use Rattle.clap.specs.Words.{subcommand_name_of, subcommand_rows, subcommand_rows_of}
 use Rattle.clap.specs.declared.parser.matches.ArgMatches.{ArgMatches}
 use Rattle.clap.specs.declared.parser.matches.ArgMatches.TheViews.{out-ArgMatches, out-SubCommand}
-use Rattle.clap.specs.declared.parser.matches.Found.{Found}
 use Rattle.clap.specs.declared.parser.matches.SubCommand.{SubCommand}
-use Rattle.commands.specs.declared.command.CommandName.{CommandName}
-use Rattle.commands.specs.declared.command.CommandName.TheVariants as command
-use Rattle.commands.specs.declared.failure.Failure.{Failure}
-use Rattle.commands.specs.declared.failure.Failure.TheVariants as failure
 use Rattle.commands.specs.declared.status.Status.{Status}
 use Rattle.commands.specs.declared.status.Status.TheVariants as status
-use Rattle.commands.specs.runs.Calls.{FailsAtFile, IsUnopened, Opens, StopsBefore}
 use Rattle.commands.specs.runs.Files.{FileRules, KeepsIfDone, Left, LeavesFile, unwritten}
 use Rattle.commands.specs.runs.Program.{Given, named_in}
-use Rattle.commands.specs.words.Paths.{lists_word, plan_word, session_word}
-use Rattle.commands.specs.words.Values.{ValuesRead, command_named, has_lists, has_session, values_of}
-
--- no value at all
-abbrev pub no_values : ValuesRead
-no_values = record { request = None; count = None; contacts = [] }
-
-pub verify_values : (found : Found) → values_of command.Verify found ≡ Ok no_values
-unfolding values_of
-verify_values found = refl
-
-pub check_values : (found : Found) → values_of command.Check found ≡ Ok no_values
-unfolding values_of
-check_values found = refl
-
-pub follow_values : (found : Found) → values_of command.Follow found ≡ Ok no_values
-unfolding values_of
-follow_values found = refl
-
--- a file is refused
-pub stops_at_file : (rules : FileRules) (name : CommandName) (found : Found) (values : ValuesRead) (f : Failure)
-    → values_of name found ≡ Ok values → FailsAtFile rules name found f → StopsBefore rules name found f
-stops_at_file rules name found values f given fails = inr (inr (values, given, fails))
-
-pub fails_at_plan : (rules : FileRules) (name : CommandName) (found : Found) (f : Failure)
-    → (f ≡ failure.CannotOpenPlan) × IsUnopened rules found plan_word → FailsAtFile rules name found f
-fails_at_plan rules name found f (is, shut) = rw is shut
-
-pub fails_at_session : (rules : FileRules) (name : CommandName) (found : Found) (f : Failure) → IsTrue (has_session name) → Opens rules found plan_word
-    → (f ≡ failure.CannotOpenSession) × IsUnopened rules found session_word → FailsAtFile rules name found f
-fails_at_session rules name found f has opens (is, shut) = rw is (has, opens, shut)
-
-pub fails_at_lists : (rules : FileRules) (name : CommandName) (found : Found) (f : Failure) → IsTrue (has_lists name) → Opens rules found plan_word
-    → (f ≡ failure.CannotOpenLists) × IsUnopened rules found lists_word → FailsAtFile rules name found f
-fails_at_lists rules name found f has opens (is, shut) = rw is (has, opens, shut)
+use Rattle.commands.specs.words.Values.{command_named}
 
 -- what is left after a command
-pub leaves_none : (rules : FileRules) (kept : Option (List ℕ)) (ended : Status) (x : Output) (left : Left) → kept ≡ None → LeavesFile rules kept ended x left left
-leaves_none rules kept ended x left is = rw is refl
-
 module _ (rules : FileRules) (path : List ℕ) (x : Output) (left left₁ : Left) where
   leaves : (ended : Status) → KeepsIfDone rules ended x ((path, unwritten) ∷ left) left₁ → LeavesFile rules (Some path) ended x left left₁
   leaves status.Done h = h

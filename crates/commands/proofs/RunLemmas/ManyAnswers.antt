@@ -13,14 +13,14 @@ use Rattle.sabr_model.specs.routes.Asking.{IsRequest}
 use Rattle.sabr_session.specs.ReportText.{HasSpelledTimes, report_text}
 use Rattle.commands.proofs.TextLemmas.SpelledTimes.{records_spelled}
 use Rattle.sabr_model.proofs.ListLemmas.WrittenTexts.{Takes-kept, Written-nil, Written-append, WrittenInPart-after, WrittenInPart-more}
-use Rattle.commands.specs.declared.words.requests_fault.RequestKind.{RequestKind}
-use Rattle.commands.specs.declared.words.requests_fault.RequestKind.TheVariants.{BadLine}
-use Rattle.commands.specs.declared.words.requests_fault.RequestsFault.{RequestsFault}
-use Rattle.commands.specs.declared.words.line_form.LineForm.{LineForm}
-use Rattle.commands.specs.declared.runs.answer_kind.AnswerKind.{AnswerKind}
-use Rattle.commands.specs.words.Requests.{Asked, HasRequests, RequestLine, asked_at, asked_in, fault_of, lines_in, most_requests, put_first, requests_from}
-use Rattle.commands.specs.runs.Many.{IsFirstPage, LeavesAnswer, LeavesAnswers, StopsAtRequest, WritesAll, WritesAnswers, answer_text, answers_text, form_of, has_broken}
-use Rattle.commands.specs.texts.Messages.{failure_of_requests}
+use Rattle.commands.specs.declared.words.lines_fault.LineKind.{LineKind}
+use Rattle.commands.specs.declared.words.lines_fault.LineKind.TheVariants.{BadLine}
+use Rattle.commands.specs.declared.words.lines_fault.LinesFault.{LinesFault}
+use Rattle.commands.specs.declared.words.lines.LineForm.{LineForm}
+use Rattle.commands.specs.declared.runs.answering.AnswerKind.{AnswerKind}
+use Rattle.commands.specs.words.Lines.{Asked, HasLines, AskedLine, asked_at, asked_in, fault_of, lines_in, most_lines, put_first, asked_from}
+use Rattle.commands.specs.runs.Many.{IsFirstPage, LeavesAnswer, LeavesAnswers, StopsAtLine, WritesAll, WritesAnswers, answer_text, answers_text, form_of, has_broken}
+use Rattle.commands.specs.texts.Messages.{failure_of_lines}
 use Rattle.commands.specs.runs.Runs.{first_report}
 use Rattle.commands.specs.runs.SessionRuns.{next_report}
 use Rattle.commands.proofs.RunLemmas.PageTexts.{flush_failed, report_of_page}
@@ -30,66 +30,66 @@ use Rattle.commands.specs.declared.failure.Failure.{Failure}
 use Rattle.commands.specs.declared.failure.Failure.TheVariants as failure
 
 -- the answers to some lines, and then to others
-answers_then : (p : ContactPlan) (kind : AnswerKind) (xs ys : List RequestLine) → answers_text p (xs ++ ys) kind ≡ answers_text p xs kind ++ answers_text p ys kind
+answers_then : (p : ContactPlan) (kind : AnswerKind) (xs ys : List AskedLine) → answers_text p (xs ++ ys) kind ≡ answers_text p xs kind ++ answers_text p ys kind
 answers_then p kind [] ys = refl
 answers_then p kind (x ∷ xs) ys =
     ap (λ t. answer_text p kind x ++ t) (answers_then p kind xs ys)
     ∙ sym (append_assoc (answer_text p kind x) (answers_text p xs kind) (answers_text p ys kind))
 
-one_more : (p : ContactPlan) (kind : AnswerKind) (xs : List RequestLine) (x : RequestLine) → answers_text p (xs ++ x ∷ []) kind ≡ answers_text p xs kind ++ answer_text p kind x
+one_more : (p : ContactPlan) (kind : AnswerKind) (xs : List AskedLine) (x : AskedLine) → answers_text p (xs ++ x ∷ []) kind ≡ answers_text p xs kind ++ answer_text p kind x
 one_more p kind xs x = answers_then p kind xs (x ∷ []) ∙ ap (λ t. answers_text p xs kind ++ t) (append-nil (answer_text p kind x))
 
 -- a line before others that aren't bad isn't bad
-pub record HasFirst (line : List ℕ) (a : Result Asked RequestKind) (rest : Result (List RequestLine) RequestsFault) (xs : List RequestLine) : Type 0 where
+pub record HasFirst (line : List ℕ) (a : Result Asked LineKind) (rest : Result (List AskedLine) LinesFault) (xs : List AskedLine) : Type 0 where
   pub asked : Asked
-  pub others : List RequestLine
+  pub others : List AskedLine
   pub there : a ≡ Ok asked
   pub all : rest ≡ Ok others
   pub parts : xs ≡ record { line = line; asked = asked } ∷ others
 
-has_first : (n : ℕ) (line : List ℕ) (a : Result Asked RequestKind) (rest : Result (List RequestLine) RequestsFault) (xs : List RequestLine) → put_first n line a rest ≡ Ok xs → HasFirst line a rest xs
+has_first : (n : ℕ) (line : List ℕ) (a : Result Asked LineKind) (rest : Result (List AskedLine) LinesFault) (xs : List AskedLine) → put_first n line a rest ≡ Ok xs → HasFirst line a rest xs
 has_first n line (Err k) rest xs e = absurd cc
 has_first n line (Ok r) (Err f) xs e = absurd cc
 has_first n line (Ok r) (Ok ys) xs e = record { asked = r; others = ys; there = refl; all = refl; parts = cc }
 
-within : (beyond : Bool) (x : Result Asked RequestKind) (a : Asked) → cond beyond (Err BadLine) x ≡ Ok a → x ≡ Ok a
+within : (beyond : Bool) (x : Result Asked LineKind) (a : Asked) → cond beyond (Err BadLine) x ≡ Ok a → x ≡ Ok a
 within true x a e = absurd cc
 within false x a e = e
 
-all_fine : (requested : Result (List RequestLine) RequestsFault) → fault_of requested ≡ None → (xs : List RequestLine) × (requested ≡ Ok xs)
+all_fine : (requested : Result (List AskedLine) LinesFault) → fault_of requested ≡ None → (xs : List AskedLine) × (requested ≡ Ok xs)
 all_fine (Ok xs) e = (xs, refl)
 all_fine (Err f) e = absurd cc
 
 -- lines were answered, and these are left
-pub record HasAnswered (p : ContactPlan) (kind : AnswerKind) (requested : Result (List RequestLine) RequestsFault) (lines : List (List ℕ)) (old new : Output) : Type 0 where
-  pub done : List RequestLine
-  pub left : List RequestLine
+pub record HasAnswered (p : ContactPlan) (kind : AnswerKind) (requested : Result (List AskedLine) LinesFault) (lines : List (List ℕ)) (old new : Output) : Type 0 where
+  pub done : List AskedLine
+  pub left : List AskedLine
   pub number : ℕ
   pub parts : requested ≡ Ok (done ++ left)
-  pub rest : requests_from (form_of kind) number lines ≡ Ok left
+  pub rest : asked_from (form_of kind) number lines ≡ Ok left
   pub written : Written old (answers_text p done kind) new
 
-pub none_answered : (p : ContactPlan) (kind : AnswerKind) (lines : List (List ℕ)) (old : Output) → fault_of (requests_from (form_of kind) 1 lines) ≡ None → HasAnswered p kind (requests_from (form_of kind) 1 lines) lines old old
+pub none_answered : (p : ContactPlan) (kind : AnswerKind) (lines : List (List ℕ)) (old : Output) → fault_of (asked_from (form_of kind) 1 lines) ≡ None → HasAnswered p kind (asked_from (form_of kind) 1 lines) lines old old
 none_answered p kind lines old e =
-    let requested = all_fine (requests_from (form_of kind) 1 lines) e in
+    let requested = all_fine (asked_from (form_of kind) 1 lines) e in
     record { done = []; left = requested.0; number = 1; parts = requested.1; rest = requested.1; written = Written-nil old }
 
 -- what answering a line leaves over a plan
 abbrev pub Leaves : AnswerKind → List ℕ → Result (Unit {0}) Failure → Output → Output → TabledPlan → Type 0
 Leaves kind line end old new p = IfOk (asked_in (form_of kind) line) (λ a. LeavesAnswer p.plan kind (record { line = line; asked = a }) end old new)
 
-module _ (p : TabledPlan) (kind : AnswerKind) (requested : Result (List RequestLine) RequestsFault) (lines lines₁ : List (List ℕ)) (line : List ℕ) (old mid : Output)
+module _ (p : TabledPlan) (kind : AnswerKind) (requested : Result (List AskedLine) LinesFault) (lines lines₁ : List (List ℕ)) (line : List ℕ) (old mid : Output)
     (h : HasAnswered p.plan kind requested lines old mid) (e : lines ≡ line ∷ lines₁) where
-  pub first : HasFirst line (asked_at (form_of kind) h.number line) (requests_from (form_of kind) (h.number + 1) lines₁) h.left
+  pub first : HasFirst line (asked_at (form_of kind) h.number line) (asked_from (form_of kind) (h.number + 1) lines₁) h.left
   first =
-      has_first h.number line (asked_at (form_of kind) h.number line) (requests_from (form_of kind) (h.number + 1) lines₁) h.left
-      (ap (requests_from (form_of kind) h.number) (sym e) ∙ h.rest)
+      has_first h.number line (asked_at (form_of kind) h.number line) (asked_from (form_of kind) (h.number + 1) lines₁) h.left
+      (ap (asked_from (form_of kind) h.number) (sym e) ∙ h.rest)
 
   -- the line asks something
   pub has_asked : asked_in (form_of kind) line ≡ Ok first.asked
-  has_asked = within (nat_lt most_requests h.number) (asked_in (form_of kind) line) first.asked first.there
+  has_asked = within (nat_lt most_lines h.number) (asked_in (form_of kind) line) first.asked first.there
 
-  abbrev next : RequestLine
+  abbrev next : AskedLine
   next = record { line = line; asked = first.asked }
 
   parted : requested ≡ Ok (h.done ++ next ∷ first.others)
@@ -112,29 +112,29 @@ module _ (p : TabledPlan) (kind : AnswerKind) (requested : Result (List RequestL
   }
 
   -- memory is refused at this one
-  stops : (xs : List RequestLine) × (requested ≡ Ok xs) × StopsAtRequest p.plan xs kind old mid
+  stops : (xs : List AskedLine) × (requested ≡ Ok xs) × StopsAtLine p.plan xs kind old mid
   stops = (h.done ++ next ∷ first.others, parted, record { before = h.done; request = next; after = first.others; parts = refl; written = h.written })
 
   -- the writer fails in this one
-  breaks : (new : Output) → WrittenInPart mid (answer_text p.plan kind next) new → (xs : List RequestLine) × (requested ≡ Ok xs) × WrittenInPart old (answers_text p.plan xs kind) new
+  breaks : (new : Output) → WrittenInPart mid (answer_text p.plan kind next) new → (xs : List AskedLine) × (requested ≡ Ok xs) × WrittenInPart old (answers_text p.plan xs kind) new
   breaks new part =
       let all = WrittenInPart-after old mid new (answers_text p.plan h.done kind) _ h.written (WrittenInPart-more mid new (answer_text p.plan kind next) (answers_text p.plan first.others kind) part) in
       (h.done ++ next ∷ first.others, parted, subst (λ text. WrittenInPart old text new) (sym (answers_then p.plan kind h.done (next ∷ first.others))) all)
 
-  failed : (new : Output) (f : Failure) → LeavesAnswer p.plan kind next (Err f) mid new → (xs : List RequestLine) × (requested ≡ Ok xs) × LeavesAnswers p.plan xs kind (Err f) old new
+  failed : (new : Output) (f : Failure) → LeavesAnswer p.plan kind next (Err f) mid new → (xs : List AskedLine) × (requested ≡ Ok xs) × LeavesAnswers p.plan xs kind (Err f) old new
   failed new failure.Write part = breaks new part
   failed new failure.NoMemory same = rw same stops
   failed new _ bad = absurd bad
 
   -- either of them
-  pub fails : (new : Output) (f : Failure) → Leaves kind line (Err f) mid new p → (xs : List RequestLine) × (requested ≡ Ok xs) × LeavesAnswers p.plan xs kind (Err f) old new
+  pub fails : (new : Output) (f : Failure) → Leaves kind line (Err f) mid new p → (xs : List AskedLine) × (requested ≡ Ok xs) × LeavesAnswers p.plan xs kind (Err f) old new
   fails new f left = failed new f (left_next (Err f) new left)
 
 -- none is left
-pub all_answered : (p : ContactPlan) (kind : AnswerKind) (requested : Result (List RequestLine) RequestsFault) (lines : List (List ℕ)) (old new : Output) → HasAnswered p kind requested lines old new → lines ≡ []
-    → (xs : List RequestLine) × (requested ≡ Ok xs) × Written old (answers_text p xs kind) new
+pub all_answered : (p : ContactPlan) (kind : AnswerKind) (requested : Result (List AskedLine) LinesFault) (lines : List (List ℕ)) (old new : Output) → HasAnswered p kind requested lines old new → lines ≡ []
+    → (xs : List AskedLine) × (requested ≡ Ok xs) × Written old (answers_text p xs kind) new
 all_answered p kind requested lines old new h e =
-    let none : Ok [] ≡ Ok h.left = ap (requests_from (form_of kind) h.number) (sym e) ∙ h.rest in
+    let none : Ok [] ≡ Ok h.left = ap (asked_from (form_of kind) h.number) (sym e) ∙ h.rest in
     let left : h.left ≡ [] = cc in
     (h.done, h.parts ∙ ap (λ xs. Ok (h.done ++ xs)) left ∙ ap Ok (append-nil h.done), h.written)
 
@@ -163,19 +163,19 @@ first_pages p r s k (Ok l) rules limits (plan, request, state) last = record {
 }
 
 -- what a run leaves, where lines were refused, or were answered and flushed
-pub none_bad : (form : LineForm) (text : List ℕ) (requested : Result (List RequestLine) RequestsFault) → HasRequests form text requested → fault_of (requests_from form 1 (lines_in text)) ≡ None
+pub none_bad : (form : LineForm) (text : List ℕ) (requested : Result (List AskedLine) LinesFault) → HasLines form text requested → fault_of (asked_from form 1 (lines_in text)) ≡ None
 none_bad form text requested h = ap fault_of h.0 ∙ h.1
 
-pub not_requested : (p : TabledPlan) (kind : AnswerKind) (requested : Result (List RequestLine) RequestsFault) (fault : RequestsFault) (end : Result (Unit {0}) Failure) (a : Output)
-    → requested ≡ Err fault → end ≡ Err (failure_of_requests (form_of kind) fault) → WritesAnswers (Ok p) requested kind end a a
+pub not_requested : (p : TabledPlan) (kind : AnswerKind) (requested : Result (List AskedLine) LinesFault) (fault : LinesFault) (end : Result (Unit {0}) Failure) (a : Output)
+    → requested ≡ Err fault → end ≡ Err (failure_of_lines (form_of kind) fault) → WritesAnswers (Ok p) requested kind end a a
 not_requested p kind requested fault end a is e = rw is (e, refl)
 
-pub answers_left : (p : TabledPlan) (kind : AnswerKind) (requested : Result (List RequestLine) RequestsFault) (text : List ℕ) (end : Result (Unit {0}) Failure) (a c : Output) → HasRequests (form_of kind) text requested
-    → (xs : List RequestLine) × (requests_from (form_of kind) 1 (lines_in text) ≡ Ok xs) × WritesAll p.plan xs kind end a c → WritesAnswers (Ok p) requested kind end a c
+pub answers_left : (p : TabledPlan) (kind : AnswerKind) (requested : Result (List AskedLine) LinesFault) (text : List ℕ) (end : Result (Unit {0}) Failure) (a c : Output) → HasLines (form_of kind) text requested
+    → (xs : List AskedLine) × (asked_from (form_of kind) 1 (lines_in text) ≡ Ok xs) × WritesAll p.plan xs kind end a c → WritesAnswers (Ok p) requested kind end a c
 answers_left p kind requested text end a c h (xs, is, left) = subst (λ t. WritesAnswers (Ok p) t kind end a c) (sym is ∙ h.0) left
 
 -- what answering and then the flush leave: the writer had failed before it
-pub broken_before : (p : ContactPlan) (xs : List RequestLine) (kind : AnswerKind) (answered : Result (Unit {0}) Failure) (a b : Output)
+pub broken_before : (p : ContactPlan) (xs : List AskedLine) (kind : AnswerKind) (answered : Result (Unit {0}) Failure) (a b : Output)
     → has_broken answered ≡ true → LeavesAnswers p xs kind answered a b → WritesAll p xs kind answered a b
 broken_before p xs kind (Ok _) a b e left = absurd cc
 broken_before p xs kind (Err failure.Write) a b e left = left
@@ -183,14 +183,14 @@ broken_before p xs kind (Err failure.NoMemory) a b e left = absurd cc
 broken_before p xs kind (Err _) a b e left = absurd left
 
 -- a beginning of the answers is one of all
-answers_before : (p : ContactPlan) (xs : List RequestLine) (kind : AnswerKind) (a b c : Output) (h : StopsAtRequest p xs kind a b) → WrittenInPart a (answers_text p h.before kind) c → WrittenInPart a (answers_text p xs kind) c
+answers_before : (p : ContactPlan) (xs : List AskedLine) (kind : AnswerKind) (a b c : Output) (h : StopsAtLine p xs kind a b) → WrittenInPart a (answers_text p h.before kind) c → WrittenInPart a (answers_text p xs kind) c
 answers_before p xs kind a b c h part =
     let all = WrittenInPart-more a c (answers_text p h.before kind) (answers_text p (h.request ∷ h.after) kind) part in
     let those = subst (λ text. WrittenInPart a text c) (sym (answers_then p kind h.before (h.request ∷ h.after))) all in
     subst (λ ys. WrittenInPart a (answers_text p ys kind) c) (sym h.parts) those
 
 -- the flush fails
-pub broken_by_flush : (p : ContactPlan) (xs : List RequestLine) (kind : AnswerKind) (answered : Result (Unit {0}) Failure) (a b c : Output)
+pub broken_by_flush : (p : ContactPlan) (xs : List AskedLine) (kind : AnswerKind) (answered : Result (Unit {0}) Failure) (a b c : Output)
     → has_broken answered ≡ false → LeavesAnswers p xs kind answered a b → TakesNone b c → c.failures ≡ b.failures + 1 → WrittenInPart a (answers_text p xs kind) c
 broken_by_flush p xs kind (Ok _) a b c e left kept fails = flush_failed a b c _ left kept fails
 broken_by_flush p xs kind (Err failure.Write) a b c e left kept fails = absurd cc
@@ -198,7 +198,7 @@ broken_by_flush p xs kind (Err failure.NoMemory) a b c e left kept fails = answe
 broken_by_flush p xs kind (Err _) a b c e left kept fails = absurd left
 
 -- all that was written is flushed
-pub all_flushed : (p : ContactPlan) (xs : List RequestLine) (kind : AnswerKind) (answered : Result (Unit {0}) Failure) (a b c : Output)
+pub all_flushed : (p : ContactPlan) (xs : List AskedLine) (kind : AnswerKind) (answered : Result (Unit {0}) Failure) (a b c : Output)
     → has_broken answered ≡ false → LeavesAnswers p xs kind answered a b → TakesNone b c → c.failures ≡ b.failures → IsTrue c.flushed → WritesAll p xs kind answered a c
 all_flushed p xs kind (Ok _) a b c e left kept fails mark = ((Takes-kept a b c _ left.0 kept, fails ∙ left.1), mark)
 all_flushed p xs kind (Err failure.Write) a b c e left kept fails mark = absurd cc

@@ -9,31 +9,31 @@ use Rattle.sabr_plan.specs.PlanRead.{ReadsPlan}
 use Rattle.sabr_plan.specs.declared.fault.PlanFault.{PlanFault}
 use Rattle.sabr_frontier.specs.listing.State.{State}
 use Rattle.commands.specs.declared.failure.Failure.{Failure}
-use Rattle.commands.specs.declared.runs.answer_kind.AnswerKind.{AnswerKind}
-use Rattle.commands.specs.declared.runs.answer_kind.AnswerKind.TheVariants.{FirstRoutes, Explanation}
+use Rattle.commands.specs.declared.runs.answering.AnswerKind.{AnswerKind}
+use Rattle.commands.specs.declared.runs.answering.AnswerKind.TheVariants.{FirstRoutes, Explanation}
 use Rattle.commands.specs.declared.status.Status.TheVariants as status
-use Rattle.commands.specs.declared.words.line_form.LineForm.{LineForm}
-use Rattle.commands.specs.declared.words.requests_fault.RequestsFault.{RequestsFault}
+use Rattle.commands.specs.declared.words.lines.LineForm.{LineForm}
+use Rattle.commands.specs.declared.words.lines_fault.LinesFault.{LinesFault}
 use Rattle.commands.specs.texts.Explanation.{WritesExplanation, explanation_text}
-use Rattle.commands.specs.words.Requests.{ReadsRequests, RequestLine, requests_of}
+use Rattle.commands.specs.words.Lines.{ReadsLines, AskedLine, asked_by}
 use Rattle.commands.specs.runs.Runs.{first_report, status_at}
 use Rattle.commands.specs.runs.SessionRuns.{WritesFirstPage, WritesPage}
-use Rattle.commands.specs.runs.Many.{ReadsRequestsOver, WritesAll, WritesAnswers, answers_text, body_text, form_of, heading}
+use Rattle.commands.specs.runs.Many.{ReadsLinesOver, WritesAll, WritesAnswers, answers_text, body_text, form_of, heading}
 use Rattle.commands.specs.runs.ManyAsFirst.{IsFirstReport, IsExplained, IsReport, AreReports, IsMany, AnswersAsAlone, ManyAnswersAsFirst, FollowAnswersAsExplain, reports_of}
 use Rattle.commands.proofs.RunLemmas.RunsInTurn.{never_done, plan_read, taken}
 
 -- of a reader that has the text of lines, these are read
-requests_read : (form : LineForm) (text : List ℕ) (xs ys : List RequestLine) (reader reader₁ : Input) → requests_of form text ≡ Ok xs → IsTextOf reader text reader₁ → ReadsRequests form reader (Ok ys) reader₁ → ys ≡ xs
-requests_read form text xs ys reader reader₁ spelled has h = elim h.told [
+lines_are : (form : LineForm) (text : List ℕ) (xs ys : List AskedLine) (reader reader₁ : Input) → asked_by form text ≡ Ok xs → IsTextOf reader text reader₁ → ReadsLines form reader (Ok ys) reader₁ → ys ≡ xs
+lines_are form text xs ys reader reader₁ spelled has h = elim h.told [
   | inl (end, fine, answer) ↦
       let all = (begins_with reader reader₁ text h.given has h.gives).all end in
-      let told : requests_of form text ≡ Ok ys = subst (λ b. requests_of form b ≡ Ok ys) all answer in
+      let told : asked_by form text ≡ Ok ys = subst (λ b. asked_by form b ≡ Ok ys) all answer in
       cc
   | inr (inl (count, bad)) ↦ cc (bad)
   | inr (inr (fine, inl bad)) ↦ cc (bad)
   | inr (inr (fine, inr answer)) ↦
       let more = begins_with reader reader₁ text h.given has h.gives in
-      let told : requests_of form text ≡ Ok ys = subst (λ b. requests_of form b ≡ Ok ys) more.parts (answer more.rest) in
+      let told : asked_by form text ≡ Ok ys = subst (λ b. asked_by form b ≡ Ok ys) more.parts (answer more.rest) in
       cc
 ]
 
@@ -61,13 +61,13 @@ module _ (plan : List ℕ) (p : ContactPlan) (spelled : plan_of plan true ≡ Ok
       subst (λ q. report ≡ explanation_text q r contacts) (plan_read plan p y.reader t y.reader₁ spelled y.has reads)
       (taken y.out (explanation_text t.plan r contacts) report y.out₁ w.1.0 y.takes)
 
-  report_told : (kind : AnswerKind) (x : RequestLine) (report : List ℕ) → IsReport plan kind x report → report ≡ body_text p kind x
+  report_told : (kind : AnswerKind) (x : AskedLine) (report : List ℕ) → IsReport plan kind x report → report ≡ body_text p kind x
   report_told (FirstRoutes count) x report is = first_told x.asked.request count report is is.alone.planned is.alone.reads is.writes
   report_told Explanation x report is = explanation_told x.asked.request x.asked.contacts report is is.alone.planned is.alone.reads is.writes
 
   module _ (kind : AnswerKind) where
     -- the answers are these reports, each after its line
-    reports_told : (xs : List RequestLine) (reports : List (List ℕ)) → AreReports plan kind xs reports → answers_text p xs kind ≡ reports_of kind xs reports
+    reports_told : (xs : List AskedLine) (reports : List (List ℕ)) → AreReports plan kind xs reports → answers_text p xs kind ≡ reports_of kind xs reports
     reports_told [] [] are = refl
     reports_told [] (report ∷ reports) bad = absurd bad
     reports_told (x ∷ xs) [] bad = absurd bad
@@ -75,17 +75,17 @@ module _ (plan : List ℕ) (p : ContactPlan) (spelled : plan_of plan true ≡ Ok
         ap (λ t. (heading kind x.line ++ t) ++ answers_text p xs kind) (sym (report_told kind x report is))
         ∙ ap (λ t. (heading kind x.line ++ report) ++ t) (reports_told xs reports others)
 
-    module _ (text : List ℕ) (xs : List RequestLine) (bytes : List ℕ) (many : IsMany plan text kind bytes) (requests : requests_of (form_of kind) text ≡ Ok xs) where
-      all_taken : (q : ContactPlan) (ys : List RequestLine) (end : Result (Unit {0}) Failure) → status_at end ≡ status.Done → WritesAll q ys kind end many.out many.out₁ → bytes ≡ answers_text q ys kind
+    module _ (text : List ℕ) (xs : List AskedLine) (bytes : List ℕ) (many : IsMany plan text kind bytes) (requests : asked_by (form_of kind) text ≡ Ok xs) where
+      all_taken : (q : ContactPlan) (ys : List AskedLine) (end : Result (Unit {0}) Failure) → status_at end ≡ status.Done → WritesAll q ys kind end many.out many.out₁ → bytes ≡ answers_text q ys kind
       all_taken q ys (Err f) done w = absurd (never_done f done)
       all_taken q ys (Ok u) done w = taken many.out (answers_text q ys kind) bytes many.out₁ w.0 many.takes
 
-      answers_told : (planned : Result TabledPlan PlanFault) (requested : Result (List RequestLine) RequestsFault) → ReadsPlan many.reader planned many.reader₁
-          → ReadsRequestsOver (form_of kind) planned many.asked requested many.asked₁ → WritesAnswers planned requested kind many.end many.out many.out₁ → bytes ≡ answers_text p xs kind
+      answers_told : (planned : Result TabledPlan PlanFault) (requested : Result (List AskedLine) LinesFault) → ReadsPlan many.reader planned many.reader₁
+          → ReadsLinesOver (form_of kind) planned many.asked requested many.asked₁ → WritesAnswers planned requested kind many.end many.out many.out₁ → bytes ≡ answers_text p xs kind
       answers_told (Err fault) requested reads asked w = absurd (never_done _ (sym (ap status_at w.0) ∙ many.done))
       answers_told (Ok t) (Err fault) reads asked w = absurd (never_done _ (sym (ap status_at w.0) ∙ many.done))
       answers_told (Ok t) (Ok ys) reads asked w =
-          let same = requests_read (form_of kind) text xs ys many.asked many.asked₁ requests many.asks asked in
+          let same = lines_are (form_of kind) text xs ys many.asked many.asked₁ requests many.asks asked in
           subst (λ q. bytes ≡ answers_text q xs kind) (plan_read plan p many.reader t many.reader₁ spelled many.has reads)
           (subst (λ zs. bytes ≡ answers_text t.plan zs kind) same (all_taken t.plan ys many.end many.done w))
 

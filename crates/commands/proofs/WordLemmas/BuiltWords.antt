@@ -1,6 +1,6 @@
 -- Building the command line: words that are added to a command, and commands to the program.
-use Rattle.std.proofs.Common.{◌≡◌, ◌≢◌, Bool, true, false, List, [], ◌∷◌, ◌++◌, ◌||◌, refl, sym, ap, ap₂, subst, subst₂, ◌∙◌, append-nil, append_assoc, inl, inr, Result, Ok, Err, IfOk}
-use Rattle.clap.specs.Words.{AddsArg, AddsSubcommand, App, HasKind, IsAmong, Kinds, Rule, Shape, app_of, is_simple, is_simple_and_free, kind_of, rule_of, with_rule, with_subcommand}
+use Rattle.std.proofs.Common.{◌≡◌, ◌≢◌, Bool, true, false, List, [], ◌∷◌, ◌++◌, ◌||◌, refl, ap, ap₂, ◌∙◌, append_assoc, inl, inr, Result, Ok, Err, IfOk}
+use Rattle.clap.specs.Words.{AddsArg, App, HasKind, IsAmong, Kinds, Rule, Shape, app_of, is_simple, is_simple_and_free, kind_of, with_rule}
 use Rattle.clap.specs.declared.builder.arg.Arg.{Arg}
 use Rattle.clap.specs.declared.builder.command.Command.{Command}
 use Rattle.clap.specs.declared.builder.command.Command.TheViews.{out-Command}
@@ -8,7 +8,7 @@ use Rattle.clap.specs.declared.error.Error.{Error}
 use Rattle.clap.specs.declared.error.kind.ErrorKind.{ErrorKind}
 use Rattle.clap.specs.declared.error.kind.ErrorKind.TheVariants as kind
 use Rattle.clap.proofs.OnLiterals.{clap_on_literals}
-use Rattle.commands.specs.words.CommandLine.{AddsCommand, AddsWords, IsCommand, IsProgram, IsWord, program_app, rules_where}
+use Rattle.commands.specs.words.CommandLine.{AddsCommand, AddsWords, IsCommand, IsProgram, IsWord, program_app}
 
 or_none : (b : Bool) → (b || false) ≡ b
 or_none true = refl
@@ -21,16 +21,8 @@ add_word old new rule a added word =
     let same : (out-Command new).has_globals ≡ (out-Command old).has_globals = added.globals ∙ ap (λ b. (out-Command old).has_globals || b) word.local ∙ or_none _ in
     record { top = ap (λ (x : App). x.top) is; subs = ap (λ (x : App). x.subs) is; local = same }
 
--- nothing is added
-pub add_none : (c : Command) → AddsWords c [] c
-add_none c = record {
-  top = ap (λ rules. record (app_of c).top { rules = rules }) (sym (append-nil (app_of c).top.rules));
-  subs = refl;
-  local = refl;
-}
-
 -- some words are added, and then others
-pub add_both : (a b c : Command) (xs ys : List Rule) → AddsWords a xs b → AddsWords b ys c → AddsWords a (xs ++ ys) c
+add_both : (a b c : Command) (xs ys : List Rule) → AddsWords a xs b → AddsWords b ys c → AddsWords a (xs ++ ys) c
 add_both a b c xs ys first second =
     let top : (app_of c).top ≡ record (app_of a).top { rules = ((app_of a).top.rules ++ xs) ++ ys } =
     second.top ∙ ap (λ (s : Shape). record s { rules = s.rules ++ ys }) first.top in
@@ -48,19 +40,6 @@ is_command start c shape rules is local added =
     added.top ∙ ap (λ (x : App). record x.top { rules = x.top.rules ++ rules }) is in
     let subs : (app_of c).subs ≡ [] = added.subs ∙ ap (λ (x : App). x.subs) is in
     record { reads = ap₂ (λ (t : Shape) (s : List Shape). record { top = t; subs = s }) top subs; local = added.local ∙ local }
-
--- a command is added to the program
-pub add_command : (old sub new : Command) (shape : Shape) → AddsSubcommand old sub new → IsCommand shape sub → AddsCommand old shape new
-add_command old sub new shape added command =
-    let is : app_of new ≡ with_subcommand (app_of old) shape = added.shape command.local ∙ ap (λ (x : App). with_subcommand (app_of old) x.top) command.reads in
-    record { top = ap (λ (x : App). x.top) is; subs = ap (λ (x : App). x.subs) is }
-
--- words that a command has, if it has them
-pub asked_words : (a b : Command) (asked has : Bool) (rules : List Rule) → asked ≡ has → AddsWords a (rules_where asked rules) b → AddsWords a (rules_where has rules) b
-asked_words a b asked has rules is added = subst (λ (h : Bool). AddsWords a (rules_where h rules) b) is added
-
-pub asked_word : (a b : Command) (asked has : Bool) (rule : Rule) (w : Arg) → asked ≡ has → IsWord rule w → AddsWords a (rules_where asked (rule_of w ∷ [])) b → AddsWords a (rules_where has (rule ∷ [])) b
-asked_word a b asked has rule w is word added = subst₂ (λ (h : Bool) (r : Rule). AddsWords a (rules_where h (r ∷ [])) b) is word.reads added
 
 -- commands were added in turn
 pub record AddsCommands (old : Command) (shapes : List Shape) (new : Command) : Type 0 where
@@ -81,23 +60,17 @@ module _ {E : Type 0} where
   word_in (Ok c) old rule a word added = add_word old c rule a added word
   word_in (Err e) old rule a word added = tt
 
-  pub asked_word_in : (r : Result Command E) (a : Command) (asked has : Bool) (rule : Rule) (w : Arg) → asked ≡ has → IsWord rule w
-      → IfOk r (AddsWords a (rules_where asked (rule_of w ∷ []))) → IfOk r (AddsWords a (rules_where has (rule ∷ [])))
-  asked_word_in (Ok c) a asked has rule w is word added = asked_word a c asked has rule w is word added
-  asked_word_in (Err e) a asked has rule w is word added = tt
-
   pub words_in : (r : Result Command E) (a b : Command) (xs ys : List Rule) → AddsWords a xs b → IfOk r (AddsWords b ys) → IfOk r (AddsWords a (xs ++ ys))
   words_in (Ok c) a b xs ys first second = add_both a b c xs ys first second
   words_in (Err e) a b xs ys first second = tt
+
+  pub then_word : (r : Result Command E) (a b : Command) (rule : Rule) (w : Arg) (rules : List Rule) → AddsArg a w b → IsWord rule w → IfOk r (AddsWords b rules) → IfOk r (AddsWords a (rule ∷ rules))
+  then_word r a b rule w rules added word others = words_in r a b (rule ∷ []) rules (add_word a b rule w added word) others
 
   pub command_in : (r : Result Command E) (start : Command) (shape : Shape) (rules : List Rule) → app_of start ≡ record { top = shape; subs = [] } → (out-Command start).has_globals ≡ false
       → IfOk r (AddsWords start rules) → IfOk r (IsCommand (record shape { rules = shape.rules ++ rules }))
   command_in (Ok c) start shape rules is local added = is_command start c shape rules is local added
   command_in (Err e) start shape rules is local added = tt
-
-  pub subcommand_in : (r : Result Command E) (old sub : Command) (shape : Shape) → IsCommand shape sub → IfOk r (AddsSubcommand old sub) → IfOk r (AddsCommand old shape)
-  subcommand_in (Ok c) old sub shape command added = add_command old sub c shape added command
-  subcommand_in (Err e) old sub shape command added = tt
 
   pub program_in : (r : Result Command E) (bare b : Command) (shapes : List Shape) (shape : Shape) → shapes ++ shape ∷ [] ≡ program_app.subs
       → AddsCommands bare shapes b → IfOk r (AddsCommand b shape) → IfOk r (IsProgram bare)

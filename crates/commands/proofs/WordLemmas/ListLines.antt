@@ -6,18 +6,13 @@ use Rattle.std.specs.declared.option.Option.{Option}
 use Rattle.std.specs.declared.option.Option.TheVariants.{Some, None}
 use Rattle.sabr_model.specs.routes.Arrival.{RouteRequest}
 use Rattle.sabr_session.specs.SessionWords.{most_number}
-use Rattle.commands.specs.declared.words.requests_fault.RequestKind.{RequestKind}
-use Rattle.commands.specs.declared.words.requests_fault.RequestKind.TheVariants.{BadContacts, BadLine}
+use Rattle.commands.specs.declared.words.lines_fault.LineKind.{LineKind}
+use Rattle.commands.specs.declared.words.lines_fault.LineKind.TheVariants.{BadContacts, BadLine}
 use Rattle.commands.specs.words.Lists.{numbers_within, pieces_of}
 use Rattle.commands.specs.words.Values.{TextsGiven}
-use Rattle.commands.specs.words.Requests.{Asks, after_contacts, after_listed, fault_of, list_in, list_texts_of, list_where_given, most_list_bytes, or_kind, request_by, space}
+use Rattle.commands.specs.words.Lines.{Asks, after_contacts, after_listed, list_in, list_texts_of, list_where_given, most_list_bytes, or_kind, request_by, space}
 
--- contacts before a request are no fault
-pub fault_after : (contacts : List ℕ) (r : Result RouteRequest RequestKind) → fault_of (after_contacts contacts r) ≡ fault_of r
-fault_after contacts (Ok r) = refl
-fault_after contacts (Err kind) = refl
-
-without : (o : Option (List ℕ)) (r : Result RouteRequest RequestKind) → is_some o ≡ false → after_listed o r ≡ Err BadContacts
+without : (o : Option (List ℕ)) (r : Result RouteRequest LineKind) → is_some o ≡ false → after_listed o r ≡ Err BadContacts
 without None r e = refl
 without (Some contacts) r e = absurd cc
 
@@ -55,7 +50,7 @@ module _ (line : List ℕ) (short : length line ≤ most_list_bytes) where
       by_request = by_contacts ∙ ap (λ o. after_listed o (or_kind (request_by texts))) listed.1
 
       -- a bad request
-      pub not_request : (kind : RequestKind) → or_kind (request_by texts) ≡ Err kind → list_in line ≡ Err kind
+      pub not_request : (kind : LineKind) → or_kind (request_by texts) ≡ Err kind → list_in line ≡ Err kind
       not_request kind bad = by_request ∙ ap (after_contacts listed.0) bad
 
       -- contacts and a request

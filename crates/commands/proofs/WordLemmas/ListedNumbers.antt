@@ -1,7 +1,7 @@
 -- Lists of numbers, and of at most 16 of them.
-use Rattle.std.proofs.Common.{◌≡◌, ℕ, ◌<◌, ◌≤◌, Bool, true, false, cond, List, [], ◌∷◌, ◌++◌, length, map, refl, ap, ◌∙◌, arith, length-append}
+use Rattle.std.proofs.Common.{◌≡◌, ℕ, ◌<◌, ◌≤◌, cond, List, [], ◌∷◌, ◌++◌, length, map, refl, ap, ◌∙◌, arith, length-append}
 use Rattle.std.proofs.lemmas.Bool.{le-leb, lt-leb}
-use Rattle.std.specs.Prelude.{option_and_then, option_map, is_some, nat_le, if◌then◌else◌}
+use Rattle.std.specs.Prelude.{option_and_then, nat_le, if◌then◌else◌}
 use Rattle.std.specs.declared.option.Option.{Option}
 use Rattle.std.specs.declared.option.Option.TheVariants.{Some, None}
 use Rattle.sabr_session.specs.SessionWords.{all_of}
@@ -24,22 +24,3 @@ full so_far n (Some ns) h =
 pub few-full : (f : List ℕ → Option ℕ) (so_far : List ℕ) (whole : Option (List ℕ)) (ps qs : List (List ℕ)) (p : List ℕ) (n : ℕ)
     → whole ≡ with_front so_far (all_of (map f ps)) → ps ≡ p ∷ qs → f p ≡ Some n → length so_far ≡ 16 → few whole ≡ None
 few-full f so_far whole ps qs p n w e is h = ap few (with_front-on f so_far whole ps qs p n w e is) ∙ full so_far n (all_of (map f qs)) h
-
-put_before : (n : ℕ) (rest : Option (List ℕ)) → is_some (option_map (λ ns. n ∷ ns) rest) ≡ is_some rest
-put_before n None = refl
-put_before n (Some ns) = refl
-
--- a word without a value
-pub bad_among : (f : List ℕ → Option ℕ) (whole : Bool) (ps qs : List (List ℕ)) (p : List ℕ) → whole ≡ is_some (all_of (map f ps)) → ps ≡ p ∷ qs → f p ≡ None → whole ≡ false
-bad_among f whole ps qs p w e is =
-    w ∙ ap (λ xs. is_some (all_of (map f xs))) e ∙ ap (λ v. is_some (all_of (v ∷ map f qs))) is
-
--- after a word with a value, the others tell
-pub good_before : (f : List ℕ → Option ℕ) (whole : Bool) (ps qs : List (List ℕ)) (p : List ℕ) (n : ℕ)
-    → whole ≡ is_some (all_of (map f ps)) → ps ≡ p ∷ qs → f p ≡ Some n → whole ≡ is_some (all_of (map f qs))
-good_before f whole ps qs p n w e is =
-    w ∙ ap (λ xs. is_some (all_of (map f xs))) e ∙ ap (λ v. is_some (all_of (v ∷ map f qs))) is ∙ put_before n (all_of (map f qs))
-
--- no word is left
-pub good_to_end : (f : List ℕ → Option ℕ) (whole : Bool) (ps : List (List ℕ)) → whole ≡ is_some (all_of (map f ps)) → ps ≡ [] → whole ≡ true
-good_to_end f whole ps w e = w ∙ ap (λ xs. is_some (all_of (map f xs))) e

@@ -5,7 +5,7 @@ use Rattle.std.specs.Option.{option_copied}
 use Rattle.std.proofs.lemmas.List.Splits.{length-slice_split}
 use Rattle.commands.specs.words.Lists.{first_of, pieces_of, pieces_after}
 use Rattle.commands.specs.words.Values.{TextsGiven}
-use Rattle.commands.specs.words.Requests.{texts_of}
+use Rattle.commands.specs.words.Lines.{texts_of}
 
 -- a word and what stands after it, of what stood after the word before
 pub record Turns (ws : List (List ℕ)) (a b c d e f : Option (List ℕ)) (w₁ w₂ w₃ w₄ w₅ w₆ : List (List ℕ)) : Type 0 where

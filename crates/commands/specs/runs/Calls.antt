@@ -16,19 +16,19 @@ use Rattle.commands.specs.declared.command.CommandName.TheVariants as command
 use Rattle.commands.specs.declared.failure.Failure.{Failure}
 use Rattle.commands.specs.declared.failure.Failure.TheVariants as failure
 use Rattle.commands.specs.declared.status.Status.{Status}
-use Rattle.commands.specs.declared.runs.answer_kind.AnswerKind.TheVariants.{FirstRoutes, Explanation}
-use Rattle.commands.specs.declared.words.line_form.LineForm.TheVariants.{Requests, Lists}
-use Rattle.commands.specs.declared.words.requests_fault.RequestsFault.{RequestsFault}
+use Rattle.commands.specs.declared.runs.answering.AnswerKind.TheVariants.{FirstRoutes, Explanation}
+use Rattle.commands.specs.declared.words.lines.LineForm.TheVariants.{Requests, Lists}
+use Rattle.commands.specs.declared.words.lines_fault.LinesFault.{LinesFault}
 use Rattle.commands.specs.declared.words.value_fault.ValueFault.{ValueFault}
 use Rattle.commands.specs.texts.CheckText.{WritesCheck}
 use Rattle.commands.specs.texts.Explanation.{WritesExplanation}
 use Rattle.commands.specs.texts.Messages.{failure_of_value}
 use Rattle.commands.specs.words.Paths.{path_under, plan_word, session_word, requests_word, lists_word, session_out_word}
-use Rattle.commands.specs.words.Requests.{RequestLine}
+use Rattle.commands.specs.words.Lines.{AskedLine}
 use Rattle.commands.specs.words.Values.{ValuesRead, values_of, has_contacts, has_lists, has_requests, has_session, keeps_session}
 use Rattle.commands.specs.runs.Files.{FileRules, Left, LeavesFile}
 use Rattle.commands.specs.runs.Runs.{TellsEnd, status_at, status_of_answer}
-use Rattle.commands.specs.runs.Many.{ReadsRequestsOver, WritesAnswers}
+use Rattle.commands.specs.runs.Many.{ReadsLinesOver, WritesAnswers}
 use Rattle.commands.specs.runs.SessionRuns.{ReadsOldSession, VerifiesOldSession, WritesAnswer, WritesFirstPage, WritesNextPage, place_of}
 
 -- where the words keep the session after a page, if they do
@@ -143,12 +143,12 @@ pub record RunsMany (rules : FileRules) (found : Found) (out out₁ err err₁ :
   pub asked : Input
   pub asked₁ : Input
   pub planned : Result TabledPlan PlanFault
-  pub requested : Result (List RequestLine) RequestsFault
+  pub requested : Result (List AskedLine) LinesFault
   pub end : Result (Unit {0}) Failure
   pub opens : rules.opened (path_under found plan_word) plan
   pub opens_requests : rules.opened (path_under found requests_word) asked
   pub reads : ReadsPlan plan planned plan₁
-  pub reads_requests : ReadsRequestsOver Requests planned asked requested asked₁
+  pub reads_requests : ReadsLinesOver Requests planned asked requested asked₁
   pub writes : WritesAnswers planned requested (FirstRoutes count) end out out₁
   pub tells : TellsEnd end err err₁
   pub ends : ended ≡ status_at end
@@ -160,12 +160,12 @@ pub record RunsFollow (rules : FileRules) (found : Found) (out out₁ err err₁
   pub asked : Input
   pub asked₁ : Input
   pub planned : Result TabledPlan PlanFault
-  pub requested : Result (List RequestLine) RequestsFault
+  pub requested : Result (List AskedLine) LinesFault
   pub end : Result (Unit {0}) Failure
   pub opens : rules.opened (path_under found plan_word) plan
   pub opens_lists : rules.opened (path_under found lists_word) asked
   pub reads : ReadsPlan plan planned plan₁
-  pub reads_lists : ReadsRequestsOver Lists planned asked requested asked₁
+  pub reads_lists : ReadsLinesOver Lists planned asked requested asked₁
   pub writes : WritesAnswers planned requested Explanation end out out₁
   pub tells : TellsEnd end err err₁
   pub ends : ended ≡ status_at end

@@ -1,5 +1,5 @@
--- Calls of the program in turn, from words to words and files: a call `first`, and then calls `next`, each over the file
--- in which the one before kept its session.
+-- Calls of the program in turn, from words to words and files: a call `first`, and then calls `next`, each over the
+-- file in which the one before kept its session.
 use Rattle.std.specs.Prelude.{◌≡◌, ℕ, ◌+◌, true, List, [], ◌∷◌, ◌++◌, Option, None, Some, Ok, if◌then◌else◌}
 use Rattle.std.specs.Str.{bytes_eq}
 use Rattle.clap.specs.Matches.{first_value}
@@ -87,8 +87,8 @@ abbrev pub files_left : Files → List Call → Files
 files_left files [] = files
 files_left files (c ∷ calls) = files_left (files_after files c.left) calls
 
--- a call after pages that were asked for so many routes: it printed the page after theirs, and at its path the session
--- text of the place after that is left
+-- a call after pages that were asked for that many routes: it printed the page after theirs, and at its path the
+-- session text of the place after that is left
 pub record IsPrinted (p : ContactPlan) (r : RouteRequest) (asked : ℕ) (end : Files) (c : Call) : Type 0 where
   pub printed : c.out₁.taken ≡ c.out.taken ++ report_from p r (place_after p r 0 asked) c.count
   pub left : end c.path ≡ Some (session_text p r (place_after p r 0 (asked + c.count)))

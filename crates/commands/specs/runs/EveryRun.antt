@@ -11,7 +11,7 @@ use Rattle.sabr_session.specs.SessionText.{text_of, HasText, session_text}
 use Rattle.sabr_session.specs.SessionRead.{IsSessionOf}
 use Rattle.sabr_session.specs.Verifying.{IsSessionText}
 
--- what happens to a session: a page of so many routes is answered; a page is refused; the session is written and its
+-- what happens to a session: a page of that many routes is answered; a page is refused; the session is written and its
 -- text is read; its text is not read, since memory is refused, and stays
 pub data Event : Type 0 where
   answered : ℕ → Event

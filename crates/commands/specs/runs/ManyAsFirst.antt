@@ -7,14 +7,14 @@ use Rattle.sabr_plan.specs.Reading.{plan_of}
 use Rattle.sabr_plan.specs.PlanRead.{ReadsPlan}
 use Rattle.sabr_plan.specs.declared.fault.PlanFault.{PlanFault}
 use Rattle.commands.specs.declared.failure.Failure.{Failure}
-use Rattle.commands.specs.declared.runs.answer_kind.AnswerKind.{AnswerKind}
-use Rattle.commands.specs.declared.runs.answer_kind.AnswerKind.TheVariants.{FirstRoutes, Explanation}
+use Rattle.commands.specs.declared.runs.answering.AnswerKind.{AnswerKind}
+use Rattle.commands.specs.declared.runs.answering.AnswerKind.TheVariants.{FirstRoutes, Explanation}
 use Rattle.commands.specs.declared.status.Status.TheVariants as status
-use Rattle.commands.specs.declared.words.requests_fault.RequestsFault.{RequestsFault}
+use Rattle.commands.specs.declared.words.lines_fault.LinesFault.{LinesFault}
 use Rattle.commands.specs.texts.Explanation.{WritesExplanation}
-use Rattle.commands.specs.words.Requests.{RequestLine, requests_of}
+use Rattle.commands.specs.words.Lines.{AskedLine, asked_by}
 use Rattle.commands.specs.runs.Runs.{status_at}
-use Rattle.commands.specs.runs.Many.{ReadsRequestsOver, WritesAnswers, form_of, heading}
+use Rattle.commands.specs.runs.Many.{ReadsLinesOver, WritesAnswers, form_of, heading}
 use Rattle.commands.specs.runs.SessionRuns.{WritesFirstPage}
 
 -- the run over readers of these texts, of a plan and of lines, where it did what was asked of it, and its writer took
@@ -26,10 +26,10 @@ pub record IsMany (plan text : List ℕ) (kind : AnswerKind) (bytes : List ℕ) 
   pub has : IsTextOf reader plan reader₁
   pub reads : ReadsPlan reader planned reader₁
   pub asked : Input
-  pub requested : Result (List RequestLine) RequestsFault
+  pub requested : Result (List AskedLine) LinesFault
   pub asked₁ : Input
   pub asks : IsTextOf asked text asked₁
-  pub reads_asked : ReadsRequestsOver (form_of kind) planned asked requested asked₁
+  pub reads_asked : ReadsLinesOver (form_of kind) planned asked requested asked₁
   pub end : Result (Unit {0}) Failure
   pub done : status_at end ≡ status.Done
   pub out : Output
@@ -65,26 +65,26 @@ pub record IsExplained (plan : List ℕ) (r : RouteRequest) (contacts report : L
   pub writes : WritesExplanation alone.planned r contacts (Ok answer) alone.out alone.out₁
 
 -- the report of a run of its own for what a line asks
-abbrev pub IsReport : List ℕ → AnswerKind → RequestLine → List ℕ → Type 0
+abbrev pub IsReport : List ℕ → AnswerKind → AskedLine → List ℕ → Type 0
 IsReport plan (FirstRoutes count) x report = IsFirstReport plan x.asked.request count report
 IsReport plan Explanation x report = IsExplained plan x.asked.request x.asked.contacts report
 
 -- the reports of such runs over the plan, one for each line
-abbrev pub AreReports : List ℕ → AnswerKind → List RequestLine → List (List ℕ) → Type 0
+abbrev pub AreReports : List ℕ → AnswerKind → List AskedLine → List (List ℕ) → Type 0
 AreReports plan kind [] [] = Unit {0}
 AreReports plan kind (x ∷ xs) (report ∷ reports) = IsReport plan kind x report × AreReports plan kind xs reports
 AreReports plan kind _ _ = ⊥
 
 -- the lines, each after a word and with its report after it
-abbrev pub reports_of : AnswerKind → List RequestLine → List (List ℕ) → List ℕ
+abbrev pub reports_of : AnswerKind → List AskedLine → List (List ℕ) → List ℕ
 reports_of kind (x ∷ xs) (report ∷ reports) = (heading kind x.line ++ report) ++ reports_of kind xs reports
 reports_of kind _ _ = []
 
 -- over the texts of a plan and of lines, that run writes these reports, each after its line
 abbrev pub AnswersAsAlone : AnswerKind → Type 0
 AnswersAsAlone kind =
-    (plan text : List ℕ) (p : ContactPlan) (xs : List RequestLine) (bytes : List ℕ) (reports : List (List ℕ))
-    → plan_of plan true ≡ Ok p → requests_of (form_of kind) text ≡ Ok xs → IsMany plan text kind bytes → AreReports plan kind xs reports → bytes ≡ reports_of kind xs reports
+    (plan text : List ℕ) (p : ContactPlan) (xs : List AskedLine) (bytes : List ℕ) (reports : List (List ℕ))
+    → plan_of plan true ≡ Ok p → asked_by (form_of kind) text ≡ Ok xs → IsMany plan text kind bytes → AreReports plan kind xs reports → bytes ≡ reports_of kind xs reports
 
 -- a run `many` writes what first runs report
 abbrev pub ManyAnswersAsFirst : Type 0

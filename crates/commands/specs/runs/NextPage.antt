@@ -16,7 +16,7 @@ use Rattle.commands.specs.declared.failure.Failure.TheVariants as failure
 use Rattle.commands.specs.runs.EveryRun.{IsAt, from_text}
 use Rattle.commands.specs.runs.SessionRuns.{ReadsOldSession, WritesNextPage, WritesPage, place_of}
 
--- the place after the page of so many routes from place i on
+-- the place after the page of that many routes from place i on
 abbrev pub place_after : ContactPlan → RouteRequest → ℕ → ℕ → ℕ
 place_after p r i count = i + length (page_of p r i count)
 

@@ -8,7 +8,7 @@ use Rattle.sabr_frontier.specs.listing.State.{State}
 use Rattle.sabr_frontier.specs.listing.Listing.{state_at, steps}
 use Rattle.sabr_frontier.specs.session.Session.{Seen, former_then}
 
--- what is done to a session: a page of at most so many routes gives these; a page is refused, or the session is
+-- what is done to a session: a page of at most that many routes gives these; a page is refused, or the session is
 -- certified; the last page that gave routes is taken back; there is none to take back
 pub data Act : Type 0 where
   paged : ℕ → List (List ℕ) → Act

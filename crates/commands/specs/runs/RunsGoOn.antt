@@ -19,7 +19,7 @@ abbrev pub text_left : List ℕ → List Run → List ℕ
 text_left text [] = text
 text_left text (run ∷ runs) = text_left run.text runs
 
--- the pages of the runs, joined, after pages from place i on that were asked for so many routes
+-- the pages of the runs, joined, after pages from place i on that were asked for that many routes
 abbrev pub pages_given : ContactPlan → RouteRequest → ℕ → ℕ → List Run → List (List ℕ)
 pages_given p r i asked [] = []
 pages_given p r i asked (run ∷ runs) = page_of p r (place_after p r i asked) run.count ++ pages_given p r i (asked + run.count) runs

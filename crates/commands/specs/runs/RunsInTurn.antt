@@ -58,8 +58,8 @@ abbrev pub AreNext : List ℕ → List ℕ → List Run → Type 0
 AreNext plan text [] = Unit {0}
 AreNext plan text (run ∷ runs) = IsNext plan text true run × AreNext plan run.text runs
 
--- a run after pages from place i on that were asked for so many routes: it reports the page after theirs, and leaves the
--- session text of the place after that, from which a run can go on
+-- a run after pages from place i on that were asked for that many routes: it reports the page after theirs, and leaves
+-- the session text of the place after that, from which a run can go on
 pub record IsPage (p : ContactPlan) (r : RouteRequest) (i asked : ℕ) (run : Run) : Type 0 where
   pub report : run.report ≡ report_from p r (place_after p r i asked) run.count
   pub text : run.text ≡ session_text p r (place_after p r i (asked + run.count))

@@ -20,7 +20,7 @@ use Rattle.commands.specs.declared.failure.Failure.TheVariants as failure
 use Rattle.commands.specs.texts.Messages.{failure_of_plan, failure_of_session}
 use Rattle.commands.specs.runs.Runs.{first_report}
 
--- the report of a page that begins after so many routes, and whether a route is left after it
+-- the report of a page that begins after that many routes, and whether a route is left after it
 abbrev pub report_after : ContactPlan → RouteRequest → ℕ → List (List ℕ) × State → List ℕ
 report_after p r given page = report_text (map (record_of p r) page.0) (given + 1) (is_some (next_route p r page.1))
 

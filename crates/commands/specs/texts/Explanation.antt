@@ -66,7 +66,7 @@ unfoldable pub explanation_text : ContactPlan → RouteRequest → List ℕ → 
 explanation_text p r s = hop_lines p r [] s ++ ending_line p r s
 
 -- what an explanation writes over what reading gave: over a plan its text, whole and flushed, and the answer is
--- whether the list is a route; or a beginning of it if the writer failed, and it takes no memory; nothing if
+-- whether the list is a route; or a beginning of it if the writer failed, and it doesn't allocate; nothing if
 -- the plan was refused
 abbrev pub WritesExplanation : Result TabledPlan PlanFault → RouteRequest → List ℕ → Result Bool Failure → Output → Output → Type 0
 WritesExplanation (Err fault) r s end old new = (end ≡ Err (failure_of_plan fault)) × (new ≡ old)

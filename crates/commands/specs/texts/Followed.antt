@@ -13,7 +13,7 @@ abbrev pub Follows : ContactPlan → RouteRequest → List ℕ → Result ℕ Ho
 Follows p r s (Ok d) = IsTrue (is_route p r s) × (arrival_after p r r.at s ≡ Some d)
 Follows p r s (Err f) = fault_of p r s ≡ Some f
 
--- how many of so many hops come before a fault: all of them if it is no hop's
+-- how many of that many hops come before a fault: all of them if it is no hop's
 abbrev pub hops_before : HopFault → ℕ → ℕ
 hops_before Empty hops = hops
 hops_before (NoSuchContact place) hops = place - 1

@@ -14,12 +14,12 @@ use Rattle.commands.specs.declared.failure.Failure.{Failure}
 use Rattle.commands.specs.declared.failure.Failure.TheVariants as failure
 use Rattle.commands.specs.declared.words.value_fault.ValueFault.{ValueFault}
 use Rattle.commands.specs.declared.words.value_fault.ValueFault.TheVariants as value
-use Rattle.commands.specs.declared.words.requests_fault.RequestKind.{RequestKind}
-use Rattle.commands.specs.declared.words.requests_fault.RequestKind.TheVariants as request
-use Rattle.commands.specs.declared.words.requests_fault.RequestsFault.{RequestsFault}
-use Rattle.commands.specs.declared.words.requests_fault.RequestsFault.TheVariants as requests
-use Rattle.commands.specs.declared.words.line_form.LineForm.{LineForm}
-use Rattle.commands.specs.declared.words.line_form.LineForm.TheVariants.{Requests, Lists}
+use Rattle.commands.specs.declared.words.lines_fault.LineKind.{LineKind}
+use Rattle.commands.specs.declared.words.lines_fault.LineKind.TheVariants as request
+use Rattle.commands.specs.declared.words.lines_fault.LinesFault.{LinesFault}
+use Rattle.commands.specs.declared.words.lines_fault.LinesFault.TheVariants as requests
+use Rattle.commands.specs.declared.words.lines.LineForm.{LineForm}
+use Rattle.commands.specs.declared.words.lines.LineForm.TheVariants.{Requests, Lists}
 use Rattle.commands.specs.words.Values.{name_text}
 
 -- a kind of a bad line, by its name
@@ -76,24 +76,24 @@ failure_of_session session.NoMemory = failure.NoMemory
 failure_of_session fault = failure.Session fault
 
 -- what is bad in a line of requests or of lists, by its name
-abbrev pub request_kind_text : RequestKind → List ℕ
-request_kind_text request.BadContacts = codes "BadContacts"
-request_kind_text request.BadFrom = codes "BadFrom"
-request_kind_text request.BadTo = codes "BadTo"
-request_kind_text request.BadAt = codes "BadAt"
-request_kind_text request.BadMargin = codes "BadMargin"
-request_kind_text request.BadHops = codes "BadHops"
-request_kind_text request.BadAvoid = codes "BadAvoid"
-request_kind_text request.SameNode = codes "SameNode"
-request_kind_text request.BadLine = codes "BadLine"
+abbrev pub line_kind_text : LineKind → List ℕ
+line_kind_text request.BadContacts = codes "BadContacts"
+line_kind_text request.BadFrom = codes "BadFrom"
+line_kind_text request.BadTo = codes "BadTo"
+line_kind_text request.BadAt = codes "BadAt"
+line_kind_text request.BadMargin = codes "BadMargin"
+line_kind_text request.BadHops = codes "BadHops"
+line_kind_text request.BadAvoid = codes "BadAvoid"
+line_kind_text request.SameNode = codes "SameNode"
+line_kind_text request.BadLine = codes "BadLine"
 
 -- the failure that refused lines of this form are
-abbrev pub failure_of_requests : LineForm → RequestsFault → Failure
-failure_of_requests Requests requests.Read = failure.RequestsRead
-failure_of_requests Requests (requests.Line line kind) = failure.RequestsLine line kind
-failure_of_requests Lists requests.Read = failure.ListsRead
-failure_of_requests Lists (requests.Line line kind) = failure.ListsLine line kind
-failure_of_requests form requests.NoMemory = failure.NoMemory
+abbrev pub failure_of_lines : LineForm → LinesFault → Failure
+failure_of_lines Requests requests.Read = failure.LinesRead
+failure_of_lines Requests (requests.Line line kind) = failure.RequestsLine line kind
+failure_of_lines Lists requests.Read = failure.ListsRead
+failure_of_lines Lists (requests.Line line kind) = failure.ListsLine line kind
+failure_of_lines form requests.NoMemory = failure.NoMemory
 
 -- the line of a session text that a fault names
 abbrev pub session_line : SessionFault → Option ℕ
@@ -101,10 +101,14 @@ session_line (session.BadLine line) = Some line
 session_line (session.BadRoute line) = Some line
 session_line _ = None
 
+-- a bad line of a text: its number, and what is bad in it
+abbrev pub line_message : List ℕ → ℕ → List ℕ → List ℕ
+line_message text line kind = concat (codes "cgrlist: " ∷ text ∷ codes " line " ∷ decimal line ∷ codes ": " ∷ kind ∷ codes "\n" ∷ [])
+
 -- a fault of a session text as a line: with the line that it names, or of the whole text
 abbrev pub session_message : SessionFault → List ℕ
 session_message fault =
-    option_map_or (λ line. concat (codes "cgrlist: session line " ∷ decimal line ∷ codes ": " ∷ session_kind_text fault ∷ codes "\n" ∷ []))
+    option_map_or (λ line. line_message (codes "session") line (session_kind_text fault))
     (session_line fault)
     (concat (codes "cgrlist: session: " ∷ session_kind_text fault ∷ codes "\n" ∷ []))
 
@@ -116,18 +120,15 @@ message_text failure.BadAvoid = codes "cgrlist: request: BadAvoid\n"
 message_text failure.CannotOpenPlan = codes "cgrlist: cannot open the plan\n"
 message_text failure.CannotOpenSession = codes "cgrlist: cannot open the session\n"
 message_text failure.CannotMakeSession = codes "cgrlist: cannot make the session file\n"
-message_text (failure.PlanLine fault) =
-    concat (codes "cgrlist: plan line " ∷ decimal fault.line ∷ codes ": " ∷ kind_text fault.kind ∷ codes "\n" ∷ [])
+message_text (failure.PlanLine fault) = line_message (codes "plan") fault.line (kind_text fault.kind)
 message_text failure.PlanRead = codes "cgrlist: plan: read failed\n"
 message_text (failure.Session fault) = session_message fault
 message_text failure.SessionRead = codes "cgrlist: session: read failed\n"
 message_text failure.CannotOpenRequests = codes "cgrlist: cannot open the requests\n"
-message_text (failure.RequestsLine line kind) =
-    concat (codes "cgrlist: requests line " ∷ decimal line ∷ codes ": " ∷ request_kind_text kind ∷ codes "\n" ∷ [])
-message_text failure.RequestsRead = codes "cgrlist: requests: read failed\n"
+message_text (failure.RequestsLine line kind) = line_message (codes "requests") line (line_kind_text kind)
+message_text failure.LinesRead = codes "cgrlist: requests: read failed\n"
 message_text failure.CannotOpenLists = codes "cgrlist: cannot open the lists\n"
-message_text (failure.ListsLine line kind) =
-    concat (codes "cgrlist: lists line " ∷ decimal line ∷ codes ": " ∷ request_kind_text kind ∷ codes "\n" ∷ [])
+message_text (failure.ListsLine line kind) = line_message (codes "lists") line (line_kind_text kind)
 message_text failure.ListsRead = codes "cgrlist: lists: read failed\n"
 message_text failure.Write = codes "cgrlist: write failed\n"
 message_text failure.NoMemory = codes "cgrlist: no memory\n"
@@ -147,7 +148,7 @@ status_of (failure.Session fault) = status.Session
 status_of failure.SessionRead = status.Io
 status_of failure.CannotOpenRequests = status.Io
 status_of (failure.RequestsLine line kind) = status.Session
-status_of failure.RequestsRead = status.Io
+status_of failure.LinesRead = status.Io
 status_of failure.CannotOpenLists = status.Io
 status_of (failure.ListsLine line kind) = status.Session
 status_of failure.ListsRead = status.Io

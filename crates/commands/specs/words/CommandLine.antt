@@ -10,7 +10,7 @@ use Rattle.clap.specs.declared.builder.command.Command.{Command}
 use Rattle.clap.specs.declared.builder.command.Command.TheViews.{out-Command}
 use Rattle.commands.specs.declared.command.CommandName.{CommandName}
 use Rattle.commands.specs.declared.command.CommandName.TheVariants as command
-use Rattle.commands.specs.declared.words.value_name.ValueName.TheVariants as name
+use Rattle.commands.specs.declared.words.value_fault.ValueName.TheVariants as name
 use Rattle.commands.specs.words.Paths.{lists_word, plan_word, requests_word, session_out_word, session_word}
 use Rattle.commands.specs.words.Values.{has_contacts, has_count, has_lists, has_request, has_requests, has_session, keeps_session, name_text}
 

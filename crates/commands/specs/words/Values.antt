@@ -11,12 +11,12 @@ use Rattle.sabr_model.specs.routes.Arrival.{RouteRequest}
 use Rattle.sabr_model.specs.routes.Asking.{may_avoid, unlimited, with_limits, most_margin, most_hops}
 use Rattle.sabr_plan.specs.Times.{time_of}
 use Rattle.sabr_frontier.specs.listing.Listing.{most_routes}
-use Rattle.commands.specs.declared.words.value_name.ValueName.{ValueName}
-use Rattle.commands.specs.declared.words.value_name.ValueName.TheVariants.{From, To, At, MarginPpm, MaxHops, Avoid, Count, Contacts}
+use Rattle.commands.specs.declared.words.value_fault.ValueName.{ValueName}
+use Rattle.commands.specs.declared.words.value_fault.ValueName.TheVariants.{From, To, At, MarginPpm, MaxHops, Avoid, Count, Contacts}
 use Rattle.commands.specs.declared.command.CommandName.{CommandName}
 use Rattle.commands.specs.declared.command.CommandName.TheVariants as command
 use Rattle.commands.specs.declared.words.values.Values.{Values}
-use Rattle.commands.specs.declared.words.request_texts.RequestTexts.{RequestTexts}
+use Rattle.commands.specs.declared.words.request_words.RequestTexts.{RequestTexts}
 use Rattle.commands.specs.declared.words.value_fault.ValueFault.{ValueFault}
 use Rattle.commands.specs.declared.words.value_fault.ValueFault.TheVariants.{Bad, SameNode, BadAvoid}
 use Rattle.sabr_model.specs.declared.request_values.RequestValues.{RequestValues}

@@ -1,26 +1,55 @@
 //! Answering lines over one plan, one after the other.
 
-ghost use Rattle.std.specs.Prelude.{◌≡◌, ◌≤◌, ◌++◌, [], All, IfOk, IfSome, IsTrue, is_ok, is_some};
+ghost use Rattle.std.specs.Prelude.{◌≡◌, ◌≤◌, ◌++◌, [], All, IfOk, IfSome};
 ghost use Rattle.sabr_model.specs.Devices.{WritesText};
 ghost use Rattle.sabr_frontier.specs.listing.Listing.{most_routes, state_at};
 ghost use Rattle.sabr_session.specs.ReportText.{HasSpelledTimes, report_text};
 ghost use Rattle.sabr_session.specs.SessionWords.{most_number};
-ghost use Rattle.commands.specs.declared.runs.answer_kind.AnswerKind.TheVariants as kind;
-ghost use Rattle.commands.specs.texts.Explanation.{explanation_text};
+ghost use Rattle.commands.specs.declared.runs.answering.AnswerKind.TheVariants as kind;
 ghost use Rattle.commands.specs.words.Lists.{numbers_within};
-ghost use Rattle.commands.specs.words.Requests.{asked_in};
-ghost use Rattle.commands.specs.runs.Many.{IsFirstPage, IsWithin, LeavesAnswer, form_of, heading};
+ghost use Rattle.commands.specs.words.Lines.{asked_in};
+ghost use Rattle.commands.specs.runs.Many.{IsFirstPage, IsWithin, LeavesAnswer, form_of, heading, word_of};
 
 use crate::failure::Failure;
-use crate::runs::answer_kind::AnswerKind;
-use crate::texts::write_explanation;
-use crate::words::{Listed, contacts_listed, list_in, request_in};
+use crate::texts::{write_explanation, write_pieces};
+use crate::words::{LineForm, Listed, contacts_listed, list_in, request_in};
 use sabr_frontier::{LastPage, Session};
 use sabr_model::{NoMemory, Plan, Request, Write, WriteFault};
 use sabr_search::Settled;
-use sabr_session::{TextBuffer, put_pieces, write_report};
+use sabr_session::write_report;
 use std::alloc::{Allocator, Global};
 use std::marker::Model;
+
+/// What a line is answered with.
+#[derive(Clone, Copy)]
+pub enum AnswerKind {
+    /// The report of the first routes of its request, at most as many as this number.
+    FirstRoutes(u32),
+    /// The explanation of its contacts.
+    Explanation,
+}
+
+impl AnswerKind {
+    /// The form of the lines that are answered so.
+    pub fn form(self) -> LineForm
+        ensures { result ≡ form_of self }
+    {
+        match self {
+            AnswerKind::FirstRoutes(_) => LineForm::Requests,
+            AnswerKind::Explanation => LineForm::Lists,
+        }
+    }
+
+    /// The word before a line that is answered so.
+    pub fn word<'a>(self) -> &'a [u8]
+        ensures { result.now ≡ word_of self }
+    {
+        match self {
+            AnswerKind::FirstRoutes(_) => b"request ",
+            AnswerKind::Explanation => b"list ",
+        }
+    }
+}
 
 /// What answers lines over one plan. Each request has a session, over the index of the one before. Contracts see the
 /// plan.
@@ -103,11 +132,11 @@ impl<'p, A: Allocator + Copy> Answering<'p, A> {
         Ok(())
     }
 
-    /// Writes the answer of this kind to a line that has no fault.
+    /// Writes the answer of this kind to a line. One that has a fault gets none.
     ///
     /// # Errors
     ///
-    /// [`Failure::NoMemory`] if a growth was refused; then nothing was written. [`Failure::Write`] if the writer failed.
+    /// [`Failure::NoMemory`] if an allocation failed; then nothing was written. [`Failure::Write`] if the writer failed.
     /// Then a beginning of the answer was written.
     pub fn answer<O: Write>(
         &mut self,
@@ -115,24 +144,19 @@ impl<'p, A: Allocator + Copy> Answering<'p, A> {
         line: &[u8],
         out: &mut O,
     ) -> Result<(), Failure>
-        requires count { IsWithin kind }
-        requires line { IsTrue (is_ok (asked_in (form_of kind) line.now)) }
+        requires { IsWithin kind }
         ensures answer { IfOk (asked_in (form_of kind) line.now) (λ a. LeavesAnswer self.old.plan kind (record { line = line.now; asked = a }) result (O.output out.old) (O.output out.new)) }
         ensures plan { self.new ≡ self.old }
     {
         match kind {
-            AnswerKind::FirstRoutes(count) => {
-                let Ok(request) = request_in(line) else {
-                    unreachable!();
-                };
-                self.list(line, request, count, out)
-            }
-            AnswerKind::Explanation => {
-                let Ok(listed) = list_in(line) else {
-                    unreachable!();
-                };
-                explain(self.alloc, self.plan, line, &listed, out)
-            }
+            AnswerKind::FirstRoutes(count) => match request_in(line) {
+                Ok(request) => self.list(line, request, count, out),
+                Err(_) => Ok(()),
+            },
+            AnswerKind::Explanation => match list_in(line) {
+                Ok(listed) => explain(self.alloc, self.plan, line, &listed, out),
+                Err(_) => Ok(()),
+            },
         }
     }
 }
@@ -151,22 +175,8 @@ fn write_answer<O: Write, A: Allocator + Copy>(
     write_report(last.routes(), 1, last.more(), out)
 }
 
-/// Writes an answer: its heading, and the explanation of these contacts.
-fn write_list<O: Write, A: Allocator + Copy>(
-    plan: &Plan<A>,
-    line: &[u8],
-    request: &Request,
-    contacts: &[u32],
-    out: &mut O,
-) -> Result<(), WriteFault>
-    ensures { WritesText (O.output out.old) (heading kind.Explanation line.now ++ explanation_text plan.now.plan request.now contacts.now) result (O.output out.new) }
-{
-    write_heading(AnswerKind::Explanation, line, out)?;
-    write_explanation(plan, request, contacts, out)?;
-    Ok(())
-}
-
-/// Writes the answer to the contacts and the request of this line.
+/// Writes the answer to the contacts and the request of this line: its heading, and their explanation. A text that
+/// lists no contacts gets none.
 fn explain<O: Write, A: Allocator + Copy>(
     alloc: A,
     plan: &Plan<A>,
@@ -174,13 +184,13 @@ fn explain<O: Write, A: Allocator + Copy>(
     listed: &Listed<'_>,
     out: &mut O,
 ) -> Result<(), Failure>
-    requires { IsTrue (is_some (numbers_within 1 most_number listed.now.contacts.now)) }
     ensures { IfSome (numbers_within 1 most_number listed.now.contacts.now) (λ contacts. LeavesAnswer plan.now.plan kind.Explanation (record { line = line.now; asked = record { contacts = contacts; request = listed.now.request } }) result (O.output out.old) (O.output out.new)) }
 {
     let Some(contacts) = contacts_listed(alloc, listed.contacts)? else {
-        unreachable!();
+        return Ok(());
     };
-    write_list(plan, line, &listed.request, contacts.as_slice(), out)?;
+    write_heading(AnswerKind::Explanation, line, out)?;
+    write_explanation(plan, &listed.request, contacts.as_slice(), out)?;
     Ok(())
 }
 
@@ -188,9 +198,6 @@ fn explain<O: Write, A: Allocator + Copy>(
 fn write_heading<O: Write>(kind: AnswerKind, line: &[u8], out: &mut O) -> Result<(), WriteFault>
     ensures { WritesText (O.output out.old) (heading kind line.now) result (O.output out.new) }
 {
-    let mut text = TextBuffer::new(out);
-    let word = kind.word();
-    let pieces: [&[u8]; 3] = [word, line, b"\n"];
-    put_pieces(&mut text, &pieces)?;
-    text.send()
+    let pieces: [&[u8]; 3] = [kind.word(), line, b"\n"];
+    write_pieces(out, &pieces)
 }

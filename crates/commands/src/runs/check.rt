@@ -46,7 +46,7 @@ fn read_and_write_check<P: Read, O: Write, A: Allocator + Copy>(
 /// start, and then the plan's digest.
 ///
 /// A failure's message goes to `err`; a failure of `err` changes nothing else. The status is [`Status::Plan`] if the
-/// plan is refused, [`Status::Io`] if its reader or `out` failed, and [`Status::Memory`] if a growth was refused while
+/// plan is refused, [`Status::Io`] if its reader or `out` failed, and [`Status::Memory`] if an allocation failed while
 /// the plan was read. If `out` failed, it holds a beginning of the text, and else all of it or nothing.
 pub fn run_check<P: Read, O: Write, E: Write, A: Allocator + Copy>(
     alloc: A,

@@ -11,7 +11,7 @@ use sabr_model::Write;
 /// Returns the status of a run that ended so. A failure's message goes to `err`; a failure of `err` changes nothing
 /// else.
 pub fn tell_end<E: Write>(end: Result<(), Failure>, err: &mut E) -> Status
-    ensures told { TellsEnd end (E.output err.old) (E.output err.new) }
+    ensures message { TellsEnd end (E.output err.old) (E.output err.new) }
     ensures status { result ≡ status_at end }
 {
     match end {
@@ -23,7 +23,7 @@ pub fn tell_end<E: Write>(end: Result<(), Failure>, err: &mut E) -> Status
 /// Returns the status of a run that ended with yes or no, or failed. A failure's message goes to `err`; a failure of
 /// `err` changes nothing else.
 pub fn tell_answer<E: Write>(end: Result<bool, Failure>, err: &mut E) -> Status
-    ensures told { TellsEnd end (E.output err.old) (E.output err.new) }
+    ensures message { TellsEnd end (E.output err.old) (E.output err.new) }
     ensures status { result ≡ status_of_answer end }
 {
     match end {

@@ -54,7 +54,7 @@ fn read_and_explain<P: Read, O: Write, A: Allocator + Copy>(
 ///
 /// A failure's message goes to `err`; a failure of `err` changes nothing else. The status is [`Status::Done`] for a
 /// route and [`Status::No`] for another list, [`Status::Plan`] if the plan is refused, [`Status::Io`] if its reader or
-/// `out` failed, and [`Status::Memory`] if a growth was refused while the plan was read. If `out` failed, it holds a
+/// `out` failed, and [`Status::Memory`] if an allocation failed while the plan was read. If `out` failed, it holds a
 /// beginning of the text, and else all of it or nothing.
 pub fn run_explain<P: Read, O: Write, E: Write, A: Allocator + Copy>(
     alloc: A,

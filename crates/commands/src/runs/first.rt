@@ -15,28 +15,10 @@ use crate::runs::ending::tell_end;
 use crate::runs::pages::{PageWriters, write_page};
 use crate::status::Status;
 use sabr_frontier::Session;
-use sabr_model::{Plan, Read, Request, Write};
+use sabr_model::{Read, Request, Write};
 use sabr_plan::{digest, read_plan};
 use sabr_search::Settled;
 use std::alloc::Allocator;
-
-/// Writes the first page of the listing over a plan.
-fn write_over<O: Write, S: Write, A: Allocator + Copy>(
-    alloc: A,
-    plan: &Plan<A>,
-    request: Request,
-    count: u32,
-    to: PageWriters<'_, O, S>,
-) -> Result<(), Failure>
-    requires { count ≤ most_routes }
-    ensures { WritesFirstPage (Ok plan.now) request to.entry.keep count result (O.output to.entry.out.now) (O.output to.exit.0.now) (S.output to.entry.session.now) (S.output to.exit.1.0.now) }
-{
-    let PageWriters { out, session, keep } = to;
-    plan.tell_rules();
-    let listing = Session::start(alloc, plan, request, Settled::new(alloc))?;
-    let digest = if keep { Some(digest(plan)) } else { None };
-    write_page(listing, count, out, digest, session)
-}
 
 /// Reads the plan, and writes the first page of the listing over it.
 fn write_first<P: Read, O: Write, S: Write, A: Allocator + Copy>(
@@ -52,7 +34,11 @@ fn write_first<P: Read, O: Write, S: Write, A: Allocator + Copy>(
         × WritesFirstPage planned request to.entry.keep count result (O.output to.entry.out.now) (O.output to.exit.0.now) (S.output to.entry.session.now) (S.output to.exit.1.0.now) }
 {
     let plan = read_plan(alloc, plan)?;
-    write_over(alloc, &plan, request, count, to)
+    let PageWriters { out, session, keep } = to;
+    plan.tell_rules();
+    let listing = Session::start(alloc, &plan, request, Settled::new(alloc))?;
+    let digest = if keep { Some(digest(&plan)) } else { None };
+    write_page(listing, count, out, digest, session)
 }
 
 /// Lists the first `count` routes, from 1 to 10000, over a plan, best first, and whether the listing goes on: reads the
@@ -61,7 +47,7 @@ fn write_first<P: Read, O: Write, S: Write, A: Allocator + Copy>(
 /// there.
 ///
 /// A failure's message goes to `err`; a failure of `err` changes nothing else. The status is [`Status::Plan`] if the
-/// plan is refused, [`Status::Io`] if its reader or a writer failed, and [`Status::Memory`] if a growth was refused. If
+/// plan is refused, [`Status::Io`] if its reader or a writer failed, and [`Status::Memory`] if an allocation failed. If
 /// `out` or `session` failed, it holds a beginning of its text, and else all of it or nothing. Nothing is written to
 /// `session` before the report was written whole and flushed.
 pub fn run_first<P: Read, O: Write, S: Write, E: Write, A: Allocator + Copy>(

@@ -1,17 +1,23 @@
-//! Reading lines, and answering them over one plan.
+//! The runs that read lines, and answer them over one plan.
 
 ghost use Rattle.std.specs.Prelude.{◌≡◌, List, None, Ok, Result};
 ghost use Rattle.sabr_model.specs.plan.Plan.{TabledPlan};
 ghost use Rattle.sabr_plan.specs.PlanRead.{ReadsPlan};
 ghost use Rattle.sabr_plan.specs.declared.fault.PlanFault.{PlanFault};
-ghost use Rattle.commands.specs.declared.words.requests_fault.RequestsFault.{RequestsFault};
-ghost use Rattle.commands.specs.runs.Many.{IsWithin, LeavesAnswers, ReadsRequestsOver, WritesAll, WritesAnswers, form_of, has_broken};
-ghost use Rattle.commands.specs.words.Requests.{RequestLine, fault_of, lines_in, requests_from};
+ghost use Rattle.commands.specs.declared.failure.Failure.{Failure};
+ghost use Rattle.commands.specs.declared.runs.answering.AnswerKind.TheVariants.{Explanation, FirstRoutes};
+ghost use Rattle.commands.specs.declared.words.lines.LineForm.TheVariants.{Lists, Requests};
+ghost use Rattle.commands.specs.declared.words.lines_fault.LinesFault.{LinesFault};
+ghost use Rattle.commands.specs.runs.Runs.{TellsEnd, status_at};
+ghost use Rattle.commands.specs.runs.Many.{IsWithin, LeavesAnswers, ReadsLinesOver, WritesAll, WritesAnswers, form_of, has_broken};
+ghost use Rattle.commands.specs.words.Lines.{AskedLine, fault_of, lines_in, asked_from};
+ghost use Rattle.commands.specs.words.Values.{IsCount};
 
 use crate::failure::Failure;
-use crate::runs::answer_kind::AnswerKind;
-use crate::runs::answering::Answering;
-use crate::words::{first_line, read_requests};
+use crate::runs::answering::{AnswerKind, Answering};
+use crate::runs::ending::tell_end;
+use crate::status::Status;
+use crate::words::{first_line, read_lines};
 use sabr_model::{Plan, Read, Write};
 use sabr_plan::read_plan;
 use std::alloc::Allocator;
@@ -24,8 +30,8 @@ fn answer_all<O: Write, A: Allocator + Copy>(
     out: &mut O,
 ) -> Result<(), Failure>
     requires count { IsWithin kind }
-    requires requests { fault_of (requests_from (form_of kind) 1 (lines_in text.now)) ≡ None }
-    ensures { (xs : List RequestLine) × (requests_from (form_of kind) 1 (lines_in text.now) ≡ Ok xs) × LeavesAnswers answering.old.plan xs kind result (O.output out.old) (O.output out.new) }
+    requires requests { fault_of (asked_from (form_of kind) 1 (lines_in text.now)) ≡ None }
+    ensures { (xs : List AskedLine) × (asked_from (form_of kind) 1 (lines_in text.now) ≡ Ok xs) × LeavesAnswers answering.old.plan xs kind result (O.output out.old) (O.output out.new) }
 {
     let mut rest = text;
     while let Some((line, after)) = first_line(rest) {
@@ -35,7 +41,7 @@ fn answer_all<O: Write, A: Allocator + Copy>(
     Ok(())
 }
 
-/// Tells whether the writer failed while the answers were written.
+/// Whether the writer failed while the answers were written.
 fn has_broken(answered: &Result<(), Failure>) -> bool
     ensures { result ≡ has_broken answered.now }
 {
@@ -46,7 +52,7 @@ fn has_broken(answered: &Result<(), Failure>) -> bool
 }
 
 /// Writes the answers of this kind to the lines of a text without a bad one, and flushes them: all, or those before the
-/// line at which memory was refused.
+/// line at which an allocation failed.
 fn send_answers<O: Write, A: Allocator + Copy>(
     alloc: A,
     plan: &Plan<A>,
@@ -55,8 +61,8 @@ fn send_answers<O: Write, A: Allocator + Copy>(
     out: &mut O,
 ) -> Result<(), Failure>
     requires count { IsWithin kind }
-    requires requests { fault_of (requests_from (form_of kind) 1 (lines_in text.now)) ≡ None }
-    ensures { (xs : List RequestLine) × (requests_from (form_of kind) 1 (lines_in text.now) ≡ Ok xs) × WritesAll plan.now.plan xs kind result (O.output out.old) (O.output out.new) }
+    requires requests { fault_of (asked_from (form_of kind) 1 (lines_in text.now)) ≡ None }
+    ensures { (xs : List AskedLine) × (asked_from (form_of kind) 1 (lines_in text.now) ≡ Ok xs) × WritesAll plan.now.plan xs kind result (O.output out.old) (O.output out.new) }
 {
     let answered = answer_all(&mut Answering::new(alloc, plan), kind, text, out);
     if has_broken(&answered) {
@@ -72,10 +78,10 @@ fn send_answers<O: Write, A: Allocator + Copy>(
 ///
 /// # Errors
 ///
-/// [`Failure::NoMemory`] if a growth was refused. If it was refused at a line, the answers to those before it were
-/// written and flushed. [`Failure::Write`] if the writer failed. Then a beginning of the answers was written. Else the
+/// [`Failure::NoMemory`] if an allocation failed. If one failed at a line, the answers to those before it were written
+/// and flushed. [`Failure::Write`] if the writer failed. Then a beginning of the answers was written. Else the
 /// plan was refused, and then no line was read, or the lines were, and nothing was written.
-pub fn write_answers<P: Read, Q: Read, O: Write, A: Allocator + Copy>(
+fn write_answers<P: Read, Q: Read, O: Write, A: Allocator + Copy>(
     alloc: A,
     plan: &mut P,
     kind: AnswerKind,
@@ -83,14 +89,71 @@ pub fn write_answers<P: Read, Q: Read, O: Write, A: Allocator + Copy>(
     out: &mut O,
 ) -> Result<(), Failure>
     requires { IsWithin kind }
-    ensures { (planned : Result TabledPlan PlanFault) × ((requested : Result (List RequestLine) RequestsFault)
+    ensures { (planned : Result TabledPlan PlanFault) × ((requested : Result (List AskedLine) LinesFault)
         × ReadsPlan (P.input plan.old) planned (P.input plan.new)
-        × ReadsRequestsOver (form_of kind) planned (Q.input lines.old) requested (Q.input lines.new)
+        × ReadsLinesOver (form_of kind) planned (Q.input lines.old) requested (Q.input lines.new)
         × WritesAnswers planned requested kind result (O.output out.old) (O.output out.new)) }
 {
     let plan = read_plan(alloc, plan)?;
-    match read_requests(alloc, kind.form(), lines) {
+    match read_lines(alloc, kind.form(), lines) {
         Ok(text) => send_answers(alloc, &plan, kind, text.as_slice(), out),
         Err(fault) => Err(Failure::of_lines(kind.form(), fault)),
     }
+}
+
+/// Answers the requests of a text over one plan: reads the plan whole from `plan`, then the text whole from `requests`,
+/// and judges its lines. For each request in order, it then writes to `out` the word `request` and its line, and the
+/// report of its first `count` routes, from 1 to 10000, as [`run_first`](crate::run_first) does. The output is flushed
+/// at the end.
+///
+/// A failure's message goes to `err`; a failure of `err` changes nothing else. The status is [`Status::Plan`] if the
+/// plan is refused, and then `requests` isn't read; [`Status::Session`] if a line is bad; [`Status::Io`] if a reader or
+/// `out` failed; and [`Status::Memory`] if an allocation failed. If one failed at a request, `out` holds the
+/// answers to those before it, whole and flushed, and no others. If `out` failed, it holds a beginning of the answers.
+pub fn run_many<P: Read, Q: Read, O: Write, E: Write, A: Allocator + Copy>(
+    alloc: A,
+    plan: &mut P,
+    requests: &mut Q,
+    count: u32,
+    out: &mut O,
+    err: &mut E,
+) -> Status
+    requires { IsCount count }
+    ensures { (planned : Result TabledPlan PlanFault) × ((requested : Result (List AskedLine) LinesFault) × ((end : Result (Unit {0}) Failure)
+        × ReadsPlan (P.input plan.old) planned (P.input plan.new)
+        × ReadsLinesOver Requests planned (Q.input requests.old) requested (Q.input requests.new)
+        × WritesAnswers planned requested (FirstRoutes count) end (O.output out.old) (O.output out.new)
+        × TellsEnd end (E.output err.old) (E.output err.new)
+        × (result ≡ status_at end))) }
+{
+    let kind = AnswerKind::FirstRoutes(count);
+    let end = write_answers(alloc, plan, kind, requests, out);
+    tell_end(end, err)
+}
+
+/// Explains the lists of a text over one plan: reads the plan whole from `plan`, then the text whole from `lists`, and
+/// judges its lines. For each list in order, it then writes to `out` the word `list` and its line, and what
+/// [`run_explain`](crate::run_explain) writes of its contacts for its request. The output is flushed at the end.
+///
+/// A failure's message goes to `err`; a failure of `err` changes nothing else. The status is [`Status::Done`] whether
+/// or not the lists are routes; [`Status::Plan`] if the plan is refused, and then `lists` isn't read;
+/// [`Status::Session`] if a line is bad; [`Status::Io`] if a reader or `out` failed; and [`Status::Memory`] if an
+/// allocation failed. If one failed at a list, `out` holds the answers to those before it, whole and flushed, and no
+/// others. If `out` failed, it holds a beginning of the answers.
+pub fn run_follow<P: Read, Q: Read, O: Write, E: Write, A: Allocator + Copy>(
+    alloc: A,
+    plan: &mut P,
+    lists: &mut Q,
+    out: &mut O,
+    err: &mut E,
+) -> Status
+    ensures { (planned : Result TabledPlan PlanFault) × ((requested : Result (List AskedLine) LinesFault) × ((end : Result (Unit {0}) Failure)
+        × ReadsPlan (P.input plan.old) planned (P.input plan.new)
+        × ReadsLinesOver Lists planned (Q.input lists.old) requested (Q.input lists.new)
+        × WritesAnswers planned requested Explanation end (O.output out.old) (O.output out.new)
+        × TellsEnd end (E.output err.old) (E.output err.new)
+        × (result ≡ status_at end))) }
+{
+    let end = write_answers(alloc, plan, AnswerKind::Explanation, lists, out);
+    tell_end(end, err)
 }

@@ -1,12 +1,11 @@
 //! The run that lists the page after an old session, over readers and writers.
 
-ghost use Rattle.std.specs.Prelude.{◌≡◌, ◌≤◌, Ok, Result};
+ghost use Rattle.std.specs.Prelude.{◌≡◌, ◌≤◌, Result};
 ghost use Rattle.sabr_model.specs.plan.Plan.{TabledPlan};
 ghost use Rattle.sabr_plan.specs.PlanRead.{ReadsPlan};
 ghost use Rattle.sabr_plan.specs.declared.fault.PlanFault.{PlanFault};
 ghost use Rattle.sabr_frontier.specs.listing.Listing.{most_routes};
 ghost use Rattle.sabr_frontier.specs.session.Session.{Seen};
-ghost use Rattle.sabr_session.specs.SessionGiven.{ReadsSession};
 ghost use Rattle.sabr_session.specs.declared.session_fault.SessionFault.{SessionFault};
 ghost use Rattle.commands.specs.declared.failure.Failure.{Failure};
 ghost use Rattle.commands.specs.runs.Runs.{TellsEnd, status_at};
@@ -17,31 +16,11 @@ use crate::failure::Failure;
 use crate::runs::ending::tell_end;
 use crate::runs::pages::{PageWriters, write_page};
 use crate::status::Status;
-use sabr_model::{Plan, Read, Write};
+use sabr_model::{Read, Write};
 use sabr_plan::{digest, read_plan};
 use sabr_search::Settled;
 use sabr_session::read_session;
 use std::alloc::Allocator;
-
-/// Reads the old session over a plan, and writes its next page.
-fn write_after<I: Read, O: Write, S: Write, A: Allocator + Copy>(
-    alloc: A,
-    plan: &Plan<A>,
-    old: &mut I,
-    count: u32,
-    to: PageWriters<'_, O, S>,
-) -> Result<(), Failure>
-    requires { count ≤ most_routes }
-    ensures { (resumed : Result Seen SessionFault)
-        × ReadsSession plan.now (I.input old.old) resumed (I.input old.new)
-        × WritesNextPage (Ok plan.now) (place_of resumed) to.entry.keep count result (O.output to.entry.out.now) (O.output to.exit.0.now) (S.output to.entry.session.now) (S.output to.exit.1.0.now) }
-{
-    let PageWriters { out, session, keep } = to;
-    let digest = digest(plan);
-    let listing = read_session(alloc, old, plan, &digest, Settled::new(alloc))?;
-    let keep = if keep { Some(digest) } else { None };
-    write_page(listing, count, out, keep, session)
-}
 
 /// Reads the plan, and then the old session over it, and writes the session's next page.
 fn write_next<P: Read, I: Read, O: Write, S: Write, A: Allocator + Copy>(
@@ -58,7 +37,11 @@ fn write_next<P: Read, I: Read, O: Write, S: Write, A: Allocator + Copy>(
         × WritesNextPage planned (place_of resumed) to.entry.keep count result (O.output to.entry.out.now) (O.output to.exit.0.now) (S.output to.entry.session.now) (S.output to.exit.1.0.now)) }
 {
     let plan = read_plan(alloc, plan)?;
-    write_after(alloc, &plan, old, count, to)
+    let PageWriters { out, session, keep } = to;
+    let digest = digest(&plan);
+    let listing = read_session(alloc, old, &plan, &digest, Settled::new(alloc))?;
+    let keep = if keep { Some(digest) } else { None };
+    write_page(listing, count, out, keep, session)
 }
 
 /// Lists the `count` routes, from 1 to 10000, that follow an old session, and whether the listing goes on: reads the
@@ -68,7 +51,7 @@ fn write_next<P: Read, I: Read, O: Write, S: Write, A: Allocator + Copy>(
 ///
 /// A failure's message goes to `err`; a failure of `err` changes nothing else. The status is [`Status::Plan`] if the
 /// plan is refused, and then `old` isn't read; [`Status::Session`] if the session is refused; [`Status::Io`] if a
-/// reader or a writer failed; and [`Status::Memory`] if a growth was refused. If `out` or `session` failed, it holds a
+/// reader or a writer failed; and [`Status::Memory`] if an allocation failed. If `out` or `session` failed, it holds a
 /// beginning of its text, and else all of it or nothing. Nothing is written to `session` before the report was written
 /// whole and flushed.
 pub fn run_next<P: Read, I: Read, O: Write, S: Write, E: Write, A: Allocator + Copy>(

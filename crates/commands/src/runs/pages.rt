@@ -1,4 +1,4 @@
-//! Writing a page: its report, and then the session after it, if that is kept.
+//! Writing a page: its report, and then the session after it, if a writer is to have that.
 
 ghost use Rattle.std.specs.Prelude.{◌≡◌, ℕ, ◌+◌, ◌^◌, ◌<◌, ◌≤◌, All, IfOk, IfSome, IsTrue, false, true, is_some, length};
 ghost use Rattle.sabr_model.specs.Devices.{Output, WritesText};
@@ -23,7 +23,7 @@ pub struct PageWriters<'w, O, S> {
     pub out: &'w mut O,
     /// For the session after the page.
     pub session: &'w mut S,
-    /// Whether that is kept.
+    /// Whether the session is written.
     pub keep: bool,
 }
 
@@ -64,7 +64,7 @@ fn send_session<S: Write, B: BestOf<A>, A: Allocator + Copy>(
     Ok(())
 }
 
-/// Writes the next `count` routes of a listing, and whether it goes on. All are found first, and no more than is told.
+/// Writes the next `count` routes of a listing, and whether it goes on. All are found first, and no other.
 fn write_last_page<O: Write, B: BestOf<A>, A: Allocator + Copy>(
     listing: Session<'_, B, A>,
     count: u32,
@@ -104,12 +104,12 @@ fn write_kept_page<O: Write, S: Write, B: BestOf<A>, A: Allocator + Copy>(
 
 /// Writes the next `count` routes of a listing to `out`, with ranks that go on from the routes given before, and
 /// whether the listing goes on. Then, if `keep` is the digest of its plan, it writes the session after them to
-/// `session`. All routes are found first, and no more than is told if no session is kept. Each writer is flushed after
-/// its text, `out` before anything is written to `session`.
+/// `session`. All routes are found first, and no other if no session is written. Each writer is flushed after its text,
+/// `out` before anything is written to `session`.
 ///
 /// # Errors
 ///
-/// [`Failure::NoMemory`] if a growth was refused; then nothing was written. [`Failure::Write`] if a writer failed:
+/// [`Failure::NoMemory`] if an allocation failed; then nothing was written. [`Failure::Write`] if a writer failed:
 /// `out`, with a beginning of the report, or else `session`, with a beginning of the session.
 pub fn write_page<O: Write, S: Write, B: BestOf<A>, A: Allocator + Copy>(
     mut listing: Session<'_, B, A>,

@@ -7,17 +7,39 @@ ghost use Rattle.sabr_plan.specs.declared.fault.PlanFault.{PlanFault};
 ghost use Rattle.sabr_session.specs.declared.session_fault.SessionFault.{SessionFault};
 ghost use Rattle.commands.specs.declared.failure.Failure.{Failure};
 ghost use Rattle.commands.specs.runs.Runs.{TellsEnd, status_of_answer};
-ghost use Rattle.commands.specs.runs.SessionRuns.{VerifiesOldSession, WritesAnswer};
+ghost use Rattle.commands.specs.runs.SessionRuns.{VerifiesOldSession, WritesAnswer, WritesVerified};
 
 use crate::failure::Failure;
-use crate::runs::answer::write_verified;
 use crate::runs::ending::tell_answer;
 use crate::status::Status;
-use sabr_model::{Read, Write};
+use sabr_model::{Read, Write, write_text};
 use sabr_plan::{digest, read_plan};
 use sabr_search::Settled;
-use sabr_session::verify;
+use sabr_session::{SessionFault, verify};
 use std::alloc::Allocator;
+
+/// Writes and flushes `yes` or `no` as a line, and returns which. If verifying failed, it writes nothing.
+///
+/// # Errors
+///
+/// The failure of `verified`, or [`Failure::Write`] if `out` failed. Then a beginning of the line was written.
+fn write_verified<O: Write>(
+    verified: Result<bool, SessionFault>,
+    out: &mut O,
+) -> Result<bool, Failure>
+    ensures { WritesVerified verified result (O.output out.old) (O.output out.new) }
+{
+    let answer = verified?;
+    if answer {
+        write_text(out, b"yes\n")?;
+    } else {
+        write_text(out, b"no\n")?;
+    }
+    let Ok(()) = out.flush() else {
+        return Err(Failure::Write);
+    };
+    Ok(answer)
+}
 
 /// Reads the plan, verifies the old session over it, and writes the answer.
 fn read_and_verify<P: Read, I: Read, O: Write, A: Allocator + Copy>(
@@ -42,7 +64,7 @@ fn read_and_verify<P: Read, I: Read, O: Write, A: Allocator + Copy>(
 ///
 /// A failure's message goes to `err`; a failure of `err` changes nothing else. The status is [`Status::Done`] for yes
 /// and [`Status::No`] for no; [`Status::Plan`] if the plan is refused, and then `old` isn't read; [`Status::Io`] if a
-/// reader or `out` failed; and [`Status::Memory`] if a growth was refused. If `out` failed, it holds a beginning of the
+/// reader or `out` failed; and [`Status::Memory`] if an allocation failed. If `out` failed, it holds a beginning of the
 /// line, and else all of it or nothing.
 pub fn run_verify<P: Read, I: Read, O: Write, E: Write, A: Allocator + Copy>(
     alloc: A,

@@ -12,7 +12,7 @@ use sabr_model::{HopFault, Plan, Request, Write, WriteFault, follow};
 use sabr_session::TextBuffer;
 use std::alloc::Allocator;
 
-/// Counts the hops before a fault, of so many. Places count from 1.
+/// Counts the hops before a fault, of `hops`. Places count from 1.
 fn hops_before(fault: HopFault, hops: usize) -> usize
     ensures { result ≡ hops_before fault hops }
 {
@@ -48,7 +48,7 @@ fn followed<'a, A: Allocator + Copy>(
 /// and the times of sending and of arrival. Then comes the line of the route that they make, or that of the fault.
 /// Returns whether they make a route.
 ///
-/// It takes no memory and doesn't flush. Its time grows with the square of the number of hops, as that of [`follow`].
+/// It allocates nothing and doesn't flush. Its time grows with the square of the number of hops, as that of [`follow`].
 ///
 /// # Errors
 ///

@@ -3,15 +3,15 @@
 ghost use Rattle.std.specs.Prelude.{◌≡◌, map};
 ghost use Rattle.std.specs.List.{concat};
 ghost use Rattle.sabr_model.specs.Devices.{WritesText};
-ghost use Rattle.commands.specs.texts.Messages.{kind_text, request_kind_text, session_kind_text, session_line, session_message, message_text, status_of, TellsText};
+ghost use Rattle.commands.specs.texts.Messages.{kind_text, line_message, line_kind_text, session_kind_text, session_line, session_message, message_text, status_of, TellsText};
 
 use crate::failure::Failure;
 use crate::status::Status;
-use crate::words::RequestKind;
+use crate::words::LineKind;
 use itoa::Buffer;
 use sabr_model::{Write, WriteFault, write_text};
-use sabr_plan::{PlanFault, PlanKind};
-use sabr_session::SessionFault;
+use sabr_plan::PlanKind;
+use sabr_session::{SessionFault, TextBuffer, put_pieces};
 
 /// Names the kind of a bad line.
 fn kind_text(kind: PlanKind) -> &'static str
@@ -37,28 +37,39 @@ fn kind_text(kind: PlanKind) -> &'static str
     }
 }
 
-/// Writes the texts in turn.
+/// Writes the pieces in turn.
 ///
 /// # Errors
 ///
-/// [`WriteFault`] if the writer failed. Then a beginning of the texts was written.
-pub fn write_texts<W: Write>(writer: &mut W, texts: &[&str]) -> Result<(), WriteFault>
-    ensures { WritesText (W.output writer.old) (concat (map (λ t. t.now) texts.now)) result (W.output writer.new) }
+/// [`WriteFault`] if the writer failed. Then a beginning of the pieces was written.
+pub fn write_pieces<W: Write>(writer: &mut W, pieces: &[&[u8]]) -> Result<(), WriteFault>
+    ensures { WritesText (W.output writer.old) (concat (map (λ p. p.now) pieces.now)) result (W.output writer.new) }
 {
-    for text in texts {
-        write_text(writer, text.as_bytes())?;
-    }
-    Ok(())
+    let mut text = TextBuffer::new(writer);
+    put_pieces(&mut text, pieces)?;
+    text.send()
 }
 
-/// Writes the message of a bad line of a plan.
-fn write_plan_line<W: Write>(writer: &mut W, fault: PlanFault) -> Result<(), WriteFault>
-    ensures { WritesText (W.output writer.old) (message_text (Failure.PlanLine fault)) result (W.output writer.new) }
+/// Writes the message of a bad line of `text`: its number, and what is bad in it.
+fn write_line<W: Write>(
+    writer: &mut W,
+    text: &str,
+    line: u128,
+    kind: &str,
+) -> Result<(), WriteFault>
+    ensures { WritesText (W.output writer.old) (line_message text.now line kind.now) result (W.output writer.new) }
 {
     let mut buffer = Buffer::new();
-    let line = buffer.format(fault.line);
-    let kind = kind_text(fault.kind);
-    write_texts(writer, &["cgrlist: plan line ", line, ": ", kind, "\n"])
+    let pieces: [&[u8]; 7] = [
+        b"cgrlist: ",
+        text.as_bytes(),
+        b" line ",
+        buffer.format(line).as_bytes(),
+        b": ",
+        kind.as_bytes(),
+        b"\n",
+    ];
+    write_pieces(writer, &pieces)
 }
 
 /// Names a fault of a session.
@@ -93,57 +104,30 @@ fn write_session_fault<W: Write>(writer: &mut W, fault: SessionFault) -> Result<
     ensures { WritesText (W.output writer.old) (session_message fault) result (W.output writer.new) }
 {
     let kind = session_kind_text(fault);
-    let Some(number) = session_line(fault) else {
-        return write_texts(writer, &["cgrlist: session: ", kind, "\n"]);
-    };
-    let mut buffer = Buffer::new();
-    let line = buffer.format(number);
-    write_texts(writer, &["cgrlist: session line ", line, ": ", kind, "\n"])
-}
-
-/// Names what is bad in a line of requests or of lists.
-fn request_kind_text(kind: RequestKind) -> &'static str
-    ensures { result.now ≡ request_kind_text kind }
-{
-    match kind {
-        RequestKind::BadContacts => "BadContacts",
-        RequestKind::BadFrom => "BadFrom",
-        RequestKind::BadTo => "BadTo",
-        RequestKind::BadAt => "BadAt",
-        RequestKind::BadMargin => "BadMargin",
-        RequestKind::BadHops => "BadHops",
-        RequestKind::BadAvoid => "BadAvoid",
-        RequestKind::SameNode => "SameNode",
-        RequestKind::BadLine => "BadLine",
+    match session_line(fault) {
+        Some(line) => write_line(writer, "session", line, kind),
+        None => {
+            let pieces: [&[u8]; 3] = [b"cgrlist: session: ", kind.as_bytes(), b"\n"];
+            write_pieces(writer, &pieces)
+        }
     }
 }
 
-/// Writes the message of a bad line of requests.
-fn write_requests_line<W: Write>(
-    writer: &mut W,
-    number: u32,
-    kind: RequestKind,
-) -> Result<(), WriteFault>
-    ensures { WritesText (W.output writer.old) (message_text (Failure.RequestsLine number kind)) result (W.output writer.new) }
+/// Names what is bad in a line of requests or of lists.
+fn line_kind_text(kind: LineKind) -> &'static str
+    ensures { result.now ≡ line_kind_text kind }
 {
-    let mut buffer = Buffer::new();
-    let line = buffer.format(number);
-    let kind = request_kind_text(kind);
-    write_texts(writer, &["cgrlist: requests line ", line, ": ", kind, "\n"])
-}
-
-/// Writes the message of a bad line of lists.
-fn write_lists_line<W: Write>(
-    writer: &mut W,
-    number: u32,
-    kind: RequestKind,
-) -> Result<(), WriteFault>
-    ensures { WritesText (W.output writer.old) (message_text (Failure.ListsLine number kind)) result (W.output writer.new) }
-{
-    let mut buffer = Buffer::new();
-    let line = buffer.format(number);
-    let kind = request_kind_text(kind);
-    write_texts(writer, &["cgrlist: lists line ", line, ": ", kind, "\n"])
+    match kind {
+        LineKind::BadContacts => "BadContacts",
+        LineKind::BadFrom => "BadFrom",
+        LineKind::BadTo => "BadTo",
+        LineKind::BadAt => "BadAt",
+        LineKind::BadMargin => "BadMargin",
+        LineKind::BadHops => "BadHops",
+        LineKind::BadAvoid => "BadAvoid",
+        LineKind::SameNode => "SameNode",
+        LineKind::BadLine => "BadLine",
+    }
 }
 
 /// Writes a failure's message.
@@ -151,7 +135,10 @@ fn write_message<W: Write>(writer: &mut W, failure: Failure) -> Result<(), Write
     ensures { WritesText (W.output writer.old) (message_text failure) result (W.output writer.new) }
 {
     match failure {
-        Failure::BadValue(name) => write_texts(writer, &["cgrlist: bad --", name.text(), "\n"]),
+        Failure::BadValue(name) => {
+            let pieces: [&[u8]; 3] = [b"cgrlist: bad --", name.text().as_bytes(), b"\n"];
+            write_pieces(writer, &pieces)
+        }
         Failure::SameNode => write_text(writer, b"cgrlist: request: SameNode\n"),
         Failure::BadAvoid => write_text(writer, b"cgrlist: request: BadAvoid\n"),
         Failure::CannotOpenPlan => write_text(writer, b"cgrlist: cannot open the plan\n"),
@@ -159,17 +146,23 @@ fn write_message<W: Write>(writer: &mut W, failure: Failure) -> Result<(), Write
         Failure::CannotMakeSession => {
             write_text(writer, b"cgrlist: cannot make the session file\n")
         }
-        Failure::PlanLine(fault) => write_plan_line(writer, fault),
+        Failure::PlanLine(fault) => {
+            write_line(writer, "plan", fault.line as u128, kind_text(fault.kind))
+        }
         Failure::PlanRead => write_text(writer, b"cgrlist: plan: read failed\n"),
         Failure::Session(fault) => write_session_fault(writer, fault),
         Failure::SessionRead => write_text(writer, b"cgrlist: session: read failed\n"),
         Failure::CannotOpenRequests => {
             write_text(writer, b"cgrlist: cannot open the requests\n")
         }
-        Failure::RequestsLine(line, kind) => write_requests_line(writer, line, kind),
-        Failure::RequestsRead => write_text(writer, b"cgrlist: requests: read failed\n"),
+        Failure::RequestsLine(line, kind) => {
+            write_line(writer, "requests", line as u128, line_kind_text(kind))
+        }
+        Failure::LinesRead => write_text(writer, b"cgrlist: requests: read failed\n"),
         Failure::CannotOpenLists => write_text(writer, b"cgrlist: cannot open the lists\n"),
-        Failure::ListsLine(line, kind) => write_lists_line(writer, line, kind),
+        Failure::ListsLine(line, kind) => {
+            write_line(writer, "lists", line as u128, line_kind_text(kind))
+        }
         Failure::ListsRead => write_text(writer, b"cgrlist: lists: read failed\n"),
         Failure::Write => write_text(writer, b"cgrlist: write failed\n"),
         Failure::NoMemory => write_text(writer, b"cgrlist: no memory\n"),

@@ -1,13 +1,12 @@
 //! The words of the command line, as one level of subcommands with texts as values.
 
-ghost use Rattle.std.specs.Prelude.{◌≡◌, [], ◌∷◌, ◌++◌, IfOk, IsTrue, false, is_some, map};
+ghost use Rattle.std.specs.Prelude.{◌≡◌, ◌++◌, IfOk, IsTrue, is_some, map};
 ghost use Rattle.clap.specs.Simple.{app_of, subcommand_rows_of};
-ghost use Rattle.clap.specs.Walk.{rule_of};
 ghost use Rattle.clap.specs.Faults.{fault_of};
 ghost use Rattle.clap.specs.Kinds.{FailsBy};
-ghost use Rattle.commands.specs.declared.words.value_name.ValueName.TheVariants as name;
+ghost use Rattle.commands.specs.declared.words.value_fault.ValueName.TheVariants as name;
 ghost use Rattle.commands.specs.runs.Program.{named_in};
-ghost use Rattle.commands.specs.words.CommandLine.{AddsCommand, AddsWords, IsCommand, IsProgram, IsWord, end_rules, given_by, limit_rules, option_rule, program_app, required_rule, rules_for, rules_where, shape_for};
+ghost use Rattle.commands.specs.words.CommandLine.{AddsCommand, AddsWords, IsCommand, IsProgram, IsWord, end_rules, given_by, limit_rules, option_rule, program_app, required_rule, rules_for, shape_for};
 ghost use Rattle.commands.specs.words.Paths.{lists_word, plan_word, requests_word, session_out_word, session_word};
 ghost use Rattle.commands.specs.words.Values.{name_text};
 
@@ -141,50 +140,45 @@ fn contacts<'a>(alloc: Global) -> Arg<'a>
     required(alloc, "contacts", "NUMBER,NUMBER..", help)
 }
 
-/// Adds the words for where and when a request begins, and where it goes to.
-fn with_ends<'a>(alloc: Global, command: Command<'a>) -> Result<Command<'a>, AllocError>
-    ensures { IfOk result (AddsWords command.entry end_rules) }
-{
-    command.arg(from(alloc))?.arg(to(alloc))?.arg(at(alloc))
-}
-
-/// Adds the words for the margin and the limits of a request.
-fn with_limits<'a>(alloc: Global, command: Command<'a>) -> Result<Command<'a>, AllocError>
-    ensures { IfOk result (AddsWords command.entry limit_rules) }
+/// Adds the words of a request.
+fn with_request<'a>(alloc: Global, command: Command<'a>) -> Result<Command<'a>, AllocError>
+    ensures { IfOk result (AddsWords command.entry (end_rules ++ limit_rules)) }
 {
     command
+        .arg(from(alloc))?
+        .arg(to(alloc))?
+        .arg(at(alloc))?
         .arg(margin_ppm(alloc))?
         .arg(max_hops(alloc))?
         .arg(avoid(alloc))
 }
 
-/// Adds the words of a request, if the command has them.
-fn with_request<'a>(
+/// Adds the words of this command: the plan, and then its own.
+fn with_words<'a>(
     alloc: Global,
-    asked: bool,
+    name: CommandName,
     command: Command<'a>,
 ) -> Result<Command<'a>, AllocError>
-    ensures { IfOk result (AddsWords command.entry (rules_where asked (end_rules ++ limit_rules))) }
+    ensures { IfOk result (AddsWords command.entry (rules_for name)) }
 {
-    if !asked {
-        return Ok(command);
+    let made = command.arg(plan(alloc))?;
+    match name {
+        CommandName::First => {
+            with_request(alloc, made)?
+                .arg(count(alloc))?
+                .arg(session_out(alloc))
+        }
+        CommandName::Next => {
+            made.arg(session(alloc))?
+                .arg(count(alloc))?
+                .arg(session_out(alloc))
+        }
+        CommandName::Verify => made.arg(session(alloc)),
+        CommandName::Check => Ok(made),
+        CommandName::Explain => with_request(alloc, made)?.arg(contacts(alloc)),
+        CommandName::Many => made.arg(requests(alloc))?.arg(count(alloc)),
+        CommandName::Follow => made.arg(lists(alloc)),
     }
-    with_limits(alloc, with_ends(alloc, command)?)
-}
-
-/// Adds a word, if the command has it.
-fn with_word<'a>(
-    asked: bool,
-    word: Arg<'a>,
-    command: Command<'a>,
-) -> Result<Command<'a>, AllocError>
-    requires { word.global ≡ false }
-    ensures { IfOk result (AddsWords command.entry (rules_where asked (rule_of word.entry ∷ []))) }
-{
-    if !asked {
-        return Ok(command);
-    }
-    command.arg(word)
 }
 
 /// A command of the command line, as it is declared.
@@ -194,15 +188,8 @@ fn subcommand<'a>(alloc: Global, command: CommandName) -> Result<Command<'a>, Al
     let declared = command.declared();
     let made = Command::new(alloc, declared.name)
         .about(declared.about)
-        .after_help(declared.examples)
-        .arg(plan(alloc))?;
-    let made = with_request(alloc, declared.has_request, made)?;
-    let made = with_word(declared.has_session, session(alloc), made)?;
-    let made = with_word(declared.has_requests, requests(alloc), made)?;
-    let made = with_word(declared.has_lists, lists(alloc), made)?;
-    let made = with_word(declared.has_count, count(alloc), made)?;
-    let made = with_word(declared.keeps_session, session_out(alloc), made)?;
-    with_word(declared.has_contacts, contacts(alloc), made)
+        .after_help(declared.examples);
+    with_words(alloc, command, made)
 }
 
 /// Adds a command.
@@ -251,7 +238,7 @@ or a line of requests or lists is refused, 5 a file can't be opened, read, made 
 ///
 /// # Errors
 ///
-/// The error of clap, with the reason as its text; of the kind `OutOfMemory` if memory was refused.
+/// The error of clap, with the reason as its text; of the kind `OutOfMemory` if an allocation failed.
 pub fn parsed<'a>(alloc: Global, words: &'a [&'a str]) -> Result<ArgMatches<'a>, Error>
     ensures given { IfOk result (λ m. subcommand_rows_of m ≡ given_by (map (λ w. w.now) words.entry.now)) }
     ensures named { IfOk result (λ m. IsTrue (is_some (named_in (subcommand_rows_of m)))) }

@@ -1,13 +1,37 @@
-//! Lists of numbers on the command line, separated by single commas.
+//! The pieces of a text between bytes that separate them, and lists of numbers, separated by single commas.
 
-ghost use Rattle.std.specs.Prelude.{◌≡◌, None, Some, MatchOption, IfOk, is_some};
+ghost use Rattle.std.specs.Prelude.{◌≡◌, ◌==◌, ◌∷◌, ◌<◌, [], None, Some, MatchOption, IfOk, IfSome, ⊤, is_some, length};
+ghost use Rattle.std.specs.List.{position};
+ghost use Rattle.std.specs.Option.{option_copied};
 ghost use Rattle.sabr_session.specs.SessionWords.{most_number};
-ghost use Rattle.commands.specs.words.Lists.{nodes_listed, numbers_within};
+ghost use Rattle.commands.specs.words.Lists.{nodes_listed, numbers_within, pieces_after, pieces_of};
 
-use crate::words::first_piece::first_piece;
 use sabr_model::{NoMemory, NodeList, Numbers};
 use sabr_plan::number_within;
 use std::alloc::Allocator;
+
+/// The largest number of a contact.
+const MAX_NUMBER: u64 = 4294967295;
+
+/// Finds the first byte of this value.
+fn first_place(text: &[u8], separator: u8) -> Option<usize>
+    ensures { result ≡ position (λ b. b == separator) text.now }
+{
+    text.iter().position(|b| *b == separator)
+}
+
+/// Splits off the first piece, up to the first byte that separates. With it comes what stands after that, if there is
+/// one.
+pub fn first_piece(text: &[u8], separator: u8) -> (&[u8], Option<&[u8]>)
+    ensures pieces { pieces_of separator text.now ≡ result.0.now ∷ pieces_after separator (option_copied result.1) }
+    ensures whole { MatchOption result.1 (result.0.now ≡ text.now) (λ _. ⊤) }
+    ensures shorter { IfSome result.1 (λ rest. length rest.now < length text.now) }
+{
+    match first_place(text, separator) {
+        Some(place) => (&text[..place], Some(&text[place + 1..])),
+        None => (text, None),
+    }
+}
 
 /// Reads the text as 1 to 16 nodes. `None` if it isn't that.
 pub fn nodes_listed(text: &[u8]) -> Option<NodeList>
@@ -24,26 +48,19 @@ pub fn nodes_listed(text: &[u8]) -> Option<NodeList>
     Some(nodes)
 }
 
-/// Tells whether the text is a list of contact numbers. Allocates nothing.
+/// Whether the text is a list of contact numbers. Allocates nothing.
 pub fn are_contacts(text: &[u8]) -> bool
     ensures { result ≡ is_some (numbers_within 1 most_number text.now) }
 {
-    let mut rest = Some(text);
-    while let Some(after) = rest {
-        let (piece, others) = first_piece(after, b',');
-        let Some(_) = number_within(piece, 1, 4294967295) else {
-            return false;
-        };
-        rest = others;
-    }
-    true
+    text.split(|b| *b == b',')
+        .all(|piece| number_within(piece, 1, MAX_NUMBER).is_some())
 }
 
 /// Reads the text as contact numbers. `None` if it isn't a list of them.
 ///
 /// # Errors
 ///
-/// [`NoMemory`] if a growth was refused.
+/// [`NoMemory`] if an allocation failed.
 pub fn contacts_listed<A: Allocator + Copy>(
     alloc: A,
     text: &[u8],
@@ -54,7 +71,7 @@ pub fn contacts_listed<A: Allocator + Copy>(
     let mut rest = Some(text);
     while let Some(after) = rest {
         let (piece, others) = first_piece(after, b',');
-        let Some(number) = number_within(piece, 1, 4294967295) else {
+        let Some(number) = number_within(piece, 1, MAX_NUMBER) else {
             return Ok(None);
         };
         contacts.push(number as u32)?;

@@ -5,21 +5,19 @@ ghost use Rattle.std.specs.Option.{option_copied, option_map};
 ghost use Rattle.sabr_session.specs.SessionWords.{most_number};
 ghost use Rattle.commands.specs.words.Lists.{first_of, numbers_within, pieces_after, pieces_of};
 ghost use Rattle.commands.specs.words.Values.{texts_given};
-ghost use Rattle.commands.specs.words.Requests.{Asks, list_in, list_texts_of, or_kind, request_by, request_in, texts_of, space};
+ghost use Rattle.commands.specs.words.Lines.{Asks, list_in, list_texts_of, or_kind, request_by, request_in, texts_of, space};
 
-use crate::words::first_piece::first_piece;
-use crate::words::lists::are_contacts;
-use crate::words::request_texts::RequestTexts;
-use crate::words::request_words::{request_of, request_words};
-use crate::words::requests_fault::RequestKind;
+use crate::words::lines_fault::LineKind;
+use crate::words::lists::{are_contacts, first_piece};
+use crate::words::request_words::{RequestTexts, request_of, request_words};
 use crate::words::value_fault::ValueFault;
 use sabr_model::Request;
 
-/// The most bytes of a line. A line of 20-digit nodes, a time, the greatest limits and 16 nodes to avoid has as many.
-const MOST_LINE_BYTES: usize = 411;
+/// The most bytes of a line. A line of 20-digit nodes, a time, the largest limits and 16 nodes to avoid has as many.
+const MAX_LINE_BYTES: usize = 411;
 
 /// The most bytes of a line of lists: 20000 numbers of ten digits, each with a byte after it, and such a line.
-const MOST_LIST_BYTES: usize = 220411;
+const MAX_LIST_BYTES: usize = 220411;
 
 /// What a line of lists asks about.
 #[derive(Drop)]
@@ -82,8 +80,8 @@ fn request_by(texts: &RequestTexts<'_>) -> Result<Request, ValueFault>
     request_of(&words)
 }
 
-/// Reads the request of these texts, or tells what is bad in them.
-fn request_or_kind(texts: &RequestTexts<'_>) -> Result<Request, RequestKind>
+/// Reads the request of these texts, or finds what is bad in them.
+fn request_or_kind(texts: &RequestTexts<'_>) -> Result<Request, LineKind>
     ensures { result ≡ or_kind (request_by (texts_given texts.now)) }
 {
     match request_by(texts) {
@@ -97,15 +95,15 @@ fn request_or_kind(texts: &RequestTexts<'_>) -> Result<Request, RequestKind>
 /// # Errors
 ///
 /// What is bad in it: the first that holds, in the order of the words.
-#[tactic(auto, unfolding(crate::specs::words::Requests::request_in))]
-pub fn request_in(line: &[u8]) -> Result<Request, RequestKind>
+#[tactic(auto, unfolding(crate::specs::words::Lines::request_in))]
+pub fn request_in(line: &[u8]) -> Result<Request, LineKind>
     ensures { result ≡ request_in line.now }
 {
-    if line.len() > MOST_LINE_BYTES {
-        return Err(RequestKind::BadLine);
+    if line.len() > MAX_LINE_BYTES {
+        return Err(LineKind::BadLine);
     }
     let Some(texts) = texts_of(Some(line)) else {
-        return Err(RequestKind::BadLine);
+        return Err(LineKind::BadLine);
     };
     request_or_kind(&texts)
 }
@@ -116,17 +114,17 @@ pub fn request_in(line: &[u8]) -> Result<Request, RequestKind>
 /// # Errors
 ///
 /// What is bad in it: the first that holds, in the order of the words.
-pub fn list_in(line: &[u8]) -> Result<Listed<'_>, RequestKind>
+pub fn list_in(line: &[u8]) -> Result<Listed<'_>, LineKind>
     ensures { MatchResult result (λ listed. Asks line.now listed.contacts.now listed.request) (λ kind. list_in line.now ≡ Err kind) }
 {
-    if line.len() > MOST_LIST_BYTES {
-        return Err(RequestKind::BadLine);
+    if line.len() > MAX_LIST_BYTES {
+        return Err(LineKind::BadLine);
     }
     let Some((contacts, texts)) = list_texts_of(line) else {
-        return Err(RequestKind::BadLine);
+        return Err(LineKind::BadLine);
     };
     if !are_contacts(contacts) {
-        return Err(RequestKind::BadContacts);
+        return Err(LineKind::BadContacts);
     }
     match request_or_kind(&texts) {
         Ok(request) => Ok(Listed { contacts, request }),

@@ -11,12 +11,27 @@ ghost use Rattle.sabr_model.specs.plan.Plan.{IsNode, last_time};
 ghost use Rattle.sabr_model.specs.routes.Asking.{most_margin};
 
 use crate::words::lists::nodes_listed;
-use crate::words::request_texts::RequestTexts;
-use crate::words::value_fault::ValueFault;
-use crate::words::value_name::ValueName;
+use crate::words::value_fault::{ValueFault, ValueName};
 use clap::ArgMatches;
-use sabr_model::{MOST_HOPS, MOST_MARGIN, NodeList, Request, RequestValues};
+use sabr_model::{MAX_HOPS, MAX_MARGIN, NodeList, Request, RequestValues};
 use sabr_plan::{number_within, parse_time};
+
+/// The texts that are given for a request, wherever they come from.
+#[derive(Clone, Copy)]
+pub struct RequestTexts<'a> {
+    /// The source.
+    pub from: Option<&'a [u8]>,
+    /// The destination.
+    pub to: Option<&'a [u8]>,
+    /// The time at which the bundle is at the source.
+    pub at: Option<&'a [u8]>,
+    /// The margin on light times.
+    pub margin_ppm: Option<&'a [u8]>,
+    /// The limit on hops.
+    pub max_hops: Option<&'a [u8]>,
+    /// The nodes to avoid.
+    pub avoid: Option<&'a [u8]>,
+}
 
 /// Finds the text that was given under a name.
 pub fn text_under<'a>(matches: &ArgMatches<'a>, name: ValueName) -> Option<&'a [u8]>
@@ -112,7 +127,7 @@ fn with_limit_words(
     ensures range { IfOk result IsInRange }
     ensures memory { ¬ IsErrOf result ValueFault.NoMemory }
 {
-    let most = MOST_HOPS as u64;
+    let most = MAX_HOPS as u64;
     let max_hops = number_or(texts.max_hops, ValueName::MaxHops, 1, most, most)? as u32;
     let avoid = avoided(texts.avoid)?;
     Ok(RequestValues {
@@ -139,7 +154,7 @@ pub fn request_words(texts: &RequestTexts<'_>) -> Result<RequestValues, ValueFau
     let from = number_given(texts.from, ValueName::From, 1, u64::MAX)?;
     let to = number_given(texts.to, ValueName::To, 1, u64::MAX)?;
     let at = time_given(texts.at)?;
-    let most = MOST_MARGIN as u64;
+    let most = MAX_MARGIN as u64;
     let margin_ppm = number_or(texts.margin_ppm, ValueName::MarginPpm, 0, most, 0)? as u32;
     with_limit_words(from, to, at, margin_ppm, texts)
 }

@@ -1,11 +1,50 @@
-//! Why the values of a command are refused.
+//! The names of the values on the command line, and why values are refused.
 
 ghost use Rattle.std.specs.Prelude.{◌≡◌};
 ghost use Rattle.commands.specs.declared.words.value_fault.ValueFault.TheVariants as fault;
+ghost use Rattle.commands.specs.words.Values.{name_text};
 
-use crate::words::value_name::ValueName;
 use sabr_model::NoMemory;
 use thiserror::Error;
+
+/// A value of the command line, by its word. The first bad one in this order is reported.
+#[derive(Clone, Copy, Debug, PartialEq, Eq)]
+pub enum ValueName {
+    /// The source.
+    From,
+    /// The destination.
+    To,
+    /// The time at which the bundle is at the source.
+    At,
+    /// The margin on light times, in parts per million.
+    MarginPpm,
+    /// The limit on hops.
+    MaxHops,
+    /// The nodes to avoid.
+    Avoid,
+    /// The number of routes asked for.
+    Count,
+    /// The contacts to explain.
+    Contacts,
+}
+
+impl ValueName {
+    /// The word, without its two dashes.
+    pub fn text(self) -> &'static str
+        ensures { result.now ≡ name_text self }
+    {
+        match self {
+            ValueName::From => "from",
+            ValueName::To => "to",
+            ValueName::At => "at",
+            ValueName::MarginPpm => "margin-ppm",
+            ValueName::MaxHops => "max-hops",
+            ValueName::Avoid => "avoid",
+            ValueName::Count => "count",
+            ValueName::Contacts => "contacts",
+        }
+    }
+}
 
 /// Why the values of a command are refused.
 #[derive(Clone, Copy, Debug, PartialEq, Eq, Error)]
@@ -16,7 +55,7 @@ pub enum ValueFault {
     /// The source is the destination.
     #[error("source and destination are the same node")]
     SameNode,
-    /// Memory was refused.
+    /// An allocation failed.
     #[error("out of memory")]
     NoMemory,
     /// The avoided nodes don't rise strictly, or hold the source or the destination.
@@ -24,7 +63,7 @@ pub enum ValueFault {
     BadAvoid,
 }
 
-/// Refused memory.
+/// A failed allocation.
 impl From<NoMemory> for ValueFault {
     ghost from_gives = { λ _ e. e ≡ fault.NoMemory };
 

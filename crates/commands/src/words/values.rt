@@ -10,14 +10,13 @@ use crate::words::lists::contacts_listed;
 use crate::words::request_words::{
     number_given, request_of, request_words, text_under, texts_under,
 };
-use crate::words::value_fault::ValueFault;
-use crate::words::value_name::ValueName;
+use crate::words::value_fault::{ValueFault, ValueName};
 use clap::ArgMatches;
 use sabr_model::{Numbers, Request, RequestValues};
 use std::alloc::{Allocator, Global};
 
 /// The most routes of a page.
-const MOST_ROUTES: u64 = 10000;
+const MAX_ROUTES: u64 = 10000;
 
 /// The values of a command. What the command doesn't have is `None` or empty.
 #[derive(Drop)]
@@ -41,7 +40,7 @@ fn words_where_asked(
     ensures asked { IfOk result (λ words. is_some words ≡ has_request command) }
     ensures memory { ¬ IsErrOf result ValueFault.NoMemory }
 {
-    if !command.declared().has_request {
+    if !command.has_request() {
         return Ok(None);
     }
     let words = request_words(&texts_under(matches))?;
@@ -58,11 +57,11 @@ fn count_where_asked(
     ensures asked { IfOk result (λ count. is_some count ≡ has_count command) }
     ensures range { IfOk result (λ count. IfSome count IsCount) }
 {
-    if !command.declared().has_count {
+    if !command.has_count() {
         return Ok(None);
     }
     let text = text_under(matches, ValueName::Count);
-    let count = number_given(text, ValueName::Count, 1, MOST_ROUTES)?;
+    let count = number_given(text, ValueName::Count, 1, MAX_ROUTES)?;
     Ok(Some(count as u32))
 }
 
@@ -77,7 +76,7 @@ fn contacts_where_asked<A: Allocator + Copy>(
     ensures err { IfErr result (λ e. (e ≡ ValueFault.NoMemory) ⊎ (contacts_where_asked command (found_of matches.now) ≡ Err e)) }
     ensures memory { IsErrOf result ValueFault.NoMemory → IsTrue (has_contacts command) }
 {
-    if !command.declared().has_contacts {
+    if !command.has_contacts() {
         return Ok(Numbers::new(Vec::new(alloc)));
     }
     let bad = ValueFault::Bad(ValueName::Contacts);
@@ -135,8 +134,8 @@ pub fn values_of<A: Allocator + Copy>(
 /// # Errors
 ///
 /// The first that holds: [`ValueFault::Bad`] with the first bad word in the order of [`ValueName`],
-/// [`ValueFault::SameNode`], [`ValueFault::BadAvoid`]. [`ValueFault::NoMemory`] only if memory for contacts was
-/// refused.
+/// [`ValueFault::SameNode`], [`ValueFault::BadAvoid`]. [`ValueFault::NoMemory`] only if an allocation for contacts
+/// failed.
 pub fn read_values<A: Allocator + Copy>(
     alloc: A,
     command: &str,

@@ -1,7 +1,7 @@
 use Rattle.std.proofs.lemmas.Result.{err_from_is_err_and}
 use Rattle.sabr_model.proofs.ListLemmas.WrittenTexts.{WritesText-after, WrittenInPart-more}
 use Rattle.sabr_session.specs.ReportText.{report_text}
-use Rattle.commands.specs.declared.runs.answer_kind.AnswerKind.TheVariants.{FirstRoutes}
+use Rattle.commands.specs.declared.runs.answering.AnswerKind.TheVariants.{FirstRoutes}
 use Rattle.commands.specs.runs.Many.{heading}
 use Rattle.commands.proofs.runs.answering.write_answer.Goals as goal
 

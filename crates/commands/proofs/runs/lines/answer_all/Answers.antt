@@ -1,14 +1,10 @@
-use Rattle.std.proofs.Common.{Ok, Err, refl, ap, subst, ◌∙◌}
+use Rattle.std.proofs.Common.{Ok, Err, refl, subst, ◌∙◌}
 use Rattle.std.proofs.lemmas.Result.{err_from_is_err_and}
-use Rattle.std.specs.Prelude.{is_ok}
-use Rattle.commands.proofs.RunLemmas.ManyAnswers.{Leaves, none_answered, has_asked, one_answered, fails, all_answered}
+use Rattle.commands.proofs.RunLemmas.ManyAnswers.{Leaves, none_answered, one_answered, fails, all_answered}
 use Rattle.commands.proofs.runs.lines.answer_all.Goals as goal
 
 pub loop-line-init : goal.loop-line-init
 loop-line-init g c = record { answered = none_answered c.args.answering.now.plan c.args.kind _ _ c.requires.requests; plan = refl }
-
-pub answer-requires-clause-line : goal.answer-requires-clause-line
-answer-requires-clause-line g c = ap is_ok (has_asked c.args.answering.now _ _ _ _ _ _ _ c.loop-line.invariant.answered (c.in-Some.ensures {u = tt}).lines)
 
 pub returns-in_err-answer : goal.returns-in_err-answer
 returns-in_err-answer g c =

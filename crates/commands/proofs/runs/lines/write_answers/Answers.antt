@@ -1,9 +1,9 @@
 use Rattle.std.proofs.Common.{Ok, Err, refl, ap, ◌∙◌}
 use Rattle.std.proofs.lemmas.Result.{err_from_is_err_and}
 use Rattle.commands.specs.runs.Many.{form_of}
-use Rattle.commands.specs.texts.Messages.{failure_of_requests}
-use Rattle.commands.specs.words.Requests.{fault_of, lines_in, requests_from}
-use Rattle.commands.specs.declared.words.requests_fault.RequestsFault.TheVariants.{NoMemory}
+use Rattle.commands.specs.texts.Messages.{failure_of_lines}
+use Rattle.commands.specs.words.Lines.{fault_of, lines_in, asked_from}
+use Rattle.commands.specs.declared.words.lines_fault.LinesFault.TheVariants.{NoMemory}
 use Rattle.commands.proofs.RunLemmas.ManyAnswers.{not_requested, none_bad, answers_left}
 use Rattle.commands.proofs.runs.lines.write_answers.Goals as goal
 
@@ -16,12 +16,12 @@ returns-in_err-plan g c =
 pub returns : goal.returns
 returns g c =
     let read = rw c.form.ensures at c.in-Err.ensures in
-    (Ok c.in_ok-plan.plan, (read.0, c.in_ok-plan.ensures.read, read.1, not_requested c.in_ok-plan.plan c.args.kind read.0 c.in-Err.fault _ (g.O.Write.output c.args.out.now) read.2 (ap Err (c.of_lines.ensures ∙ ap (λ form. failure_of_requests form c.in-Err.fault) c.form-in-Err.ensures))))
+    (Ok c.in_ok-plan.plan, (read.0, c.in_ok-plan.ensures.read, read.1, not_requested c.in_ok-plan.plan c.args.kind read.0 c.in-Err.fault _ (g.O.Write.output c.args.out.now) read.2 (ap Err (c.of_lines.ensures ∙ ap (λ form. failure_of_lines form c.in-Err.fault) c.form-in-Err.ensures))))
 
 pub send_answers-requires-clause-requests : goal.send_answers-requires-clause-requests
 send_answers-requires-clause-requests g c =
     let read = rw c.form.ensures at c.in-Ok.ensures in
-    ap (λ t. fault_of (requests_from (form_of c.args.kind) 1 (lines_in t))) c.as_slice.ensures.value ∙ none_bad (form_of c.args.kind) _ read.0 read.2
+    ap (λ t. fault_of (asked_from (form_of c.args.kind) 1 (lines_in t))) c.as_slice.ensures.value ∙ none_bad (form_of c.args.kind) _ read.0 read.2
 
 pub returns-in-Ok : goal.returns-in-Ok
 returns-in-Ok g c =

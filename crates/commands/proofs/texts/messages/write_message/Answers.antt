@@ -1,7 +1,7 @@
 use Rattle.commands.proofs.texts.messages.write_message.Goals as goal
 
 pub returns-in-BadValue : goal.returns-in-BadValue
-returns-in-BadValue g c = rw c.in-BadValue.is (rw (c.text.ensures) at c.write_texts.ensures)
+returns-in-BadValue g c = rw c.in-BadValue.is (rw (c.as_bytes.ensures.value, c.text.ensures) at c.write_pieces.ensures)
 
 pub returns-in-SameNode : goal.returns-in-SameNode
 returns-in-SameNode g c = rw c.in-SameNode.is c.write_text.ensures
@@ -15,8 +15,8 @@ returns-in-CannotOpenPlan g c = rw c.in-CannotOpenPlan.is c.write_text-in-Cannot
 pub returns-in-CannotOpenRequests : goal.returns-in-CannotOpenRequests
 returns-in-CannotOpenRequests g c = rw c.in-CannotOpenRequests.is c.write_text-in-CannotOpenRequests.ensures
 
-pub returns-in-RequestsRead : goal.returns-in-RequestsRead
-returns-in-RequestsRead g c = rw c.in-RequestsRead.is c.write_text-in-RequestsRead.ensures
+pub returns-in-LinesRead : goal.returns-in-LinesRead
+returns-in-LinesRead g c = rw c.in-LinesRead.is c.write_text-in-LinesRead.ensures
 
 pub returns-in-CannotOpenLists : goal.returns-in-CannotOpenLists
 returns-in-CannotOpenLists g c = rw c.in-CannotOpenLists.is c.write_text-in-CannotOpenLists.ensures
@@ -41,3 +41,6 @@ returns-in-SessionRead g c = rw c.in-SessionRead.is c.write_text-in-SessionRead.
 
 pub returns-in-NotUtf8 : goal.returns-in-NotUtf8
 returns-in-NotUtf8 g c = rw c.in-NotUtf8.is c.write_text-in-NotUtf8.ensures
+
+pub returns-in-RequestsLine : goal.returns-in-RequestsLine
+returns-in-RequestsLine g c = rw c.in-RequestsLine.is (rw c.line_kind_text.ensures at c.write_line-in-RequestsLine.ensures)

@@ -1,0 +1,195 @@
+-- What a text of requests or of lists says: one a line, each word read as strictly as the option of its name.
+use Rattle.std.specs.Prelude.{◌≡◌, ℕ, ◌+◌, ◌≤◌, nat_lt, ◌⊎◌, List, [], ◌∷◌, ◌++◌, length, take, option_map, Result, Ok, Err, if◌then◌else◌}
+use Rattle.sabr_model.specs.Devices.{Input, Gives, HasEnded}
+use Rattle.std.specs.declared.option.Option.{Option}
+use Rattle.std.specs.declared.option.Option.TheVariants.{Some, None}
+use Rattle.sabr_model.specs.routes.Arrival.{RouteRequest}
+use Rattle.commands.specs.declared.words.value_fault.ValueName.TheVariants as name
+use Rattle.commands.specs.declared.words.value_fault.ValueFault.{ValueFault}
+use Rattle.commands.specs.declared.words.value_fault.ValueFault.TheVariants as value
+use Rattle.commands.specs.declared.words.lines_fault.LineKind.{LineKind}
+use Rattle.commands.specs.declared.words.lines_fault.LineKind.TheVariants.{BadContacts, BadFrom, BadTo, BadAt, BadMargin, BadHops, BadAvoid, SameNode, BadLine}
+use Rattle.commands.specs.declared.words.lines_fault.LinesFault.{LinesFault}
+use Rattle.commands.specs.declared.words.lines_fault.LinesFault.TheVariants.{Line, Read, NoMemory}
+use Rattle.commands.specs.declared.words.lines.LineForm.{LineForm}
+use Rattle.commands.specs.declared.words.lines.LineForm.TheVariants.{Requests, Lists}
+use Rattle.sabr_session.specs.SessionWords.{most_number}
+use Rattle.commands.specs.words.Lists.{numbers_within, pieces_of}
+use Rattle.commands.specs.words.Values.{TextsGiven, and_then, request_words, request_of}
+
+-- what is bad in a line, by the fault of its values; a value that no line has would be no part of a line
+abbrev pub kind_of : ValueFault → LineKind
+kind_of (value.Bad name.From) = BadFrom
+kind_of (value.Bad name.To) = BadTo
+kind_of (value.Bad name.At) = BadAt
+kind_of (value.Bad name.MarginPpm) = BadMargin
+kind_of (value.Bad name.MaxHops) = BadHops
+kind_of (value.Bad name.Avoid) = BadAvoid
+kind_of (value.Bad name.Contacts) = BadContacts
+kind_of value.BadAvoid = BadAvoid
+kind_of value.SameNode = SameNode
+kind_of _ = BadLine
+
+-- the request of the texts that are given for it
+abbrev pub request_by : TextsGiven → Result RouteRequest ValueFault
+request_by texts = and_then (request_words texts) request_of
+
+-- three to six words as the texts of a request, in their order
+abbrev pub texts_of : List (List ℕ) → Option TextsGiven
+texts_of (from ∷ to ∷ at ∷ []) = Some (record { from = Some from; to = Some to; at = Some at; margin = None; hops = None; avoid = None })
+texts_of (from ∷ to ∷ at ∷ margin ∷ []) = Some (record { from = Some from; to = Some to; at = Some at; margin = Some margin; hops = None; avoid = None })
+texts_of (from ∷ to ∷ at ∷ margin ∷ hops ∷ []) = Some (record { from = Some from; to = Some to; at = Some at; margin = Some margin; hops = Some hops; avoid = None })
+texts_of (from ∷ to ∷ at ∷ margin ∷ hops ∷ avoid ∷ []) = Some (record { from = Some from; to = Some to; at = Some at; margin = Some margin; hops = Some hops; avoid = Some avoid })
+texts_of _ = None
+
+-- the space, which separates words, and LF, which ends lines
+abbrev pub space : ℕ
+space = 32
+
+abbrev pub line_feed : ℕ
+line_feed = 10
+
+-- the most bytes of a line; no line of a request is longer
+abbrev pub most_line_bytes : ℕ
+most_line_bytes = 411
+
+-- the most lines of a text
+abbrev pub most_lines : ℕ
+most_lines = 1000000
+
+-- a value, or the kind of its fault
+abbrev pub or_kind : {A : Type 0} → Result A ValueFault → Result A LineKind
+or_kind (Ok a) = Ok a
+or_kind (Err fault) = Err (kind_of fault)
+
+-- the request of these texts, if there are any
+abbrev pub request_where_given : Option TextsGiven → Result RouteRequest LineKind
+request_where_given None = Err BadLine
+request_where_given (Some texts) = or_kind (request_by texts)
+
+-- the request of a line, or what is bad in it
+unfoldable pub request_in : List ℕ → Result RouteRequest LineKind
+request_in line = if nat_lt most_line_bytes (length line) then Err BadLine else request_where_given (texts_of (pieces_of space line))
+
+-- what a line asks: a request, and the contacts before it; none if its form has none
+pub record Asked : Type 0 where
+  pub contacts : List ℕ
+  pub request : RouteRequest
+
+-- these contacts and then a request
+abbrev pub after_contacts : List ℕ → Result RouteRequest LineKind → Result Asked LineKind
+after_contacts contacts (Ok r) = Ok (record { contacts = contacts; request = r })
+after_contacts contacts (Err kind) = Err kind
+
+-- the contacts that a text lists, and then a request
+abbrev pub after_listed : Option (List ℕ) → Result RouteRequest LineKind → Result Asked LineKind
+after_listed None request = Err BadContacts
+after_listed (Some contacts) request = after_contacts contacts request
+
+-- the first of four to seven words as the text of contacts, and the others as those of a request
+abbrev pub list_texts_of : List (List ℕ) → Option (List ℕ × TextsGiven)
+list_texts_of [] = None
+list_texts_of (contacts ∷ words) = option_map (λ texts. (contacts, texts)) (texts_of words)
+
+-- the contacts and the request of these texts, if there are any
+abbrev pub list_where_given : Option (List ℕ × TextsGiven) → Result Asked LineKind
+list_where_given None = Err BadLine
+list_where_given (Some (contacts, texts)) = after_listed (numbers_within 1 most_number contacts) (or_kind (request_by texts))
+
+-- the most bytes of a line of lists: 20000 numbers of ten digits, each with a byte after it, and a request
+abbrev pub most_list_bytes : ℕ
+most_list_bytes = 220411
+
+-- the contacts and the request of a line of lists, or what is bad in it
+unfoldable pub list_in : List ℕ → Result Asked LineKind
+list_in line = if nat_lt most_list_bytes (length line) then Err BadLine else list_where_given (list_texts_of (pieces_of space line))
+
+-- a line of lists asks about the contacts that this text lists, and this request
+pub record Asks (line text : List ℕ) (r : RouteRequest) : Type 0 where
+  pub contacts : List ℕ
+  pub listed : numbers_within 1 most_number text ≡ Some contacts
+  pub says : list_in line ≡ Ok (record { contacts = contacts; request = r })
+
+-- what a line of this form asks, or what is bad in it
+abbrev pub asked_in : LineForm → List ℕ → Result Asked LineKind
+asked_in Requests line = after_contacts [] (request_in line)
+asked_in Lists line = list_in line
+
+-- a line and what it asks
+pub record AskedLine : Type 0 where
+  pub line : List ℕ
+  pub asked : Asked
+
+-- without an empty piece at the end: what stands after the last LF is a line only if it has a byte
+abbrev pub without_last_empty : List (List ℕ) → List (List ℕ)
+without_last_empty [] = []
+without_last_empty ([] ∷ []) = []
+without_last_empty (line ∷ lines) = line ∷ without_last_empty lines
+
+-- the lines of a text
+unfoldable pub lines_in : List ℕ → List (List ℕ)
+lines_in text = without_last_empty (pieces_of line_feed text)
+
+-- what the line of this number asks, if there may be so many
+abbrev pub asked_at : LineForm → ℕ → List ℕ → Result Asked LineKind
+asked_at form n line = if nat_lt most_lines n then Err BadLine else asked_in form line
+
+-- a line before others, unless one of them is refused, the first of them first
+abbrev pub put_first : ℕ → List ℕ → Result Asked LineKind → Result (List AskedLine) LinesFault → Result (List AskedLine) LinesFault
+put_first n line (Err kind) rest = Err (Line n kind)
+put_first n line (Ok a) (Err fault) = Err fault
+put_first n line (Ok a) (Ok xs) = Ok (record { line = line; asked = a } ∷ xs)
+
+-- what lines ask, of which the first has this number, or the first bad line
+abbrev pub asked_from : LineForm → ℕ → List (List ℕ) → Result (List AskedLine) LinesFault
+asked_from form n [] = Ok []
+asked_from form n (line ∷ lines) = put_first n line (asked_at form n line) (asked_from form (n + 1) lines)
+
+-- one byte more than so many lines of the largest length have; a text as long has a bad line within that many bytes
+abbrev pub most_bytes : LineForm → ℕ
+most_bytes Requests = 412000001
+most_bytes Lists = 220412000001
+
+-- what the lines of a text ask, or its first bad line
+unfoldable pub asked_by : LineForm → List ℕ → Result (List AskedLine) LinesFault
+asked_by form text = asked_from form 1 (lines_in (take (most_bytes form) text))
+
+-- the fault of what was refused
+abbrev pub fault_of : {A E : Type 0} → Result A E → Option E
+fault_of (Ok _) = None
+fault_of (Err fault) = Some fault
+
+-- what reading a text of such lines leaves: the reader ended after these bytes, and they are the text
+abbrev pub EndsLines : LineForm → Input → List ℕ → Result (List AskedLine) LinesFault → Input → Type 0
+EndsLines form old given answer new = HasEnded new × (new.failures ≡ old.failures) × (asked_by form given ≡ answer)
+
+-- the reader failed after these bytes
+abbrev pub BreaksLines : Input → List ℕ → Result (List AskedLine) LinesFault → Input → Type 0
+BreaksLines old given answer new = (new.failures ≡ old.failures + 1) × (answer ≡ Err Read)
+
+-- these bytes have the answer whatever follows them, or memory was refused
+abbrev pub RefusesLines : LineForm → Input → List ℕ → Result (List AskedLine) LinesFault → Input → Type 0
+RefusesLines form old given answer new =
+    (new.failures ≡ old.failures) × ((answer ≡ Err NoMemory) ⊎ ((more : List ℕ) → asked_by form (given ++ more) ≡ answer))
+
+-- these bytes were read, and the answer is that of their text
+pub record ReadsLines (form : LineForm) (old : Input) (answer : Result (List AskedLine) LinesFault) (new : Input) : Type 0 where
+  pub given : List ℕ
+  pub gives : Gives old given new
+  pub told : EndsLines form old given answer new ⊎ (BreaksLines old given answer new ⊎ RefusesLines form old given answer new)
+
+-- bytes aren't read to their end: the reader failed, or memory was refused
+abbrev pub StopsReading : Input → LinesFault → Input → Type 0
+StopsReading old Read new = new.failures ≡ old.failures + 1
+StopsReading old NoMemory new = new.failures ≡ old.failures
+StopsReading old (Line n kind) new = ⊥
+
+-- what reading bytes leaves: all that there are, or as many as are looked at
+abbrev pub GivesText : {T : Type 0} → ℕ → (T → List ℕ) → Input → List ℕ → Result T LinesFault → Input → Type 0
+GivesText most bytes old given (Ok text) new =
+    (bytes text ≡ take most given) × (new.failures ≡ old.failures) × (HasEnded new ⊎ (most ≤ length given))
+GivesText most bytes old given (Err fault) new = StopsReading old fault new
+
+-- the lines of a text ask this, and none is bad
+abbrev pub HasLines : LineForm → List ℕ → Result (List AskedLine) LinesFault → Type 0
+HasLines form text told = (asked_from form 1 (lines_in text) ≡ told) × (fault_of told ≡ None)
