@@ -81,10 +81,10 @@ def stated_statuses(text):
 
 
 def stated_limits(text):
-    """The limits of the crate, and those of plans and requests."""
+    """The limits of the crate, and those of plans and requests, by the header's names."""
     with open(f"{TOP}/crates/sabr_model/src/limits.rt", encoding="utf-8") as file:
-        found = re.findall(r"^pub const ((?:MOST|LAST)_\w+): u\w+ = ([\d_]+);", text + file.read(), re.M)
-    return {name: int(value.replace("_", "")) for name, value in found}
+        found = re.findall(r"^pub const ((?:MOST|MAX|LAST)_\w+): u\w+ = ([\d_]+);", text + file.read(), re.M)
+    return {name.replace("MAX_", "MOST_"): int(value.replace("_", "")) for name, value in found}
 
 
 def stated_structs(text):
