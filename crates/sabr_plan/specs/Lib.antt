@@ -1,5 +1,6 @@
 pub mod ChainedPlaces
 pub mod Gathering
+pub mod RangeKeys
 pub mod Steps
 pub mod Digits
 pub mod Numbers

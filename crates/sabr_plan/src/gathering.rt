@@ -33,6 +33,7 @@ mod gathered_ranges;
 mod known_openings;
 mod known_ranges;
 mod plan;
+mod sorted_ranges;
 
 pub use gathered_contacts::GatheredContacts;
 pub use gathered_ranges::GatheredRanges;
