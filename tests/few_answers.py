@@ -10,7 +10,7 @@ import drawn
 from checking import Check
 from trial import TOP, Broken, compiled
 
-KEPT = "crates/sabr_search/src/answers.rt"
+KEPT = "crates/sabr_search/src/early/answers.rt"
 MANY, FEW = "const SLOTS: usize = 4096;", "const SLOTS: usize = 2;"
 
 

@@ -39,7 +39,7 @@ fn arguments(rt: &HostRuntime) -> Result<Vec<String>, Failure> {
     }
 }
 
-/// The same, lent.
+/// Returns the arguments as string slices.
 fn words<'a>(alloc: Global, arguments: &'a [String]) -> Result<Vec<&'a str>, Failure> {
     let mut words = Vec::new(alloc);
     for argument in arguments {

@@ -131,8 +131,9 @@ A list is a line NUMBERS FROM TO TIME, and after it, if need be, PPM, HOPS and N
         matches!(self, CommandName::Explain)
     }
 
-    /// Runs the command over its words and the files that they name. The report goes to `out`, and messages go to `err`.
-    /// The file that was made for a session is kept if the run is done, and else removed. If that fails, it stays.
+    /// Runs the command over its words and the files that they name. The report goes to `out`, and messages go to
+    /// `err`. The file that was made for a session is kept if the run is done, and else removed. If that fails, it
+    /// stays.
     ///
     /// # Errors
     ///

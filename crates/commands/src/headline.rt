@@ -45,9 +45,9 @@ pub fn calls_in_turn()
     ensures { CallsInTurn }
 {}
 
-/// Shows that runs `next` go on page by page from any session text that `verify` accepts, in either version. Their pages
-/// joined are the next routes of the list. The text that the last of them leaves is that of the place after them, and a
-/// run over it that keeps no session reports the page from there.
+/// Shows that runs `next` go on page by page from any session text that `verify` accepts, in either version. Their
+/// pages joined are the next routes of the list. The text that the last of them leaves is that of the place after them,
+/// and a run over it that keeps no session reports the page from there.
 pub fn runs_go_on()
     ensures { RunsGoOn }
 {}

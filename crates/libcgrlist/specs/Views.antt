@@ -17,7 +17,7 @@ counts_of p = record {
   ranges = length p.ranges;
   nodes = node_count p.contacts;
   without_light = length (filter (λ c. is_none (light_of p c)) p.contacts);
-  greatest = p.greatest;
+  greatest = p.largest;
 }
 
 -- a contact with its light time, 0 if it has none

@@ -35,7 +35,7 @@ fn value_refusal(opened: &Opened, one: u64, other: u64, start: u64, end: u64) ->
 /// Adds a contact, and gives its number.
 fn add_contact(opened: &mut Opened, new: &NewContact, number: &mut u32) -> u32
     ensures change { ChangesInMemory opened.old (contact_added opened.old new.now) result opened.new }
-    ensures given { result ≡ 0 → number.new ≡ opened.old.plan.plan.greatest + 1 }
+    ensures given { result ≡ 0 → number.new ≡ opened.old.plan.plan.largest + 1 }
     ensures kept { result ≢ 0 → number.new ≡ number.old }
 {
     if let Some(status) = value_refusal(opened, new.from, new.to, new.start, new.end) {
@@ -113,7 +113,7 @@ pub extern "C" fn cgrlist_plan_add_contact(
     ensures open { handle.new.is_open ≡ handle.old.is_open }
     ensures whole { IsWhole handle.new.is_open handle.new.place.held }
     ensures change { Calls handle.old.is_open handle.old.place.held result handle.new.place.held (λ o n. ChangesInMemory o (contact_added o (record { from = from; to = to; start = start; end = end; rate = rate })) result n) }
-    ensures given { Calls handle.old.is_open handle.old.place.held result handle.new.place.held (λ o n. result ≡ 0 → number.new ≡ o.plan.plan.greatest + 1) }
+    ensures given { Calls handle.old.is_open handle.old.place.held result handle.new.place.held (λ o n. result ≡ 0 → number.new ≡ o.plan.plan.largest + 1) }
     ensures kept { result ≢ 0 → number.new ≡ number.old }
 {
     if !handle.is_open {

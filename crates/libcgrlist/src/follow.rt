@@ -9,7 +9,7 @@ ghost use Rattle.libcgrlist.specs.Request.{asked_request};
 use crate::handle::PlanHandle;
 use crate::request::Asked;
 use crate::status::{CLOSED, DONE, NO, of_request};
-use sabr_model::{HopFault, Plan, Request, RequestError, Told, follow};
+use sabr_model::{HopFault, Plan, Request, RequestError, RouteSummary, follow};
 use std::alloc::Global;
 
 /// `cgrlist_outcome`: the record of the route that a list of contacts makes, its times in seconds since
@@ -63,14 +63,14 @@ fn follow_contacts(
     ensures status { result ≡ route_status (is_route plan.now.plan request.now contacts.now) }
     ensures outcome { outcome.new ≡ outcome_of plan.now.plan request.now contacts.now }
 {
-    plan.tell_rules();
+    plan.rules_hold();
     match follow(plan, request, contacts) {
         Ok(delivery) => {
-            let told = Told::of(plan, contacts);
+            let summary = RouteSummary::of(plan, contacts);
             *outcome = Outcome {
                 delivery,
-                until: told.until,
-                entry: told.entry,
+                until: summary.until,
+                entry: summary.entry,
                 place: 0,
                 fault: 0,
             };

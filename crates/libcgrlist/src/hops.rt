@@ -114,7 +114,7 @@ fn give_hops(
 fn route_status(plan: &Plan<Global>, request: &Request, contacts: &[u32]) -> u32
     ensures { result ≡ route_status (is_route plan.now.plan request.now contacts.now) }
 {
-    plan.tell_rules();
+    plan.rules_hold();
     match follow(plan, request, contacts) {
         Ok(_) => DONE,
         Err(_) => NO,

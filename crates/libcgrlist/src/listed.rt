@@ -37,7 +37,7 @@ pub fn listed<'p>(
 {
     law3();
     law6();
-    index.plan().tell_rules();
-    request.tell_limits();
+    index.plan().rules_hold();
+    request.limits_hold();
     first_page(alloc, index, finder, request, count)
 }

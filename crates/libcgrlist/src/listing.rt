@@ -95,7 +95,7 @@ fn give_page(
     ensures listing { IfOk result (λ page. listing_of session.new ≡ listing_then (listing_of session.old) count page) }
     ensures err { OnErr result (listing_of session.new ≡ listing_of session.old) }
 {
-    session.request().tell_limits();
+    session.request().limits_hold();
     let routes = session.page(count)?;
     let page = write_routes(routes.as_slice(), session.more(), rows, contacts);
     if page.written < page.routes {

@@ -181,7 +181,7 @@ impl Opened {
         requires end { new.now.end ≤ last_time }
         ensures refused { (f : AddFault) → contact_refusal self.old.plan.plan new.now.from new.now.to new.now.start new.now.end ≡ Some f → result ≡ Err f }
         ensures accepted { contact_refusal self.old.plan.plan new.now.from new.now.to new.now.start new.now.end ≡ None → IsOkUnless result fault.NoMemory }
-        ensures number { IfOk result (λ n. n ≡ self.old.plan.plan.greatest + 1) }
+        ensures number { IfOk result (λ n. n ≡ self.old.plan.plan.largest + 1) }
         ensures ok { OnOk result (Becomes self.old (with_contact self.old.plan.plan (next_contact self.old.plan.plan new.now.from new.now.to new.now.start new.now.end new.now.rate)) self.new) }
         ensures err { OnErr result (self.new ≡ self.old) }
     {

@@ -32,7 +32,7 @@ fn open(alloc: Global, handle: &mut PlanHandle, plan: Plan<Global>) -> u32
 pub extern "C" fn cgrlist_plan_new(alloc: Global, handle: &mut PlanHandle) -> u32
     requires { IsWhole handle.old.is_open handle.old.place.held }
     ensures whole { IsWhole handle.new.is_open handle.new.place.held }
-    ensures opens { Opens handle.old.is_open handle.old.place.held result handle.new.is_open handle.new.place.held (((result ≡ done) × (handle.new.is_open ≡ true) × IsPlanAlone (record { contacts = []; ranges = []; greatest = 0 }) handle.new.place.held) ⊎ ((result ≡ no_memory) × (handle.new.is_open ≡ false))) }
+    ensures opens { Opens handle.old.is_open handle.old.place.held result handle.new.is_open handle.new.place.held (((result ≡ done) × (handle.new.is_open ≡ true) × IsPlanAlone (record { contacts = []; ranges = []; largest = 0 }) handle.new.place.held) ⊎ ((result ≡ no_memory) × (handle.new.is_open ≡ false))) }
 {
     if handle.is_open {
         return OPEN;

@@ -64,7 +64,7 @@ fn counted(plan: &Plan<Global>) -> Counts
         ranges: plan.ranges().len() as u64,
         nodes: plan.nodes() as u64,
         without_light: without_light(plan) as u64,
-        greatest: plan.greatest() as u64,
+        greatest: plan.largest() as u64,
     }
 }
 

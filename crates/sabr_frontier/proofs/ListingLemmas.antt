@@ -10,7 +10,7 @@ pub mod Division
 pub mod NextPlace
 pub mod CertifiedPlaces
 pub mod FormedSteps
-pub mod OwedPrefixes
+pub mod ExpectedPrefixes
 pub mod GoesOn
 pub mod Paths
 pub mod AllRoutes

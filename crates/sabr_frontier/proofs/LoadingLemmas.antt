@@ -1,4 +1,4 @@
 -- A state that is loaded part by part.
 pub mod AnsweredParts
-pub mod JudgedParts
+pub mod CheckedParts
 pub mod GhostWalks

@@ -16,4 +16,4 @@ pub mod CutTrees
 pub mod CutDivided
 pub mod BoundedAnswers
 pub mod Floors
-pub mod SureTrees
+pub mod SearchedTrees

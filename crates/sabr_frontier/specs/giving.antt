@@ -1,3 +1,3 @@
 -- What a page keeps of the routes that it finds.
 pub mod Detours
-pub mod LeastKeys
+pub mod SmallestKeys

@@ -3,7 +3,7 @@ pub mod Rising
 pub mod Tree
 pub mod State
 pub mod Formed
-pub mod Owing
+pub mod Expecting
 pub mod Step
 pub mod Listing
 pub mod Fresh

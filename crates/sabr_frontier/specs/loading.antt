@@ -1,4 +1,4 @@
 -- A state that is loaded part by part.
 pub mod Leading
 pub mod Loading
-pub mod Holding
+pub mod Partial

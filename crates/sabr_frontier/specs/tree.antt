@@ -5,9 +5,9 @@ pub mod Undo
 pub mod Queue
 pub mod Index
 pub mod Best
-pub mod Asking
+pub mod Searching
 pub mod Floors
-pub mod Taking
+pub mod Giving
 pub mod Left
 pub mod Room
 pub mod Cut

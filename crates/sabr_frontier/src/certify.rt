@@ -1,6 +1,6 @@
 //! Whether a tree is the state of the place that it counts.
 
-ghost use Rattle.std.specs.Prelude.{◌≡◌, ◌↔◌, None, ◌+◌, ◌≤◌, length, slice_get, IfOk, IfSome, IfNone, IsTrue};
+ghost use Rattle.std.specs.Prelude.{◌≡◌, ◌↔◌, ◌+◌, ◌≤◌, length, slice_get, IfOk, IfSome, IfNone, IsTrue};
 ghost use Rattle.std.specs.List.{list_any};
 ghost use Rattle.std.specs.Option.{option_and_then, option_copied};
 ghost use Rattle.std.specs.Ordering.{is_lt};
@@ -13,7 +13,7 @@ ghost use Rattle.sabr_frontier.specs.tree.Sound.{IsTree};
 ghost use Rattle.sabr_frontier.specs.tree.Winners.{CarriesNone, IsNext};
 ghost use Rattle.sabr_frontier.specs.tree.Undo.{IsRoomy};
 
-use crate::giving::asker::Asker;
+use crate::giving::searcher::Searcher;
 use crate::tree::Tree;
 use crate::tree::places::{carried, prefix};
 use sabr_model::{NoMemory, Route};
@@ -65,17 +65,19 @@ impl<A: Allocator + Copy> Tree<A> {
     }
 
     /// Returns true if each part carries its best route: one search for each. It allocates what a search does.
-    fn carries_least<B: BestOf<A>>(&self, asker: &mut Asker<'_, B, A>) -> Result<bool, NoMemory>
-        requires unbounded { asker.old.asked.bound ≡ None }
-        requires tree { IsTree asker.old.asked.plan.plan asker.old.asked.request (shape_of self.now) }
-        ensures least { IfOk result (λ yes. IsTrue yes ↔ CarriesLeast asker.old.asked.plan.plan asker.old.asked.request (shown (shape_of self.now))) }
-        ensures called { asker.new.calls ≤ asker.old.calls + length self.now.nodes.items }
-        ensures no_fewer { asker.old.calls ≤ asker.new.calls }
-        ensures same { asker.new.asked ≡ asker.old.asked }
+    fn carries_least<B: BestOf<A>>(
+        &self,
+        searcher: &mut Searcher<'_, B, A>,
+    ) -> Result<bool, NoMemory>
+        requires tree { IsTree searcher.old.asked.plan.plan searcher.old.asked.request (shape_of self.now) }
+        ensures least { IfOk result (λ yes. IsTrue yes ↔ CarriesLeast searcher.old.asked.plan.plan searcher.old.asked.request (shown (shape_of self.now))) }
+        ensures called { searcher.new.calls ≤ searcher.old.calls + length self.now.nodes.items }
+        ensures no_fewer { searcher.old.calls ≤ searcher.new.calls }
+        ensures same { searcher.new.asked ≡ searcher.old.asked }
     {
         for node in self.nodes.iter() {
             let front = prefix(self.leaves.as_slice(), node);
-            let found = asker.ask(front, node.excluded.as_slice(), 0)?;
+            let found = searcher.find_best(front, node.excluded.as_slice(), 0, None)?;
             if !is_same(&found, &node.route) {
                 return Ok(false);
             }
@@ -85,15 +87,17 @@ impl<A: Allocator + Copy> Tree<A> {
 
     /// Returns true if the state is that of the place that it counts: no route given is greater than the last one, each
     /// carried route is, and each part carries its best route (law 5).
-    pub fn is_placed<B: BestOf<A>>(&self, asker: &mut Asker<'_, B, A>) -> Result<bool, NoMemory>
-        requires plan { IsPlan asker.old.asked.plan.plan }
-        requires unbounded { asker.old.asked.bound ≡ None }
-        requires tree { IsTree asker.old.asked.plan.plan asker.old.asked.request (shape_of self.now) }
+    pub fn is_placed<B: BestOf<A>>(
+        &self,
+        searcher: &mut Searcher<'_, B, A>,
+    ) -> Result<bool, NoMemory>
+        requires plan { IsPlan searcher.old.asked.plan.plan }
+        requires tree { IsTree searcher.old.asked.plan.plan searcher.old.asked.request (shape_of self.now) }
         requires room { IsRoomy self.now }
-        ensures placed { IfOk result (λ yes. IsTrue yes ↔ (shown (shape_of self.now) ≡ state_at asker.old.asked.plan.plan asker.old.asked.request (shown (shape_of self.now)).emitted)) }
-        ensures called { asker.new.calls ≤ asker.old.calls + length self.now.nodes.items }
-        ensures no_fewer { asker.old.calls ≤ asker.new.calls }
-        ensures same { asker.new.asked ≡ asker.old.asked }
+        ensures placed { IfOk result (λ yes. IsTrue yes ↔ (shown (shape_of self.now) ≡ state_at searcher.old.asked.plan.plan searcher.old.asked.request (shown (shape_of self.now)).emitted)) }
+        ensures called { searcher.new.calls ≤ searcher.old.calls + length self.now.nodes.items }
+        ensures no_fewer { searcher.old.calls ≤ searcher.new.calls }
+        ensures same { searcher.new.asked ≡ searcher.old.asked }
     {
         if let Some(last) = self.last_given() {
             if is_passed(last, self.leaves.as_slice()) {
@@ -105,6 +109,6 @@ impl<A: Allocator + Copy> Tree<A> {
                 }
             }
         }
-        self.carries_least(asker)
+        self.carries_least(searcher)
     }
 }

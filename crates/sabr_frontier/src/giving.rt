@@ -1,10 +1,10 @@
 //! Giving the best routes that a tree carries, one after another.
 
-pub mod asker;
 mod divide;
-mod gather;
-pub mod least_keys;
+mod give_next;
+mod give_page;
 pub mod other_way;
-mod peek;
 pub mod route_front;
-mod take;
+pub mod searcher;
+mod show_next;
+mod smallest_keys;

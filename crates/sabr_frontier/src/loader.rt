@@ -1,11 +1,11 @@
 //! Loads a state, part by part, into a session.
 
 mod carrying;
+mod check;
 mod ghost_lists;
-mod held;
-mod judge;
 mod leading;
 pub mod load_fault;
+mod partial_tree;
 
 ghost use Rattle.std.specs.Prelude.{◌≡◌, [], Some, None, Err, IfOk, IfErr, OnOk, OnErr, IsOkUnless};
 ghost use Rattle.std.specs.Option.{option_copied};
@@ -15,10 +15,10 @@ ghost use Rattle.sabr_frontier.specs.listing.Listing.{IsState};
 ghost use Rattle.sabr_frontier.specs.loading.Loading.{IsRefusedBy, refusal_by, session_with, state_with, with_part};
 ghost use Rattle.sabr_frontier.specs.listing.State.{part_with};
 
-use crate::giving::asker::Asker;
+use crate::giving::searcher::Searcher;
 use crate::loader::carrying::carried;
-use crate::loader::held::{Held, last_place};
 use crate::loader::load_fault::LoadFault;
+use crate::loader::partial_tree::{PartialTree, last_place};
 use crate::plan_request::PlanRequest;
 use crate::session::Session;
 use sabr_model::{Plan, Request};
@@ -36,18 +36,18 @@ pub struct Loader<'p, B: BestOf<A>, A: Allocator + Copy = Global> {
     /// The finder that the session will ask.
     finder: B,
     /// The parts so far.
-    held: Held<A>,
+    partial: PartialTree<A>,
 }
 
 impl<'p, B: BestOf<A>, A: Allocator + Copy> Model for Loader<'p, B, A> {
     ghost use Rattle.sabr_frontier.specs.loading.Loading.{Loaded};
-    ghost use Rattle.sabr_frontier.specs.loading.Holding.{IsLoader, loaded};
+    ghost use Rattle.sabr_frontier.specs.loading.Partial.{IsLoader, loaded};
 
     ghost Value = { Loaded };
 
-    ghost view = { λ l. loaded l.question.plan.now l.question.request l.held (B.calls_of l.finder) };
+    ghost view = { λ l. loaded l.question.plan.now l.question.request l.partial (B.calls_of l.finder) };
 
-    ghost invariant = { λ l. IsLoader l.question.plan.now l.question.request l.held };
+    ghost invariant = { λ l. IsLoader l.question.plan.now l.question.request l.partial };
 }
 
 impl<'p, B: BestOf<A>, A: Allocator + Copy> Loader<'p, B, A> {
@@ -55,8 +55,8 @@ impl<'p, B: BestOf<A>, A: Allocator + Copy> Loader<'p, B, A> {
     pub fn new(alloc: A, plan: &'p Plan<A>, request: Request, finder: B) -> Loader<'p, B, A>
         ensures { result ≡ record { plan = plan.now; request = request; parts = []; calls = B.calls_of finder } }
     {
-        plan.tell_rules();
-        request.tell_limits();
+        plan.rules_hold();
+        request.limits_hold();
         let question = PlanRequest {
             alloc,
             plan,
@@ -65,7 +65,7 @@ impl<'p, B: BestOf<A>, A: Allocator + Copy> Loader<'p, B, A> {
         Loader {
             question,
             finder,
-            held: Held::new(alloc),
+            partial: PartialTree::new(alloc),
         }
     }
 
@@ -95,13 +95,13 @@ impl<'p, B: BestOf<A>, A: Allocator + Copy> Loader<'p, B, A> {
         ensures ok { OnOk result (self.new ≡ with_part self.old (part_with prefix.now excluded.now (option_copied route.entry))) }
         ensures err { OnErr result (self.new ≡ self.old) }
     {
-        if !self.held.is_next(prefix, excluded) {
+        if !self.partial.is_next(prefix, excluded) {
             return Err(LoadFault::BadOrder);
         }
-        let due = self.held.due(&self.question, prefix);
-        let route = carried(&self.question, prefix, excluded, due, route)?;
-        self.held
-            .take_in(&self.question, prefix, excluded, due, route)?;
+        let lead = self.partial.expected_lead(&self.question, prefix);
+        let route = carried(&self.question, prefix, excluded, lead, route)?;
+        self.partial
+            .take_in(&self.question, prefix, excluded, lead, route)?;
         Ok(())
     }
 
@@ -118,14 +118,14 @@ impl<'p, B: BestOf<A>, A: Allocator + Copy> Loader<'p, B, A> {
         ensures formed { OnOk result (IsState self.entry.plan.plan self.entry.request (state_with self.entry.parts emitted last.now)) }
         ensures err { IfErr result (IsRefusedBy self.entry.plan.plan self.entry.request (state_with self.entry.parts emitted last.now)) }
     {
-        if !self.held.is_paid() {
+        if !self.partial.is_complete() {
             return Err(LoadFault::NotClosed);
         }
-        let Some(last) = last_place(self.held.leaves.as_slice(), emitted, last) else {
+        let Some(last) = last_place(self.partial.leaves.as_slice(), emitted, last) else {
             return Err(LoadFault::BadCount);
         };
-        let tree = self.held.into_tree(self.question.alloc(), last)?;
-        let asker = Asker::new(self.question, self.finder)?;
-        Ok(Session::of_tree(asker, tree))
+        let tree = self.partial.into_tree(self.question.alloc(), last)?;
+        let searcher = Searcher::new(self.question, self.finder)?;
+        Ok(Session::of_tree(searcher, tree))
     }
 }

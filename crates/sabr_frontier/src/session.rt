@@ -7,7 +7,7 @@ ghost use Rattle.sabr_model.specs.routes.Record.{record_of};
 ghost use Rattle.sabr_frontier.specs.listing.Fresh.{GivesNewRoutes};
 ghost use Rattle.sabr_frontier.specs.listing.Listing.{most_routes, next_route, state_at};
 ghost use Rattle.sabr_frontier.specs.session.Session.{former_then, next_page, page_searches, session_over, seen_part, started};
-ghost use Rattle.sabr_frontier.specs.tree.Asking.{IsAtRest, call_looks};
+ghost use Rattle.sabr_frontier.specs.tree.Searching.{IsAtRest, call_looks};
 ghost use Rattle.sabr_frontier.specs.tree.Shape.{shape_of, shown};
 ghost use Rattle.sabr_frontier.specs.tree.Sound.{IsTree};
 ghost use Rattle.sabr_frontier.specs.tree.Undo.{IsRoomy};
@@ -16,7 +16,7 @@ ghost use Rattle.sabr_frontier.specs.session.Views.{seen_left};
 pub mod last_page;
 pub mod paused;
 
-use crate::giving::asker::Asker;
+use crate::giving::searcher::Searcher;
 use crate::tree::Tree;
 use crate::views::Parts;
 use sabr_index::Index;
@@ -33,7 +33,7 @@ use std::marker::Model;
 #[derive(Drop)]
 pub struct Session<'p, B: BestOf<A>, A: Allocator + Copy = Global> {
     /// What finds the parts' best routes.
-    asker: Asker<'p, B, A>,
+    searcher: Searcher<'p, B, A>,
     /// The parts and the routes given.
     tree: Tree<A>,
     /// How long the journal was before each page that can be taken back.
@@ -42,19 +42,17 @@ pub struct Session<'p, B: BestOf<A>, A: Allocator + Copy = Global> {
     searches: u64,
     /// The looks that the searches of the last page took.
     looks: u64,
-    /// Whether a search began it. Then each part carries its best route.
-    is_sure: bool,
 }
 
 impl<'p, B: BestOf<A>, A: Allocator + Copy> Model for Session<'p, B, A> {
     ghost use Rattle.sabr_frontier.specs.session.Session.{Seen, IsSession, seen};
-    ghost use Rattle.sabr_frontier.specs.tree.Asking.{IsAtRest};
+    ghost use Rattle.sabr_frontier.specs.tree.Searching.{IsAtRest};
 
     ghost Value = { Seen };
 
-    ghost view = { λ s. seen s.asker s.tree s.pages.items s.searches s.looks };
+    ghost view = { λ s. seen s.searcher s.tree s.pages.items s.searches s.looks };
 
-    ghost invariant = { λ s. IsSession s.asker.asked.plan s.asker.asked.request s.tree s.pages.items s.is_sure × IsAtRest s.asker };
+    ghost invariant = { λ s. IsSession s.searcher.asked.plan s.searcher.asked.request s.tree s.pages.items × IsAtRest s.searcher };
 }
 
 impl<'p, B: BestOf<A>, A: Allocator + Copy> Session<'p, B, A> {
@@ -88,54 +86,51 @@ impl<'p, B: BestOf<A>, A: Allocator + Copy> Session<'p, B, A> {
     ) -> Result<Session<'p, B, A>, NoMemory>
         ensures { IfOk result (λ s. s ≡ started index.entry request (B.calls_of finder + 1)) }
     {
-        index.plan().tell_rules();
-        request.tell_limits();
-        Session::begin(Asker::over(alloc, index, request, finder))
+        index.plan().rules_hold();
+        request.limits_hold();
+        Session::begin(Searcher::over(alloc, index, request, finder))
     }
 
-    /// Starts a session of what the asker asks for.
-    fn begin(asker: Asker<'p, B, A>) -> Result<Session<'p, B, A>, NoMemory>
-        requires rules { IsPlan asker.asked.plan.plan }
-        requires unbounded { asker.asked.bound ≡ None }
-        requires limits { IsRequest asker.asked.request }
-        ensures { IfOk result (λ s. s ≡ started asker.entry.asked.plan asker.entry.asked.request (asker.entry.calls + 1)) }
+    /// Starts a session of what the searcher searches for.
+    fn begin(searcher: Searcher<'p, B, A>) -> Result<Session<'p, B, A>, NoMemory>
+        requires rules { IsPlan searcher.asked.plan.plan }
+        requires limits { IsRequest searcher.asked.request }
+        ensures { IfOk result (λ s. s ≡ started searcher.entry.asked.plan searcher.entry.asked.request (searcher.entry.calls + 1)) }
     {
-        let mut asker = asker;
-        let alloc = asker.alloc();
-        let found = asker.ask(&[], &[], 0)?;
+        let mut searcher = searcher;
+        let alloc = searcher.alloc();
+        let found = searcher.find_best(&[], &[], 0, None)?;
         let tree = Tree::root(alloc, found)?;
-        asker.take_sum();
+        searcher.take_sum();
         Ok(Session {
-            asker,
+            searcher,
             tree,
             pages: Vec::new(alloc),
             searches: 1,
             looks: 0,
-            is_sure: true,
         })
     }
 
     /// Makes a session over a tree that no page has changed.
-    pub(crate) fn of_tree(asker: Asker<'p, B, A>, tree: Tree<A>) -> Session<'p, B, A>
-        requires rules { IsPlan asker.asked.plan.plan }
-        requires rest { IsAtRest asker }
-        requires limits { IsRequest asker.asked.request }
-        requires sound { IsTree asker.asked.plan.plan asker.asked.request (shape_of tree) }
+    pub(crate) fn of_tree(searcher: Searcher<'p, B, A>, tree: Tree<A>) -> Session<'p, B, A>
+        requires rules { IsPlan searcher.asked.plan.plan }
+        requires rest { IsAtRest searcher }
+        requires limits { IsRequest searcher.asked.request }
+        requires sound { IsTree searcher.asked.plan.plan searcher.asked.request (shape_of tree) }
         requires fresh { tree.journal.items ≡ [] }
         requires index { tree.index.items ≡ (shape_of tree).index }
         requires room { IsRoomy tree }
 
         // Nothing can be taken back, and no search was counted.
-        ensures { result ≡ session_over asker.entry.asked.plan asker.entry.asked.request (shown (shape_of tree)) asker.entry.calls }
+        ensures { result ≡ session_over searcher.entry.asked.plan searcher.entry.asked.request (shown (shape_of tree)) searcher.entry.calls }
     {
-        let pages = Vec::new(asker.alloc());
+        let pages = Vec::new(searcher.alloc());
         Session {
-            asker,
+            searcher,
             tree,
             pages,
             searches: 0,
             looks: 0,
-            is_sure: false,
         }
     }
 
@@ -175,7 +170,7 @@ impl<'p, B: BestOf<A>, A: Allocator + Copy> Session<'p, B, A> {
         ensures at_most { OnErr result (self.new.calls ≤ self.old.calls + page_searches self.old count) }
         ensures free { (count ≡ 0) ⊎ (next_route self.old.plan.plan self.old.request self.old.state ≡ None) → IsOk result }
     {
-        let mut given = Vec::new(self.asker.alloc());
+        let mut given = Vec::new(self.searcher.alloc());
         if count == 0 || self.tree.is_empty() {
             self.searches = 0;
             self.looks = 0;
@@ -183,20 +178,17 @@ impl<'p, B: BestOf<A>, A: Allocator + Copy> Session<'p, B, A> {
         }
         self.pages.reserve(1)?;
         let start = self.tree.journal.len();
-        match self
-            .tree
-            .gather(&mut self.asker, count, &mut given, self.is_sure)
-        {
+        match self.tree.give_page(&mut self.searcher, count, &mut given) {
             Ok(searches) => {
-                self.tree.settle(self.asker.alloc());
+                self.tree.settle(self.searcher.alloc());
                 self.pages.push_reserved(start);
                 self.searches = searches;
-                self.looks = self.asker.take_sum();
+                self.looks = self.searcher.take_sum();
                 Ok(given)
             }
             Err(refused) => {
                 self.tree.undo_to(start);
-                self.asker.take_sum();
+                self.searcher.take_sum();
                 Err(refused)
             }
         }
@@ -242,8 +234,8 @@ impl<'p, B: BestOf<A>, A: Allocator + Copy> Session<'p, B, A> {
         ensures no_fewer { self.old.calls ≤ self.new.calls }
         ensures ok { IfOk result (λ yes. IsTrue yes ↔ (self.old.state ≡ state_at self.old.plan.plan self.old.request self.old.state.emitted)) }
     {
-        let placed = self.tree.is_placed(&mut self.asker);
-        self.asker.take_sum();
+        let placed = self.tree.is_placed(&mut self.searcher);
+        self.searcher.take_sum();
         placed
     }
 
@@ -321,13 +313,13 @@ impl<'p, B: BestOf<A>, A: Allocator + Copy> Session<'p, B, A> {
     pub fn plan(&self) -> &'p Plan<A>
         ensures { result.now ≡ self.now.plan }
     {
-        self.asker.plan()
+        self.searcher.plan()
     }
 
     /// The request.
     pub fn request(&self) -> &Request
         ensures { result.now ≡ self.now.request }
     {
-        self.asker.request()
+        self.searcher.request()
     }
 }

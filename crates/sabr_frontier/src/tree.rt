@@ -5,7 +5,7 @@ pub mod excluded_numbers;
 pub mod index;
 pub mod places;
 mod root;
-mod turning;
+mod shifting;
 mod undo;
 pub mod winners;
 
@@ -40,7 +40,8 @@ pub struct Entry {
 }
 
 /// The nodes; their numbers in order of prefix, without those of the page that is made; the winners among them; the
-/// routes given; the last of them; and an entry for each route that can be taken back.
+/// routes given; the last of them; an entry for each route that can be taken back; and whether searches found what the
+/// nodes carry.
 #[derive(Drop)]
 pub struct Tree<A: Allocator + Copy = Global> {
     /// The parts, in the order in which they were made.
@@ -57,4 +58,6 @@ pub struct Tree<A: Allocator + Copy = Global> {
     pub last: Option<usize>,
     /// An entry for each route that can be taken back.
     pub journal: Vec<Entry, A>,
+    /// Whether a search found each route that a node carries. Then each is the best of its part.
+    pub is_searched: bool,
 }

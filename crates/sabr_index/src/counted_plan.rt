@@ -4,7 +4,7 @@ ghost use Rattle.std.specs.Prelude.{◌≡◌, ◌<◌, ◌≤◌, ◌+◌, ◌^
 ghost use Rattle.sabr_model.specs.plan.Plan.{IsPlan, contact_named, has};
 ghost use Rattle.sabr_model.specs.plan.Table.{node_count};
 ghost use Rattle.sabr_model.specs.plan.Tabled.{IsTabled, IsHopNamed};
-ghost use Rattle.sabr_model.specs.routes.Telling.{told_of};
+ghost use Rattle.sabr_model.specs.routes.Telling.{summary_of};
 ghost use Rattle.sabr_index.specs.Index.{IsIndex};
 ghost use Rattle.sabr_index.specs.Links.{AreLinksOf, AreLinksTo};
 
@@ -13,7 +13,7 @@ use crate::link::Links;
 use crate::looks::Looks;
 use crate::senders::Senders;
 use crate::table::LinkTable;
-use sabr_model::{Hop, Plan, Told};
+use sabr_model::{Hop, Plan, RouteSummary};
 use std::alloc::{Allocator, Global};
 use std::marker::Model;
 
@@ -40,8 +40,8 @@ impl<'p, A: Allocator + Copy> Model for CountedPlan<'p, A> {
     ghost invariant = { λ i. IsIndex i.plan.now i.linked i.incoming.starts.items i.incoming.named.items };
 }
 
-/// The links of an index without its plan. An owner of a plan keeps them beside it, and has the plan's index again at no
-/// cost, as long as the plan stays the same.
+/// The links of an index without its plan. An owner of a plan keeps them beside it, and has the plan's index again at
+/// no cost, as long as the plan stays the same.
 #[derive(Drop)]
 pub struct PlanLinks<A: Allocator + Copy = Global> {
     /// By node its links.
@@ -50,12 +50,12 @@ pub struct PlanLinks<A: Allocator + Copy = Global> {
     pub incoming: IncomingLinks<A>,
 }
 
-/// What one look at a contact tells of a list of numbers that goes on by it: the contact as a search reads it, if one
-/// stands, and what the record of a route tells of the longer list.
+/// What one look at a contact returns for a list of contacts that goes on by it: the contact as a search reads it, if
+/// the plan has it, and the summary of the longer list.
 #[derive(Clone, Copy)]
 pub struct Followed {
     pub hop: Option<Hop>,
-    pub told: Told,
+    pub summary: RouteSummary,
 }
 
 impl<'p, A: Allocator + Copy> CountedPlan<'p, A> {
@@ -95,10 +95,10 @@ impl<'p, A: Allocator + Copy> CountedPlan<'p, A> {
     }
 
     /// States that the plan obeys the rules of contact plans, for contracts. It does nothing.
-    pub fn tell_rules(&self)
+    pub fn rules_hold(&self)
         ensures { IsPlan self.now.plan }
     {
-        self.plan.tell_rules();
+        self.plan.rules_hold();
     }
 
     /// The number of standing contacts.
@@ -136,39 +136,51 @@ impl<'p, A: Allocator + Copy> CountedPlan<'p, A> {
         self.plan.hop(number)
     }
 
-    /// What the record of a route tells of no numbers.
-    pub fn told_of_none(&self) -> Told
-        ensures { result ≡ told_of self.now.plan [] }
+    /// The summary of no contacts.
+    pub fn summary_of_none(&self) -> RouteSummary
+        ensures { result ≡ summary_of self.now.plan [] }
     {
-        Told::of(self.plan, &[])
+        RouteSummary::of(self.plan, &[])
     }
 
-    /// Goes on by a contact, after a list of numbers of which the record of a route tells `told`: one look.
+    /// Goes on by a contact, after a list of contacts with this summary: one look.
     #[inline(always)]
-    pub fn follow(&self, looks: &mut Looks, told: Told, prefix: &[u32], number: u32) -> Followed
+    pub fn follow(
+        &self,
+        looks: &mut Looks,
+        summary: RouteSummary,
+        prefix: &[u32],
+        number: u32,
+    ) -> Followed
         requires few { 0 < looks.old.left }
-        requires told { told ≡ told_of self.now.plan prefix.now }
+        requires summary { summary ≡ summary_of self.now.plan prefix.now }
         ensures counted { looks.old.left ≡ looks.new.left + 1 }
         ensures hop { MatchOption result.hop (contact_named self.now.plan number ≡ None) (IsHopNamed self.now number) }
-        ensures told { result.told ≡ told_of self.now.plan (prefix.now ++ number ∷ []) }
+        ensures summary { result.summary ≡ summary_of self.now.plan (prefix.now ++ number ∷ []) }
     {
         looks.take();
         Followed {
             hop: self.plan.hop(number),
-            told: told.extended(self.plan, prefix, number),
+            summary: summary.extended(self.plan, prefix, number),
         }
     }
 
-    /// Does the same, and returns only what the record of a route tells then: one look.
+    /// Returns the summary of a list of contacts that goes on by one more: one look.
     #[inline(always)]
-    pub fn tell(&self, looks: &mut Looks, told: Told, prefix: &[u32], number: u32) -> Told
+    pub fn summarize(
+        &self,
+        looks: &mut Looks,
+        summary: RouteSummary,
+        prefix: &[u32],
+        number: u32,
+    ) -> RouteSummary
         requires few { 0 < looks.old.left }
-        requires told { told ≡ told_of self.now.plan prefix.now }
+        requires summary { summary ≡ summary_of self.now.plan prefix.now }
         ensures counted { looks.old.left ≡ looks.new.left + 1 }
-        ensures told { result ≡ told_of self.now.plan (prefix.now ++ number ∷ []) }
+        ensures summary { result ≡ summary_of self.now.plan (prefix.now ++ number ∷ []) }
     {
         looks.take();
-        told.extended(self.plan, prefix, number)
+        summary.extended(self.plan, prefix, number)
     }
 
     /// The links of the node at an index of the table.

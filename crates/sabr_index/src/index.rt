@@ -34,7 +34,8 @@ impl<'p, A: Allocator + Copy> Index<'p, A> {
     /// Makes the index of a plan, or returns `NoMemory` if an allocation failed.
     ///
     /// It takes some steps for each contact and node, and a binary search or two of the ranges for each contact whose
-    /// light time the plan doesn't keep. If the contacts of a link weren't added in order of their starts, it sorts them.
+    /// light time the plan doesn't keep. If the contacts of a link weren't added in order of their starts, it sorts
+    /// them.
     pub fn new(alloc: A, plan: &'p Plan<A>) -> Result<Index<'p, A>, NoMemory>
         ensures { IfOk result (λ i. i ≡ plan.now) }
     {

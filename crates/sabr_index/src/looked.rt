@@ -32,8 +32,8 @@ impl Pass {
         Looked { pass: self }
     }
 
-    /// Returns true if the contact starts before a second. Since the passes of a link are in order of their starts, this
-    /// is a bound on all passes from this one on: it is for a binary search, and takes no look.
+    /// Returns true if the contact starts before a second. Since the passes of a link are in order of their starts,
+    /// this is a bound on all passes from this one on: it is for a binary search, and takes no look.
     #[inline(always)]
     pub fn begins_before(&self, before: u64) -> bool
         ensures { result ≡ ltb self.now.start before }

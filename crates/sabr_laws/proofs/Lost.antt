@@ -64,4 +64,4 @@ lost_contacts_take_their_routes p r from to start n plan named =
       deliveries = all.deliveries;
       never_sooner = all.never_sooner;
     } in
-    subst (λ cs. LeavesOf p r (record { contacts = cs; ranges = p.ranges; greatest = p.greatest }) r (λ s. not (has n s))) (sym without) left
+    subst (λ cs. LeavesOf p r (record { contacts = cs; ranges = p.ranges; largest = p.largest }) r (λ s. not (has n s))) (sym without) left

@@ -32,15 +32,15 @@ abbrev range_of : List ℕ → Range
 range_of ns = record { one = get_or ns 0 0; other = get_or ns 1 0; start = get_or ns 2 0; end = get_or ns 3 0; light = get_or ns 4 0 }
 
 -- the numbers of records that obey the rules are below 2^64
-small_contacts : (greatest : ℕ) (cs : List Contact) → greatest ≤ 20000 → AllByRecursion (λ c. IsWindow c.start c.end) cs → AllByRecursion (λ c. IsPair c.from c.to) cs → AllByRecursion (λ c. c.number ≤ greatest) cs → AllByRecursion (λ c. c.rate < 2 ^ 64) cs
+small_contacts : (largest : ℕ) (cs : List Contact) → largest ≤ 20000 → AllByRecursion (λ c. IsWindow c.start c.end) cs → AllByRecursion (λ c. IsPair c.from c.to) cs → AllByRecursion (λ c. c.number ≤ largest) cs → AllByRecursion (λ c. c.rate < 2 ^ 64) cs
     → AllByRecursion (λ c. AreSmall (contact_fields c)) cs
-small_contacts greatest [] few windows nodes numbers rates = tt
-small_contacts greatest (c ∷ cs) few windows nodes numbers rates =
+small_contacts largest [] few windows nodes numbers rates = tt
+small_contacts largest (c ∷ cs) few windows nodes numbers rates =
     let window = windows.0 in
     let pair = nodes.0 in
     let number = numbers.0 in (
       (omega arith, (omega arith, (omega arith, (pair.0.1, (pair.1.1, (rates.0, tt)))))),
-      small_contacts greatest cs few windows.1 nodes.1 numbers.1 rates.1,
+      small_contacts largest cs few windows.1 nodes.1 numbers.1 rates.1,
     )
 
 small_ranges : (rs : List Range) → AllByRecursion (λ r. IsWindow r.start r.end) rs → AllByRecursion (λ r. IsPair r.one r.other) rs → AllByRecursion (λ r. r.light ≤ 1000000) rs → AllByRecursion (λ r. AreSmall (range_fields r)) rs
@@ -76,8 +76,8 @@ module _ (p q : ContactPlan) (plan : IsPlan p) (other : IsPlan q) where
   unfolding contact_line range_line
   records_same same =
       let contacts = records_and_rest 99 contact_fields contact_of (λ c. refl) p.contacts q.contacts (flat_map range_line p.ranges ++ codes "end\n") (flat_map range_line q.ranges ++ codes "end\n")
-      (small_contacts p.greatest p.contacts plan.count plan.contact_windows plan.contact_nodes plan.numbers_given plan.rates)
-      (small_contacts q.greatest q.contacts other.count other.contact_windows other.contact_nodes other.numbers_given other.rates)
+      (small_contacts p.largest p.contacts plan.count plan.contact_windows plan.contact_nodes plan.numbers_given plan.rates)
+      (small_contacts q.largest q.contacts other.count other.contact_windows other.contact_nodes other.numbers_given other.rates)
       (ranges_follow p.ranges) (ranges_follow q.ranges) (ranges_behind p q same) in
       let ranges = records_and_rest 114 range_fields range_of (λ r. refl) p.ranges q.ranges (codes "end\n") (codes "end\n")
       (small_ranges p.ranges plan.range_windows plan.range_nodes plan.lights) (small_ranges q.ranges other.range_windows other.range_nodes other.lights)

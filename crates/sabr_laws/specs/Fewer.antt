@@ -22,7 +22,7 @@ pub record LeavesOf (p : ContactPlan) (r : RouteRequest) (q : ContactPlan) (u : 
 
 -- the plan with those of its contacts alone that pass a test
 abbrev pub with_only : (Contact → Bool) → ContactPlan → ContactPlan
-with_only stays p = record { contacts = filter stays p.contacts; ranges = p.ranges; greatest = p.greatest }
+with_only stays p = record { contacts = filter stays p.contacts; ranges = p.ranges; largest = p.largest }
 
 -- with some of its contacts, the listing of a plan is the routes over these alone
 abbrev pub FewerContactsTakeTheirRoutes : Type 0

@@ -10,21 +10,21 @@ pub fn fewer_contacts_take_their_routes()
     ensures { FewerContactsTakeTheirRoutes }
 {}
 
-/// States that the listing of a plan without a contact is the listing without the routes that have the contact. The others
-/// deliver as they did.
+/// States that the listing of a plan without a contact is the listing without the routes that have the contact. The
+/// others deliver as they did.
 pub fn lost_contacts_take_their_routes()
     ensures { LostContactsTakeTheirRoutes }
 {}
 
-/// States that the listing under a lower limit on hops, or with more avoided nodes, is the listing without the routes that
-/// have more hops or go over one of the nodes. The others deliver as they did, so a request never delivers sooner with
-/// limits.
+/// States that the listing under a lower limit on hops, or with more avoided nodes, is the listing without the routes
+/// that have more hops or go over one of the nodes. The others deliver as they did, so a request never delivers sooner
+/// with limits.
 pub fn limits_leave_routes_out()
     ensures { LimitsLeaveRoutesOut }
 {}
 
-/// States that plans with one canonical text have the same contacts, with their numbers, and the same ranges. So they have
-/// the same listings, with the same records.
+/// States that plans with one canonical text have the same contacts, with their numbers, and the same ranges. So they
+/// have the same listings, with the same records.
 pub fn canonical_texts_tell_plans()
     ensures { CanonicalTextsTellPlans }
 {}

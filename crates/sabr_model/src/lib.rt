@@ -56,8 +56,8 @@ mod plan;
 mod request;
 mod request_values;
 mod route;
+mod route_summary;
 mod rows;
-mod told;
 
 pub use contact::{Contact, Range};
 pub use devices::{Device, Failed, Read, Write, WriteFault, write_text};
@@ -78,9 +78,9 @@ pub use plan::{Ends, Plan, arrive, comes_by};
 pub use request::Request;
 pub use request_values::RequestValues;
 pub use route::Route;
+pub use route_summary::RouteSummary;
 pub use rows::{
     row_of_deleting, row_of_faults, row_of_light, row_of_limits, row_of_parts_of_a,
     row_of_parts_of_c, row_of_plan_a, row_of_plan_a_later, row_of_plan_b, row_of_plan_c,
     row_of_the_last_day, row_of_windows, worked_plans_are_plans, worked_requests_are_requests,
 };
-pub use told::Told;

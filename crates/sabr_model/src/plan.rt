@@ -42,7 +42,7 @@ pub struct Plan<A: Allocator + Copy = Global> {
     /// The nodes, each with the numbers of the contacts that it sends.
     table: NodeTable<A>,
     /// The largest number ever assigned.
-    greatest: u32,
+    largest: u32,
     /// The indexes of the nodes of each contact.
     ends: Vec<Ends, A>,
     /// The light time of each contact, or an empty list.
@@ -57,22 +57,22 @@ impl<A: Allocator + Copy> Model for Plan<A> {
 
     ghost Value = { TabledPlan };
 
-    ghost view = { λ a. record { plan = record { contacts = a.contacts.items; ranges = a.ranges.items; greatest = a.greatest }; table = keys a.table } };
+    ghost view = { λ a. record { plan = record { contacts = a.contacts.items; ranges = a.ranges.items; largest = a.largest }; table = keys a.table } };
 
-    ghost invariant = { λ a. IsPlan (record { contacts = a.contacts.items; ranges = a.ranges.items; greatest = a.greatest }) × IsTableOf a.contacts.items a.table × IsKnown (record { plan = record { contacts = a.contacts.items; ranges = a.ranges.items; greatest = a.greatest }; table = keys a.table }) a.ends.items a.lights };
+    ghost invariant = { λ a. IsPlan (record { contacts = a.contacts.items; ranges = a.ranges.items; largest = a.largest }) × IsTableOf a.contacts.items a.table × IsKnown (record { plan = record { contacts = a.contacts.items; ranges = a.ranges.items; largest = a.largest }; table = keys a.table }) a.ends.items a.lights };
 }
 
 impl<A: Allocator + Copy> Plan<A> {
     /// Makes an empty plan. It doesn't allocate.
     pub fn new(alloc: A) -> Plan<A>
-        ensures { result ≡ record { plan = record { contacts = []; ranges = []; greatest = 0 }; table = [] } }
+        ensures { result ≡ record { plan = record { contacts = []; ranges = []; largest = 0 }; table = [] } }
     {
         Plan {
             alloc,
             contacts: Vec::new(alloc),
             ranges: Vec::new(alloc),
             table: IndexMap::new(alloc),
-            greatest: 0,
+            largest: 0,
             ends: Vec::new(alloc),
             lights: LightTimes::new(alloc),
         }

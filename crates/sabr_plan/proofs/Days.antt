@@ -34,7 +34,7 @@ next_month n d is last h =
       number = omega (arith, signed_arith, is.number, days_from_civil-next_month (pos d.year) d.month d.day is.civil.1.0 full);
     }
 
--- 31 December of the year 9999 has the greatest number
+-- 31 December of the year 9999 has the largest number
 not_last : (n : ℕ) → n < 2932896 → days_from_civil (pos 9999) 12 31 ≡ pos n → ⊥
 not_last n h e = omega (arith, signed_arith, e, days_from_civil-max)
 

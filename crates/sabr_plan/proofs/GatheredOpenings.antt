@@ -53,9 +53,9 @@ knows_push befores lasts rising last o cs h by c is = (
 )
 
 -- over a window, between two nodes, and where there is room, a contact is refused as a duplicate or not at all
-module _ (p : ContactPlan) (from to start end : ℕ) (window : start < end) (apart : from ≡ to → ⊥) (room : p.greatest < 20000) where
+module _ (p : ContactPlan) (from to start end : ℕ) (window : start < end) (apart : from ≡ to → ⊥) (room : p.largest < 20000) where
   refused_by_opening : contact_refusal p from to start end ≡ cond (list_any (opens from to start) p.contacts) (Some DuplicateContact) None
-  refused_by_opening = rw (lt-leb end start window, ne_eqb from to apart, lt-leb 20000 p.greatest room) refl
+  refused_by_opening = rw (lt-leb end start window, ne_eqb from to apart, lt-leb 20000 p.largest room) refl
 
   pub new_accepted : list_any (opens from to start) p.contacts ≡ false → contact_refusal p from to start end ≡ None
   new_accepted new = refused_by_opening ∙ ap (λ b. cond b (Some DuplicateContact) None) new

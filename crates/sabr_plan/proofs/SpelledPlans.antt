@@ -22,7 +22,7 @@ use Rattle.sabr_plan.specs.Steps.{and_then, given_as}
 use Rattle.sabr_plan.specs.Words.{words_of, is_comment, is_plain, has_bytes, lines_of}
 use Rattle.sabr_plan.specs.Numbers.{number_within}
 use Rattle.sabr_plan.specs.Times.{time_of}
-use Rattle.sabr_plan.specs.Operands.{relative_of, after_reference, absolute_time, time_at, node_of, greatest_value, value_of, lesser_kind, both_of}
+use Rattle.sabr_plan.specs.Operands.{relative_of, after_reference, absolute_time, time_at, node_of, largest_value, value_of, lesser_kind, both_of}
 use Rattle.sabr_plan.specs.Commands.{addition_of, deletion_of, target_of, targeted, reference_of, command_of, line_command, HasBounds}
 use Rattle.sabr_plan.specs.Reading.{Reading, most_line_bytes, most_lines, nothing_read, kind_of, changed, obeyed, at_line, limited, judged, read_line, read_lines, ended_line, last_line, plan_of}
 use Rattle.sabr_plan.proofs.Seconds.{time_of_tells}
@@ -91,10 +91,10 @@ node_gives word =
 nodes_give : (x y : List ℕ) → Gives (λ nodes. IsNode nodes.0 × IsNode nodes.1) (both_of (node_of x) (node_of y))
 nodes_give x y = both_give IsNode (node_of x) (node_of y) (node_gives x) (node_gives y)
 
-value_gives : (target : Target) (word : List ℕ) → Gives (λ v. v ≤ greatest_value target) (value_of target word)
+value_gives : (target : Target) (word : List ℕ) → Gives (λ v. v ≤ largest_value target) (value_of target word)
 value_gives target word =
-    or_gives (λ v. v ≤ greatest_value target) (number_within 0 (greatest_value target) word) kind.BadNumber tt
-    (λ v e. (number_within-range 0 (greatest_value target) word v e).1)
+    or_gives (λ v. v ≤ largest_value target) (number_within 0 (largest_value target) word) kind.BadNumber tt
+    (λ v e. (number_within-range 0 (largest_value target) word v e).1)
 
 -- ---- so is what a line says
 
@@ -103,7 +103,7 @@ addition_gives reference target (s ∷ e ∷ x ∷ y ∷ v ∷ []) =
     then_gives NotRead (λ times. (times.0 ≤ last_time) × (times.1 ≤ last_time)) HasBounds (both_of (time_at reference s) (time_at reference e)) _
     (both_give (λ t. t ≤ last_time) (time_at reference s) (time_at reference e) (time_gives reference s) (time_gives reference e))
     (λ times within. then_gives NotRead (λ nodes. IsNode nodes.0 × IsNode nodes.1) HasBounds (both_of (node_of x) (node_of y)) _ (nodes_give x y)
-    (λ nodes are. given_gives NotRead (λ value. value ≤ greatest_value target) HasBounds _ (value_of target v) (value_gives target v)
+    (λ nodes are. given_gives NotRead (λ value. value ≤ largest_value target) HasBounds _ (value_of target v) (value_gives target v)
     (λ value most. (are.0, are.1, within.1, most))))
 addition_gives reference target _ = tt
 

@@ -7,7 +7,7 @@ use Rattle.std.specs.declared.option.Option.TheVariants.{Some, None}
 use Rattle.sabr_model.specs.plan.Plan.{IsNode, last_time}
 use Rattle.sabr_plan.specs.Steps.{and_then, given_as}
 use Rattle.sabr_plan.specs.Words.{words_of, is_plain, is_comment}
-use Rattle.sabr_plan.specs.Operands.{time_at, absolute_time, node_of, greatest_value, value_of, both_of}
+use Rattle.sabr_plan.specs.Operands.{time_at, absolute_time, node_of, largest_value, value_of, both_of}
 use Rattle.sabr_plan.specs.declared.fault.PlanKind.{PlanKind}
 use Rattle.sabr_plan.specs.declared.fault.PlanKind.TheVariants.{BadByte, UnknownCommand, WrongOperands}
 use Rattle.sabr_plan.specs.declared.command.Command.{Command}
@@ -66,6 +66,6 @@ line_command reference line =
 
 -- what an addition names are nodes, its end and its value are within their limits; so is a reference
 abbrev pub HasBounds : Command → Type 0
-HasBounds (Add target a) = IsNode a.first × IsNode a.second × (a.end ≤ last_time) × (a.value ≤ greatest_value target)
+HasBounds (Add target a) = IsNode a.first × IsNode a.second × (a.end ≤ last_time) × (a.value ≤ largest_value target)
 HasBounds (SetReference t) = t ≤ last_time
 HasBounds _ = Unit {0}

@@ -16,7 +16,7 @@ use Rattle.sabr_plan.specs.ChainedPlaces.{AreChained}
 
 -- contacts alone and the largest number assigned, as a plan without ranges
 abbrev pub plan_of_contacts : List Contact → ℕ → ContactPlan
-plan_of_contacts contacts greatest = record { contacts = contacts; ranges = []; greatest = greatest }
+plan_of_contacts contacts largest = record { contacts = contacts; ranges = []; largest = largest }
 
 -- a contact stands if it wasn't deleted: one that was ends at its start
 abbrev pub stands : Contact → Bool
@@ -31,7 +31,7 @@ stands_at o c = opens o.from o.to o.start c && stands c
 
 -- the rules of a plan, for these alone
 abbrev pub ContactsObey : List Contact → ℕ → Type 0
-ContactsObey contacts greatest = IsPlan (plan_of_contacts contacts greatest)
+ContactsObey contacts largest = IsPlan (plan_of_contacts contacts largest)
 
 -- an opening as one number: by start, then by sender and receiver
 abbrev pub opening_number : Opening → ℕ
@@ -60,7 +60,7 @@ IsFound o contacts None = list_any (stands_at o) contacts ≡ false
 
 -- ranges alone, as a plan without contacts
 abbrev pub plan_of_ranges : List Range → ContactPlan
-plan_of_ranges ranges = record { contacts = []; ranges = ranges; greatest = 0 }
+plan_of_ranges ranges = record { contacts = []; ranges = ranges; largest = 0 }
 
 -- the rules of a plan, for these alone
 abbrev pub RangesObey : List Range → Type 0

@@ -33,13 +33,13 @@ abbrev pub node_of : List ℕ → Result ℕ PlanKind
 node_of word = ok_or (number_within 1 18446744073709551615 word) BadNode
 
 -- the largest rate of a contact, in bytes per second, or the largest light time of a range, in seconds
-abbrev pub greatest_value : Target → ℕ
-greatest_value Contact = 18446744073709551615
-greatest_value Range = most_light
+abbrev pub largest_value : Target → ℕ
+largest_value Contact = 18446744073709551615
+largest_value Range = most_light
 
 -- a rate or a light time
 abbrev pub value_of : Target → List ℕ → Result ℕ PlanKind
-value_of target word = ok_or (number_within 0 (greatest_value target) word) BadNumber
+value_of target word = ok_or (number_within 0 (largest_value target) word) BadNumber
 
 -- the refusal that comes first: BadTime before any other
 abbrev pub lesser_kind : PlanKind → PlanKind → PlanKind

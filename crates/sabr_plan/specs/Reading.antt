@@ -105,7 +105,7 @@ last_line ended n line r = if ended then given_as (λ r₁. r₁.plan) (ended_li
 
 -- the state before the first line
 abbrev pub nothing_read : Reading
-nothing_read = record { plan = record { contacts = []; ranges = []; greatest = 0 }; reference = None }
+nothing_read = record { plan = record { contacts = []; ranges = []; largest = 0 }; reference = None }
 
 -- the plan of a text, or its first bad line; `ended` says whether the reader ended after these bytes, or failed
 unfoldable pub plan_of : List ℕ → Bool → Result ContactPlan PlanFault

@@ -21,7 +21,6 @@ const LAST_LINE: &[u8] = b"end\n";
 /// pair of nodes and start, between a first and a last line. The text is this project's profile. Its time grows with
 /// the number of records.
 ///
-///
 /// It doesn't allocate or flush.
 ///
 /// # Errors

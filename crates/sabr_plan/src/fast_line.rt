@@ -11,7 +11,7 @@ use crate::command::{Addition, Command, Target};
 use crate::eight_digits::first_eight;
 use crate::known_day::KnownDay;
 use crate::number::{leading_digits, leading_number};
-use crate::operand::{Reference, greatest_value};
+use crate::operand::{Reference, largest_value};
 use crate::words::is_blank;
 
 /// The number of bytes of an absolute time.
@@ -210,7 +210,7 @@ pub fn fast_addition<'a>(
     let (end, rest) = time_ahead(reference, end_day, rest)?;
     let (first, rest) = number_ahead(1, u64::MAX, rest)?;
     let (second, rest) = number_ahead(1, u64::MAX, rest)?;
-    let (value, rest) = number_ahead(0, greatest_value(target), rest)?;
+    let (value, rest) = number_ahead(0, largest_value(target), rest)?;
     let behind = after_end(rest)?;
     let addition = Addition {
         start,

@@ -17,7 +17,7 @@
 //! `Plan::add_range` would return, and then nothing is changed.
 //!
 //! **Sources.** The commands of ionrc(5), as far as this project's profile of them goes: contracts say that the plan is
-//! that of the same changes, one by one. The crate adds only speed.
+//! that of the same changes, one by one. Gathering adds only speed.
 //!
 //! ```ignore
 //! let mut contacts = GatheredContacts::new(rt.alloc());

@@ -1,9 +1,9 @@
 //! The plan files of ionrc(5): reading a plan, times, the canonical text of a plan, and its digest.
 //!
-//! [`read_plan`] reads a plan from a reader, and [`parse_plan`] from a text in memory. Both report the first bad line as
-//! a [`PlanFault`]: the number of the line, from 1, and a [`PlanKind`]. [`canonical`] writes one text for each plan, and
-//! [`digest`] is the SHA-256 of that text, by which a saved session knows its plan. [`parse_time`] and [`time_text`]
-//! convert a second from and to `yyyy/mm/dd-hh:mm:ss`. [`number_within`] reads a decimal number.
+//! [`read_plan`] reads a plan from a reader, and [`parse_plan`] from a text in memory. Both report the first bad line
+//! as a [`PlanFault`]: the number of the line, from 1, and a [`PlanKind`]. [`canonical`] writes one text for each plan,
+//! and [`digest`] is the SHA-256 of that text, by which a saved session knows its plan. [`parse_time`] and
+//! [`time_text`] convert a second from and to `yyyy/mm/dd-hh:mm:ss`. [`number_within`] reads a decimal number.
 //!
 //! **Commands.** `a contact FROM-TIME TO-TIME SENDER RECEIVER RATE`, `a range FROM-TIME TO-TIME NODE NODE LIGHT`,
 //! `d contact TIME SENDER RECEIVER`, `d range TIME NODE NODE`, and `@ TIME`, from which the relative times `+N` of the

@@ -2,7 +2,7 @@
 
 ghost use Rattle.std.specs.Prelude.{◌≡◌, ◌≤◌, Some, None, Ok, Err};
 ghost use Rattle.sabr_model.specs.plan.Plan.{last_time};
-ghost use Rattle.sabr_plan.specs.Operands.{relative_of, after_reference, absolute_time, time_at, node_of, greatest_value, value_of, both_of};
+ghost use Rattle.sabr_plan.specs.Operands.{relative_of, after_reference, absolute_time, time_at, node_of, largest_value, value_of, both_of};
 
 use crate::command::Target;
 use crate::fault::PlanKind;
@@ -15,7 +15,7 @@ use std::marker::Model;
 #[derive(Drop)]
 pub struct Reference {
     second: u64,
-    /// The number of seconds from it up to the latest time, both included. `None` if no line has set it.
+    /// The number of seconds from `second` up to the latest time, both included. 0 if no line has set the reference.
     room: u64,
 }
 
@@ -101,8 +101,8 @@ pub fn node_of(word: &[u8]) -> Result<u64, PlanKind>
 }
 
 /// Returns the largest rate of a contact, in bytes per second, or the largest light time of a range, in seconds.
-pub fn greatest_value(target: Target) -> u64
-    ensures { result ≡ greatest_value target }
+pub fn largest_value(target: Target) -> u64
+    ensures { result ≡ largest_value target }
 {
     match target {
         Target::Contact => u64::MAX,
@@ -114,7 +114,7 @@ pub fn greatest_value(target: Target) -> u64
 pub fn value_of(target: Target, word: &[u8]) -> Result<u64, PlanKind>
     ensures { result ≡ value_of target word.now }
 {
-    number_within(word, 0, greatest_value(target)).ok_or(PlanKind::BadNumber)
+    number_within(word, 0, largest_value(target)).ok_or(PlanKind::BadNumber)
 }
 
 /// Returns both values, or the first fault: `BadTime` before any other.

@@ -41,7 +41,7 @@ impl<A: Allocator + Copy> Model for PlanReading<A> {
 
     ghost Value = { Reading };
 
-    ghost view = { λ r. record { plan = record { contacts = r.contacts.contacts; ranges = r.ranges; greatest = r.contacts.greatest }; reference = r.reference } };
+    ghost view = { λ r. record { plan = record { contacts = r.contacts.contacts; ranges = r.ranges; largest = r.contacts.largest }; reference = r.reference } };
 }
 
 /// Returns the result of a change of the plan as that of a line.

@@ -5,5 +5,5 @@ pub mod Answered
 pub mod Around
 pub mod Soonest
 pub mod BoundedWays
-pub mod KeptAnswers
-pub mod Levels
+pub mod CachedAnswers
+pub mod WholeDeadlines

@@ -3,4 +3,4 @@ pub mod LinkLemmas
 pub mod ForwardLemmas
 pub mod BackwardLemmas
 pub mod AnswerLemmas
-pub mod LevelLemmas
+pub mod WholeLemmas

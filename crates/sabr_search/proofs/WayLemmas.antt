@@ -6,7 +6,7 @@ pub mod Prefixes
 pub mod PartWays
 pub mod Least
 pub mod Bounds
-pub mod Courses
+pub mod PrefixPaths
 pub mod Shortness
 pub mod FaultsOfPrefixes
 pub mod EarliestSeconds

@@ -1,8 +1,8 @@
 -- What is kept from one question for later ones.
 pub mod AnswerLists
-pub mod KeptAnswers
+pub mod CachedAnswers
 pub mod Asked
-pub mod Kept
+pub mod SearchCache
 pub mod Answers
 pub mod Cut
 pub mod Found

@@ -8,7 +8,7 @@ pub mod Events
 pub mod Settling
 pub mod Deadlines
 pub mod Picks
-pub mod Reach
+pub mod NodeBounds
 pub mod Since
 pub mod Latest
-pub mod Level
+pub mod WholeDeadlines

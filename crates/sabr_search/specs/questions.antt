@@ -3,8 +3,8 @@ pub mod Ways
 pub mod Task
 pub mod Steps
 pub mod Linked
-pub mod Told
-pub mod Course
+pub mod RouteSummary
+pub mod PrefixPath
 pub mod Part
 pub mod FirstSteps
 pub mod WideTasks

@@ -5,3 +5,4 @@ pub mod from_goal;
 pub mod latest;
 pub mod nearest;
 pub mod since;
+pub mod walk;

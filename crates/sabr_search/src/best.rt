@@ -3,14 +3,14 @@
 ghost use Rattle.std.specs.Prelude.{◌≡◌, ℕ, ◌+◌, ◌*◌, ◌≤◌, IfOk, IsTrue, length};
 ghost use Rattle.sabr_search.specs.questions.Part.{IsLeast};
 ghost use Rattle.sabr_search.specs.questions.Bounded.{IsSought, IsFloor, IsWhole, hops_sought};
-ghost use Rattle.sabr_search.specs.answers.Kept.{IsKept};
+ghost use Rattle.sabr_search.specs.answers.SearchCache.{IsSearchCache};
 ghost use Rattle.sabr_model.specs.routes.Route.{is_prefix};
 ghost use Rattle.sabr_model.specs.plan.Table.{node_count};
-ghost use Rattle.sabr_search.specs.questions.Told.{hops_told};
+ghost use Rattle.sabr_search.specs.questions.RouteSummary.{hops_told};
 
 use crate::bound::{BoundedPart, Sought};
-use crate::kept::Kept;
 use crate::part::{Excluded, Part};
+use crate::search_cache::SearchCache;
 use sabr_index::Index;
 use sabr_model::{NoMemory, Plan, Request, Route};
 use std::alloc::Allocator;
@@ -43,30 +43,30 @@ pub trait BestOf<A: Allocator + Copy>: Drop {
         ensures counted { IfOk result (λ answer. hops_told answer ≤ looks_of self.new) }
         ensures called { calls_of self.new ≡ calls_of self.old + 1 };
 
-    /// Does the same with an index of the plan, and with what is kept for the searches of this plan and request.
+    /// Does the same with an index of the plan, and with the cache of the searches of this plan and request.
     ///
-    /// The answer doesn't depend on what is kept. The call counts as one of `best`.
+    /// The answer doesn't depend on the cache. The call counts as one of `best`.
     ///
     /// # Errors
     ///
-    /// [`NoMemory`] where an allocation failed. The finder and what is kept can be used again.
+    /// [`NoMemory`] where an allocation failed. The finder and the cache can be used again.
     fn best_beside(
         &mut self,
-        kept: &mut Kept<A>,
+        cache: &mut SearchCache<A>,
         index: &Index<'_, A>,
         request: &Request,
         prefix: &[u32],
         excluded: Excluded<'_>,
     ) -> Result<Option<Route<A>>, NoMemory>
         requires fits { IsTrue (is_prefix index.now.plan request.now prefix.now) }
-        requires kept { IsKept index.now request.now kept.old }
+        requires cache { IsSearchCache index.now request.now cache.old }
         ensures least { IfOk result (IsLeast index.now.plan request.now prefix.now excluded.entry.numbers.now) }
         ensures bound { looks_of self.new ≤ (3 * node_count index.now.plan.contacts + 1) * length index.now.plan.contacts }
         ensures counted { IfOk result (λ answer. hops_told answer ≤ looks_of self.new) }
         ensures called { calls_of self.new ≡ calls_of self.old + 1 }
-        ensures kept { IsKept index.now request.now kept.new }
+        ensures cache { IsSearchCache index.now request.now cache.new }
     {
-        let _kept = kept;
+        let _cache = cache;
         let part = Part {
             prefix,
             excluded: excluded.numbers,
@@ -74,31 +74,31 @@ pub trait BestOf<A: Allocator + Copy>: Drop {
         self.best(index.plan(), request, part)
     }
 
-    /// Does the same as `best_beside` for the best route up to a bound. A worse route needn't be told.
+    /// Does the same as `best_beside` for the best route up to a bound. A worse route needn't be returned.
     ///
     /// The caller promises that no route of the part delivers before its floor.
     ///
     /// # Errors
     ///
-    /// [`NoMemory`] where an allocation failed. The finder and what is kept can be used again.
+    /// [`NoMemory`] where an allocation failed. The finder and the cache can be used again.
     fn best_up_to(
         &mut self,
-        kept: &mut Kept<A>,
+        cache: &mut SearchCache<A>,
         index: &Index<'_, A>,
         request: &Request,
         part: BoundedPart<'_>,
     ) -> Result<Sought<A>, NoMemory>
         requires fits { IsTrue (is_prefix index.now.plan request.now part.prefix.now) }
         requires floor { IsFloor index.now.plan request.now part.prefix.now part.excluded.numbers.now part.floor }
-        requires kept { IsKept index.now request.now kept.old }
+        requires cache { IsSearchCache index.now request.now cache.old }
         ensures sought { IfOk result (IsSought index.now.plan request.now part.entry.prefix.now part.entry.excluded.numbers.now part.entry.bound) }
         ensures whole { IfOk result (IsWhole part.entry.bound) }
         ensures bound { looks_of self.new ≤ (3 * node_count index.now.plan.contacts + 1) * length index.now.plan.contacts }
         ensures counted { IfOk result (λ answer. hops_sought answer ≤ looks_of self.new) }
         ensures called { calls_of self.new ≡ calls_of self.old + 1 }
-        ensures kept { IsKept index.now request.now kept.new }
+        ensures cache { IsSearchCache index.now request.now cache.new }
     {
-        let _kept = kept;
+        let _cache = cache;
         let whole = Part {
             prefix: part.prefix,
             excluded: part.excluded.numbers,

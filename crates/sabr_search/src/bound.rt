@@ -41,7 +41,7 @@ impl Bound {
         self.delivery >= UNDELIVERED
     }
 
-    /// Returns true if all that is up to it is up to another one.
+    /// Returns true if every route that is up to this bound is also up to the bound `other`.
     pub fn is_within(&self, other: Bound) -> bool
         ensures { result ≡ is_up_to other self.now.delivery self.now.hops }
     {
@@ -58,7 +58,8 @@ impl Bound {
         }
     }
 
-    /// The same with any number of hops at its second; none if every arrival is sooner.
+    /// Returns the bound with the same delivery and any number of hops. If every arrival is before that delivery,
+    /// returns [`Bound::none`].
     pub fn at_any_hops(&self) -> Bound
         ensures { result ≡ at_any_hops self.now }
     {
@@ -71,7 +72,8 @@ impl Bound {
         }
     }
 
-    /// The most hops that a way with this delivery has if it is up to it and has at most so many.
+    /// Returns the most hops that a way with this delivery may have: `hops`, but no more than the bound has if
+    /// `delivery` is the bound's own.
     pub fn hops_at(&self, delivery: u64, hops: usize) -> usize
         ensures most { result ≤ hops }
         ensures same { delivery ≡ self.now.delivery → result ≡ min hops self.now.hops }
@@ -83,7 +85,8 @@ impl Bound {
         hops
     }
 
-    /// The first second at which a delivery is above it, or after every arrival.
+    /// Returns the first second at which every delivery is above this bound, at most the first second after every
+    /// arrival.
     pub fn until(&self) -> u64
         ensures { result ≡ min (self.now.delivery + 1) (latest_arrival + 1) }
     {
@@ -100,7 +103,7 @@ pub struct BoundedPart<'a> {
     pub excluded: Excluded<'a>,
     /// What is asked up to.
     pub bound: Bound,
-    /// A second before which no route of the part delivers; 0 tells nothing.
+    /// A second before which no route of the part delivers; 0 if none is known.
     pub floor: u64,
 }
 

@@ -4,6 +4,5 @@ pub mod arrivals;
 mod first_steps;
 pub mod layers;
 mod news;
-pub mod queue;
 pub mod settling;
 pub mod soonest;

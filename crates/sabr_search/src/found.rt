@@ -2,9 +2,41 @@
 
 ghost use Rattle.std.specs.Prelude.{IsTrue};
 ghost use Rattle.sabr_search.specs.answers.Found.{IsEnough};
+ghost use Rattle.sabr_search.specs.layers.Made.{IsOutcome};
 
 use crate::bound::Bound;
 use std::alloc::{Allocator, Global};
+
+/// The earliest delivery, and the hops of a way with it. Until a search has found a way, `hops` is 0, and `delivery` is
+/// the second before which one is sought.
+#[derive(Clone, Copy)]
+pub struct Best {
+    pub delivery: u64,
+    pub hops: usize,
+}
+
+impl Best {
+    /// Returns what a search that ends with this came to: `Outcome::None` if no way was found.
+    pub fn outcome(self) -> Outcome<Best>
+        ensures { IsOutcome self result }
+    {
+        if self.hops == 0 {
+            Outcome::None
+        } else {
+            Outcome::Found(self)
+        }
+    }
+}
+
+/// What a part of a search came to.
+pub enum Outcome<T> {
+    /// What it looked for.
+    Found(T),
+    /// There is none.
+    None,
+    /// More looks might be needed than it may take, or it came to too many dead ends.
+    GaveUp,
+}
 
 /// The contact numbers of a way, and when it delivers.
 #[derive(Drop)]
@@ -13,27 +45,24 @@ pub struct FoundWay<A: Allocator + Copy = Global> {
     pub delivery: u64,
 }
 
-/// What a search for the best way finds.
+/// What a search for the best way finds. It has the way itself, or the delivery of one whose numbers stand elsewhere.
 #[derive(Drop)]
-pub enum Found<A: Allocator + Copy = Global> {
+pub enum Found<W> {
     /// The best way.
-    Way(FoundWay<A>),
-    /// Each way is above this bound; there is none if everything is up to it.
+    Way(W),
+    /// Each way is above this bound. If every route is up to the bound ([`Bound::is_none`]), there is no way.
     Beyond(Bound),
-    /// More might be needed than it may take.
-    GaveUp,
 }
 
-impl<A: Allocator + Copy> Found<A> {
-    /// Returns true if it is enough for a question up to this bound: if it is a way, or if all that is up to the bound
-    /// is up to what each way is above.
+impl<W> Found<W> {
+    /// Returns true if this result decides a question up to `bound`: it is a way, or each way is above a bound that is
+    /// no lower than `bound`.
     pub fn is_enough(&self, bound: Bound) -> bool
         ensures { IsTrue result → IsEnough bound self.now }
     {
         match self {
             Found::Way(_) => true,
             Found::Beyond(own) => bound.is_within(*own),
-            Found::GaveUp => false,
         }
     }
 }

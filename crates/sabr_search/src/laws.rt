@@ -1,4 +1,4 @@
-//! The law of kept answers, as the contract of a function that does nothing.
+//! The law of cached answers, as the contract of a function that does nothing.
 
 ghost use Rattle.sabr_search.specs.answers.Answers.{AnswersStay};
 

@@ -2,32 +2,32 @@
 
 ghost use Rattle.std.specs.Prelude.{◌≡◌, ◌+◌, ◌*◌, ◌≤◌, IfOk, IsTrue, length};
 ghost use Rattle.sabr_model.specs.routes.Route.{is_prefix};
-ghost use Rattle.sabr_model.specs.routes.Telling.{told_of};
+ghost use Rattle.sabr_model.specs.routes.Telling.{summary_of};
 ghost use Rattle.sabr_model.specs.plan.Table.{node_count};
 ghost use Rattle.sabr_search.specs.questions.Part.{IsLeast};
 ghost use Rattle.sabr_search.specs.questions.Task.{IsAsked};
 ghost use Rattle.sabr_search.specs.layers.Late.{AreArrivals};
 ghost use Rattle.sabr_index.specs.Looks.{looks_taken};
-ghost use Rattle.sabr_search.specs.questions.Told.{hops_told};
+ghost use Rattle.sabr_search.specs.questions.RouteSummary.{hops_told};
 
 use crate::backward::from_goal::Aim;
 use crate::backward::since::Since;
 use crate::best::BestOf;
 use crate::bound::{Bound, BoundedPart, Sought};
-use crate::course::Course;
-use crate::kept::Kept;
 use crate::layer_search::LayerSearch;
 use crate::part::{Excluded, Part};
+use crate::prefix_path::PrefixPath;
 use crate::question::Question;
+use crate::search_cache::SearchCache;
 use crate::task::Task;
 use sabr_index::{CountedPlan, Index, Looks};
-use sabr_model::{GhostCount, NoMemory, Plan, Request, Route, Told};
+use sabr_model::{GhostCount, NoMemory, Plan, Request, Route, RouteSummary};
 use std::alloc::{Allocator, Global};
 
 /// A finder that makes layers forward for the earliest delivery, layers backward for its route, and then picks the
 /// least numbers from the front.
 ///
-/// A call costs at most `(3 * N + 1) * C` looks, for N nodes and C contacts. Its memory is kept from call to call.
+/// A call costs at most `(3 * N + 1) * C` looks, for N nodes and C contacts. Its memory is reused from call to call.
 #[derive(Drop)]
 pub struct Layered<A: Allocator + Copy = Global> {
     /// The allocator of the buffers.
@@ -67,14 +67,14 @@ impl<A: Allocator + Copy> Layered<A> {
     }
 
     /// The best route after the prefix, by layers alone. No way comes to a node before its second in `since`.
-    fn least_after(
+    fn best_after(
         &mut self,
         task: &Task<'_, A>,
         prefix: &[u32],
-        told: Told,
+        summary: RouteSummary,
     ) -> Result<Option<Route<A>>, NoMemory>
         requires asked { IsAsked task.now prefix.now }
-        requires told { told ≡ told_of task.now.plan prefix.now }
+        requires summary { summary ≡ summary_of task.now.plan prefix.now }
         requires few { looks_taken self.old.looks ≤ 2 * length task.now.plan.contacts }
         requires arrivals { AreArrivals task.now self.old.since.items }
         ensures least { IfOk result (IsLeast task.now.plan task.now.request prefix.now task.now.excluded) }
@@ -85,11 +85,11 @@ impl<A: Allocator + Copy> Layered<A> {
         let asked = Question {
             task,
             prefix,
-            told,
+            summary,
             bound: Bound::none(),
             floor: 0,
         };
-        let since = Since::of(&self.since);
+        let since = Since::soonest(self.since.len(), &self.since);
         let mut first = Vec::new(self.alloc);
         let whole = task.first_steps(&mut self.looks, &mut first)?;
         if !whole {
@@ -102,9 +102,10 @@ impl<A: Allocator + Copy> Layered<A> {
             delivery: 0,
         };
         let (hops, bound) = (asked.hops_left(), asked.bound_left());
-        let found = self
-            .layers
-            .least_within(&aim, &mut self.looks, hops, bound)?;
+        let found = self.layers.best_within(&aim, &mut self.looks, hops, bound)?;
+        let Some(found) = found else {
+            unreachable!();
+        };
         let answer = asked.answer(self.alloc, &mut self.looks, &found)?;
         match answer {
             Sought::Route(route) => Ok(Some(route)),
@@ -128,15 +129,15 @@ impl<A: Allocator + Copy> Layered<A> {
         ensures counted { IfOk result (λ answer. hops_told answer ≤ looks_taken self.new.looks) }
         ensures calls { self.new.calls ≡ self.old.calls }
     {
-        let opened = Course::open(self.alloc, index, request)?;
-        let Some(mut course) = opened else {
+        let opened = PrefixPath::open(self.alloc, index, request)?;
+        let Some(mut prefix_path) = opened else {
             return Ok(None);
         };
-        let stop = course.go(&mut self.looks, index, request, prefix)?;
-        let task = Task::new(index, request, &course, excluded, stop);
+        let stop = prefix_path.go(&mut self.looks, index, request, prefix)?;
+        let task = Task::new(index, request, &prefix_path, excluded, stop);
         self.since.clear();
         self.since.resize(index.nodes(), task.at())?;
-        self.least_after(&task, prefix, stop.told)
+        self.best_after(&task, prefix, stop.summary)
     }
 }
 
@@ -165,12 +166,12 @@ impl<A: Allocator + Copy> BestOf<A> for Layered<A> {
 
     fn best_up_to(
         &mut self,
-        kept: &mut Kept<A>,
+        cache: &mut SearchCache<A>,
         index: &Index<'_, A>,
         request: &Request,
         part: BoundedPart<'_>,
     ) -> Result<Sought<A>, NoMemory> {
-        let _kept = kept;
+        let _cache = cache;
         self.begin(Looks::many());
         let found = self.find(index.counted(), request, part.prefix, part.excluded)?;
         Ok(Sought::of(found))

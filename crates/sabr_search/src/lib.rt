@@ -1,33 +1,46 @@
-//! The best route of a part of the routes.
+//! Finders of the best route of a part of the routes.
+//!
+//! **Words.** A *part* has the routes that begin with a *prefix* of contact numbers, are longer, and take no *excluded*
+//! number next. A *question* asks for the best route of a part, up to a *bound*: a delivery and a number of hops. Its
+//! *floor* is a second before which no route of the part delivers. A *way* is the rest of a route after the prefix, up
+//! to the *goal*, the destination. A *task* is the search for the best way; it enters no *forbidden* node, and the
+//! other nodes are *open*. A *pass* is a contact in the index, and a *link* has the passes from one node to another. A
+//! *look* is a use of a contact's record.
+//!
+//! **A call.** `Settled::find` follows the prefix (`prefix_path.rt`) and calls `Search::find_route`. That tries an
+//! early answer (`early.rt`): from the cache, by layers over the whole graph, or by a wide question. Otherwise
+//! `Search::run` searches: it settles nodes (`forward`), makes layers backward, and picks the smallest numbers by them
+//! (`backward`).
 #![tactic(auto)]
 
-mod answers;
 mod backward;
 mod best;
 mod bound;
-mod course;
+mod early;
 mod fitting;
 mod forward;
 mod found;
-mod kept;
 mod laws;
 mod layer_search;
 mod layered;
-mod level;
 mod links;
+mod node_bounds;
 mod part;
+mod prefix_path;
 mod question;
-mod reach;
+mod queue;
 mod search;
+mod search_cache;
 mod settled;
 mod task;
+mod throttle;
 mod visit;
 
 pub use best::BestOf;
 pub use bound::{Bound, BoundedPart, Sought};
 pub use fitting::fits;
-pub use kept::Kept;
 pub use laws::answers_stay;
 pub use layered::Layered;
 pub use part::{Excluded, Part};
+pub use search_cache::SearchCache;
 pub use settled::Settled;

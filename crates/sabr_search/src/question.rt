@@ -1,7 +1,7 @@
 //! A question after a prefix.
 
 ghost use Rattle.std.specs.Prelude.{◌≡◌, ℕ, ◌++◌, ◌+◌, ◌-◌, ◌*◌, ◌^◌, ◌≤◌, IfOk, IsTrue, length, take};
-ghost use Rattle.sabr_model.specs.routes.Telling.{told_of};
+ghost use Rattle.sabr_model.specs.routes.Telling.{summary_of};
 ghost use Rattle.sabr_search.specs.questions.Task.{IsAsked};
 ghost use Rattle.sabr_search.specs.layers.Picks.{IsLeastWay};
 ghost use Rattle.sabr_search.specs.answers.Answers.{IsWayBeyond};
@@ -11,11 +11,11 @@ ghost use Rattle.sabr_search.specs.answers.Found.{IsEnough, IsFound, found_hops,
 ghost use Rattle.sabr_search.specs.questions.Bounded.{IsSought, IsWhole, hops_sought, is_up_to};
 ghost use Rattle.sabr_index.specs.Looks.{looks_taken};
 
-use crate::bound::{Bound, Sought};
-use crate::found::Found;
+use crate::bound::{Bound, BoundedPart, Sought};
+use crate::found::{Found, FoundWay};
 use crate::task::Task;
 use sabr_index::{CountedPlan, Looks};
-use sabr_model::{MAX_HOPS, NoMemory, Told};
+use sabr_model::{MAX_HOPS, NoMemory, RouteSummary};
 use std::alloc::Allocator;
 
 /// What is asked for a part: the best route after its prefix, up to a bound. The task is the search for its way.
@@ -25,11 +25,11 @@ pub struct Question<'t, 'a, 'p, A: Allocator + Copy> {
     pub task: &'t Task<'a, A>,
     /// The contact numbers that the route begins with.
     pub prefix: &'p [u32],
-    /// What these tell.
-    pub told: Told,
+    /// Their summary.
+    pub summary: RouteSummary,
     /// What is asked up to.
     pub bound: Bound,
-    /// A second before which no way after the prefix delivers; 0 tells nothing.
+    /// A second before which no way after the prefix delivers; 0 if none is known.
     pub floor: u64,
 }
 
@@ -47,36 +47,57 @@ fn joined<A: Allocator + Copy>(
     Ok(contacts)
 }
 
-/// Finds what these numbers tell, from what the first of them tell: one look for each, though no contact of the first
-/// is read.
-fn told_from<A: Allocator + Copy>(
+/// Finds the summary of these numbers, from that of the first of them: one look for each, though no contact of the
+/// first is read.
+fn summary_from<A: Allocator + Copy>(
     plan: &CountedPlan<'_, A>,
     looks: &mut Looks,
-    known: Told,
+    known: RouteSummary,
     first: usize,
     numbers: &[u32],
-) -> Told
+) -> RouteSummary
     requires within { first ≤ length numbers.now }
     requires few { length numbers.now ≤ looks.old.left }
-    requires known { known ≡ told_of plan.now.plan (take first numbers.now) }
+    requires known { known ≡ summary_of plan.now.plan (take first numbers.now) }
     ensures counted { looks_taken looks.new ≡ looks_taken looks.old + length numbers.now }
-    ensures value { result ≡ told_of plan.now.plan numbers.now }
+    ensures value { result ≡ summary_of plan.now.plan numbers.now }
 {
     looks.take_many(first as u64);
-    let mut told = known;
+    let mut summary = known;
     for place in first..numbers.len() {
-        told = plan.tell(looks, told, &numbers[..place], numbers[place]);
+        summary = plan.summarize(looks, summary, &numbers[..place], numbers[place]);
     }
-    told
+    summary
 }
 
 impl<'t, 'a, 'p, A: Allocator + Copy> Question<'t, 'a, 'p, A> {
+    /// The question for a part, after whose prefix the search starts.
+    pub fn of(
+        task: &'t Task<'a, A>,
+        part: BoundedPart<'p>,
+        summary: RouteSummary,
+    ) -> Question<'t, 'a, 'p, A>
+        ensures task { result.task.now ≡ task.now }
+        ensures prefix { result.prefix.now ≡ part.entry.prefix.now }
+        ensures summary { result.summary ≡ summary }
+        ensures bound { result.bound ≡ part.entry.bound }
+        ensures floor { result.floor ≡ part.entry.floor }
+    {
+        Question {
+            task,
+            prefix: part.prefix,
+            summary,
+            bound: part.bound,
+            floor: part.floor,
+        }
+    }
+
     /// The most hops that a way after the prefix may have: those that the limit leaves, and fewer than there are nodes.
     pub fn hops_left(&self) -> usize
         requires { IsAsked self.now.task.now self.now.prefix.now }
         ensures { result ≡ hops_left self.now }
     {
-        let others = self.task.shut().len() - 1;
+        let others = self.task.forbidden().len() - 1;
         let max_hops = self.task.request().max_hops();
         if max_hops == MAX_HOPS {
             return others;
@@ -94,7 +115,7 @@ impl<'t, 'a, 'p, A: Allocator + Copy> Question<'t, 'a, 'p, A> {
 
     /// The answer with the route that goes on by the best way.
     ///
-    /// It takes one look for each contact of the route: those of the prefix count, too, though what they tell is known.
+    /// It takes one look for each contact of the route: those of the prefix count, too, though their summary is known.
     pub fn route(
         &self,
         alloc: A,
@@ -103,7 +124,7 @@ impl<'t, 'a, 'p, A: Allocator + Copy> Question<'t, 'a, 'p, A> {
         delivery: u64,
     ) -> Result<Sought<A>, NoMemory>
         requires asked { IsAsked self.now.task.now self.now.prefix.now }
-        requires told { self.now.told ≡ told_of self.now.task.now.plan self.now.prefix.now }
+        requires summary { self.now.summary ≡ summary_of self.now.task.now.plan self.now.prefix.now }
         requires few { looks_taken looks.old ≤ 3 * length self.now.task.now.table * length self.now.task.now.plan.contacts }
         requires least { IsLeastWay self.now.task.now (hops_left self.now) (delivery + 1) way.now delivery }
         ensures sought { IfOk result (IsSought self.now.task.now.plan self.now.task.now.request self.now.prefix.now self.now.task.now.excluded self.now.bound) }
@@ -114,8 +135,8 @@ impl<'t, 'a, 'p, A: Allocator + Copy> Question<'t, 'a, 'p, A> {
     {
         let contacts = joined(alloc, self.prefix, way)?;
         let first = self.prefix.len();
-        let told = told_from(self.task.plan(), looks, self.told, first, &contacts);
-        Ok(Sought::Route(told.route(contacts, delivery)))
+        let summary = summary_from(self.task.plan(), looks, self.summary, first, &contacts);
+        Ok(Sought::Route(summary.route(contacts, delivery)))
     }
 
     /// The answer where each way is above a bound: each route is above the one asked for, or there is none.
@@ -140,10 +161,10 @@ impl<'t, 'a, 'p, A: Allocator + Copy> Question<'t, 'a, 'p, A> {
         &self,
         alloc: A,
         looks: &mut Looks,
-        found: &Found<A>,
+        found: &Found<FoundWay<A>>,
     ) -> Result<Sought<A>, NoMemory>
         requires asked { IsAsked self.now.task.now self.now.prefix.now }
-        requires told { self.now.told ≡ told_of self.now.task.now.plan self.now.prefix.now }
+        requires summary { self.now.summary ≡ summary_of self.now.task.now.plan self.now.prefix.now }
         requires few { looks_taken looks.old ≤ 3 * length self.now.task.now.table * length self.now.task.now.plan.contacts }
         requires found { IsFound self.now.task.now (hops_left self.now) found.now }
         requires enough { IsEnough (bound_left self.now) found.now }
@@ -156,7 +177,6 @@ impl<'t, 'a, 'p, A: Allocator + Copy> Question<'t, 'a, 'p, A> {
         match found {
             Found::Way(way) => self.route(alloc, looks, &way.numbers, way.delivery),
             Found::Beyond(bound) => Ok(self.above(*bound)),
-            Found::GaveUp => unreachable!(),
         }
     }
 }

@@ -1,30 +1,39 @@
 //! One search for the best way of a question.
 
-ghost use Rattle.std.specs.Prelude.{◌+◌, ◌*◌, ◌^◌, ◌≤◌, ◌<◌, IfOk, length};
-ghost use Rattle.sabr_search.specs.questions.FirstSteps.{tabled_of};
-ghost use Rattle.sabr_search.specs.questions.Task.{IsOfRequest, IsTask, most_nodes};
-ghost use Rattle.sabr_search.specs.answers.Found.{IsEnough, IsEnoughUnless, IsFound, found_hops};
+ghost use Rattle.std.specs.Prelude.{◌≡◌, ◌+◌, ◌*◌, ◌^◌, ◌≤◌, ◌<◌, IfOk, IfSome, length};
+ghost use Rattle.sabr_index.specs.Looks.{looks_taken};
+ghost use Rattle.sabr_model.specs.routes.Telling.{summary_of};
+ghost use Rattle.sabr_search.specs.answers.Answers.{narrowed};
+ghost use Rattle.sabr_search.specs.answers.Asked.{AnswersAt, hops_left};
+ghost use Rattle.sabr_search.specs.answers.Early.{IsEarly};
+ghost use Rattle.sabr_search.specs.answers.Found.{IsEnoughUnless, IsFound, found_hops};
+ghost use Rattle.sabr_search.specs.answers.SearchCache.{IsMemory};
 ghost use Rattle.sabr_search.specs.layers.Late.{AreSince, IsNoneSooner};
-ghost use Rattle.sabr_search.specs.layers.Level.{IsLevelOf};
-ghost use Rattle.sabr_search.specs.layers.Reach.{IsReach};
+ghost use Rattle.sabr_search.specs.layers.NodeBounds.{AreNodeBounds};
+ghost use Rattle.sabr_search.specs.questions.Bounded.{IsSought, IsCutUpTo, IsWhole, hops_sought};
+ghost use Rattle.sabr_search.specs.questions.FirstSteps.{tabled_of};
+ghost use Rattle.sabr_search.specs.questions.Task.{IsAsked, IsOfRequest, IsTask, most_nodes};
+ghost use Rattle.sabr_search.specs.questions.WideTasks.{ForbidsFewer};
 
-use crate::answers::payoff::Payoff;
 use crate::backward::from_goal::Aim;
 use crate::backward::since::Since;
-use crate::bound::Bound;
+use crate::bound::{Bound, Sought};
+use crate::early::widening::Breadth;
+use crate::early::{Early, Memory};
 use crate::forward::settling::{Forward, Settling};
-use crate::found::Found;
+use crate::found::{Found, FoundWay, Outcome};
 use crate::layer_search::LayerSearch;
-use crate::level::Level;
-use crate::level::walk::Walked;
-use crate::reach::Reach;
+use crate::node_bounds::NodeBounds;
+use crate::question::Question;
 use crate::task::Task;
+use crate::throttle::Throttle;
 use crate::visit::Visit;
 use sabr_index::Looks;
 use sabr_model::NoMemory;
 use std::alloc::Allocator;
 
-/// How many questions whose limit on hops may bind settle nodes first, until it counts how many of them that answered.
+/// Of the questions whose limit on hops may bind, this many begin by settling nodes. Then it is counted how many
+/// settling answered.
 /// With 64 of them and half as the least, 1000 routes over eight plans took 3 percent more instructions, and over
 /// dense-60, whose limit mostly binds, 11; with 32, 1 and 3; and with no layers first, 16 and 87: all in a copy of this
 /// design in plain Rust. To vary it: `bench/further.py --parts limits`.
@@ -46,8 +55,8 @@ pub struct Search<A: Allocator + Copy> {
     first: Vec<Visit, A>,
     /// Nodes in order of arrival and of what the goal costs from there.
     settling: Settling<A>,
-    /// Whether that answers where a limit on hops may bind.
-    settles: Payoff,
+    /// Decides whether a question whose limit on hops may bind begins by settling, or with layers forward.
+    settles: Throttle,
     /// Layers by hops, forward within a limit and backward.
     layers: LayerSearch<A>,
 }
@@ -59,46 +68,9 @@ impl<A: Allocator + Copy> Search<A> {
             alloc,
             first: Vec::new(alloc),
             settling: Settling::new(alloc),
-            settles: Payoff::new(TRIES, LEAST, PAUSE),
+            settles: Throttle::new(TRIES, LEAST, PAUSE),
             layers: LayerSearch::new(alloc),
         }
-    }
-
-    /// Returns the best way of at most that many hops up to a bound by layers for a delivery, before which none
-    /// delivers; or what each way is above. It gives up if that would take too many looks, or came to too many dead
-    /// ends.
-    pub fn run_level(
-        &mut self,
-        task: &Task<'_, A>,
-        level: &Level<A>,
-        looks: &mut Looks,
-        hops: usize,
-        bound: Bound,
-    ) -> Result<Found<A>, NoMemory>
-        requires task { IsTask task.now }
-        requires level { IsLevelOf task.now level.now.delivery hops level.now.layers }
-        requires nodes { hops ≤ most_nodes }
-        requires floor { IsNoneSooner task.now hops level.now.delivery }
-        ensures found { IfOk result (IsFound task.now hops) }
-    {
-        let delivery = level.delivery;
-        let most = bound.hops_at(delivery, hops);
-        self.layers.walk.begin(delivery);
-        for count in 1..most + 1 {
-            if level.is_late(task, count) {
-                continue;
-            }
-            let walked = self.layers.walk.pick(&level.layers, task, looks, count)?;
-            match walked {
-                Walked::Picked => return Ok(Found::Way(self.layers.walk.way(self.alloc)?)),
-                Walked::None => {}
-                Walked::GaveUp => return Ok(Found::GaveUp),
-            }
-        }
-        Ok(Found::Beyond(Bound {
-            delivery,
-            hops: if most == hops { usize::MAX } else { most },
-        }))
     }
 
     /// Returns what [`run`](Search::run) does, by layers forward for the earliest delivery and layers backward for its
@@ -106,79 +78,82 @@ impl<A: Allocator + Copy> Search<A> {
     fn run_within(
         &mut self,
         task: &Task<'_, A>,
-        reach: &Reach<A>,
+        node_bounds: &NodeBounds<A>,
         looks: &mut Looks,
         hops: usize,
         bound: Bound,
-    ) -> Result<Found<A>, NoMemory>
+    ) -> Result<Option<Found<FoundWay<A>>>, NoMemory>
         requires task { IsTask task.now }
-        requires soon { AreSince task.now reach.now.soon.items }
+        requires soon { AreSince task.now node_bounds.now.soon.items }
         requires nodes { hops ≤ most_nodes }
         ensures counted { looks.old.left ≤ looks.new.left + (3 * hops + 1) * length task.now.plan.contacts }
-        ensures found { IfOk result (IsFound task.now hops) }
+        ensures found { IfOk result (λ o. IfSome o (IsFound task.now hops)) }
         ensures enough { IfOk result (IsEnoughUnless (looks.old.left < (3 * hops + 1) * length task.now.plan.contacts) bound) }
     {
         let whole = task.first_steps(looks, &mut self.first)?;
         if !whole {
-            return Ok(Found::GaveUp);
+            return Ok(None);
         }
-        let since = Since::soonest(task.shut().len(), &reach.soon);
+        let since = Since::soonest(task.forbidden().len(), &node_bounds.soon);
         let aim = Aim {
             task,
             since: &since,
             first: &self.first,
             delivery: 0,
         };
-        self.layers.least_within(&aim, looks, hops, bound)
+        self.layers.best_within(&aim, looks, hops, bound)
     }
 
-    /// Returns the best way of at most that many hops up to a bound, or what each way is above. If the first way that
-    /// settling finds has no more hops, its delivery is the least, and layers backward find the best way. Otherwise
-    /// layers forward find the earliest delivery before; where that was so mostly of late, they come first. It gives up
-    /// if more looks might be needed than are left.
+    /// Returns the best way of at most `hops` hops up to a bound, or a bound that each such way is above.
+    ///
+    /// Settling finds a way with the earliest delivery. If that way has at most `hops` hops, layers backward find the
+    /// best way with that delivery. Otherwise layers forward first find the earliest delivery within `hops` hops. If
+    /// settling answered too few of the latest questions whose limit may bind, the search begins with layers forward.
+    /// Returns `None` if more looks might be needed than are left.
     pub fn run(
         &mut self,
         task: &Task<'_, A>,
-        reach: &Reach<A>,
+        node_bounds: &NodeBounds<A>,
         looks: &mut Looks,
         hops: usize,
         bound: Bound,
-    ) -> Result<Found<A>, NoMemory>
+    ) -> Result<Option<Found<FoundWay<A>>>, NoMemory>
         requires task { IsTask task.now }
         requires request { IsOfRequest task.now }
-        requires reach { IsReach (tabled_of task.now) task.now.request reach.now }
-        requires soon { AreSince task.now reach.now.soon.items }
+        requires node_bounds { AreNodeBounds (tabled_of task.now) task.now.request node_bounds.now }
+        requires soon { AreSince task.now node_bounds.now.soon.items }
         requires nodes { hops ≤ most_nodes }
         ensures counted { looks.old.left ≤ looks.new.left + (3 * hops + 1) * length task.now.plan.contacts }
-        ensures cut { IfOk result (λ f. IsEnough bound f → length task.now.table ≤ hops + 1 → looks.old.left ≤ looks.new.left + (2 * found_hops bound f + 1) * length task.now.plan.contacts) }
-        ensures found { IfOk result (IsFound task.now hops) }
+        ensures cut { IfOk result (λ o. IfSome o (λ f. length task.now.table ≤ hops + 1 → looks.old.left ≤ looks.new.left + (2 * found_hops bound f + 1) * length task.now.plan.contacts)) }
+        ensures found { IfOk result (λ o. IfSome o (IsFound task.now hops)) }
         ensures enough { IfOk result (IsEnoughUnless (looks.old.left < (3 * hops + 1) * length task.now.plan.contacts) bound) }
     {
-        let is_limited = hops + 1 < task.shut().len();
+        let is_limited = hops + 1 < task.forbidden().len();
         if is_limited && !self.settles.takes() {
-            return self.run_within(task, reach, looks, hops, bound);
+            return self.run_within(task, node_bounds, looks, hops, bound);
         }
         let until = bound.until();
         let forward = Forward {
             task,
-            late: reach.late_for(until),
-            costs: &reach.costs,
-            hops: &reach.hops,
+            late: node_bounds.late_for(until),
+            costs: &node_bounds.costs,
+            hops: &node_bounds.hops,
             until,
         };
         let reached = self.settling.run(&forward, looks, &mut self.first)?;
-        let Some(best) = reached else {
-            return Ok(Found::GaveUp);
+        let best = match reached {
+            Outcome::Found(best) => best,
+            Outcome::None => {
+                self.settles.win(1);
+                return Ok(Some(Found::Beyond(bound.at_any_hops())));
+            }
+            Outcome::GaveUp => return Ok(None),
         };
-        if best.hops == 0 {
-            self.settles.win(1);
-            return Ok(Found::Beyond(bound.at_any_hops()));
-        }
         let since = Since {
-            nodes: task.shut().len(),
+            nodes: task.forbidden().len(),
             arrival: &self.settling.arrival,
-            costs: &reach.costs,
-            soon: &reach.soon,
+            costs: &node_bounds.costs,
+            soon: &node_bounds.soon,
             delivery: best.delivery,
         };
         let aim = Aim {
@@ -188,9 +163,130 @@ impl<A: Allocator + Copy> Search<A> {
             delivery: best.delivery,
         };
         if best.hops > hops {
-            return self.layers.least_within(&aim, looks, hops, bound);
+            return self.layers.best_within(&aim, looks, hops, bound);
         }
         self.settles.win(1);
-        self.layers.least_up_to(&aim, looks, hops, bound)
+        self.layers.best_at(&aim, looks, hops, bound)
+    }
+
+    /// Searches for the answer to a wide question, which forbids the nodes in `memory.widening.forbidden`, and caches
+    /// it. Returns the place of that answer in the cache if it is also the answer to the question `asked`.
+    fn find_wide(
+        &mut self,
+        memory: &mut Memory<A>,
+        asked: &Question<'_, '_, '_, A>,
+        looks: &mut Looks,
+        breadth: Breadth,
+    ) -> Result<Option<usize>, NoMemory>
+        requires asked { IsAsked asked.now.task.now asked.now.prefix.now }
+        requires fewer { ForbidsFewer asked.now.task.now memory.old.widening.forbidden }
+        requires request { IsOfRequest (narrowed asked.now.task.now memory.old.widening.forbidden asked.now.task.now.at) }
+        requires memory { IsMemory (tabled_of asked.now.task.now) asked.now.task.now.request memory.old }
+        ensures memory { IsMemory (tabled_of asked.now.task.now) asked.now.task.now.request memory.new }
+        ensures some { IfOk result (λ o. IfSome o (AnswersAt memory.new.answers.slots.items asked.now)) }
+    {
+        let wide = asked.task.with_forbidden(&memory.widening.forbidden);
+        let (hops, bound) = (asked.hops_left(), asked.bound_left());
+        let before = looks.left();
+        let found = self.run(&wide, &memory.node_bounds, looks, hops, bound)?;
+        let spent = before.saturating_sub(looks.left());
+        let Some(found) = found else {
+            memory.count(breadth, spent);
+            return Ok(None);
+        };
+        let kept = memory.answers.keep(&wide, hops, &found, breadth);
+        memory.count(breadth, spent);
+        let Some(place) = kept else {
+            return Ok(None);
+        };
+        Ok(memory.answers.recall_at(place, asked, looks))
+    }
+
+    /// Tries to answer a question without its own search: from the cache, by the layers for its floor, or by a wide
+    /// question. It takes only the looks that are left, since the caller has set aside those of the own search. Bounds
+    /// and layers that are due are found first; if an allocation for these fails, it goes on without.
+    fn find_early(
+        &mut self,
+        memory: &mut Memory<A>,
+        asked: &Question<'_, '_, '_, A>,
+        looks: &mut Looks,
+    ) -> Result<Option<Early<A>>, NoMemory>
+        requires asked { IsAsked asked.now.task.now asked.now.prefix.now }
+        requires floor { IsNoneSooner asked.now.task.now (hops_left asked.now) asked.now.floor }
+        requires memory { IsMemory (tabled_of asked.now.task.now) asked.now.task.now.request memory.old }
+        ensures memory { IsMemory (tabled_of asked.now.task.now) asked.now.task.now.request memory.new }
+        ensures early { IfOk result (λ o. IfSome o (IsEarly asked.now memory.new.answers.slots.items)) }
+    {
+        let _opened = memory.open(asked, looks);
+        let walk = &mut self.layers.walk;
+        if !memory.answers.serves(asked) {
+            let Some(found) = memory.whole_deadlines.answer(walk, asked, looks)? else {
+                return Ok(None);
+            };
+            return Ok(Some(Early::Found(found)));
+        }
+        let recalled = memory.answers.recall(asked, looks);
+        if let Some(place) = recalled.place {
+            return Ok(Some(Early::Cached(place)));
+        }
+        if let Some(found) = memory.whole_deadlines.answer(walk, asked, looks)? {
+            return Ok(Some(Early::Found(found)));
+        }
+        let Some(breadth) = memory.widening.next(recalled.near, asked)? else {
+            return Ok(None);
+        };
+        match self.find_wide(memory, asked, looks, breadth)? {
+            Some(place) => Ok(Some(Early::Cached(place))),
+            None => Ok(None),
+        }
+    }
+
+    /// The best route after the prefix up to the bound: by an early answer, or else by the question's own search, whose
+    /// answer is cached.
+    pub fn find_route(
+        &mut self,
+        memory: &mut Memory<A>,
+        asked: &Question<'_, '_, '_, A>,
+        looks: &mut Looks,
+    ) -> Result<Sought<A>, NoMemory>
+        requires asked { IsAsked asked.now.task.now asked.now.prefix.now }
+        requires summary { asked.now.summary ≡ summary_of asked.now.task.now.plan asked.now.prefix.now }
+        requires floor { IsNoneSooner asked.now.task.now (hops_left asked.now) asked.now.floor }
+        requires few { looks_taken looks.old ≤ 2 * length asked.now.task.now.plan.contacts }
+        requires memory { IsMemory (tabled_of asked.now.task.now) asked.now.task.now.request memory.old }
+        ensures memory { IsMemory (tabled_of asked.now.task.now) asked.now.task.now.request memory.new }
+        ensures sought { IfOk result (IsSought asked.now.task.now.plan asked.now.task.now.request asked.now.prefix.now asked.now.task.now.excluded asked.now.bound) }
+        ensures whole { IfOk result (IsWhole asked.now.bound) }
+        ensures bound { looks_taken looks.new ≤ (3 * length asked.now.task.now.table + 1) * length asked.now.task.now.plan.contacts }
+        ensures counted { IfOk result (λ answer. hops_sought answer ≤ looks_taken looks.new) }
+        ensures cut { IfOk result (IsCutUpTo asked.now.task.now.plan asked.now.task.now.request.max_hops asked.now.bound asked.now.prefix.now (looks_taken looks.new)) }
+    {
+        let aside = looks.set_aside(asked.task.two_scans());
+        let found = self.find_early(memory, asked, looks);
+        looks.put_back(aside);
+        let early = found?;
+        match early {
+            Some(Early::Cached(place)) => {
+                let answer = &memory.answers.slots[place];
+                memory.widening.count_win(answer.breadth);
+                match &answer.found {
+                    Found::Way(delivery) => {
+                        return asked.route(self.alloc, looks, answer.lists.way(), *delivery);
+                    }
+                    Found::Beyond(above) => return Ok(asked.above(*above)),
+                }
+            }
+            Some(Early::Found(found)) => return asked.answer(self.alloc, looks, &found),
+            None => {}
+        }
+        let before = looks.left();
+        let (hops, bound) = (asked.hops_left(), asked.bound_left());
+        let Some(found) = self.run(asked.task, &memory.node_bounds, looks, hops, bound)? else {
+            unreachable!();
+        };
+        memory.count(Breadth::Own, before.saturating_sub(looks.left()));
+        let answer = asked.answer(self.alloc, looks, &found)?;
+        memory.answers.learn(asked, &found);
+        Ok(answer)
     }
 }

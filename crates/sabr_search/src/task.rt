@@ -7,13 +7,13 @@ ghost use Rattle.sabr_model.specs.routes.Hops.{hop_arrival, IsSmall};
 ghost use Rattle.sabr_search.specs.questions.Task.{IsTask, task_of};
 ghost use Rattle.sabr_search.specs.answers.Answers.{narrowed};
 ghost use Rattle.sabr_search.specs.questions.FirstSteps.{tabled_of};
-ghost use Rattle.sabr_search.specs.answers.KeptAnswers.{AreListed, Arrives};
+ghost use Rattle.sabr_search.specs.answers.CachedAnswers.{AreListed, Arrives};
 ghost use Rattle.sabr_search.specs.questions.Linked.{AreLinksAt, AreSendersAt};
 
-use crate::course::shut::Shut;
-use crate::course::{Course, Stop};
 use crate::links::finger::Finger;
 use crate::part::Excluded;
+use crate::prefix_path::forbidden_nodes::ForbiddenNodes;
+use crate::prefix_path::{PrefixPath, Stop};
 use crate::visit::Visit;
 use sabr_index::{CountedPlan, Links, Looked, Looks, Senders};
 use sabr_model::{Hop, Request};
@@ -29,7 +29,7 @@ pub struct Task<'a, A: Allocator + Copy> {
     /// The request.
     request: &'a Request,
     /// For each node, whether it is forbidden.
-    shut: &'a Shut<A>,
+    forbidden: &'a ForbiddenNodes<A>,
     /// The numbers that no way takes first.
     excluded: Excluded<'a>,
     /// The index of the node at which the search starts.
@@ -46,41 +46,41 @@ impl<'a, A: Allocator + Copy> Model for Task<'a, A> {
 
     ghost Value = { SearchTask };
 
-    ghost view = { λ a. task_of a.index.now a.request.now a.shut.now a.excluded.numbers.now a.start a.at a.goal };
+    ghost view = { λ a. task_of a.index.now a.request.now a.forbidden.now a.excluded.numbers.now a.start a.at a.goal };
 }
 
 impl<'a, A: Allocator + Copy> Task<'a, A> {
-    /// Makes a task from the last stop of a course.
+    /// Makes a task from the last stop of a prefix path.
     pub fn new(
         index: &'a CountedPlan<'a, A>,
         request: &'a Request,
-        course: &'a Course<A>,
+        prefix_path: &'a PrefixPath<A>,
         excluded: Excluded<'a>,
         stop: Stop,
     ) -> Task<'a, A>
-        ensures { result ≡ task_of index.now request.now course.now.shut excluded.entry.numbers.now stop.node stop.at course.now.goal }
+        ensures { result ≡ task_of index.now request.now prefix_path.now.forbidden excluded.entry.numbers.now stop.node stop.at prefix_path.now.goal }
     {
         Task {
             index,
             request,
-            shut: &course.shut,
+            forbidden: &prefix_path.forbidden,
             excluded,
             start: stop.node,
-            goal: course.goal,
+            goal: prefix_path.goal,
             at: stop.at,
         }
     }
 
     /// The same search with these forbidden nodes.
-    pub fn with_shut<'b>(&self, shut: &'b Shut<A>) -> Task<'b, A>
+    pub fn with_forbidden<'b>(&self, forbidden: &'b ForbiddenNodes<A>) -> Task<'b, A>
     where
         'a: 'b,
-        ensures { result ≡ narrowed self.now shut.now self.now.at }
+        ensures { result ≡ narrowed self.now forbidden.now self.now.at }
     {
         Task {
             index: self.index,
             request: self.request,
-            shut,
+            forbidden,
             excluded: self.excluded,
             start: self.start,
             goal: self.goal,
@@ -142,17 +142,17 @@ impl<'a, A: Allocator + Copy> Task<'a, A> {
     }
 
     /// For each node, whether it is forbidden.
-    pub fn shut(&self) -> &[bool]
-        ensures { result.now ≡ self.now.shut }
+    pub fn forbidden(&self) -> &[bool]
+        ensures { result.now ≡ self.now.forbidden }
     {
-        self.shut.flags()
+        self.forbidden.flags()
     }
 
     /// The nodes that are forbidden.
-    pub fn shut_nodes(&self) -> &[u32]
-        ensures { AreListed self.now.shut result.now }
+    pub fn forbidden_nodes(&self) -> &[u32]
+        ensures { AreListed self.now.forbidden result.now }
     {
-        self.shut.nodes()
+        self.forbidden.nodes()
     }
 
     /// The numbers that no way takes first.
@@ -170,7 +170,7 @@ impl<'a, A: Allocator + Copy> Task<'a, A> {
         looks: &mut Looks,
         number: u32,
         at: u64,
-        passed: &mut usize,
+        passed: &mut Option<usize>,
     ) -> Option<Visit>
         requires task { IsTask self.now }
         requires few { 0 < looks.old.left }
@@ -180,8 +180,8 @@ impl<'a, A: Allocator + Copy> Task<'a, A> {
         let Some(hop) = self.index.hop(looks, number) else {
             return None;
         };
-        if self.shut.flags()[hop.receiver] {
-            *passed = hop.receiver;
+        if self.forbidden.flags()[hop.receiver] {
+            *passed = Some(hop.receiver);
             return None;
         }
         let at = hop.arrive(self.request, at)?;
@@ -191,23 +191,24 @@ impl<'a, A: Allocator + Copy> Task<'a, A> {
         })
     }
 
-    /// As many looks as one pass over all contacts takes.
-    pub fn one_pass(&self) -> u64
+    /// As many looks as one scan of all contacts takes.
+    pub fn one_scan(&self) -> u64
         ensures value { result ≡ length self.now.plan.contacts }
         ensures limit { result ≤ 2 ^ 60 }
     {
         self.index.contacts()
     }
 
-    /// As many looks as two passes over all contacts take.
-    pub fn two_passes(&self) -> u64
+    /// As many looks as two scans of all contacts take.
+    pub fn two_scans(&self) -> u64
         ensures { result ≡ 2 * length self.now.plan.contacts }
     {
-        2 * self.one_pass()
+        2 * self.one_scan()
     }
 
-    /// Returns how many passes of a link, from this one on, have numbers that no route takes after the prefix: 0 if a
-    /// route may take this one, else at most as many as the pass knows in its row. A walk over passes keeps the finger.
+    /// Returns how many passes of a link, from this one on, are excluded: 0 if a way may take this one, and otherwise
+    /// at most one more than its `in_row_behind`. Only contacts that the start sends are excluded. One finger serves a
+    /// whole walk over the passes of a link.
     #[inline(always)]
     pub fn excluded_from(&self, node: usize, pass: &Looked<'_>, finger: &mut Finger) -> usize
         ensures none { result ≡ 0 → node ≡ self.now.start → has pass.now.number self.now.excluded ≡ false }

@@ -8,7 +8,7 @@ pub mod SessionLists
 pub mod SessionLines
 pub mod SessionRead
 pub mod SessionFed
-pub mod SessionStage
+pub mod SessionLoader
 pub mod SessionGiven
 pub mod FedInTurn
 pub mod SessionPieces

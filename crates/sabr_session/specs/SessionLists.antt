@@ -4,7 +4,7 @@ use Rattle.std.specs.List.{list_any}
 use Rattle.std.specs.Option.{option_copied}
 use Rattle.sabr_model.specs.plan.Plan.{most_records}
 use Rattle.sabr_session.specs.SessionWords.{words_after, counted, is_dash, is_slash, before_slash, after_slash, contact_numbers, contacts_of}
-use Rattle.sabr_session.specs.declared.reading.contact_list.ListEnd.{ListEnd}
+use Rattle.sabr_session.specs.declared.reading.lists.ListEnd.{ListEnd}
 
 -- whether a list among these words ends at `/`, and the words after that
 abbrev pub EndsAt : List (List ℕ) → ListEnd → Type 0

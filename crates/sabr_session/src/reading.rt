@@ -1,19 +1,11 @@
 //! Reading a session text.
 
-mod contact_list;
-mod count;
 mod first_lines;
-mod head;
-mod held_line;
-mod lines_read;
-mod node_list;
+mod line_reader;
+mod lists;
 mod part_line;
-mod request_line;
 mod session_feed;
-mod session_given;
-mod stage;
-mod text_so_far;
+mod session_lines;
 mod words;
 
-pub use session_feed::SessionFeed;
-pub use session_given::read_session;
+pub use session_feed::{SessionFeed, read_session};

@@ -32,7 +32,7 @@ pub fn verify<R: Read, B: BestOf<A>, A: Allocator + Copy>(
     requires { digest.now ≡ digest_of plan.now.plan }
     ensures { VerifiesText plan.now.plan (R.input reader.old) result (R.input reader.new) }
 {
-    plan.tell_rules();
+    plan.rules_hold();
     match read_session(alloc, reader, plan, digest, finder) {
         Ok(mut session) => match session.certify() {
             Ok(placed) => Ok(placed),

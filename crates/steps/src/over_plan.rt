@@ -41,7 +41,8 @@ fn take_steps<A: Allocator + Copy, B: Fresh<A>>(
     }
 }
 
-/// Does a step that makes a session, one of the session that was made last, one of the finder, or one that needs no plan.
+/// Does a step that makes a session, one of the session that was made last, one of the finder, or one that needs no
+/// plan.
 fn step<A: Allocator + Copy, B: Fresh<A>>(
     held: &mut HeldSession<'_, B, A>,
     finder: &mut B,

@@ -64,8 +64,8 @@ fn kept<A: Allocator + Copy, B: BestOf<A>>(
     done(desk.alloc)
 }
 
-/// What a session shows of its place: routes given, the last of them, whether there are more, parts, whether a page can be
-/// taken back, and searches.
+/// What a session shows of its place: routes given, the last of them, whether there are more, parts, whether a page can
+/// be taken back, and searches.
 fn place<A: Allocator + Copy, B: BestOf<A>>(
     session: &Session<'_, B, A>,
     alloc: Global,

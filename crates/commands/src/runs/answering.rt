@@ -108,8 +108,8 @@ impl<'p, A: Allocator + Copy> Answering<'p, A> {
         ensures plan { self.new ≡ self.old }
     {
         let listing = self.start(request)?;
-        listing.plan().tell_rules();
-        listing.request().tell_limits();
+        listing.plan().rules_hold();
+        listing.request().limits_hold();
         listing.last_page(count)
     }
 
@@ -136,8 +136,8 @@ impl<'p, A: Allocator + Copy> Answering<'p, A> {
     ///
     /// # Errors
     ///
-    /// [`Failure::NoMemory`] if an allocation failed; then nothing was written. [`Failure::Write`] if the writer failed.
-    /// Then a beginning of the answer was written.
+    /// [`Failure::NoMemory`] if an allocation failed; then nothing was written. [`Failure::Write`] if the writer
+    /// failed. Then a beginning of the answer was written.
     pub fn answer<O: Write>(
         &mut self,
         kind: AnswerKind,

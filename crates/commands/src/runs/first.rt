@@ -35,7 +35,7 @@ fn write_first<P: Read, O: Write, S: Write, A: Allocator + Copy>(
 {
     let plan = read_plan(alloc, plan)?;
     let PageWriters { out, session, keep } = to;
-    plan.tell_rules();
+    plan.rules_hold();
     let listing = Session::start(alloc, &plan, request, Settled::new(alloc))?;
     let digest = if keep { Some(digest(&plan)) } else { None };
     write_page(listing, count, out, digest, session)

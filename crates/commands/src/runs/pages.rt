@@ -73,8 +73,8 @@ fn write_last_page<O: Write, B: BestOf<A>, A: Allocator + Copy>(
     requires { count ≤ most_routes }
     ensures { (kept : Output) → WritesPageOf listing.entry false count result (O.output out.old) (O.output out.new) kept kept }
 {
-    listing.plan().tell_rules();
-    listing.request().tell_limits();
+    listing.plan().rules_hold();
+    listing.request().limits_hold();
     let first_rank = listing.emitted() + 1;
     let last = listing.last_page(count)?;
     send_report(last.routes(), first_rank, last.more(), out)?;
@@ -93,8 +93,8 @@ fn write_kept_page<O: Write, S: Write, B: BestOf<A>, A: Allocator + Copy>(
     requires digest { digest.now ≡ digest_of listing.old.plan.plan }
     ensures { WritesPageOf listing.old true count result (O.output out.old) (O.output out.new) (S.output session.old) (S.output session.new) }
 {
-    listing.plan().tell_rules();
-    listing.request().tell_limits();
+    listing.plan().rules_hold();
+    listing.request().limits_hold();
     let first_rank = listing.emitted() + 1;
     let routes = listing.page(count)?;
     send_report(routes.as_slice(), first_rank, listing.more(), out)?;

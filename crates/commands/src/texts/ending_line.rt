@@ -7,7 +7,7 @@ ghost use Rattle.commands.specs.texts.Explanation.{refused_at, fault_line, endin
 ghost use Rattle.commands.specs.texts.Followed.{Follows};
 
 use itoa::Buffer;
-use sabr_model::{HopFault, Plan, Request, Told, Write, WriteFault};
+use sabr_model::{HopFault, Plan, Request, RouteSummary, Write, WriteFault};
 use sabr_session::{TextBuffer, put_pieces, put_route_line};
 use std::alloc::Allocator;
 
@@ -67,8 +67,8 @@ pub fn put_ending<W: Write, A: Allocator + Copy>(
 {
     match outcome {
         Ok(delivery) => {
-            let told = Told::of(plan, contacts);
-            put_route_line(text, contacts, delivery, told.until, told.entry)
+            let summary = RouteSummary::of(plan, contacts);
+            put_route_line(text, contacts, delivery, summary.until, summary.entry)
         }
         Err(fault) => put_fault(text, fault),
     }

@@ -62,8 +62,8 @@ pub fn write_explanation<W: Write, A: Allocator + Copy>(
     ensures text { WritesText (W.output writer.old) (explanation_text plan.now.plan request.now contacts.now) result (W.output writer.new) }
     ensures route { IfOk result (λ answer. answer ≡ is_route plan.now.plan request.now contacts.now) }
 {
-    plan.tell_rules();
-    request.tell_limits();
+    plan.rules_hold();
+    request.limits_hold();
     let (hops, outcome) = followed(plan, request, contacts);
     let mut text = TextBuffer::new(writer);
     put_hops(&mut text, plan, request, hops)?;

@@ -25,8 +25,8 @@ pub enum LineKind {
     BadAvoid,
     /// The source is the destination.
     SameNode,
-    /// The line is too long, has fewer than three or more than six words, or four to seven with contacts, or comes after
-    /// the last that a text may have.
+    /// The line is too long, has fewer than three or more than six words, or four to seven with contacts, or comes
+    /// after the last that a text may have.
     BadLine,
 }
 

@@ -11,8 +11,8 @@ use std::alloc::Global;
 use std::marker::Model;
 use std::ptr::null_mut;
 
-/// Where a value lies, if one does. It owns the value. The pointer's type says nothing of the value, since C may hold no
-/// pointer to what a `Vec` owns.
+/// Where a value lies, if one does. It owns the value. The pointer's type says nothing of the value, since C may hold
+/// no pointer to what a `Vec` owns.
 #[repr(C)]
 #[derive(Drop)]
 pub struct Place {

@@ -10,23 +10,23 @@ use Rattle.sabr_model.specs.plan.Plan.{IsPlan}
 use Rattle.sabr_model.specs.routes.Record.{RouteRecord, by_record, record_of}
 use Rattle.sabr_search.specs.declared.bound.Bound.{Bound}
 use Rattle.sabr_search.specs.questions.Bounded.{is_up_to}
-use Rattle.sabr_frontier.specs.declared.tree.Entry.{Entry}
+use Rattle.sabr_frontier.specs.declared.giving.give_next.Step.{Step}
 use Rattle.sabr_frontier.specs.declared.tree.Node.{Node}
-use Rattle.sabr_frontier.specs.giving.LeastKeys.{AreNoted, IsBoundOf, SeenKeys, carried_keys, key_hops, key_of, keys_of}
+use Rattle.sabr_frontier.specs.giving.SmallestKeys.{AreNoted, IsBoundOf, SeenKeys, carried_keys, key_hops, key_of, keys_of}
 use Rattle.sabr_frontier.specs.listing.Listing.{searches_in}
 use Rattle.sabr_frontier.specs.listing.State.{State}
-use Rattle.sabr_frontier.specs.tree.Asking.{Asked, best_for, records_for, steps_for}
+use Rattle.sabr_frontier.specs.tree.Searching.{Asked, best_for, records_for, steps_for}
 use Rattle.sabr_frontier.specs.tree.Cut.{IsBoundFor, ShowsCut, carries_before, count_before}
 use Rattle.sabr_frontier.specs.tree.Shape.{Shape, shown}
 use Rattle.sabr_frontier.specs.tree.Sound.{IsTree}
-use Rattle.sabr_frontier.specs.tree.Taking.{IsTaken, OfNode, fresh_after, wide_of, widened}
-use Rattle.sabr_frontier.specs.tree.Undo.{last_item, modify}
+use Rattle.sabr_frontier.specs.tree.Giving.{IsNextGiven, OfNode, fresh_after, wide_of, widened}
+use Rattle.sabr_frontier.specs.tree.Undo.{modify}
 use Rattle.sabr_frontier.specs.tree.Winners.{CarriesNone}
 use Rattle.sabr_frontier.proofs.GivingLemmas.KeptKeys.{all_up_to, carried-append, none_here, noted_up_to, one_at_most, one_up_to, up_to, up_to-append, up_to_length}
 use Rattle.sabr_frontier.proofs.SessionLemmas.CutPages.{IsTurn, cut_ended, cut_first, cut_turn, cut_weaker}
 use Rattle.sabr_frontier.proofs.SessionLemmas.Pages.{counts_go, counts_none, counts_stop, steps_go, steps_none, steps_stop}
 use Rattle.sabr_frontier.proofs.TreeLemmas.CutTrees.{bound_parts}
-use Rattle.sabr_frontier.proofs.TreeLemmas.ModifiedPlaces.{get_front, get_same, last_item_push, length-modify}
+use Rattle.sabr_frontier.proofs.TreeLemmas.ModifiedPlaces.{get_front, get_same, length-modify}
 
 -- ---- what is up to a bound comes before what is above
 
@@ -53,7 +53,7 @@ key_parts b d l few e = elim (nat_lt d b.delivery) as (λ t. nat_lt d b.delivery
 abbrev one_if : Bool → ℕ
 one_if t = cond t 1 0
 
--- the greatest key that is up to a bound
+-- the largest key that is up to a bound
 abbrev bound_key : Bound → ℕ
 bound_key b = b.delivery * key_hops + b.hops
 
@@ -85,9 +85,9 @@ module _ {A : Type 0} (b : Bound) (x : RouteRecord) (few : b.hops < key_hops) (a
       ] one
 
 -- with as many keys as may be kept, enough of them are of what these nodes carry
-pub bound_for : {A : Type 0} (a : Asked) (k given : ℕ) (keys : SeenKeys) (nodes : List (Node A)) → k + given ≤ keys.most → IsBoundOf keys a.bound
-    → ((b : ℕ) → up_to b keys.keys ≤ given + up_to b (carried_keys nodes)) → IsBoundFor a k nodes
-bound_for a k given keys nodes many bound kept b x e above =
+pub bound_for : {A : Type 0} (o : Option Bound) (k given : ℕ) (keys : SeenKeys) (nodes : List (Node A)) → k + given ≤ keys.most → IsBoundOf keys o
+    → ((b : ℕ) → up_to b keys.keys ≤ given + up_to b (carried_keys nodes)) → IsBoundFor o k nodes
+bound_for o k given keys nodes many bound kept b x e above =
     let h = subst (IsBoundOf keys) e bound in
     let g = bound_key b in
     omega (arith, many, h.0, all_up_to g keys.keys h.1.upper, kept g, up_to_before b x h.1.few above nodes)
@@ -114,60 +114,46 @@ drop_at : {X : Type 0} (xs ys : List X) → drop (length xs) (xs ++ ys) ≡ ys
 drop_at [] ys = refl
 drop_at (x ∷ xs) ys = drop_at xs ys
 
-module _ {A : Type 0} (best : List ℕ → List ℕ → Option RouteRecord) (t u : Shape A) (before after : List RouteRecord) (n : ℕ) (w : IsTaken best t u before after n) where
-  -- what the journal's last entry is then
-  abbrev entry_then : Entry
-  entry_then = record { node = w.node; nodes = length t.nodes; last = t.last }
-
-  entry_is : (e : Entry) → last_item u.journal ≡ Some e → e ≡ entry_then
-  entry_is e is = (let there = last_item_push u.journal t.journal entry_then (ap (λ (z : Shape A). z.journal) w.shape) in cc)
-
+module _ {A : Type 0} {best : List ℕ → List ℕ → Option RouteRecord} {t u : Shape A} {before after : List RouteRecord} {step : Step} (w : IsNextGiven best t u before after step) where
   abbrev change : Node A → Node A
   change = widened (wide_of w.part w.route.contacts) (best (take w.part.length w.route.contacts) (wide_of w.part w.route.contacts))
 
   abbrev fresh : List (Node A)
   fresh = fresh_after best (length t.leaves) w.part w.route.contacts
 
-  nodes_are : u.nodes ≡ modify change t.nodes w.node.0 ++ fresh
+  nodes_are : u.nodes ≡ modify change t.nodes step.node.0 ++ fresh
   nodes_are = ap (λ (z : Shape A). z.nodes) w.shape
 
-  long : length (modify change t.nodes w.node.0) ≡ length t.nodes
-  long = length-modify change t.nodes w.node.0
+  long : length (modify change t.nodes step.node.0) ≡ length t.nodes
+  long = length-modify change t.nodes step.node.0
 
-  pub entry_there : (e : Entry) → last_item u.journal ≡ None → ⊥
-  entry_there e none = (let there = last_item_push u.journal t.journal entry_then (ap (λ (z : Shape A). z.journal) w.shape) in cc)
+  pub step_within : (step.node.0 < length u.nodes) × (step.first ≤ length u.nodes)
+  step_within =
+      let all = ap (length {A = Node A}) nodes_are ∙ length-append (modify change t.nodes step.node.0) fresh in
+      (omega (arith, all, long, slice_get_within t.nodes step.node.0 w.part w.stands), omega (arith, all, w.former, long))
 
-  pub entry_within : (e : Entry) → last_item u.journal ≡ Some e → (e.node.0 < length u.nodes) × (e.nodes ≤ length u.nodes)
-  entry_within e is =
-      let all = ap (length {A = Node A}) nodes_are ∙ length-append (modify change t.nodes w.node.0) fresh in
-      let node = ap (λ (z : Entry). z.node.0) (entry_is e is) in
-      let nodes = ap (λ (z : Entry). z.nodes) (entry_is e is) in
-      (omega (arith, all, node, long, slice_get_within t.nodes w.node.0 w.part w.stands), omega (arith, all, nodes, long))
+  module _ (old new : SeenKeys) (noted : OfNode u.nodes step.node (λ m. AreNoted old (keys_of m.route ++ carried_keys (drop step.first u.nodes)) new)) where
+    -- what was noted
+    then_noted : AreNoted old (keys_of (change w.part).route ++ carried_keys fresh) new
+    then_noted =
+        let inside : step.node.0 < length (modify change t.nodes step.node.0) = omega (arith, long, slice_get_within t.nodes step.node.0 w.part w.stands) in
+        let at = ap (λ ns. slice_get ns step.node.0) nodes_are ∙ get_front (modify change t.nodes step.node.0) fresh step.node.0 inside ∙ get_same change t.nodes step.node.0 w.part w.stands in
+        let rest = (λ i. drop ((w.former ∙ sym long) i) (nodes_are i)) ∙ drop_at (modify change t.nodes step.node.0) fresh in
+        subst (λ z. AreNoted old (keys_of (change w.part).route ++ carried_keys z) new) rest (noted (change w.part) at)
 
-  -- what was noted then
-  then_noted : (e : Entry) (old new : SeenKeys) → last_item u.journal ≡ Some e
-      → OfNode u.nodes e.node (λ m. AreNoted old (keys_of m.route ++ carried_keys (drop e.nodes u.nodes)) new) → AreNoted old (keys_of (change w.part).route ++ carried_keys fresh) new
-  then_noted e old new is noted =
-      let inside : w.node.0 < length (modify change t.nodes w.node.0) = omega (arith, long, slice_get_within t.nodes w.node.0 w.part w.stands) in
-      let at = ap (λ (z : Entry). slice_get u.nodes z.node.0) (entry_is e is) ∙ ap (λ ns. slice_get ns w.node.0) nodes_are ∙ get_front (modify change t.nodes w.node.0) fresh w.node.0 inside ∙ get_same change t.nodes w.node.0 w.part w.stands in
-      let rest = ap (λ (z : Entry). drop z.nodes u.nodes) (entry_is e is) ∙ ap (drop (length t.nodes)) nodes_are ∙ ap (λ k. drop k (modify change t.nodes w.node.0 ++ fresh)) (sym long) ∙ drop_at (modify change t.nodes w.node.0) fresh in
-      subst (λ z. AreNoted old (keys_of (change w.part).route ++ carried_keys z) new) rest (noted (change w.part) at)
-
-  pub kept_then : (e : Entry) (old new : SeenKeys) (b given : ℕ) → last_item u.journal ≡ Some e
-      → OfNode u.nodes e.node (λ m. AreNoted old (keys_of m.route ++ carried_keys (drop e.nodes u.nodes)) new)
-      → up_to b old.keys ≤ given + up_to b (carried_keys t.nodes) → up_to b new.keys ≤ suc given + up_to b (carried_keys u.nodes)
-  kept_then e old new b given is noted kept =
-      let keys = keys_of (change w.part).route in
-      let all = ap (λ z. up_to b (carried_keys z)) nodes_are ∙ ap (up_to b) (carried-append (modify change t.nodes w.node.0) fresh) in
-      omega (
-        arith,
-        kept,
-        all,
-        noted_up_to b old new (keys ++ carried_keys fresh) (then_noted e old new is noted),
-        up_to-append b keys (carried_keys fresh),
-        up_to-append b (carried_keys (modify change t.nodes w.node.0)) (carried_keys fresh),
-        changed_up_to b change t.nodes w.node.0 w.part w.stands,
-      )
+    kept_then : (b given : ℕ) → up_to b old.keys ≤ given + up_to b (carried_keys t.nodes) → up_to b new.keys ≤ suc given + up_to b (carried_keys u.nodes)
+    kept_then b given kept =
+        let keys = keys_of (change w.part).route in
+        let all = ap (λ z. up_to b (carried_keys z)) nodes_are ∙ ap (up_to b) (carried-append (modify change t.nodes step.node.0) fresh) in
+        omega (
+          arith,
+          kept,
+          all,
+          noted_up_to b old new (keys ++ carried_keys fresh) then_noted,
+          up_to-append b keys (carried_keys fresh),
+          up_to-append b (carried_keys (modify change t.nodes step.node.0)) (carried_keys fresh),
+          changed_up_to b change t.nodes step.node.0 w.part w.stands,
+        )
 
 -- ---- the loop
 
@@ -196,44 +182,34 @@ way_first a all k t given calls none keys e is new noted = record {
   kept = λ b. (let h = noted_up_to b none keys (carried_keys t.nodes) noted in let o : up_to b none.keys ≡ 0 = ap (λ (z : SeenKeys). up_to b z.keys) new in omega (arith, h, o));
 }
 
-module _ {A : Type 0} (a : Asked) (good : IsPlan a.plan.plan) (s : State) (all : ℕ) (before : List RouteRecord) (start k : ℕ) (t : Shape A) (given : List RouteRecord) (calls : ℕ) (keys : SeenKeys) where
-  abbrev bounded : Option Bound → Asked
-  bounded b = record a { bound = b }
-
-  -- the turn of the loop is that of the state
-  pub turn_is : (way : IsCutWay a s all before start (suc k) t given calls keys) → (b : Option Bound) → IsBoundOf keys b → (u : Shape A) (new : List RouteRecord) (n : ℕ) → IsTaken (best_for (bounded b)) t u given new n
-      → IsTurn (bounded b) (suc (suc k)) way.state u given new n
-  turn_is way b bound u new n w =
+-- the turn of the loop is that of the state
+module _ {A : Type 0} {a : Asked} (good : IsPlan a.plan.plan) {s : State} {all : ℕ} {before : List RouteRecord} {start : ℕ} (k : ℕ) {t : Shape A} {given : List RouteRecord} {calls : ℕ} {keys : SeenKeys}
+    (way : IsCutWay a s all before start (suc k) t given calls keys) (b : Option Bound) (bound : IsBoundOf keys b) {u : Shape A} {new : List RouteRecord} {step : Step} (w : IsNextGiven (best_for a b) t u given new step) where
+  pub turn_is : IsTurn a (suc (suc k)) way.state u given new step
+  turn_is =
       let few = way.few in
       let most = way.most in
-      cut_turn (bounded b) (suc (suc k)) way.state t u given new n good way.shows (bound_for (bounded b) (suc (suc (suc k))) (all - suc k) keys t.nodes (omega (arith, few, most)) bound way.kept) w
+      cut_turn a b (suc (suc k)) way.state t u given new step good way.shows (bound_for b (suc (suc (suc k))) (all - suc k) keys t.nodes (omega (arith, few, most)) bound way.kept) w
 
-  steps_noted : (b : Option Bound) (u : Shape A) (new : List RouteRecord) (n : ℕ) → (w : IsTaken (best_for (bounded b)) t u given new n) → (e : Entry) (then : SeenKeys) → last_item u.journal ≡ Some e
-      → OfNode u.nodes e.node (λ m. AreNoted keys (keys_of m.route ++ carried_keys (drop e.nodes u.nodes)) then) → then.most ≡ keys.most
-  steps_noted b u new n w e then is noted = (then_noted (best_for (bounded b)) t u given new n w e keys then is noted).most
-
-  pub way_on : (way : IsCutWay a s all before start (suc k) t given calls keys) → (b : Option Bound) → IsBoundOf keys b → (u : Shape A) (new : List RouteRecord) (n now : ℕ) → IsTaken (best_for (bounded b)) t u given new n
-      → now ≡ calls + n → (e : Entry) (then : SeenKeys) → last_item u.journal ≡ Some e → OfNode u.nodes e.node (λ m. AreNoted keys (keys_of m.route ++ carried_keys (drop e.nodes u.nodes)) then)
-      → IsCutWay a s all before start k u new now then
-  way_on way b bound u new n now w called e then is noted =
-      let turn = turn_is way b bound u new n w in
+  pub way_on : (now : ℕ) → now ≡ calls + step.searches → (then : SeenKeys) → OfNode u.nodes step.node (λ m. AreNoted keys (keys_of m.route ++ carried_keys (drop step.first u.nodes)) then) → IsCutWay a s all before start k u new now then
+  way_on now called then noted =
       let p = a.plan.plan in
       let r = a.request in
-      let go = steps_go p r way.state turn.step.1 turn.step.0 k turn.is in
-      let counts = counts_go p r way.state turn.step.1 turn.step.0 k turn.is in
-      let more = records_for a (steps_for a k turn.step.1).0 in
+      let next = turn_is.next in
+      let go = steps_go p r way.state next.1 next.0 k turn_is.is in
+      let counts = counts_go p r way.state next.1 next.0 k turn_is.is in
+      let more = records_for a (steps_for a k next.1).0 in
       let few = way.few in
       let sum = way.searches in
-      let least = steps_noted b u new n w e then is noted in
       record {
-        state = turn.step.1;
-        routes = ap (λ z. z ++ more) turn.given ∙ append_assoc given (record_of p r turn.step.0 ∷ []) more ∙ ap (λ (z : List (List ℕ) × State). given ++ records_for a z.0) (sym go) ∙ way.routes;
+        state = next.1;
+        routes = ap (λ z. z ++ more) turn_is.given ∙ append_assoc given (record_of p r next.0 ∷ []) more ∙ ap (λ (z : List (List ℕ) × State). given ++ records_for a z.0) (sym go) ∙ way.routes;
         reaches = ap (λ (z : List (List ℕ) × State). z.1) (sym go) ∙ way.reaches;
-        shows = turn.then;
-        searches = omega (arith, called, counts, sum, turn.searches);
+        shows = turn_is.then;
+        searches = omega (arith, called, counts, sum, turn_is.searches);
         few = omega (arith, few);
-        most = least ∙ way.most;
-        kept = λ c. (let left : suc (all - suc k) ≡ all - k = omega (arith, few) in let h = kept_then (best_for (bounded b)) t u given new n w e keys then c (all - suc k) is noted (way.kept c) in omega (arith, left, h));
+        most = (then_noted w keys then noted).most ∙ way.most;
+        kept = λ c. (let left : suc (all - suc k) ≡ all - k = omega (arith, few) in let h = kept_then w keys then noted c (all - suc k) (way.kept c) in omega (arith, left, h));
       }
 
 -- the loop ends after all steps, or if no node carries a route
@@ -242,9 +218,9 @@ pub record IsCutEnd {A : Type 0} (a : Asked) (s : State) (all : ℕ) (before : L
   pub state : ShowsCut a 2 (steps_for a all s).1 t
   pub searches : calls ≡ start + searches_in a.plan.plan a.request all s
 
-pub way_end : {A : Type 0} (a : Asked) → IsPlan a.plan.plan → (s : State) (all : ℕ) (before : List RouteRecord) (start k : ℕ) (t : Shape A) (given : List RouteRecord) (calls : ℕ) (keys : SeenKeys)
+pub way_end : {A : Type 0} {a : Asked} {s : State} {all : ℕ} {before : List RouteRecord} {start k : ℕ} {t : Shape A} {given : List RouteRecord} {calls : ℕ} {keys : SeenKeys} → IsPlan a.plan.plan
     → IsCutWay a s all before start k t given calls keys → (k ≡ 0) ⊎ CarriesNone t.nodes → IsCutEnd a s all before start t given calls
-way_end a good s all before start k t given calls keys way none =
+way_end {a = a} {k = k} {t = t} {given = given} good way none =
     let p = a.plan.plan in
     let r = a.request in
     let idle : steps_for a k way.state ≡ ([], way.state) = elim none [

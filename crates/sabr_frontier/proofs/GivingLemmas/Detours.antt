@@ -1,12 +1,12 @@
 -- How paths go on by passes.
-use Rattle.std.proofs.Common.{◌≡◌, ℕ, ◌+◌, ◌<◌, ◌≤◌, max, Bool, true, false, ◌||◌, cond, eqb, ltb, List, [], ◌∷◌, ◌++◌, length, Some, None, slice_get, slice_index_or, refl, ap, sym, subst, ◌∙◌, arith, length-append, append_assoc}
+use Rattle.std.proofs.Common.{◌≡◌, ℕ, ◌+◌, ◌<◌, max, true, false, cond, eqb, ltb, List, [], ◌∷◌, ◌++◌, length, Some, None, slice_get, slice_index_or, refl, ap, sym, subst, ◌∙◌, arith, length-append, append_assoc}
 use Rattle.std.specs.Prelude.{IfSome, IsTrue, Option, is_some}
 use Rattle.std.specs.Option.{option_map}
 use Rattle.std.proofs.lemmas.Bool.{or_parts, or_from, ne_eqb}
 use Rattle.sabr_index.specs.declared.link.Pass.{Pass}
 use Rattle.sabr_index.specs.Links.{IsPassOf}
 use Rattle.sabr_model.specs.declared.contact.Contact.{Contact}
-use Rattle.sabr_model.specs.plan.Plan.{ContactPlan, IsPlan, TabledPlan, contact_named, has}
+use Rattle.sabr_model.specs.plan.Plan.{IsPlan, TabledPlan, contact_named, has}
 use Rattle.sabr_model.specs.declared.hop.Hop.{Hop}
 use Rattle.sabr_model.specs.plan.Tabled.{IsHopNamed}
 use Rattle.sabr_model.specs.routes.Hops.{hop_arrival}
@@ -14,16 +14,15 @@ use Rattle.sabr_model.specs.routes.Arrival.{RouteRequest, arrival, cost}
 use Rattle.sabr_model.specs.routes.Route.{is_path, is_route, receivers}
 use Rattle.sabr_model.proofs.RouteLemmas.Paths.{IsHop, arrival_after_push, chain_end_push, hop_facts, path_push, receivers_push, route_from_path, route_is_path}
 use Rattle.sabr_model.proofs.RouteLemmas.Routes.{route_facts}
-use Rattle.sabr_search.specs.questions.Course.{AreShut}
+use Rattle.sabr_search.specs.questions.PrefixPath.{AreForbidden}
 use Rattle.sabr_search.specs.questions.Task.{HasNodes, is_closed}
 use Rattle.sabr_search.proofs.LinkLemmas.PlanFacts.{hop_arrival_is}
 use Rattle.sabr_search.proofs.WayLemmas.Chains.{has_append}
-use Rattle.sabr_search.proofs.WayLemmas.Courses.{open_before}
+use Rattle.sabr_search.proofs.WayLemmas.PrefixPaths.{open_before}
 use Rattle.sabr_frontier.specs.declared.giving.route_front.Place.{Place}
 use Rattle.sabr_frontier.specs.declared.giving.other_way.Onward.{Onward}
 use Rattle.sabr_frontier.specs.declared.giving.other_way.RouteEnd.{RouteEnd}
 use Rattle.sabr_frontier.specs.giving.Detours.{ArrivesBy, IsPassBetween, IsRouteEnd, LeadsTo}
-use Rattle.sabr_frontier.specs.tree.Left.{IsOtherWay}
 
 -- when what is at a pass's sender arrives over it
 pub pass_arrives : (p : TabledPlan) (r : RouteRequest) (from to at start end light : ℕ) (x : Pass) (o : Onward) → IsPassOf p from to x → o.number ≡ x.number → start ≡ x.start → end ≡ x.end → light ≡ x.light
@@ -119,9 +118,9 @@ value_if None h some = absurd cc
 value_if (Some x) h some = (x, h)
 
 -- where a route has its last contact
-pub route_end : (p : TabledPlan) (r : RouteRequest) (e : RouteEnd) → IsPlan p.plan → HasNodes p.plan p.table → LeadsTo p r e.front.now e.here → AreShut p.table e.shut.now (is_closed p.plan r e.front.now)
+pub route_end : (p : TabledPlan) (r : RouteRequest) (e : RouteEnd) → IsPlan p.plan → HasNodes p.plan p.table → LeadsTo p r e.front.now e.here → AreForbidden p.table e.forbidden.now (is_closed p.plan r e.front.now)
     → slice_get p.table e.to ≡ Some r.destination → IsTrue (is_route p.plan r (e.front.now ++ e.last ∷ [])) → IsRouteEnd p r e
-route_end p r e good nodes leads shuts goal route =
+route_end p r e good nodes leads forbids goal route =
     let s = e.front.now in
     let hop = hop_facts p.plan r s e.last (route_is_path p.plan r (s ++ e.last ∷ []) route) in
     let to : hop.contact.to ≡ r.destination = (let q : Some hop.contact.to ≡ Some r.destination = sym (chain_end_push p.plan r.source s e.last hop.contact hop.named hop.sent) ∙ (route_facts p.plan r (s ++ e.last ∷ []) route).reaches in cc (q)) in
@@ -129,7 +128,7 @@ route_end p r e good nodes leads shuts goal route =
       plan = good;
       nodes = nodes;
       leads = leads;
-      shuts = shuts;
+      forbids = forbids;
       goal_is = goal;
       opens = subst (λ d. is_closed p.plan r s d ≡ false) to (open_before p.plan r s e.last hop);
       room = hop.room;
@@ -147,14 +146,14 @@ module _ (p : TabledPlan) (r : RouteRequest) (e : RouteEnd) (is : IsRouteEnd p r
       (ends_route p r e.front.now x.number there (leads_on p r e.front.now e.here is.leads x.number a.contact a.named at.0 opens is.room o.at a.arrives there at.1 refl) is.goal_is)
 
   -- the front and two contacts, over another node
-  pub ends_over : (relay : ℕ) (x y : Pass) → IsPassBetween p e.here.node relay x → IsPassBetween p relay e.to y → slice_index_or e.shut.now relay false ≡ false → (relay ≡ e.to → ⊥) → length e.front.now + 1 < r.max_hops
+  pub ends_over : (relay : ℕ) (x y : Pass) → IsPassBetween p e.here.node relay x → IsPassBetween p relay e.to y → slice_index_or e.forbidden.now relay false ≡ false → (relay ≡ e.to → ⊥) → length e.front.now + 1 < r.max_hops
       → (o u : Onward) → ArrivesBy p r e.here.at x o → ArrivesBy p r o.at y u → IsTrue (is_route p.plan r (e.front.now ++ o.number ∷ u.number ∷ []))
-  ends_over relay x y w v shut other room o u a b =
+  ends_over relay x y w v forbidden other room o u a b =
       let s = e.front.now in
       let at = contact_is p e.here.node relay x w a.contact a.named in
       let on = contact_is p relay e.to y v b.contact b.named in
       let to : b.contact.to ≡ r.destination = (let q : Some b.contact.to ≡ Some r.destination = sym on.1 ∙ is.goal_is in cc (q)) in
-      let opens : is_closed p.plan r s a.contact.to ≡ false = sym (is.shuts.flag relay a.contact.to at.1) ∙ shut in
+      let opens : is_closed p.plan r s a.contact.to ≡ false = sym (is.forbids.flag relay a.contact.to at.1) ∙ forbidden in
       let apart : r.destination ≡ a.contact.to → ⊥ = λ same. other (is.nodes.apart relay e.to a.contact.to at.1 (is.goal_is ∙ ap Some same)) in
       let room₁ : length s < r.max_hops = is.room in
       let mid : Place = record { node = relay; at = o.at } in

@@ -17,7 +17,7 @@ use Rattle.sabr_model.proofs.PlanLemmas.Deletions.{all_found}
 use Rattle.sabr_model.proofs.PlanLemmas.RangeKeys.{light_of_limit}
 use Rattle.sabr_model.proofs.RouteLemmas.Routes.{route_facts}
 use Rattle.sabr_frontier.specs.declared.tree.NodeId.{NodeId}
-use Rattle.sabr_frontier.specs.giving.LeastKeys.{CarryKeys}
+use Rattle.sabr_frontier.specs.giving.SmallestKeys.{CarryKeys}
 use Rattle.sabr_frontier.specs.tree.Shape.{Shape}
 use Rattle.sabr_frontier.specs.tree.Sound.{IsTree}
 use Rattle.sabr_frontier.proofs.TreeLemmas.CarryingNodes.{inside}
@@ -30,7 +30,7 @@ cost_bound margin l hm hl =
     let most : (l * margin + 999999) / 1000000 ≤ 1000000 = omega (arith, product) in
     omega arith
 
--- an arrival comes at most 2000000 seconds after the greatest time
+-- an arrival comes at most 2000000 seconds after the largest time
 pub arrival_bound : (p : ContactPlan) (r : RouteRequest) (t u : ℕ) (c : Contact) → IsPlan p → r.margin ≤ 1000000 → c.end ≤ last_time
     → arrival p r t c ≡ Some u → u ≤ last_time + 2000000
 arrival_bound p r t u c h hm he e = at (nat_lt (max t c.start) c.end) refl (light_of p c) refl e

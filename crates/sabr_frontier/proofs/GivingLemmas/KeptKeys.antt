@@ -10,7 +10,7 @@ use Rattle.std.proofs.lemmas.List.Sorted.{IsPermutation-append_comm, IsPermutati
 use Rattle.std.proofs.lemmas.List.{take_more}
 use Rattle.sabr_frontier.specs.declared.tree.Node.{Node}
 use Rattle.sabr_frontier.specs.listing.State.{Member}
-use Rattle.sabr_frontier.specs.giving.LeastKeys.{AreLeast, AreNoted, SeenKeys, carried_keys, keys_of}
+use Rattle.sabr_frontier.specs.giving.SmallestKeys.{AreLeast, AreNoted, SeenKeys, carried_keys, keys_of}
 
 -- ---- how many keys are up to one
 
@@ -87,10 +87,10 @@ module _ (most key : ℕ) (old keys : List ℕ) (moved : IsPermutation (key ∷ 
     greater = All-nil (λ g. All (λ k. k ≤ g) keys);
   }
 
-  -- there is one too many: the greatest goes
+  -- there is one too many: the largest goes
   pub kept_least : (new : List ℕ) (o : Option ℕ) → length old ≤ most → most < length keys → IsSome o → IfSome o (λ x. IsPermutation keys (x ∷ new)) → IfSome o (λ x. All (λ k. k ≤ x) new) → AreLeast most (old ++ key ∷ []) new
-  kept_least new None few many some left greatest = absurd (true≢false (sym some))
-  kept_least new (Some x) few many some left greatest =
+  kept_least new None few many some left largest = absurd (true≢false (sym some))
+  kept_least new (Some x) few many some left largest =
       let all = IsPermutation-trans (old ++ key ∷ []) keys (x ∷ new) joined left in
       let back = IsPermutation-append_comm (x ∷ []) new in
       let each = IsPermutation-trans (old ++ key ∷ []) (x ∷ new) (new ++ x ∷ []) all back in
@@ -98,7 +98,7 @@ module _ (most key : ℕ) (old keys : List ℕ) (moved : IsPermutation (key ∷ 
         gone = x ∷ [];
         each = each;
         many = (let e = length_permutation (old ++ key ∷ []) keys joined in let f = length_permutation keys (x ∷ new) left in let h = length-append old (key ∷ []) in omega (arith, e, f, h));
-        greater = All-cons (λ g. All (λ k. k ≤ g) new) x [] greatest (All-nil (λ g. All (λ k. k ≤ g) new));
+        greater = All-cons (λ g. All (λ k. k ≤ g) new) x [] largest (All-nil (λ g. All (λ k. k ≤ g) new));
       }
 
 module _ (most : ℕ) (all more once twice : List ℕ) (h : AreLeast most all once) (g : AreLeast most (once ++ more) twice) where

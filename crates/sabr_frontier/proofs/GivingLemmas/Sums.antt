@@ -1,8 +1,7 @@
--- The sum of the looks that an asker's finder takes.
-use Rattle.std.proofs.Common.{◌≡◌, ℕ, ◌+◌, ◌-◌, ◌*◌, ◌<◌, ◌≤◌, min, arith, ap, sym, subst, ◌∙◌, None}
+-- The sum of the looks that a searcher's finder takes.
+use Rattle.std.proofs.Common.{◌≡◌, ℕ, ◌+◌, ◌-◌, ◌*◌, ◌<◌, ◌≤◌, min, arith, sym, subst}
 use Rattle.std.proofs.Math.Nat.{mul-le-mul_right}
 use Rattle.sabr_index.specs.Looks.{many_looks}
-use Rattle.sabr_frontier.specs.tree.Asking.{Asked, Asking, IsAtRest}
 
 -- one call more
 pub sum_on : (n m b sum last new : ℕ) → m ≡ n + 1 → sum ≤ n * b → last ≤ b → new ≡ min (sum + last) many_looks → new ≤ m * b
@@ -21,10 +20,3 @@ pub page_sum : (sum old new since searches b : ℕ) → since ≡ old + 1 → ne
 page_sum sum old new since searches b begun called most =
     let few : new + 1 - since ≤ searches = omega (arith, begun, called) in
     omega (arith, most (omega (arith, begun)), mul-le-mul_right b few)
-
--- an asker that asks without a bound is at rest once its sum begins anew
-pub at_rest : (a b c : Asking) → b.asked ≡ a.asked → c.asked ≡ record b.asked { since = b.calls + 1 } → c.calls ≡ b.calls → a.asked.bound ≡ None → IsAtRest c
-at_rest a b c same begun calls none = record {
-  unbounded = ap (λ (z : Asked). z.bound) begun ∙ ap (λ (z : Asked). z.bound) same ∙ none;
-  begun = ap (λ (z : Asked). z.since) begun ∙ ap (λ n. n + 1) (sym calls);
-}

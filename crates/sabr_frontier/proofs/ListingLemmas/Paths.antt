@@ -1,4 +1,4 @@
--- Routes, paths and prefixes, as the frontier asks of them.
+-- Routes, paths and prefixes, as the frontier needs them.
 use Rattle.std.proofs.Common.{◌≡◌, ℕ, true, false, List, [], ◌∷◌, ◌++◌, subst, Some, ◌<◌, length, take, get_or}
 use Rattle.std.proofs.lemmas.Bool.{false_from_ne_true}
 use Rattle.sabr_model.specs.plan.Plan.{ContactPlan}

@@ -1,5 +1,5 @@
--- What is held stays in order and answered when a part is added after the others. It is paid if and only if the parts
--- are closed. When a part is refused, and how.
+-- A partial tree stays in order and answered when a part is added after the others. It is complete if and only if the
+-- parts are closed. When a part is refused, and how.
 use Rattle.std.proofs.Common.{◌≡◌, ℕ, zero, suc, ◌+◌, ◌-◌, ◌<◌, Bool, true, false, not, ◌&&◌, nat_lt, List, [], ◌∷◌, ◌++◌, map, flat_map, reverse, if◌then◌else◌, ◌≤◌, length, take, refl, sym, ap, subst, ◌∙◌, ◌⊎◌, inl, inr, arith, true≢false, Option, Some, None, length-append, length-take-le, append-nil, cond}
 use Rattle.std.specs.Prelude.{◌==◌, slice_get}
 use Rattle.std.specs.Option.{option_map, option_map_or}
@@ -19,21 +19,21 @@ use Rattle.sabr_model.specs.routes.Parts.{goes_on}
 use Rattle.sabr_model.specs.routes.Record.{RouteRecord, record_of}
 use Rattle.sabr_model.proofs.RouteLemmas.Prefixes.{empty_is_prefix, prefix_goes_on}
 use Rattle.sabr_frontier.specs.declared.tree.Node.{Node}
-use Rattle.sabr_frontier.specs.declared.loader.judge.Judged.{Judged}
-use Rattle.sabr_frontier.specs.declared.loader.leading.Owed.{Owed}
+use Rattle.sabr_frontier.specs.declared.loader.check.Checked.{Checked}
+use Rattle.sabr_frontier.specs.declared.loader.leading.ExpectedPrefix.{ExpectedPrefix}
 use Rattle.sabr_frontier.specs.listing.Rising.{Below, Rises}
 use Rattle.sabr_frontier.specs.listing.State.{PartState, pair_of, Member, leaves_of}
 use Rattle.sabr_frontier.specs.listing.Formed.{IsClosed, InOrder, Within}
-use Rattle.sabr_frontier.specs.listing.Owing.{Owing, onward, IsGood, Owes}
-use Rattle.sabr_frontier.specs.loading.Leading.{AreOwed, AreSteps, IsLead, prefix_owed, step_of}
+use Rattle.sabr_frontier.specs.listing.Expecting.{Prefixes, onward, IsGood, Expects}
+use Rattle.sabr_frontier.specs.loading.Leading.{AreExpected, AreSteps, IsLead, expected_prefix, step_of}
 use Rattle.sabr_frontier.specs.loading.Loading.{comes_after, may_carry, rise_strictly, IsCarryFault, Loaded, refusal_by}
 use Rattle.sabr_frontier.specs.tree.Shape.{numbers_of}
 use Rattle.sabr_frontier.specs.tree.Undo.{last_item, front}
-use Rattle.sabr_frontier.specs.loading.Holding.{Holding, AreLent, IsAnswered, IsHeld, IsJudged, IsVerdict, held_then, is_due, is_least, is_paid, node_for, nothing_held, owed_in, owing, pairs_in, part_for, parts_in, parts_of, holding_of, loaded}
+use Rattle.sabr_frontier.specs.loading.Partial.{PartialShape, AreLent, IsAnswered, IsPartial, IsChecked, IsVerdict, partial_then, is_expected, is_least, is_complete, node_for, nothing_yet, expected_in, expected_after, pairs_in, part_for, parts_in, parts_of, partial_shape_of, loaded}
 use Rattle.sabr_frontier.proofs.ListingLemmas.Rising.{Below-lower}
 use Rattle.sabr_frontier.specs.tree.Queue.{InPairs}
 use Rattle.sabr_frontier.proofs.ListingLemmas.ListMembers.{Member-append_right, Member-append_cases, Below-member}
-use Rattle.sabr_frontier.proofs.ListingLemmas.OwedPrefixes.{Owes-push, Owes-front, Owes-one, owes_closed, closed_owes}
+use Rattle.sabr_frontier.proofs.ListingLemmas.ExpectedPrefixes.{Expects-push, Expects-front, Expects-one, expects_closed, closed_expects}
 use Rattle.sabr_frontier.proofs.ListingLemmas.AllRoutes.{goes_on_within}
 use Rattle.sabr_frontier.proofs.TreeLemmas.ModifiedPlaces.{get_Member, last_split, member_taken, no_last, pair_across, pairs_front}
 use Rattle.sabr_frontier.proofs.TreeLemmas.IndexOrder.{less_from_test}
@@ -42,7 +42,7 @@ use Rattle.sabr_frontier.proofs.TreeLemmas.DividedStates.{numbers_back, told_bac
 use Rattle.sabr_model.proofs.ListLemmas.Apart.{same_numbers_tell}
 use Rattle.sabr_frontier.specs.declared.loader.load_fault.LoadFault.{LoadFault}
 use Rattle.sabr_frontier.specs.declared.loader.load_fault.LoadFault.TheVariants.{BadOrder, BadRoute, NotClosed, BadCount, NoMemory}
-use Rattle.sabr_frontier.specs.declared.loader.held.Held.{Held}
+use Rattle.sabr_frontier.specs.declared.loader.partial_tree.PartialTree.{PartialTree}
 
 -- ---- order
 
@@ -125,14 +125,14 @@ parts_length [] (n ∷ ns) e = absurd (omega (arith, e))
 parts_length (x ∷ qs) [] e = absurd (omega (arith, e))
 parts_length (x ∷ qs) (n ∷ ns) e = ap suc (parts_length qs ns (omega (arith, e)))
 
-no_parts : {A : Type 0} (h : Holding A) → length h.prefixes ≡ length h.nodes → length h.nodes ≡ 0 → parts_in h ≡ []
+no_parts : {A : Type 0} (h : PartialShape A) → length h.prefixes ≡ length h.nodes → length h.nodes ≡ 0 → parts_in h ≡ []
 no_parts h e none = nil_from_length (parts_in h) (parts_length h.prefixes h.nodes e ∙ none)
 
 some_first : {X : Type 0} (xs : List X) → 0 < length xs → (x : X) × (ys : List X) × (xs ≡ x ∷ ys)
 some_first [] l = absurd (omega arith)
 some_first (x ∷ xs) l = (x, xs, refl)
 
-some_part : {A : Type 0} (h : Holding A) → length h.prefixes ≡ length h.nodes → 0 < length h.nodes → (t : PartState) × (ts : List PartState) × (parts_in h ≡ t ∷ ts)
+some_part : {A : Type 0} (h : PartialShape A) → length h.prefixes ≡ length h.nodes → 0 < length h.nodes → (t : PartState) × (ts : List PartState) × (parts_in h ≡ t ∷ ts)
 some_part h e some = some_first (parts_in h) (omega (arith, parts_length h.prefixes h.nodes e, some))
 
 zero_or_more : (n : ℕ) → (n ≡ 0) ⊎ (0 < n)
@@ -154,39 +154,39 @@ test_more n h = grind (arith, nat_tests)
 same_itself : (q : List ℕ) → same_numbers q q ≡ true
 same_itself q = ap is_eq (Rattle.std.proofs.lemmas.Cmp.tied_itself nat_list_cmp_total q)
 
--- ---- what is due
+-- ---- what is expected
 
--- a due prefix is the least that is owed, and what is owed after it is smaller
-due_first : {A : Type 0} (h : Holding A) (q : List ℕ) → length h.prefixes ≡ length h.nodes → (parts_in h ≡ [] → owed_in h ≡ []) → is_least h q ≡ true → owing (parts_in h) (owed_in h) ≡ q ∷ reverse (front (owed_in h))
-due_first h q paired first due = elim (zero_or_more (length h.nodes)) [
+-- an expected prefix is the least that is expected, and what is expected after it is smaller
+expected_first : {A : Type 0} (h : PartialShape A) (q : List ℕ) → length h.prefixes ≡ length h.nodes → (parts_in h ≡ [] → expected_in h ≡ []) → is_least h q ≡ true → expected_after (parts_in h) (expected_in h) ≡ q ∷ reverse (front (expected_in h))
+expected_first h q paired first lead = elim (zero_or_more (length h.nodes)) [
   | inl e ↦
       let none = no_parts h paired e in
-      let d : (length h.nodes == 0 && length q == 0) ≡ true = sym (ap (λ (z : List (List ℕ)). option_map_or (same_numbers q) (last_item z) (length h.nodes == 0 && length q == 0)) (first none)) ∙ due in
+      let d : (length h.nodes == 0 && length q == 0) ≡ true = sym (ap (λ (z : List (List ℕ)). option_map_or (same_numbers q) (last_item z) (length h.nodes == 0 && length q == 0)) (first none)) ∙ lead in
       let empty : q ≡ [] = nil_from_length q (test_zero (length q) (and_parts (length h.nodes == 0) (length q == 0) d).1) in
-      ap (λ z. owing z (owed_in h)) none ∙ (λ i. sym empty i ∷ reverse (front (sym (first none) i)))
+      ap (λ z. expected_after z (expected_in h)) none ∙ (λ i. sym empty i ∷ reverse (front (sym (first none) i)))
   | inr l ↦
       let some = some_part h paired l in
-      let last : owed_in h ≡ front (owed_in h) ++ q ∷ [] = elim (last_item (owed_in h)) as (λ o. last_item (owed_in h) ≡ o → option_map_or (same_numbers q) o (length h.nodes == 0 && length q == 0) ≡ true → owed_in h ≡ front (owed_in h) ++ q ∷ []) [
+      let last : expected_in h ≡ front (expected_in h) ++ q ∷ [] = elim (last_item (expected_in h)) as (λ o. last_item (expected_in h) ≡ o → option_map_or (same_numbers q) o (length h.nodes == 0 && length q == 0) ≡ true → expected_in h ≡ front (expected_in h) ++ q ∷ []) [
         | None ↦ λ _ k. absurd (true≢false (sym (and_parts (length h.nodes == 0) (length q == 0) k).0 ∙ more_test (length h.nodes) l))
-        | Some o ↦ λ e k. last_split (owed_in h) o e ∙ ap (λ z. front (owed_in h) ++ z ∷ []) (sym (same_numbers_tell q o k))
-      ] refl due in
-      ap (λ z. owing z (owed_in h)) some.2 ∙ ap reverse last ∙ reverse-append (front (owed_in h)) (q ∷ [])
+        | Some o ↦ λ e k. last_split (expected_in h) o e ∙ ap (λ z. front (expected_in h) ++ z ∷ []) (sym (same_numbers_tell q o k))
+      ] refl lead in
+      ap (λ z. expected_after z (expected_in h)) some.2 ∙ ap reverse last ∙ reverse-append (front (expected_in h)) (q ∷ [])
 ]
 
--- and the least that is owed is due
-first_due : {A : Type 0} (h : Holding A) (q : List ℕ) (rest : Owing) → length h.prefixes ≡ length h.nodes → (parts_in h ≡ [] → owed_in h ≡ []) → owing (parts_in h) (owed_in h) ≡ q ∷ rest → is_least h q ≡ true
-first_due h q rest paired first o = elim (zero_or_more (length h.nodes)) [
+-- and the least that is expected comes next
+first_expected : {A : Type 0} (h : PartialShape A) (q : List ℕ) (rest : Prefixes) → length h.prefixes ≡ length h.nodes → (parts_in h ≡ [] → expected_in h ≡ []) → expected_after (parts_in h) (expected_in h) ≡ q ∷ rest → is_least h q ≡ true
+first_expected h q rest paired first o = elim (zero_or_more (length h.nodes)) [
   | inl e ↦
       let none = no_parts h paired e in
-      let is : [] ∷ [] ≡ q ∷ rest = sym (ap (λ z. owing z (owed_in h)) none) ∙ o in
+      let is : [] ∷ [] ≡ q ∷ rest = sym (ap (λ z. expected_after z (expected_in h)) none) ∙ o in
       let empty : [] ≡ q = cc in
       ap (λ (z : List (List ℕ)). option_map_or (same_numbers q) (last_item z) (length h.nodes == 0 && length q == 0)) (first none)
       ∙ (λ i. zero_test (length h.nodes) e i && zero_test (length q) (sym (ap (length {A = ℕ}) empty)) i)
   | inr l ↦
       let some = some_part h paired l in
-      let is : reverse (owed_in h) ≡ q ∷ rest = sym (ap (λ z. owing z (owed_in h)) some.2) ∙ o in
-      let back : owed_in h ≡ reverse rest ++ q ∷ [] = sym (reverse-reverse (owed_in h)) ∙ ap reverse is ∙ reverse-append (q ∷ []) rest in
-      let last : last_item (owed_in h) ≡ Some q = Rattle.sabr_frontier.proofs.TreeLemmas.ModifiedPlaces.last_item_push (owed_in h) (reverse rest) q back in
+      let is : reverse (expected_in h) ≡ q ∷ rest = sym (ap (λ z. expected_after z (expected_in h)) some.2) ∙ o in
+      let back : expected_in h ≡ reverse rest ++ q ∷ [] = sym (reverse-reverse (expected_in h)) ∙ ap reverse is ∙ reverse-append (q ∷ []) rest in
+      let last : last_item (expected_in h) ≡ Some q = Rattle.sabr_frontier.proofs.TreeLemmas.ModifiedPlaces.last_item_push (expected_in h) (reverse rest) q back in
       ap (λ o. option_map_or (same_numbers q) o (length h.nodes == 0 && length q == 0)) last ∙ same_itself q
 ]
 
@@ -195,16 +195,16 @@ first_due h q rest paired first o = elim (zero_or_more (length h.nodes)) [
 last_of_map : {X Y : Type 0} (f : X → Y) (os : List X) → last_item (map f os) ≡ option_map f (last_item os)
 last_of_map f os = ap (λ n. slice_get (map f os) (n - 1)) (length-map os f) ∙ slice_get-map f os (length os - 1)
 
-module _ {A : Type 0} (h : Holding A) (q : List ℕ) (o : Owed) (last : last_item h.owed ≡ Some o) where
-  least_is : is_least h q ≡ same_numbers q (prefix_owed h.last o)
-  least_is = ap (λ o. option_map_or (same_numbers q) o (length h.nodes == 0 && length q == 0)) (last_of_map (prefix_owed h.last) h.owed ∙ ap (option_map (prefix_owed h.last)) last)
+module _ {A : Type 0} (h : PartialShape A) (q : List ℕ) (o : ExpectedPrefix) (last : last_item h.expected ≡ Some o) where
+  least_is : is_least h q ≡ same_numbers q (expected_prefix h.last o)
+  least_is = ap (λ o. option_map_or (same_numbers q) o (length h.nodes == 0 && length q == 0)) (last_of_map (expected_prefix h.last) h.expected ∙ ap (option_map (expected_prefix h.last)) last)
 
   module _ (sound : h.sound ≡ true) where
-    pub same_is_due : q ≡ prefix_owed h.last o → is_due h q ≡ true
-    same_is_due same = (λ i. sound i && least_is i) ∙ ap (same_numbers q) (sym same) ∙ same_itself q
+    pub same_is_expected : q ≡ expected_prefix h.last o → is_expected h q ≡ true
+    same_is_expected same = (λ i. sound i && least_is i) ∙ ap (same_numbers q) (sym same) ∙ same_itself q
 
-    pub other_is_not_due : (q ≡ prefix_owed h.last o → ⊥) → is_due h q ≡ false
-    other_is_not_due other = (λ i. sound i && least_is i) ∙ false_from_ne_true (same_numbers q (prefix_owed h.last o)) (λ k. other (same_numbers_tell q (prefix_owed h.last o) k))
+    pub other_is_not_expected : (q ≡ expected_prefix h.last o → ⊥) → is_expected h q ≡ false
+    other_is_not_expected other = (λ i. sound i && least_is i) ∙ false_from_ne_true (same_numbers q (expected_prefix h.last o)) (λ k. other (same_numbers_tell q (expected_prefix h.last o) k))
 
 map-front : {X Y : Type 0} (f : X → Y) (xs : List X) → map f (front xs) ≡ front (map f xs)
 map-front f xs = sym (ap (λ n. take (n - 1) (map f xs)) (length-map xs f) ∙ take-map f (length xs - 1) xs)
@@ -240,21 +240,21 @@ Member-reverse x (y ∷ xs) m = elim (Member-append_cases x (reverse xs) (y ∷ 
   | inr k ↦ elim k [ inl e ↦ inl e | inr z ↦ absurd z ]
 ]
 
-record Stay (last q : List ℕ) (os : List Owed) : Type 0 where
-  same : (o : Owed) → Member o os → prefix_owed q o ≡ prefix_owed last o
-  within : (o : Owed) → Member o os → o.length ≤ length q
+record Stay (last q : List ℕ) (os : List ExpectedPrefix) : Type 0 where
+  same : (o : ExpectedPrefix) → Member o os → expected_prefix q o ≡ expected_prefix last o
+  within : (o : ExpectedPrefix) → Member o os → o.length ≤ length q
   nested : InPairs (λ a b. a.length ≤ b.length) os
 
-module _ {A : Type 0} (p : ContactPlan) (r : RouteRequest) (h : Holding A) (q : List ℕ) (due : is_least h q ≡ true) (owed : AreOwed p r h.last h.owed) where
+module _ {A : Type 0} (p : ContactPlan) (r : RouteRequest) (h : PartialShape A) (q : List ℕ) (lead : is_least h q ≡ true) (expected : AreExpected p r h.last h.expected) where
   -- the others begin with numbers that the least begins with
-  stay : Stay h.last q (front h.owed)
-  stay = elim (last_item h.owed) as (λ z. last_item h.owed ≡ z → Stay h.last q (front h.owed)) [
-    | None ↦ λ e. subst (λ os. Stay h.last q (front os)) (sym (no_last h.owed e)) (record { same = λ o m. absurd m; within = λ o m. absurd m; nested = tt })
+  stay : Stay h.last q (front h.expected)
+  stay = elim (last_item h.expected) as (λ z. last_item h.expected ≡ z → Stay h.last q (front h.expected)) [
+    | None ↦ λ e. subst (λ os. Stay h.last q (front os)) (sym (no_last h.expected e)) (record { same = λ o m. absurd m; within = λ o m. absurd m; nested = tt })
     | Some o ↦ λ e.
-        let is : q ≡ take o.length h.last ++ o.number ∷ [] = same_numbers_tell q (prefix_owed h.last o) (sym (least_is h q o e) ∙ due) in
-        let all : h.owed ≡ front h.owed ++ o ∷ [] = last_split h.owed o e in
-        let w = pairs_of_last (λ (a b : Owed). a.length ≤ b.length) (front h.owed) o (subst (InPairs (λ (a b : Owed). a.length ≤ b.length)) all owed.nested) in
-        let most : o.length ≤ length h.last = owed.within o (get_Member h.owed (length h.owed - 1) o e) in
+        let is : q ≡ take o.length h.last ++ o.number ∷ [] = same_numbers_tell q (expected_prefix h.last o) (sym (least_is h q o e) ∙ lead) in
+        let all : h.expected ≡ front h.expected ++ o ∷ [] = last_split h.expected o e in
+        let w = pairs_of_last (λ (a b : ExpectedPrefix). a.length ≤ b.length) (front h.expected) o (subst (InPairs (λ (a b : ExpectedPrefix). a.length ≤ b.length)) all expected.nested) in
+        let most : o.length ≤ length h.last = expected.within o (get_Member h.expected (length h.expected - 1) o e) in
         let front_long : length (take o.length h.last) ≡ o.length = length-take-le o.length h.last most in
         record {
           same = λ x m.
@@ -265,29 +265,29 @@ module _ {A : Type 0} (p : ContactPlan) (r : RouteRequest) (h : Holding A) (q : 
         }
   ] refl
 
-  step_is : (o : Owed) → o.length ≡ length q → prefix_owed q o ≡ step_of q o
+  step_is : (o : ExpectedPrefix) → o.length ≡ length q → expected_prefix q o ≡ step_of q o
   step_is o e = ap (λ z. z ++ o.number ∷ []) (ap (λ n. take n q) e ∙ take_all (length q) q (omega arith))
 
   -- and after them come the steps from it
-  owed_more : (steps : List Owed) → AreSteps p r q steps → AreOwed p r q (front h.owed ++ reverse steps)
-  owed_more steps new = record {
-    leads = λ o m. elim (Member-append_cases o (front h.owed) (reverse steps) m) [
-      | inl k ↦ subst (λ z. IsLead p r z o.lead) (sym (stay.same o k)) (owed.leads o (member_taken (length h.owed - 1) o h.owed k))
+  expected_more : (steps : List ExpectedPrefix) → AreSteps p r q steps → AreExpected p r q (front h.expected ++ reverse steps)
+  expected_more steps new = record {
+    leads = λ o m. elim (Member-append_cases o (front h.expected) (reverse steps) m) [
+      | inl k ↦ subst (λ z. IsLead p r z o.lead) (sym (stay.same o k)) (expected.leads o (member_taken (length h.expected - 1) o h.expected k))
       | inr k ↦ let w = new o (Member-reverse o steps k) in subst (λ z. IsLead p r z o.lead) (sym (step_is o w.0)) w.1
     ];
-    within = λ o m. elim (Member-append_cases o (front h.owed) (reverse steps) m) [
+    within = λ o m. elim (Member-append_cases o (front h.expected) (reverse steps) m) [
       | inl k ↦ stay.within o k
       | inr k ↦ omega (arith, (new o (Member-reverse o steps k)).0)
     ];
-    nested = pairs_two (λ (a b : Owed). a.length ≤ b.length) (front h.owed) (reverse steps) stay.nested
-        (pairs_of_all (λ (a b : Owed). a.length ≤ b.length) (reverse steps) (λ a b m k. omega (arith, (new a (Member-reverse a steps m)).0, (new b (Member-reverse b steps k)).0)))
+    nested = pairs_two (λ (a b : ExpectedPrefix). a.length ≤ b.length) (front h.expected) (reverse steps) stay.nested
+        (pairs_of_all (λ (a b : ExpectedPrefix). a.length ≤ b.length) (reverse steps) (λ a b m k. omega (arith, (new a (Member-reverse a steps m)).0, (new b (Member-reverse b steps k)).0)))
         (λ a b m k. omega (arith, stay.within a m, (new b (Member-reverse b steps k)).0));
   }
 
-  prefixes_more : (steps : List Owed) → AreSteps p r q steps → map (prefix_owed q) (front h.owed ++ reverse steps) ≡ front (owed_in h) ++ reverse (map (step_of q) steps)
-  prefixes_more steps new = map-append (prefix_owed q) (front h.owed) (reverse steps)
-      ∙ (λ i. (map_same (prefix_owed q) (prefix_owed h.last) (front h.owed) stay.same ∙ map-front (prefix_owed h.last) h.owed) i
-      ++ (map_same (prefix_owed q) (step_of q) (reverse steps) (λ o m. step_is o (new o (Member-reverse o steps m)).0) ∙ map-reverse (step_of q) steps) i)
+  prefixes_more : (steps : List ExpectedPrefix) → AreSteps p r q steps → map (expected_prefix q) (front h.expected ++ reverse steps) ≡ front (expected_in h) ++ reverse (map (step_of q) steps)
+  prefixes_more steps new = map-append (expected_prefix q) (front h.expected) (reverse steps)
+      ∙ (λ i. (map_same (expected_prefix q) (expected_prefix h.last) (front h.expected) stay.same ∙ map-front (expected_prefix h.last) h.expected) i
+      ++ (map_same (expected_prefix q) (step_of q) (reverse steps) (λ o m. step_is o (new o (Member-reverse o steps m)).0) ∙ map-reverse (step_of q) steps) i)
 
 module _ (p : ContactPlan) (r : RouteRequest) where
   abbrev route : List ℕ → Bool
@@ -299,7 +299,7 @@ module _ (p : ContactPlan) (r : RouteRequest) where
   module _ {A : Type 0} where
     -- ---- a part more
 
-    module _ (h : Holding A) (held : IsHeld p r h) (q X : List ℕ) (kept : Option RouteRecord) (carried : Option (List ℕ)) (is : kept ≡ option_map (record_of p r) carried) where
+    module _ (h : PartialShape A) (partial : IsPartial p r h) (q X : List ℕ) (kept : Option RouteRecord) (carried : Option (List ℕ)) (is : kept ≡ option_map (record_of p r) carried) where
       abbrev e : List ℕ × List ℕ
       e = (q, X)
 
@@ -307,50 +307,50 @@ module _ (p : ContactPlan) (r : RouteRequest) where
       n = node_for h q X kept
 
       more : parts_of (h.prefixes ++ q ∷ []) (h.nodes ++ n ∷ []) ≡ parts_in h ++ part_for q n ∷ []
-      more = parts_push h.prefixes h.nodes q n held.paired
+      more = parts_push h.prefixes h.nodes q n partial.paired
 
       pairs_more : map pair_of (parts_of (h.prefixes ++ q ∷ []) (h.nodes ++ n ∷ [])) ≡ pairs_in h ++ e ∷ []
       pairs_more = ap (map pair_of) more ∙ map-append pair_of (parts_in h) (part_for q n ∷ [])
 
-      owing_more : (parts : List PartState) (t : PartState) (owed : List (List ℕ)) → owing (parts ++ t ∷ []) owed ≡ reverse owed
-      owing_more [] t owed = refl
-      owing_more (u ∷ parts) t owed = refl
+      expected_after_more : (parts : List PartState) (t : PartState) (expected : List (List ℕ)) → expected_after (parts ++ t ∷ []) expected ≡ reverse expected
+      expected_after_more [] t expected = refl
+      expected_after_more (u ∷ parts) t expected = refl
 
-      answered_more : (j : Judged A) → IsAnswered p r h → is_least h q ≡ true → IsGood route path e → IsJudged p r e j → IsAnswered p r (held_then h q X kept (Some j))
-      answered_more j a due good judged = record {
-        owes = subst (λ T. Owes route path ([] ∷ []) T (owing parts (map (prefix_owed q) owed))) (sym pairs_more)
-            (Owes-push route path (pairs_in h) ([] ∷ []) (owing (parts_in h) (owed_in h)) (owing parts (map (prefix_owed q) owed)) e a.owes
-            (reverse (front (owed_in h)), due_first h q held.paired a.first due, good, sym owed_now));
-        leaves = (λ i. a.leaves i ++ judged.leaves_are i) ∙ sym (map-append (record_of p r) (flat_map (leaves_of route) (pairs_in h)) (leaves_of route e))
+      answered_more : (j : Checked A) → IsAnswered p r h → is_least h q ≡ true → IsGood route path e → IsChecked p r e j → IsAnswered p r (partial_then h q X kept (Some j))
+      answered_more j a lead good checked = record {
+        expects = subst (λ T. Expects route path ([] ∷ []) T (expected_after parts (map (expected_prefix q) expected))) (sym pairs_more)
+            (Expects-push route path (pairs_in h) ([] ∷ []) (expected_after (parts_in h) (expected_in h)) (expected_after parts (map (expected_prefix q) expected)) e a.expects
+            (reverse (front (expected_in h)), expected_first h q partial.paired a.first lead, good, sym expected_now));
+        leaves = (λ i. a.leaves i ++ checked.leaves_are i) ∙ sym (map-append (record_of p r) (flat_map (leaves_of route) (pairs_in h)) (leaves_of route e))
             ∙ ap (map (record_of p r)) (ap (λ z. flat_map (leaves_of route) (pairs_in h) ++ z) (sym (append-nil (leaves_of route e))) ∙ sym (flat_map-append (leaves_of route) (pairs_in h) (e ∷ [])) ∙ ap (flat_map (leaves_of route)) (sym pairs_more));
         lent = lent_push route 0 h.prefixes h.nodes q n a.lent (let k = ap (length {A = RouteRecord}) a.leaves ∙ length-map (flat_map (leaves_of route) (pairs_in h)) (record_of p r) in omega (arith, k)) refl;
-        owed = owed_more p r h q due a.owed j.onward.items judged.steps;
+        expected = expected_more p r h q lead a.expected j.onward.items checked.steps;
         first = λ k. absurd (omega (arith, ap (length {A = PartState}) (sym more ∙ k), length-append (parts_in h) (part_for q n ∷ [])));
       }
         where
           parts : List PartState
           parts = parts_of (h.prefixes ++ q ∷ []) (h.nodes ++ n ∷ [])
 
-          owed : List Owed
-          owed = front h.owed ++ reverse j.onward.items
+          expected : List ExpectedPrefix
+          expected = front h.expected ++ reverse j.onward.items
 
-          owed_now : owing parts (map (prefix_owed q) owed) ≡ onward route path e ++ reverse (front (owed_in h))
-          owed_now = ap (λ z. owing z (map (prefix_owed q) owed)) more ∙ owing_more (parts_in h) (part_for q n) (map (prefix_owed q) owed) ∙ ap reverse (prefixes_more p r h q due a.owed j.onward.items judged.steps)
-              ∙ reverse-append (front (owed_in h)) (reverse (map (step_of q) j.onward.items))
-              ∙ ap (λ z. z ++ reverse (front (owed_in h))) (reverse-reverse (map (step_of q) j.onward.items) ∙ judged.onward_are)
+          expected_now : expected_after parts (map (expected_prefix q) expected) ≡ onward route path e ++ reverse (front (expected_in h))
+          expected_now = ap (λ z. expected_after z (map (expected_prefix q) expected)) more ∙ expected_after_more (parts_in h) (part_for q n) (map (expected_prefix q) expected) ∙ ap reverse (prefixes_more p r h q lead a.expected j.onward.items checked.steps)
+              ∙ reverse-append (front (expected_in h)) (reverse (map (step_of q) j.onward.items))
+              ∙ ap (λ z. z ++ reverse (front (expected_in h))) (reverse-reverse (map (step_of q) j.onward.items) ∙ checked.onward_are)
 
-      broken_more : (is_due h q ≡ true → IsGood route path e → ⊥) → (os : Owing) → Owes route path ([] ∷ []) (pairs_in h ++ e ∷ []) os → ⊥
+      broken_more : (is_expected h q ≡ true → IsGood route path e → ⊥) → (os : Prefixes) → Expects route path ([] ∷ []) (pairs_in h ++ e ∷ []) os → ⊥
       broken_more none os o =
-          let w = Owes-front route path (pairs_in h) ([] ∷ []) os e o in
+          let w = Expects-front route path (pairs_in h) ([] ∷ []) os e o in
           elim (cases_Bool h.sound) [
             | inl k ↦
-                let a = held.answered k in
-                none (λ i. k i && first_due h q w.2.0 held.paired a.first (Owes-one route path (pairs_in h) ([] ∷ []) (owing (parts_in h) (owed_in h)) w.0 a.owes w.1 ∙ w.2.1) i) w.2.2
-            | inr k ↦ held.broken k w.0 w.1
+                let a = partial.answered k in
+                none (λ i. k i && first_expected h q w.2.0 partial.paired a.first (Expects-one route path (pairs_in h) ([] ∷ []) (expected_after (parts_in h) (expected_in h)) w.0 a.expects w.1 ∙ w.2.1) i) w.2.2
+            | inr k ↦ partial.broken k w.0 w.1
           ]
 
       -- the parts then
-      pub parts_then : (j : Option (Judged A)) → parts_in (held_then h q X kept j) ≡ parts_in h ++ record { prefix = q; excluded = X; carried = carried } ∷ []
+      pub parts_then : (j : Option (Checked A)) → parts_in (partial_then h q X kept j) ≡ parts_in h ++ record { prefix = q; excluded = X; carried = carried } ∷ []
       parts_then None = more ∙ ap (λ (o : Option (List ℕ)). parts_in h ++ record { prefix = q; excluded = X; carried = o } ∷ []) (ap (option_map numbers_of) is ∙ numbers_back p r carried)
       parts_then (Some j) = more ∙ ap (λ (o : Option (List ℕ)). parts_in h ++ record { prefix = q; excluded = X; carried = o } ∷ []) (ap (option_map numbers_of) is ∙ numbers_back p r carried)
 
@@ -361,14 +361,14 @@ module _ (p : ContactPlan) (r : RouteRequest) where
 
       module _ (strictly : rise_strictly X ≡ true) (after : comes_after (parts_in h) q ≡ true) (may : may_carry p r (record { prefix = q; excluded = X; carried = carried }) ≡ true) where
         ordered : InOrder (map pair_of (parts_of (h.prefixes ++ q ∷ []) (h.nodes ++ n ∷ [])))
-        ordered = subst InOrder (sym pairs_more) (order_more (parts_in h) (part_for q n) held.order strictly after)
+        ordered = subst InOrder (sym pairs_more) (order_more (parts_in h) (part_for q n) partial.order strictly after)
 
         counted : length (h.prefixes ++ q ∷ []) ≡ length (h.nodes ++ n ∷ [])
-        counted = omega (arith, held.paired, length-append h.prefixes (q ∷ []), length-append h.nodes (n ∷ []))
+        counted = omega (arith, partial.paired, length-append h.prefixes (q ∷ []), length-append h.nodes (n ∷ []))
 
         carried_then : (t : PartState) (s : List ℕ) → Member t (parts_of (h.prefixes ++ q ∷ []) (h.nodes ++ n ∷ [])) → t.carried ≡ Some s → (route s ≡ true) × Within t.prefix t.excluded s
         carried_then t s m k = elim (Member-append_cases t (parts_in h) (part_for q n ∷ []) (subst (Member t) more m)) [
-          | inl a ↦ held.carried t s a k
+          | inl a ↦ partial.carried t s a k
           | inr a ↦ elim a [
             | inl same ↦
                 let c : carried ≡ Some s = sym (numbers_back p r carried) ∙ ap (option_map numbers_of) (sym is) ∙ sym (ap (λ (z : PartState). z.carried) same) ∙ k in
@@ -383,73 +383,73 @@ module _ (p : ContactPlan) (r : RouteRequest) where
 
         records_then : (m : Node A) (x : RouteRecord) → Member m (h.nodes ++ n ∷ []) → m.route ≡ Some x → x ≡ record_of p r x.contacts
         records_then m x k a = elim (Member-append_cases m h.nodes (n ∷ []) k) [
-          | inl b ↦ held.records m x b a
+          | inl b ↦ partial.records m x b a
           | inr b ↦ elim b [ inl same ↦ told_back p r carried x (sym is ∙ sym (ap (λ (z : Node A). z.route) same) ∙ a) | inr z ↦ absurd z ]
         ]
 
-        pub held_more : (j : Option (Judged A)) → IsVerdict p r h e j → IsHeld p r (held_then h q X kept j)
-        held_more (Some j) v = record {
+        pub partial_more : (j : Option (Checked A)) → IsVerdict p r h e j → IsPartial p r (partial_then h q X kept j)
+        partial_more (Some j) v = record {
           paired = counted;
           order = ordered;
           carried = carried_then;
           records = records_then;
           last = last_then;
-          answered = λ _. answered_more j (held.answered due.0) due.1 v.1 v.2;
-          broken = λ k. absurd (true≢false (sym due.0 ∙ k));
+          answered = λ _. answered_more j (partial.answered lead.0) lead.1 v.1 v.2;
+          broken = λ k. absurd (true≢false (sym lead.0 ∙ k));
         }
           where
-            due : (h.sound ≡ true) × (is_least h q ≡ true)
-            due = and_parts h.sound (is_least h q) v.0
-        held_more None v = record {
+            lead : (h.sound ≡ true) × (is_least h q ≡ true)
+            lead = and_parts h.sound (is_least h q) v.0
+        partial_more None v = record {
           paired = counted;
           order = ordered;
           carried = carried_then;
           records = records_then;
           last = last_then;
           answered = λ k. absurd (true≢false (sym k));
-          broken = λ _ os. subst (λ T. Owes route path ([] ∷ []) T os → ⊥) (sym pairs_more) (broken_more v os);
+          broken = λ _ os. subst (λ T. Expects route path ([] ∷ []) T os → ⊥) (sym pairs_more) (broken_more v os);
         }
 
     -- ---- before any part
 
-    pub nothing_is_held : IsHeld p r (nothing_held {A = A})
-    nothing_is_held = record {
+    pub nothing_yet_is : IsPartial p r (nothing_yet {A = A})
+    nothing_yet_is = record {
       paired = refl;
       order = record { by_prefix = tt; numbers = λ q X m. absurd m };
       carried = λ t s m. absurd m;
       records = λ n x m. absurd m;
       last = refl;
-      answered = λ _. record { owes = refl; leaves = refl; lent = tt; owed = record { leads = λ o m. absurd m; within = λ o m. absurd m; nested = tt }; first = λ _. refl };
+      answered = λ _. record { expects = refl; leaves = refl; lent = tt; expected = record { leads = λ o m. absurd m; within = λ o m. absurd m; nested = tt }; first = λ _. refl };
       broken = λ k. absurd (true≢false k);
     }
 
     -- ---- the end
 
-    module _ (h : Holding A) (held : IsHeld p r h) where
-      pub paid_owes : is_paid h ≡ true → Owes route path ([] ∷ []) (pairs_in h) []
-      paid_owes paid =
-          let w = and_parts h.sound (not (length h.nodes == 0) && (length h.owed == 0)) paid in
-          let v = and_parts (not (length h.nodes == 0)) (length h.owed == 0) w.1 in
-          let some = some_part h held.paired (test_more (length h.nodes) (Rattle.std.proofs.lemmas.Bool.not-true (length h.nodes == 0) v.0)) in
-          subst (Owes route path ([] ∷ []) (pairs_in h)) (ap (λ z. owing z (owed_in h)) some.2 ∙ ap (λ os. reverse (map (prefix_owed h.last) os)) (nil_from_length h.owed (test_zero (length h.owed) v.1))) (held.answered w.0).owes
+    module _ (h : PartialShape A) (partial : IsPartial p r h) where
+      pub complete_expects : is_complete h ≡ true → Expects route path ([] ∷ []) (pairs_in h) []
+      complete_expects complete =
+          let w = and_parts h.sound (not (length h.nodes == 0) && (length h.expected == 0)) complete in
+          let v = and_parts (not (length h.nodes == 0)) (length h.expected == 0) w.1 in
+          let some = some_part h partial.paired (test_more (length h.nodes) (Rattle.std.proofs.lemmas.Bool.not-true (length h.nodes == 0) v.0)) in
+          subst (Expects route path ([] ∷ []) (pairs_in h)) (ap (λ z. expected_after z (expected_in h)) some.2 ∙ ap (λ os. reverse (map (expected_prefix h.last) os)) (nil_from_length h.expected (test_zero (length h.expected) v.1))) (partial.answered w.0).expects
 
-      pub paid_closed : is_paid h ≡ true → IsClosed route path (is_prefix p r) (pairs_in h)
-      paid_closed paid = owes_closed route path (is_prefix p r) (empty_is_prefix p r) (prefix_goes_on p r) (prefix_no_route p r) (pairs_in h) (paid_owes paid)
+      pub complete_closed : is_complete h ≡ true → IsClosed route path (is_prefix p r) (pairs_in h)
+      complete_closed complete = expects_closed route path (is_prefix p r) (empty_is_prefix p r) (prefix_goes_on p r) (prefix_no_route p r) (pairs_in h) (complete_expects complete)
 
-      pub unpaid_open : is_paid h ≡ false → IsClosed route path (is_prefix p r) (pairs_in h) → ⊥
-      unpaid_open unpaid closed =
-          let o = closed_owes route path (is_prefix p r) (empty_is_prefix p r) (prefix_goes_on p r) (prefix_no_route p r) (pairs_in h) held.order closed in
+      pub incomplete_open : is_complete h ≡ false → IsClosed route path (is_prefix p r) (pairs_in h) → ⊥
+      incomplete_open incomplete closed =
+          let o = closed_expects route path (is_prefix p r) (empty_is_prefix p r) (prefix_goes_on p r) (prefix_no_route p r) (pairs_in h) partial.order closed in
           elim (cases_Bool h.sound) [
-            | inr k ↦ held.broken k [] o
+            | inr k ↦ partial.broken k [] o
             | inl k ↦ elim (zero_or_more (length h.nodes)) [
               | inl none ↦
-                  let is : [] ∷ [] ≡ [] = subst (λ T. Owes route path ([] ∷ []) T []) (ap (map pair_of) (no_parts h held.paired none)) o in cc
+                  let is : [] ∷ [] ≡ [] = subst (λ T. Expects route path ([] ∷ []) T []) (ap (map pair_of) (no_parts h partial.paired none)) o in cc
               | inr l ↦
-                  let some = some_part h held.paired l in
-                  let a = held.answered k in
-                  let paid : reverse (owed_in h) ≡ [] = sym (ap (λ z. owing z (owed_in h)) some.2) ∙ Owes-one route path (pairs_in h) ([] ∷ []) (owing (parts_in h) (owed_in h)) [] a.owes o in
-                  let empty : length h.owed ≡ 0 = sym (length-map h.owed (prefix_owed h.last)) ∙ sym (length-reverse (owed_in h)) ∙ ap length paid in
-                  true≢false (sym ((λ i. k i && (not (more_test (length h.nodes) l i) && zero_test (length h.owed) empty i))) ∙ unpaid)
+                  let some = some_part h partial.paired l in
+                  let a = partial.answered k in
+                  let complete : reverse (expected_in h) ≡ [] = sym (ap (λ z. expected_after z (expected_in h)) some.2) ∙ Expects-one route path (pairs_in h) ([] ∷ []) (expected_after (parts_in h) (expected_in h)) [] a.expects o in
+                  let empty : length h.expected ≡ 0 = sym (length-map h.expected (expected_prefix h.last)) ∙ sym (length-reverse (expected_in h)) ∙ ap length complete in
+                  true≢false (sym ((λ i. k i && (not (more_test (length h.nodes) l i) && zero_test (length h.expected) empty i))) ∙ incomplete)
             ]
           ]
 
@@ -467,28 +467,28 @@ module _ {A : Type 0} (q : List ℕ) where
 
 -- ---- how a part is refused
 
-abbrev is_next : {A : Type 0} → Held A → PartState → Bool
-is_next held t = rise_strictly t.excluded && comes_after (parts_in (holding_of held)) t.prefix
+abbrev is_next : {A : Type 0} → PartialTree A → PartState → Bool
+is_next partial t = rise_strictly t.excluded && comes_after (parts_in (partial_shape_of partial)) t.prefix
 
-module _ {A : Type 0} {plan : TabledPlan} {r : RouteRequest} (held : Held A) {calls : ℕ} {v : Loaded} (is : loaded plan r held calls ≡ v) (t : PartState) where
-  refusal_is : {first may : Bool} → is_next held t ≡ first → may_carry plan.plan r t ≡ may → refusal_by v t ≡ cond (not first) (Some BadOrder) (cond (not may) (Some BadRoute) None)
+module _ {A : Type 0} {plan : TabledPlan} {r : RouteRequest} (partial : PartialTree A) {calls : ℕ} {v : Loaded} (is : loaded plan r partial calls ≡ v) (t : PartState) where
+  refusal_is : {first may : Bool} → is_next partial t ≡ first → may_carry plan.plan r t ≡ may → refusal_by v t ≡ cond (not first) (Some BadOrder) (cond (not may) (Some BadRoute) None)
   refusal_is h k = ap (λ w. refusal_by w t) (sym is) ∙ (λ i. cond (not (h i)) (Some BadOrder) (cond (not (k i)) (Some BadRoute) None))
 
-  pub order_refused : is_next held t ≡ false → refusal_by v t ≡ Some BadOrder
+  pub order_refused : is_next partial t ≡ false → refusal_by v t ≡ Some BadOrder
   order_refused h = refusal_is h refl
 
-  pub not_refused : is_next held t ≡ true → may_carry plan.plan r t ≡ true → refusal_by v t ≡ None
+  pub not_refused : is_next partial t ≡ true → may_carry plan.plan r t ≡ true → refusal_by v t ≡ None
   not_refused h k = refusal_is h k
 
   -- what is reported is the refusal
-  pub carry_told : is_next held t ≡ true → (a f : LoadFault) → IsCarryFault (may_carry plan.plan r t) a → refusal_by v t ≡ Some f → a ≡ f
+  pub carry_told : is_next partial t ≡ true → (a f : LoadFault) → IsCarryFault (may_carry plan.plan r t) a → refusal_by v t ≡ Some f → a ≡ f
   carry_told h BadOrder f k e = absurd k
   carry_told h BadRoute f k e = let both : Some BadRoute ≡ Some f = sym (refusal_is h k) ∙ e in cc
   carry_told h NotClosed f k e = absurd k
   carry_told h BadCount f k e = absurd k
   carry_told h NoMemory f k e = let both : None ≡ Some f = sym (refusal_is h k) ∙ e in cc
 
-  pub carry_accepted : is_next held t ≡ true → (a : LoadFault) → IsCarryFault (may_carry plan.plan r t) a → refusal_by v t ≡ None → a ≡ NoMemory
+  pub carry_accepted : is_next partial t ≡ true → (a : LoadFault) → IsCarryFault (may_carry plan.plan r t) a → refusal_by v t ≡ None → a ≡ NoMemory
   carry_accepted h BadOrder k e = absurd k
   carry_accepted h BadRoute k e = let both : Some BadRoute ≡ None = sym (refusal_is h k) ∙ e in cc
   carry_accepted h NotClosed k e = absurd k

@@ -1,5 +1,5 @@
 -- Steps of a tree some of whose nodes don't carry what they might.
-use Rattle.std.proofs.Common.{◌≡◌, ◌⊎◌, inl, inr, ℕ, zero, suc, ◌+◌, ◌≤◌, true, false, cond, ◌||◌, List, [], ◌∷◌, ◌++◌, take, drop, refl, sym, ap, subst, ◌∙◌, arith, true≢false, Some, None}
+use Rattle.std.proofs.Common.{◌≡◌, ◌⊎◌, inl, inr, ℕ, zero, suc, ◌+◌, ◌≤◌, true, false, cond, ◌||◌, List, [], ◌∷◌, ◌++◌, take, drop, refl, sym, ap, subst, ◌∙◌, arith, true≢false, Option, Some, None}
 use Rattle.std.proofs.lemmas.Bool.{or_cases, or_parts, or_right}
 use Rattle.std.specs.Cmp.{both_ways}
 use Rattle.std.specs.Prelude.{is_some, slice_get}
@@ -8,17 +8,19 @@ use Rattle.std.specs.Ordering.{is_lt}
 use Rattle.sabr_model.specs.plan.Plan.{ContactPlan, IsPlan}
 use Rattle.sabr_model.specs.routes.Arrival.{RouteRequest}
 use Rattle.sabr_model.specs.routes.Record.{RouteRecord, by_record, record_of}
+use Rattle.sabr_search.specs.declared.bound.Bound.{Bound}
+use Rattle.sabr_frontier.specs.declared.giving.give_next.Step.{Step}
 use Rattle.sabr_frontier.specs.declared.tree.Node.{Node}
 use Rattle.sabr_frontier.specs.declared.tree.NodeId.{NodeId}
 use Rattle.sabr_frontier.specs.listing.State.{State}
 use Rattle.sabr_frontier.specs.listing.Listing.{next_route, one_step, searches_for, searches_in}
-use Rattle.sabr_frontier.specs.tree.Asking.{Asked, best_for, steps_for}
+use Rattle.sabr_frontier.specs.tree.Searching.{Asked, best_for, steps_for}
 use Rattle.sabr_frontier.specs.tree.Best.{best_of}
 use Rattle.sabr_frontier.specs.tree.Cut.{AreCutBy, IsBoundFor, IsCutTree, ShowsCut, carries_before, count_before}
 use Rattle.sabr_frontier.specs.tree.Left.{others_carry, part_goes_on, some_carry}
 use Rattle.sabr_frontier.specs.tree.Shape.{Shape, shown}
 use Rattle.sabr_frontier.specs.tree.Sound.{IsTree}
-use Rattle.sabr_frontier.specs.tree.Taking.{IsTaken, divided, divided_with}
+use Rattle.sabr_frontier.specs.tree.Giving.{IsNextGiven, divided, divided_with}
 use Rattle.sabr_frontier.specs.tree.Winners.{CarriesNone, IsFirst, IsLeast}
 use Rattle.sabr_frontier.proofs.TreeLemmas.CarryingNodes.{route_there, searches_are}
 use Rattle.sabr_frontier.proofs.TreeLemmas.CutDivided.{answer_cut, cut_self, cut_sound, divided_cut, stands_in, still_before}
@@ -28,12 +30,12 @@ use Rattle.sabr_frontier.proofs.SessionLemmas.LeftSteps.{left_after, one_step_is
 use Rattle.sabr_frontier.proofs.SessionLemmas.Pages.{counts_one, counts_stop, given_by, nothing_carried, nothing_given, steps_stop}
 
 -- giving the least route that a node of the tree carries is the step of the state, and leaves a tree of the state then
-pub record IsTurn {A : Type 0} (a : Asked) (k : ℕ) (s : State) (v : Shape A) (before after : List RouteRecord) (n : ℕ) : Type 0 where
-  pub step : List ℕ × State
-  pub is : one_step a.plan.plan a.request s ≡ Some step
-  pub given : after ≡ before ++ record_of a.plan.plan a.request step.0 ∷ []
-  pub searches : n ≡ searches_for s step.0
-  pub then : ShowsCut a k step.1 v
+pub record IsTurn {A : Type 0} (a : Asked) (k : ℕ) (s : State) (v : Shape A) (before after : List RouteRecord) (step : Step) : Type 0 where
+  pub next : List ℕ × State
+  pub is : one_step a.plan.plan a.request s ≡ Some next
+  pub given : after ≡ before ++ record_of a.plan.plan a.request next.0 ∷ []
+  pub searches : step.searches ≡ searches_for s next.0
+  pub then : ShowsCut a k next.1 v
 
 -- a sound tree carries all
 pub cut_first : {A : Type 0} (a : Asked) (k : ℕ) (t : Shape A) → IsTree a.plan.plan a.request t → ShowsCut a k (shown t) t
@@ -57,22 +59,22 @@ module _ {A : Type 0} (p : ContactPlan) (r : RouteRequest) (k : ℕ) (u t : Shap
   stands_whole : slice_get u.nodes node.0 ≡ Some n
   stands_whole = stands_in (suc k) t.nodes u.nodes t.nodes h.nodes node n x stands carries
 
-pub cut_turn : {A : Type 0} (a : Asked) (k : ℕ) (s : State) (t v : Shape A) (before after : List RouteRecord) (n : ℕ)
-    → IsPlan a.plan.plan → ShowsCut a (suc k) s t → IsBoundFor a (suc k) t.nodes → IsTaken (best_for a) t v before after n → IsTurn a k s v before after n
-cut_turn a k s t v before after n good h bound taken =
+pub cut_turn : {A : Type 0} (a : Asked) (o : Option Bound) (k : ℕ) (s : State) (t v : Shape A) (before after : List RouteRecord) (step : Step)
+    → IsPlan a.plan.plan → ShowsCut a (suc k) s t → IsBoundFor o (suc k) t.nodes → IsNextGiven (best_for a o) t v before after step → IsTurn a k s v before after step
+cut_turn a o k s t v before after step good h bound taken =
     let p = a.plan.plan in
     let r = a.request in
     let u = h.0 in
-    let node = taken.node in
+    let node = step.node in
     let x = taken.route in
     let stands = stands_whole p r k u t h.2 node taken.part x taken.stands taken.carries taken.least in
     let g = given_by p r good u h.2.sound node taken.part x stands taken.carries (least_whole p r k u t h.2 node taken.part x taken.stands taken.carries taken.least) in
     let D = divided p r u node taken.part x in
-    let C = divided_with (best_for a) t node taken.part x in
-    let cut : IsCutTree p r k D C = divided_cut p r good k u t h.2 (best_for a) node taken.part x taken.stands taken.carries
-    (λ q X. answer_cut k C.nodes p r a.bound q X (λ b y e above. still_before k (best_for a) t node taken.part x y (bound b y e above))) in
+    let C = divided_with (best_for a o) t node taken.part x in
+    let cut : IsCutTree p r k D C = divided_cut p r good k u t h.2 (best_for a o) node taken.part x taken.stands taken.carries
+    (λ q X. answer_cut k C.nodes p r o q X (λ b y e above. still_before k (best_for a o) t node taken.part x y (bound b y e above))) in
     record {
-      step = (x.contacts, shown D);
+      next = (x.contacts, shown D);
       is = ap (one_step p r) h.1 ∙ g.stepped;
       given = taken.given ∙ ap (λ (z : RouteRecord). before ++ z ∷ []) g.told;
       searches = taken.counted ∙ sym (ap (λ z. searches_for z x.contacts) h.1 ∙ searches_are p r u h.2.sound node taken.part x stands taken.carries);
@@ -210,5 +212,5 @@ module _ {A : Type 0} (a : Asked) (good : IsPlan a.plan.plan) (u t : Shape A) (h
   same_step : IsSameStep a (shown u) t
   same_step = elim (carries_cases t.nodes) [ inl none ↦ same_none none | inr w ↦ same_some w.0 w.1 w.2 ]
 
-pub cut_peek : {A : Type 0} (a : Asked) (s : State) (t : Shape A) → IsPlan a.plan.plan → ShowsCut a 2 s t → IsSameStep a s t
-cut_peek a s t good h = subst (λ z. IsSameStep a z t) (sym h.1) (same_step a good h.0 t h.2)
+pub cut_next : {A : Type 0} (a : Asked) (s : State) (t : Shape A) → IsPlan a.plan.plan → ShowsCut a 2 s t → IsSameStep a s t
+cut_next a s t good h = subst (λ z. IsSameStep a z t) (sym h.1) (same_step a good h.0 t h.2)

@@ -19,7 +19,7 @@ use Rattle.sabr_model.specs.routes.Arrival.{RouteRequest}
 use Rattle.sabr_model.proofs.RouteLemmas.Listed.{key_total}
 use Rattle.sabr_frontier.specs.declared.tree.NodeId.{NodeId}
 use Rattle.sabr_frontier.specs.tree.Best.{best_of}
-use Rattle.sabr_frontier.specs.tree.Taking.{divided, fresh_nodes, widened, wide_of}
+use Rattle.sabr_frontier.specs.tree.Giving.{divided, fresh_nodes, widened, wide_of}
 use Rattle.sabr_frontier.specs.tree.Undo.{modify}
 use Rattle.sabr_frontier.proofs.ListingLemmas.AllRoutes.{by_key_exact}
 use Rattle.sabr_frontier.proofs.ListingLemmas.ListMembers.{Member-map, any_has, none_has}

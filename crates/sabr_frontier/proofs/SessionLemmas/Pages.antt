@@ -3,6 +3,8 @@ use Rattle.std.proofs.Common.{◌≡◌, ℕ, zero, suc, ◌+◌, ◌-◌, ◌<�
 use Rattle.sabr_model.specs.plan.Plan.{ContactPlan, IsPlan}
 use Rattle.sabr_model.specs.routes.Arrival.{RouteRequest}
 use Rattle.sabr_model.specs.routes.Record.{RouteRecord, record_of}
+use Rattle.sabr_search.specs.declared.bound.Bound.{Bound}
+use Rattle.sabr_frontier.specs.declared.giving.give_next.Step.{Step}
 use Rattle.sabr_frontier.specs.declared.tree.NodeId.{NodeId}
 use Rattle.sabr_frontier.specs.declared.tree.Node.{Node}
 use Rattle.sabr_frontier.specs.listing.State.{State, PartState, Member}
@@ -11,14 +13,12 @@ use Rattle.std.proofs.lemmas.List.{reverse-append, length_push}
 use Rattle.sabr_frontier.specs.listing.Listing.{one_step, next_route, given_first, steps, searches_for, searches_in}
 use Rattle.sabr_frontier.specs.tree.Shape.{Shape, numbers_of, shown, part_at}
 use Rattle.sabr_frontier.specs.tree.Undo.{CanUndoTimes, undone, undone_times, CanUndo, undone_by}
-use Rattle.sabr_search.specs.declared.bound.Bound.{Bound}
-use Rattle.sabr_frontier.specs.tree.Asking.{Asked, best_for}
-use Rattle.sabr_frontier.specs.tree.Best.{best_of, best_up_to}
-use Rattle.sabr_frontier.specs.tree.Taking.{divided, IsTaken, fresh_nodes}
+use Rattle.sabr_frontier.specs.tree.Searching.{Asked, best_for}
+use Rattle.sabr_frontier.specs.tree.Best.{best_of}
+use Rattle.sabr_frontier.specs.tree.Giving.{divided, IsNextGiven, fresh_nodes}
 use Rattle.sabr_frontier.specs.tree.Winners.{CarriesNone, CarriesSome, IsLeast, IsNext}
-use Rattle.sabr_frontier.specs.tree.Floors.{CarriesOnlyLeast}
 use Rattle.sabr_frontier.specs.tree.Sound.{IsTree}
-use Rattle.sabr_frontier.specs.session.Session.{AreSure, IsSoundFor, IsSound, tree_before, former_of}
+use Rattle.sabr_frontier.specs.session.Session.{IsSoundFor, IsSound, tree_before, former_of}
 use Rattle.sabr_frontier.proofs.TreeLemmas.CarryingNodes.{IsKnown, searches_are, carried_at, inside, next_is, record_is}
 use Rattle.std.specs.Option.{option_map}
 use Rattle.sabr_model.specs.routes.Route.{is_route}
@@ -39,10 +39,9 @@ use Rattle.sabr_frontier.proofs.TreeLemmas.SoundSteps.{tree_divided, undone_divi
 pub new_nodes : (A : Type 0) (best : List ℕ → List ℕ → Option RouteRecord) (leaf : ℕ) (s : List ℕ) (d : ℕ) → d < length s → length (fresh_nodes {A = A} best leaf (take (d + 1) s) (drop (d + 1) s)) + 1 ≡ length s - d
 new_nodes A best leaf s d l = omega (arith, length_fresh A best leaf (take (d + 1) s) (drop (d + 1) s), length-drop (d + 1) s)
 
--- without a bound the searches answer the least routes
-pub taken_whole : {A : Type 0} {a b : Asked} {t u : Shape A} {before after : List RouteRecord} {count : ℕ} → b ≡ a → a.bound ≡ None → IsTaken (best_for b) t u before after count → IsTaken (best_of a.plan.plan a.request) t u before after count
-taken_whole {a = a} {t = t} {u = u} {before = before} {after = after} {count = count} same none w =
-    subst (λ (o : Option Bound). IsTaken (best_up_to a.plan.plan a.request o) t u before after count) none (subst (λ (z : Asked). IsTaken (best_for z) t u before after count) same w)
+-- with the same question the searches answer the same routes
+pub given_same : {A : Type 0} {a b : Asked} {t u : Shape A} {before after : List RouteRecord} {step : Step} (o : Option Bound) → b ≡ a → IsNextGiven (best_for b o) t u before after step → IsNextGiven (best_for a o) t u before after step
+given_same {t = t} {u = u} {before = before} {after = after} {step = step} o same w = subst (λ (z : Asked). IsNextGiven (best_for z o) t u before after step) same w
 
 -- a step from one tree to another is the step of the state, and can be undone
 pub record IsGiven {A : Type 0} (p : ContactPlan) (r : RouteRequest) (t u : Shape A) : Type 0 where
@@ -72,10 +71,10 @@ module _ {A : Type 0} (p : ContactPlan) (r : RouteRequest) (good : IsPlan p) (t 
       can = can_undo p r good t is node n x stands carries;
     }
 
-  pub is_given : (u : Shape A) (before after : List RouteRecord) (count : ℕ) → IsTaken (best_of p r) t u before after count → (g : IsGiven p r t u) × (after ≡ before ++ g.route ∷ []) × (count ≡ searches_for (shown t) g.route.contacts)
-  is_given u before after count w =
-      let Q = λ (z : Shape A). (g : IsGiven p r t z) × (after ≡ before ++ g.route ∷ []) × (count ≡ searches_for (shown t) g.route.contacts) in
-      subst Q (sym w.shape) (given_by w.node w.part w.route w.stands w.carries w.least, w.given, w.counted ∙ sym (searches_are p r t is w.node w.part w.route w.stands w.carries))
+  pub is_given : (u : Shape A) (before after : List RouteRecord) (step : Step) → IsNextGiven (best_of p r) t u before after step → (g : IsGiven p r t u) × (after ≡ before ++ g.route ∷ []) × (step.searches ≡ searches_for (shown t) g.route.contacts)
+  is_given u before after step w =
+      let Q = λ (z : Shape A). (g : IsGiven p r t z) × (after ≡ before ++ g.route ∷ []) × (step.searches ≡ searches_for (shown t) g.route.contacts) in
+      subst Q (sym w.shape) (given_by step.node w.part w.route w.stands w.carries w.least, w.given, w.counted ∙ sym (searches_are p r t is step.node w.part w.route w.stands w.carries))
 
   -- where some node carries a route, a step can be made
   pub some_given : CarriesSome t.nodes → (u : Shape A) × IsGiven p r t u
@@ -131,10 +130,6 @@ module _ {A : Type 0} (p : ContactPlan) (r : RouteRequest) where
   pub sound_tree : (n : ℕ) (t : Shape A) → IsSoundFor p r n t → IsTree p r t
   sound_tree zero t h = h
   sound_tree (suc n) t h = h.0
-
-  pub sure_now : (ss : List ℕ) (t : Shape A) → AreSure p r ss t → CarriesOnlyLeast p r t
-  sure_now [] t h = h
-  sure_now (s ∷ ss) t h = h.0
 
   pub sound_taken : (t u : Shape A) → IsGiven p r t u → IsSound p r t → IsSound p r u
   sound_taken t u g h =

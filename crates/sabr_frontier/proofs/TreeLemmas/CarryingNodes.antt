@@ -24,9 +24,9 @@ use Rattle.sabr_frontier.specs.tree.Shape.{Shape, shown, part_at, part_of, prefi
 use Rattle.sabr_frontier.specs.tree.Undo.{modify}
 use Rattle.sabr_frontier.specs.tree.Winners.{IsFirst, IsLeast}
 use Rattle.sabr_frontier.specs.tree.Queue.{InPairs, IsBefore}
-use Rattle.sabr_frontier.specs.tree.Taking.{nodes_then, widened}
+use Rattle.sabr_frontier.specs.tree.Giving.{nodes_then, widened}
 use Rattle.sabr_frontier.specs.tree.Sound.{IsTree, CanExclude, IsLent}
-use Rattle.sabr_frontier.specs.tree.Asking.{Asked}
+use Rattle.sabr_frontier.specs.tree.Searching.{Asked}
 use Rattle.sabr_frontier.proofs.TreeLemmas.TestBoundaries.{found_is, none_found, pairs_from_rises}
 use Rattle.sabr_frontier.proofs.ListingLemmas.Rising.{is_equal}
 use Rattle.sabr_frontier.proofs.ListingLemmas.NumbersAfter.{lists_exact}

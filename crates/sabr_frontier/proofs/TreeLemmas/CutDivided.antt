@@ -19,7 +19,7 @@ use Rattle.sabr_frontier.specs.tree.Best.{best_of, best_up_to, up_to}
 use Rattle.sabr_frontier.specs.tree.Cut.{AreCutBy, IsCutOf, IsCutTree, count_before}
 use Rattle.sabr_frontier.specs.tree.Shape.{Shape, given_at, ids_from, part_at, part_of, prefix_of, shown, stands_before}
 use Rattle.sabr_frontier.specs.tree.Sound.{IsLent, IsTree}
-use Rattle.sabr_frontier.specs.tree.Taking.{divided, divided_with, fresh_nodes, passing, wide_of, widened, with_block}
+use Rattle.sabr_frontier.specs.tree.Giving.{divided, divided_with, fresh_nodes, passing, wide_of, widened, with_block}
 use Rattle.sabr_frontier.specs.tree.Undo.{modify}
 use Rattle.sabr_frontier.proofs.ListingLemmas.ListMembers.{Member-map, Member-map_cases}
 use Rattle.sabr_frontier.proofs.TreeLemmas.CutTrees.{count-append, count-modify, cut_append, cut_carries, cut_get, cut_modify, cut_weaken}
@@ -120,6 +120,10 @@ module _ {A : Type 0} (p : ContactPlan) (r : RouteRequest) (k : ℕ) (all : List
       counted = λ x m. (let w = is.given.counted x m in (w.0, subst (Member x.contacts) (sym leaves_same) w.1));
       recorded = λ s m. is.given.recorded s (subst (Member s) leaves_same m);
     };
+    least = λ yes n x m e.
+        let w = cut_member k all u.nodes ts h n m in
+        let same = cut_carries k all w.0 n x w.2 e in
+        subst (λ (z : Node A). best_of p r (prefix_of u.leaves z) z.excluded ≡ Some x) (sym same) (is.least yes w.0 x w.1 (ap (λ (z : Node A). z.route) (sym same) ∙ e));
   }
 
 pub cut_sound : {A : Type 0} (p : ContactPlan) (r : RouteRequest) (k : ℕ) (u t : Shape A) → IsCutTree p r k u t → IsTree p r t
@@ -211,6 +215,7 @@ module _ {A : Type 0} (p : ContactPlan) (r : RouteRequest) (good : IsPlan p) (k 
     leaves = u.leaves ++ x ∷ [];
     last = Some (length u.leaves);
     journal = u.journal ++ record { node = node; nodes = long_then i; last = u.last } ∷ [];
+    is_searched = u.is_searched;
   }
 
   module _ (answers : (q X : List ℕ) → IsCutAnswer k C.nodes (best_of p r q X) (cut q X)) where

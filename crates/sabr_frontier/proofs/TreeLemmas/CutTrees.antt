@@ -7,7 +7,7 @@ use Rattle.std.specs.Ordering.{is_lt, nat_cmp, on, ordering_then, then_cmp}
 use Rattle.std.specs.declared.cmp.Ordering.{Ordering}
 use Rattle.std.specs.declared.cmp.Ordering.TheVariants.{Less, Equal}
 use Rattle.sabr_model.specs.Order.{by_numbers}
-use Rattle.sabr_model.specs.routes.Record.{RouteRecord, by_record, by_record_total, record_key, told_entry, told_until}
+use Rattle.sabr_model.specs.routes.Record.{RouteRecord, by_record, by_record_total, record_key, summary_entry, summary_until}
 use Rattle.sabr_frontier.specs.declared.tree.Node.{Node}
 use Rattle.sabr_frontier.specs.declared.tree.NodeId.{NodeId}
 use Rattle.sabr_frontier.specs.tree.Undo.{modify}
@@ -185,11 +185,11 @@ second_less d h l xs ys less =
 
 -- y delivers by d, then with at most h hops, and x doesn't
 pub bound_parts : (d h : ℕ) (x y : RouteRecord) → (y.delivery < d) ⊎ ((y.delivery ≡ d) × (length y.contacts ≤ h)) → (d < x.delivery) ⊎ ((x.delivery ≡ d) × (h < length x.contacts)) → is_lt (by_record y x) ≡ true
-bound_parts d h x y (inl l) (inl g) = ap is_lt (ordering_less (by_numbers (record_key y) (record_key x)) (then_cmp (on told_until nat_cmp) (on told_entry nat_cmp) y x) (first_less y.delivery x.delivery (length y.contacts ∷ y.contacts) (length x.contacts ∷ x.contacts) (omega (arith, l, g))))
-bound_parts d h x y (inl l) (inr g) = (let same = g.0 in ap is_lt (ordering_less (by_numbers (record_key y) (record_key x)) (then_cmp (on told_until nat_cmp) (on told_entry nat_cmp) y x) (first_less y.delivery x.delivery (length y.contacts ∷ y.contacts) (length x.contacts ∷ x.contacts) (omega (arith, l, same)))))
-bound_parts d h x y (inr l) (inl g) = (let same = l.0 in ap is_lt (ordering_less (by_numbers (record_key y) (record_key x)) (then_cmp (on told_until nat_cmp) (on told_entry nat_cmp) y x) (first_less y.delivery x.delivery (length y.contacts ∷ y.contacts) (length x.contacts ∷ x.contacts) (omega (arith, same, g)))))
+bound_parts d h x y (inl l) (inl g) = ap is_lt (ordering_less (by_numbers (record_key y) (record_key x)) (then_cmp (on summary_until nat_cmp) (on summary_entry nat_cmp) y x) (first_less y.delivery x.delivery (length y.contacts ∷ y.contacts) (length x.contacts ∷ x.contacts) (omega (arith, l, g))))
+bound_parts d h x y (inl l) (inr g) = (let same = g.0 in ap is_lt (ordering_less (by_numbers (record_key y) (record_key x)) (then_cmp (on summary_until nat_cmp) (on summary_entry nat_cmp) y x) (first_less y.delivery x.delivery (length y.contacts ∷ y.contacts) (length x.contacts ∷ x.contacts) (omega (arith, l, same)))))
+bound_parts d h x y (inr l) (inl g) = (let same = l.0 in ap is_lt (ordering_less (by_numbers (record_key y) (record_key x)) (then_cmp (on summary_until nat_cmp) (on summary_entry nat_cmp) y x) (first_less y.delivery x.delivery (length y.contacts ∷ y.contacts) (length x.contacts ∷ x.contacts) (omega (arith, same, g)))))
 bound_parts d h x y (inr l) (inr g) =
     let same : y.delivery ≡ x.delivery = l.0 ∙ sym g.0 in
     let few = l.1 in
     let many = g.1 in
-    ap is_lt (ordering_less (by_numbers (record_key y) (record_key x)) (then_cmp (on told_until nat_cmp) (on told_entry nat_cmp) y x) (ap (λ z. by_numbers (z ∷ length y.contacts ∷ y.contacts) (record_key x)) same ∙ second_less x.delivery (length y.contacts) (length x.contacts) y.contacts x.contacts (omega (arith, few, many))))
+    ap is_lt (ordering_less (by_numbers (record_key y) (record_key x)) (then_cmp (on summary_until nat_cmp) (on summary_entry nat_cmp) y x) (ap (λ z. by_numbers (z ∷ length y.contacts ∷ y.contacts) (record_key x)) same ∙ second_less x.delivery (length y.contacts) (length x.contacts) y.contacts x.contacts (omega (arith, few, many))))

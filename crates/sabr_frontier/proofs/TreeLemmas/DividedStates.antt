@@ -21,7 +21,7 @@ use Rattle.sabr_frontier.specs.listing.Step.{carry, parts_after, given, fresh}
 use Rattle.sabr_frontier.specs.tree.Shape.{Shape, shown, part_at, part_of, prefix_of, front_of, contacts_in, numbers_of}
 use Rattle.sabr_frontier.specs.tree.Undo.{modify}
 use Rattle.sabr_frontier.specs.tree.Best.{best_of}
-use Rattle.sabr_frontier.specs.tree.Taking.{passing, stands_before, nodes_then, widened, wide_of, fresh_nodes, ids_from, with_block, divided}
+use Rattle.sabr_frontier.specs.tree.Giving.{passing, stands_before, nodes_then, widened, wide_of, fresh_nodes, ids_from, with_block, divided}
 use Rattle.sabr_frontier.specs.tree.Sound.{IsTree, IsLent}
 use Rattle.sabr_frontier.specs.tree.Queue.{InPairs, IsBefore}
 use Rattle.sabr_frontier.proofs.ListingLemmas.Rising.{turned}

@@ -4,7 +4,7 @@ use Rattle.std.specs.Prelude.{slice_get, slice_index}
 use Rattle.sabr_model.specs.routes.Record.{RouteRecord}
 use Rattle.sabr_frontier.specs.declared.tree.Node.{Node}
 use Rattle.sabr_frontier.specs.tree.Undo.{modify}
-use Rattle.sabr_frontier.specs.tree.Taking.{widened, wide_of}
+use Rattle.sabr_frontier.specs.tree.Giving.{widened, wide_of}
 use Rattle.sabr_frontier.specs.tree.Sound.{CanExclude}
 use Rattle.sabr_frontier.specs.tree.Prepared.{excluding, including, carrying}
 use Rattle.sabr_frontier.proofs.TreeLemmas.ModifiedPlaces.{modify_twice, modify_back, modify_same, get_same}

@@ -11,8 +11,8 @@ use Rattle.sabr_model.proofs.RouteLemmas.Prefixes.{empty_is_prefix}
 use Rattle.sabr_frontier.specs.declared.tree.NodeId.{NodeId}
 use Rattle.sabr_frontier.specs.declared.tree.Node.{Node}
 use Rattle.sabr_frontier.specs.listing.State.{Member}
-use Rattle.sabr_frontier.specs.listing.Listing.{IsState, leaves_in, state_at}
-use Rattle.sabr_frontier.specs.tree.Shape.{Shape, shown, part_at, numbers_of, route_at}
+use Rattle.sabr_frontier.specs.listing.Listing.{IsState, state_at}
+use Rattle.sabr_frontier.specs.tree.Shape.{Shape, shown, part_at, prefix_of, numbers_of, route_at}
 use Rattle.sabr_frontier.specs.tree.Best.{best_of}
 use Rattle.sabr_frontier.specs.tree.Sound.{IsTree}
 use Rattle.sabr_frontier.specs.tree.Root.{root, first_id}
@@ -38,18 +38,16 @@ first_only : (id : NodeId) → id.0 < 1 → id ≡ first_id
 first_only id l = same_node id first_id (omega arith)
 
 module _ (A : Type 0) (p : ContactPlan) (r : RouteRequest) (good : IsPlan p) where
-  root_parts : (found : Option RouteRecord) → ((x : RouteRecord) → found ≡ Some x → x ≡ record_of p r x.contacts) → IsState p r (shown (root {A = A} found)) → leaves_in p r (shown (root {A = A} found)) ≡ [] → IsTree p r (root {A = A} found)
-  root_parts found told formed none = record {
-    formed = formed;
+  pub root_is_tree : IsTree p r (root {A = A} (best_of p r [] []))
+  root_is_tree = record {
+    formed = subst (IsState p r) (sym (shown_root A p r)) (first_formed p r good);
     known = λ id m. elim m [ inl e ↦ (let a : id.0 ≡ 0 = ap (λ (z : NodeId). z.0) e in omega arith) | inr z ↦ absurd z ];
     listed = λ id l. inl (first_only id l);
     lent = λ n m. elim m [ inl e ↦ inl (ap (λ (z : Node A). z.length) e) | inr z ↦ absurd z ];
-    records = λ n x m e. elim m [ inl h ↦ told x (sym (ap (λ (z : Node A). z.route) h) ∙ e) | inr z ↦ absurd z ];
-    given = record { counted = λ x m. absurd m; recorded = λ s m. subst (Member s) none m };
+    records = λ n x m e. elim m [ inl h ↦ best_is p r [] [] x (sym (ap (λ (z : Node A). z.route) h) ∙ e) | inr z ↦ absurd z ];
+    given = record { counted = λ x m. absurd m; recorded = λ s m. m };
+    least = λ _ n x m e. elim m [ inl h ↦ subst (λ (z : Node A). z.route ≡ Some x → best_of p r (prefix_of [] z) z.excluded ≡ Some x) (sym h) (λ c. c) e | inr z ↦ absurd z ];
   }
-
-  pub root_is_tree : IsTree p r (root {A = A} (best_of p r [] []))
-  root_is_tree = root_parts (best_of p r [] []) (best_is p r [] []) (subst (IsState p r) (sym (shown_root A p r)) (first_formed p r good)) refl
 
 -- ---- what is seen of the parts
 
@@ -61,7 +59,7 @@ module _ {A : Type 0} (p : ContactPlan) (r : RouteRequest) (t : Shape A) (is : I
   seen_one : (id : NodeId) → seen_at t.leaves t.nodes id ≡ seen_part p r (part_at t.leaves t.nodes id)
   seen_one id = elim (slice_get t.nodes id.0) as (λ o. slice_get t.nodes id.0 ≡ o → seen_node t.leaves o ≡ seen_part p r (Rattle.sabr_frontier.specs.tree.Shape.part_of t.leaves o)) [
     | None ↦ λ _. refl
-    | Some n ↦ λ e. let w = seen_route n n.route (get_Member t.nodes id.0 n e) refl in λ i. record { prefix = Rattle.sabr_frontier.specs.tree.Shape.prefix_of t.leaves n; excluded = n.excluded; route = w i }
+    | Some n ↦ λ e. let w = seen_route n n.route (get_Member t.nodes id.0 n e) refl in λ i. record { prefix = prefix_of t.leaves n; excluded = n.excluded; route = w i }
   ] refl
 
   pub seen_all : (ids : List NodeId) → map (seen_at t.leaves t.nodes) ids ≡ map (seen_part p r) (map (part_at t.leaves t.nodes) ids)

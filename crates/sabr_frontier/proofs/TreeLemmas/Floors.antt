@@ -17,7 +17,7 @@ use Rattle.sabr_model.proofs.RouteLemmas.Least.{least_some}
 use Rattle.sabr_search.specs.questions.Bounded.{IsFloor}
 use Rattle.sabr_search.proofs.WayLemmas.Prefixes.{goes_on-append, goes_on_parts}
 use Rattle.sabr_frontier.specs.listing.Rising.{has}
-use Rattle.sabr_frontier.specs.tree.Asking.{Asked}
+use Rattle.sabr_frontier.specs.tree.Searching.{Asked}
 use Rattle.sabr_frontier.specs.tree.Best.{best_of}
 use Rattle.sabr_frontier.specs.tree.Floors.{IsFloorAfter}
 use Rattle.sabr_frontier.specs.tree.Shape.{numbers_of}
@@ -100,6 +100,6 @@ floor_least p r good q X x best t inside =
     ]
 
 -- so its delivery is such a second if that is known to be the least, and 0 is in any case
-pub floor_when : (p : ContactPlan) (r : RouteRequest) → IsPlan p → (q X : List ℕ) (x : RouteRecord) (sure : Bool) (d : ℕ) → (IsTrue sure → d ≡ x.delivery) → (IsFalse sure → d ≡ 0) → (IsTrue sure → best_of p r q X ≡ Some x) → IsFloor p r q X d
+pub floor_when : (p : ContactPlan) (r : RouteRequest) → IsPlan p → (q X : List ℕ) (x : RouteRecord) (searched : Bool) (d : ℕ) → (IsTrue searched → d ≡ x.delivery) → (IsFalse searched → d ≡ 0) → (IsTrue searched → best_of p r q X ≡ Some x) → IsFloor p r q X d
 floor_when p r good q X x true d told other best t inside = omega (arith, told refl, floor_least p r good q X x (best refl) t inside)
 floor_when p r good q X x false d told other best t inside = omega (arith, other refl)

@@ -6,7 +6,7 @@ use Rattle.sabr_model.specs.routes.Parts.{number_after}
 use Rattle.sabr_model.specs.routes.Record.{RouteRecord}
 use Rattle.sabr_frontier.specs.declared.tree.Node.{Node}
 use Rattle.sabr_frontier.specs.tree.Left.{longer_go_on}
-use Rattle.sabr_frontier.specs.tree.Taking.{fresh_nodes}
+use Rattle.sabr_frontier.specs.tree.Giving.{fresh_nodes}
 use Rattle.sabr_frontier.proofs.ListingLemmas.NumbersAfter.{number_after-same}
 
 pub number_after-take : (s : List ℕ) (n : ℕ) → n < length s → number_after (take n s) s ≡ Some (get_or s n 0)

@@ -9,7 +9,7 @@ use Rattle.std.proofs.lemmas.List.{take-append-drop}
 use Rattle.sabr_frontier.specs.declared.tree.NodeId.{NodeId}
 use Rattle.sabr_frontier.specs.listing.State.{Member}
 use Rattle.sabr_frontier.specs.tree.Queue.{InPairs}
-use Rattle.sabr_frontier.specs.tree.Taking.{ids_from}
+use Rattle.sabr_frontier.specs.tree.Giving.{ids_from}
 use Rattle.sabr_frontier.proofs.ListingLemmas.ListMembers.{Member-append_left, Member-append_right, Member-append_cases}
 
 -- ---- what stands at a place of a list of nodes, and what is changed there

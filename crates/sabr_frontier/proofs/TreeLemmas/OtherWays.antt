@@ -19,7 +19,7 @@ use Rattle.sabr_frontier.specs.listing.Rising.{has}
 use Rattle.sabr_frontier.specs.tree.Best.{best_of}
 use Rattle.sabr_frontier.specs.tree.Left.{GoesOtherwise, IsOtherWay, longer_go_on, part_goes_on}
 use Rattle.sabr_frontier.specs.tree.Sound.{CanExclude}
-use Rattle.sabr_frontier.specs.tree.Taking.{wide_of}
+use Rattle.sabr_frontier.specs.tree.Giving.{wide_of}
 use Rattle.sabr_frontier.proofs.ListingLemmas.AllRoutes.{has_number, least_none}
 use Rattle.sabr_frontier.proofs.ListingLemmas.NumbersAfter.{number_after-snoc, numbers_exact}
 use Rattle.sabr_frontier.proofs.ListingLemmas.Rising.{put_in_cases}

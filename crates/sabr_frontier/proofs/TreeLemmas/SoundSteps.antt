@@ -18,7 +18,7 @@ use Rattle.sabr_frontier.specs.listing.Listing.{IsState, leaves_in}
 use Rattle.sabr_frontier.specs.tree.Shape.{Shape, shown}
 use Rattle.sabr_frontier.specs.tree.Undo.{modify, undone, without, CanUndo, IsIndexed, given_back, undone_by}
 use Rattle.sabr_frontier.specs.tree.Best.{best_of}
-use Rattle.sabr_frontier.specs.tree.Taking.{passing, stands_before, widened, wide_of, fresh_nodes, ids_from, divided, divided_by}
+use Rattle.sabr_frontier.specs.tree.Giving.{passing, stands_before, widened, wide_of, fresh_nodes, ids_from, divided, divided_by}
 use Rattle.sabr_frontier.specs.tree.Sound.{IsTree, IsLent, AreGiven}
 use Rattle.sabr_frontier.proofs.ListingLemmas.ListMembers.{Member-append_left, Member-append_right, Member-append_cases}
 use Rattle.sabr_frontier.proofs.ListingLemmas.TreeSets.{In-put_in, put_in-In}
@@ -31,6 +31,7 @@ use Rattle.sabr_frontier.proofs.TreeLemmas.ModifiedPlaces.{length-modify, last_i
 use Rattle.sabr_frontier.proofs.TreeLemmas.CarryingNodes.{lent_stable, node_within, here, here_in, cut, can_exclude, record_is}
 use Rattle.sabr_frontier.proofs.TreeLemmas.IndexedNodes.{tree_indexed}
 use Rattle.sabr_frontier.proofs.TreeLemmas.DividedStates.{told_back, shown_divided}
+use Rattle.sabr_frontier.proofs.TreeLemmas.SearchedTrees.{divided_least}
 use Rattle.std.proofs.lemmas.Bool.Decides.{nat_tests}
 use Rattle.std.proofs.lemmas.List.Elements.{filter-append}
 use Rattle.sabr_frontier.specs.declared.tree.Entry.{Entry}
@@ -73,7 +74,7 @@ module _ {A : Type 0} (t : Shape A) (node : NodeId) (part : Node A) (r : RouteRe
   pub undone-after : undone after ≡ t
   undone-after =
       let base : undone after ≡ undone_by after (Some entry) (Some r) = λ i. undone_by after (last_item_push after.journal t.journal entry refl i) (last_item_push after.leaves t.leaves r refl i) in
-      base ∙ (λ i. record { nodes = nodes_back i; index = index_back i; leaves = front_push after.leaves t.leaves r refl i; last = t.last; journal = front_push after.journal t.journal entry refl i })
+      base ∙ (λ i. record { nodes = nodes_back i; index = index_back i; leaves = front_push after.leaves t.leaves r refl i; last = t.last; journal = front_push after.journal t.journal entry refl i; is_searched = t.is_searched })
 
 -- ---- what the searches' records are
 
@@ -198,6 +199,7 @@ module _ {A : Type 0} (p : ContactPlan) (r : RouteRequest) (good : IsPlan p) (t 
       | inr a ↦ fresh_records p r (length t.leaves) q0 (drop (n.length + 1) s) k z a e
     ];
     given = given_then;
+    least = λ yes. divided_least p r t is node n x stands carries (is.least yes);
   }
 
   -- ---- and back

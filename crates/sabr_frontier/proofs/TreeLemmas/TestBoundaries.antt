@@ -12,7 +12,7 @@ use Rattle.std.proofs.lemmas.Bool.{or_parts, cases_Bool}
 use Rattle.sabr_model.specs.Order.{put_in}
 use Rattle.sabr_frontier.specs.listing.Rising.{has, Rises}
 use Rattle.sabr_frontier.specs.listing.State.{Member}
-use Rattle.sabr_frontier.specs.tree.Taking.{passing, put_past}
+use Rattle.sabr_frontier.specs.tree.Giving.{passing, put_past}
 use Rattle.sabr_frontier.specs.tree.Queue.{InPairs}
 use Rattle.sabr_frontier.proofs.ListingLemmas.ListMembers.{Below-member, Member-map}
 use Rattle.sabr_frontier.proofs.TreeLemmas.ModifiedPlaces.{member_at}

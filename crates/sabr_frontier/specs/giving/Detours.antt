@@ -6,7 +6,7 @@ use Rattle.sabr_model.specs.declared.contact.Contact.{Contact}
 use Rattle.sabr_model.specs.plan.Plan.{IsPlan, TabledPlan, contact_named}
 use Rattle.sabr_model.specs.routes.Arrival.{RouteRequest, arrival, arrival_after}
 use Rattle.sabr_model.specs.routes.Route.{chain_end, is_path}
-use Rattle.sabr_search.specs.questions.Course.{AreShut}
+use Rattle.sabr_search.specs.questions.PrefixPath.{AreForbidden}
 use Rattle.sabr_search.specs.questions.Task.{HasNodes, is_closed}
 use Rattle.sabr_frontier.specs.declared.giving.route_front.Place.{Place}
 use Rattle.sabr_frontier.specs.declared.giving.other_way.Onward.{Onward}
@@ -45,7 +45,7 @@ pub record IsRouteEnd (p : TabledPlan) (r : RouteRequest) (e : RouteEnd) : Type 
   pub plan : IsPlan p.plan
   pub nodes : HasNodes p.plan p.table
   pub leads : LeadsTo p r e.front.now e.here
-  pub shuts : AreShut p.table e.shut.now (is_closed p.plan r e.front.now)
+  pub forbids : AreForbidden p.table e.forbidden.now (is_closed p.plan r e.front.now)
   pub goal_is : slice_get p.table e.to ≡ Some r.destination
   pub opens : is_closed p.plan r e.front.now r.destination ≡ false
   pub room : length e.front.now < r.max_hops

@@ -5,7 +5,7 @@ use Rattle.sabr_model.specs.routes.Record.{RouteRecord, record_of}
 use Rattle.sabr_frontier.specs.giving.Detours.{detour_looks}
 use Rattle.sabr_frontier.specs.listing.Listing.{next_route}
 use Rattle.sabr_frontier.specs.session.Session.{Seen, next_page, page_searches}
-use Rattle.sabr_frontier.specs.tree.Asking.{call_looks}
+use Rattle.sabr_frontier.specs.tree.Searching.{call_looks}
 
 -- what callers see: the plan, the routes, whether one is left after them, how often the finder was called, by this
 -- session or before, the looks that the page's searches took, and those that it took besides

@@ -1,18 +1,17 @@
 -- What a session shows, and what holds of it.
-use Rattle.std.specs.Prelude.{◌≡◌, IsTrue, Bool, ℕ, ◌-◌, ◌<◌, zero, suc, List, [], ◌∷◌, length, reverse, Option}
+use Rattle.std.specs.Prelude.{◌≡◌, ℕ, ◌-◌, ◌<◌, zero, suc, List, [], ◌∷◌, length, reverse, Option}
 use Rattle.std.specs.Option.{option_map}
 use Rattle.sabr_model.specs.plan.Plan.{ContactPlan, TabledPlan, IsPlan}
 use Rattle.sabr_model.specs.routes.Arrival.{RouteRequest}
 use Rattle.sabr_model.specs.routes.Asking.{IsRequest}
 use Rattle.sabr_model.specs.routes.Record.{RouteRecord, record_of}
 use Rattle.sabr_frontier.specs.declared.tree.Tree.{Tree}
-use Rattle.sabr_frontier.specs.tree.Asking.{Asking}
+use Rattle.sabr_frontier.specs.tree.Searching.{Searching}
 use Rattle.sabr_frontier.specs.listing.State.{State, PartState}
 use Rattle.sabr_frontier.specs.listing.Listing.{searches_in, state_at, steps}
 use Rattle.sabr_frontier.specs.tree.Shape.{Shape, shape_of, shown}
 use Rattle.sabr_frontier.specs.tree.Undo.{CanUndo, IsRoomy, undone, undone_times}
 use Rattle.sabr_frontier.specs.tree.Sound.{IsTree}
-use Rattle.sabr_frontier.specs.tree.Floors.{CarriesOnlyLeast}
 
 -- what callers see: the plan and the request, the state, the states that can be gone back to, the latest first,
 -- how many searches the last call made, how often the finder was called, by this session or before, and the looks that
@@ -66,24 +65,18 @@ abbrev pub former_of : {A : Type 0} → List ℕ → Shape A → List State
 former_of [] t = []
 former_of (s ∷ ss) t = shown (tree_before s t) ∷ former_of ss (tree_before s t)
 
--- each carried route is the least of its part, now and before each of these pages
-abbrev pub AreSure : {A : Type 0} → ContactPlan → RouteRequest → List ℕ → Shape A → Type 0
-AreSure p r [] t = CarriesOnlyLeast p r t
-AreSure p r (s ∷ ss) t = CarriesOnlyLeast p r t × AreSure p r ss (tree_before s t)
+abbrev pub seen : {A : Type 0} → Searching → Tree A → List ℕ → ℕ → ℕ → Seen
+seen searcher tree pages searches looks =
+    record (session_over searcher.asked.plan searcher.asked.request (shown (shape_of tree)) searcher.calls) { former = former_of (reverse pages) (shape_of tree); searches = searches; looks = looks }
 
-abbrev pub seen : {A : Type 0} → Asking → Tree A → List ℕ → ℕ → ℕ → Seen
-seen asker tree pages searches looks =
-    record (session_over asker.asked.plan asker.asked.request (shown (shape_of tree)) asker.calls) { former = former_of (reverse pages) (shape_of tree); searches = searches; looks = looks }
-
--- what holds of a session; if a search began it, each route that a part carries is its least
-pub record IsSession {A : Type 0} (p : TabledPlan) (r : RouteRequest) (tree : Tree A) (pages : List ℕ) (is_sure : Bool) : Type 0 where
+-- what holds of a session
+pub record IsSession {A : Type 0} (p : TabledPlan) (r : RouteRequest) (tree : Tree A) (pages : List ℕ) : Type 0 where
   pub rules : IsPlan p.plan
   pub limits : IsRequest r
   pub sound : IsSound p.plan r (shape_of tree)
   pub starts : AreStarts (reverse pages) (length tree.journal.items)
   pub index : tree.index.items ≡ (shape_of tree).index
   pub room : IsRoomy tree
-  pub sure : IsTrue is_sure → AreSure p.plan r (reverse pages) (shape_of tree)
 
 -- a state before a page that gave no routes, and before one that gave some
 abbrev pub former_then : List (List ℕ) → State → List State → List State

@@ -21,7 +21,7 @@ abbrev pub up_to : Bound → Option RouteRecord → Option RouteRecord
 up_to b None = None
 up_to b (Some x) = if is_up_to b x.delivery (length x.contacts) then Some x else None
 
--- what a finder is asked up to
+-- the bound of a search
 abbrev pub bound_in : Option Bound → Bound
 bound_in None = no_bound
 bound_in (Some b) = b

@@ -2,6 +2,7 @@
 use Rattle.std.specs.Prelude.{◌≡◌, ◌⊎◌, ℕ, ◌≤◌, suc, Bool, false, List, [], ◌∷◌, length, if◌then◌else◌}
 use Rattle.std.specs.Option.{option_map_or}
 use Rattle.std.specs.Ordering.{is_lt}
+use Rattle.std.specs.declared.option.Option.{Option}
 use Rattle.std.specs.declared.option.Option.TheVariants.{Some, None}
 use Rattle.sabr_model.specs.plan.Plan.{ContactPlan}
 use Rattle.sabr_model.specs.routes.Arrival.{RouteRequest}
@@ -10,7 +11,7 @@ use Rattle.sabr_search.specs.declared.bound.Bound.{Bound}
 use Rattle.sabr_search.specs.questions.Bounded.{is_up_to}
 use Rattle.sabr_frontier.specs.declared.tree.Node.{Node}
 use Rattle.sabr_frontier.specs.listing.State.{State}
-use Rattle.sabr_frontier.specs.tree.Asking.{Asked}
+use Rattle.sabr_frontier.specs.tree.Searching.{Asked}
 use Rattle.sabr_frontier.specs.tree.Shape.{Shape, shown}
 use Rattle.sabr_frontier.specs.tree.Sound.{IsTree}
 
@@ -45,5 +46,5 @@ abbrev pub ShowsCut : {A : Type 0} → Asked → ℕ → State → Shape A → T
 ShowsCut {A} a k s t = (u : Shape A) × (s ≡ shown u) × IsCutTree a.plan.plan a.request k u t
 
 -- what is above the bound, if there is one, comes after at least k that these nodes carry
-abbrev pub IsBoundFor : {A : Type 0} → Asked → ℕ → List (Node A) → Type 0
-IsBoundFor a k nodes = (b : Bound) (x : RouteRecord) → a.bound ≡ Some b → is_up_to b x.delivery (length x.contacts) ≡ false → k ≤ count_before x nodes
+abbrev pub IsBoundFor : {A : Type 0} → Option Bound → ℕ → List (Node A) → Type 0
+IsBoundFor o k nodes = (b : Bound) (x : RouteRecord) → o ≡ Some b → is_up_to b x.delivery (length x.contacts) ≡ false → k ≤ count_before x nodes

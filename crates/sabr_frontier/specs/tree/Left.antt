@@ -7,7 +7,7 @@ use Rattle.sabr_model.specs.routes.Record.{RouteRecord}
 use Rattle.sabr_model.specs.routes.Route.{is_route}
 use Rattle.sabr_frontier.specs.declared.tree.NodeId.{NodeId}
 use Rattle.sabr_frontier.specs.declared.tree.Node.{Node}
-use Rattle.sabr_frontier.specs.tree.Taking.{wide_of}
+use Rattle.sabr_frontier.specs.tree.Giving.{wide_of}
 
 -- some node carries a route
 abbrev pub some_carry : {A : Type 0} → List (Node A) → Bool

@@ -5,7 +5,7 @@ use Rattle.sabr_frontier.specs.declared.tree.NodeId.{NodeId}
 use Rattle.sabr_frontier.specs.declared.tree.Node.{Node}
 use Rattle.sabr_frontier.specs.tree.Shape.{Shape, order_of}
 use Rattle.sabr_frontier.specs.tree.Undo.{modify, without}
-use Rattle.sabr_frontier.specs.tree.Taking.{fresh_after, wide_of}
+use Rattle.sabr_frontier.specs.tree.Giving.{fresh_after, wide_of}
 
 -- the node with the number after its prefix in s among those that it excludes, and without it
 abbrev pub excluding : {A : Type 0} → List ℕ → Node A → Node A
@@ -31,4 +31,5 @@ given_by t node x found first =
       leaves = t.leaves ++ x ∷ [];
       last = Some (length t.leaves);
       journal = t.journal ++ record { node = node; nodes = first; last = t.last } ∷ [];
+      is_searched = t.is_searched;
     }

@@ -1,5 +1,5 @@
 -- The tree before any route is given.
-use Rattle.std.specs.Prelude.{[], ◌∷◌, Option, None}
+use Rattle.std.specs.Prelude.{[], ◌∷◌, Option, None, true}
 use Rattle.sabr_model.specs.routes.Record.{RouteRecord}
 use Rattle.sabr_frontier.specs.declared.tree.NodeId.{NodeId}
 use Rattle.sabr_frontier.specs.tree.Shape.{Shape}
@@ -16,4 +16,5 @@ root found = record {
   leaves = [];
   last = None;
   journal = [];
+  is_searched = true;
 }

@@ -19,6 +19,7 @@ pub record Shape (A : Type 0) : Type 0 where
   pub leaves : List RouteRecord
   pub last : Option ℕ
   pub journal : List Entry
+  pub is_searched : Bool
 
 -- the first n numbers of a route
 abbrev pub front_of : Option RouteRecord → ℕ → List ℕ
@@ -65,7 +66,7 @@ order_of leaves nodes = in_order (by_prefix leaves nodes) (ids_from 0 (length no
 
 -- its index is that of all nodes, at each time
 abbrev pub shape_of : {A : Type 0} → Tree A → Shape A
-shape_of t = record { nodes = t.nodes.items; index = order_of t.leaves.items t.nodes.items; leaves = t.leaves.items; last = t.last; journal = t.journal.items }
+shape_of t = record { nodes = t.nodes.items; index = order_of t.leaves.items t.nodes.items; leaves = t.leaves.items; last = t.last; journal = t.journal.items; is_searched = t.is_searched }
 
 -- the route of the leaf with this number
 abbrev pub given_at : List RouteRecord → Option ℕ → List ℕ

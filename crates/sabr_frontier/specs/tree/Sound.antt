@@ -1,5 +1,5 @@
 -- When a tree stands for a well-formed state.
-use Rattle.std.specs.Prelude.{◌≡◌, ℕ, ◌<◌, ◌≤◌, false, ◌⊎◌, List, length, Some, slice_get, slice_index}
+use Rattle.std.specs.Prelude.{◌≡◌, ℕ, ◌<◌, ◌≤◌, false, ◌⊎◌, List, length, Some, slice_get, slice_index, IsTrue}
 use Rattle.std.specs.Ordering.{nat_cmp}
 use Rattle.sabr_model.specs.plan.Plan.{ContactPlan}
 use Rattle.sabr_model.specs.routes.Arrival.{RouteRequest}
@@ -9,6 +9,7 @@ use Rattle.sabr_frontier.specs.declared.tree.Node.{Node}
 use Rattle.sabr_frontier.specs.listing.Rising.{has, Rises}
 use Rattle.sabr_frontier.specs.listing.State.{Member}
 use Rattle.sabr_frontier.specs.listing.Listing.{IsState, leaves_in}
+use Rattle.sabr_frontier.specs.tree.Floors.{CarriesOnlyLeast}
 use Rattle.sabr_frontier.specs.tree.Shape.{Shape, shown}
 
 -- the node's prefix is empty, or a front of a leaf that is there and long enough
@@ -27,6 +28,7 @@ pub record IsTree {A : Type 0} (p : ContactPlan) (r : RouteRequest) (t : Shape A
   pub lent : (n : Node A) → Member n t.nodes → IsLent t.leaves n
   pub records : (n : Node A) (x : RouteRecord) → Member n t.nodes → n.route ≡ Some x → x ≡ record_of p r x.contacts
   pub given : AreGiven p r t
+  pub least : IsTrue t.is_searched → CarriesOnlyLeast p r t
 
 -- the list goes on after the node's prefix with a number that the node doesn't exclude
 pub record CanExclude {A : Type 0} (n : Node A) (s : List ℕ) : Type 0 where

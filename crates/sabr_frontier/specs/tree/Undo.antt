@@ -50,6 +50,7 @@ undone_by t (Some e) (Some r) = record {
   leaves = front t.leaves;
   last = e.last;
   journal = front t.journal;
+  is_searched = t.is_searched;
 }
 undone_by t None r = t
 undone_by t (Some e) None = t

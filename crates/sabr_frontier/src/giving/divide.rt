@@ -3,19 +3,19 @@
 ghost use Rattle.std.specs.Prelude.{◌≡◌, ◌+◌, ◌≤◌, ◌<◌, ◌++◌, ◌∷◌, [], take, drop, length, slice_index, vec_len, vec_capacity, IfOk, OnOk, OnErr, IsTrue};
 ghost use Rattle.std.specs.Ordering.{nat_cmp};
 ghost use Rattle.sabr_model.specs.routes.Route.{is_route};
-ghost use Rattle.sabr_frontier.specs.tree.Asking.{best_for};
+ghost use Rattle.sabr_frontier.specs.tree.Searching.{best_for};
 ghost use Rattle.sabr_frontier.specs.tree.Floors.{IsFloorAfter, IsFloorOf};
 ghost use Rattle.sabr_frontier.specs.listing.Rising.{Rises};
 ghost use Rattle.sabr_frontier.specs.tree.Undo.{modify};
-ghost use Rattle.sabr_frontier.specs.tree.Taking.{OfNode, fresh_after, fresh_node, fresh_nodes, wide_of};
+ghost use Rattle.sabr_frontier.specs.tree.Giving.{OfNode, fresh_after, fresh_node, fresh_nodes, wide_of};
 ghost use Rattle.sabr_frontier.specs.tree.Sound.{CanExclude};
 ghost use Rattle.sabr_frontier.specs.tree.Prepared.{excluding, including, parted};
 
-use crate::giving::asker::Asker;
+use crate::giving::searcher::Searcher;
 use crate::tree::excluded_numbers::ExcludedNumbers;
 use crate::tree::{Node, NodeId};
 use sabr_model::{NoMemory, Numbers, Route};
-use sabr_search::BestOf;
+use sabr_search::{BestOf, Bound};
 use std::alloc::Allocator;
 use std::slice;
 
@@ -39,55 +39,63 @@ pub fn numbers<A: Allocator + Copy>(route: &Route<A>) -> &[u32]
     route.contacts.as_slice()
 }
 
-/// What is known of a route that is given.
+/// What is known of a route that is given, and of those that come after it.
 #[derive(Clone, Copy)]
 pub struct Given {
     /// The leaf that it is then.
     pub leaf: usize,
     /// A second before which no route of the part that carried it delivers.
     pub floor: u64,
+    /// The bound of the searches for the new parts' routes, if they have one.
+    pub bound: Option<Bound>,
 }
 
-/// Asks for the best route that begins with the first `count` numbers of a route and takes another number next. None
+/// Finds the best route that begins with the first `count` numbers of a route and takes another number next. None
 /// that goes on after these delivers before the second `floor`.
 #[tactic(auto, using(crate::proofs::ListingLemmas::Paths::beginning_fits, crate::proofs::TreeLemmas::Floors::floor_one))]
-pub fn ask_after<B: BestOf<A>, A: Allocator + Copy>(
-    asker: &mut Asker<'_, B, A>,
+pub fn find_best_after<B: BestOf<A>, A: Allocator + Copy>(
+    searcher: &mut Searcher<'_, B, A>,
     route: &[u32],
     count: usize,
     floor: u64,
+    bound: Option<Bound>,
 ) -> Result<Option<Route<A>>, NoMemory>
-    requires floor { IsFloorAfter asker.old.asked.plan.plan asker.old.asked.request route.now count floor }
-    requires route { IsTrue (is_route asker.old.asked.plan.plan asker.old.asked.request route.now) }
+    requires floor { IsFloorAfter searcher.old.asked.plan.plan searcher.old.asked.request route.now count floor }
+    requires route { IsTrue (is_route searcher.old.asked.plan.plan searcher.old.asked.request route.now) }
     requires longer { count < length route.now }
-    ensures best { IfOk result (λ found. found ≡ best_for asker.old.asked (take count route.now) (slice_index route.now count ∷ [])) }
-    ensures called { asker.new.calls ≡ asker.old.calls + 1 }
-    ensures same { asker.new.asked ≡ asker.old.asked }
+    ensures best { IfOk result (λ found. found ≡ best_for searcher.old.asked bound (take count route.now) (slice_index route.now count ∷ [])) }
+    ensures called { searcher.new.calls ≡ searcher.old.calls + 1 }
+    ensures same { searcher.new.asked ≡ searcher.old.asked }
 {
-    asker.ask(&route[..count], slice::from_ref(&route[count]), floor)
+    searcher.find_best(
+        &route[..count],
+        slice::from_ref(&route[count]),
+        floor,
+        bound,
+    )
 }
 
 /// Makes the node of a leaf for the first `count` numbers of a route, with its next number excluded.
 fn fresh_node<B: BestOf<A>, A: Allocator + Copy>(
-    asker: &mut Asker<'_, B, A>,
+    searcher: &mut Searcher<'_, B, A>,
     route: &[u32],
     given: Given,
     count: usize,
 ) -> Result<Node<A>, NoMemory>
-    requires floor { IsFloorAfter asker.old.asked.plan.plan asker.old.asked.request route.now count given.floor }
-    requires route { IsTrue (is_route asker.old.asked.plan.plan asker.old.asked.request route.now) }
+    requires floor { IsFloorAfter searcher.old.asked.plan.plan searcher.old.asked.request route.now count given.floor }
+    requires route { IsTrue (is_route searcher.old.asked.plan.plan searcher.old.asked.request route.now) }
     requires longer { count < length route.now }
 
     // It finds the node by one search, which may fail. The question stays.
-    ensures node { IfOk result (λ n. n ≡ fresh_node (best_for asker.old.asked) given.leaf route.now count) }
-    ensures called { asker.new.calls ≡ asker.old.calls + 1 }
-    ensures same { asker.new.asked ≡ asker.old.asked }
+    ensures node { IfOk result (λ n. n ≡ fresh_node (best_for searcher.old.asked given.bound) given.leaf route.now count) }
+    ensures called { searcher.new.calls ≡ searcher.old.calls + 1 }
+    ensures same { searcher.new.asked ≡ searcher.old.asked }
 {
-    let found = ask_after(asker, route, count, given.floor)?;
+    let found = find_best_after(searcher, route, count, given.floor, given.bound)?;
     Ok(Node {
         leaf: given.leaf,
         length: count,
-        excluded: ExcludedNumbers::one(asker.alloc(), route[count]),
+        excluded: ExcludedNumbers::one(searcher.alloc(), route[count]),
         route: found,
     })
 }
@@ -96,32 +104,32 @@ fn fresh_node<B: BestOf<A>, A: Allocator + Copy>(
 /// There is room for them. If an allocation failed, some may have been added.
 #[tactic(auto, using(crate::proofs::TreeLemmas::ListFronts::fresh_push, crate::proofs::TreeLemmas::ListFronts::fresh_all))]
 fn fresh_nodes<B: BestOf<A>, A: Allocator + Copy>(
-    asker: &mut Asker<'_, B, A>,
+    searcher: &mut Searcher<'_, B, A>,
     nodes: &mut Vec<Node<A>, A>,
     route: &[u32],
     given: Given,
     first: usize,
 ) -> Result<(), NoMemory>
-    requires route { IsTrue (is_route asker.old.asked.plan.plan asker.old.asked.request route.now) }
-    requires floor { IsFloorAfter asker.old.asked.plan.plan asker.old.asked.request route.now first given.floor }
+    requires route { IsTrue (is_route searcher.old.asked.plan.plan searcher.old.asked.request route.now) }
+    requires floor { IsFloorAfter searcher.old.asked.plan.plan searcher.old.asked.request route.now first given.floor }
     requires within { first ≤ length route.now }
     requires room { vec_len nodes.old + length route.now ≤ vec_capacity nodes.old + first }
 
     // It adds a node for each number left, by a search each.
-    ensures nodes { OnOk result (nodes.new.items ≡ nodes.old.items ++ fresh_nodes (best_for asker.old.asked) given.leaf (take first route.now) (drop first route.now)) }
-    ensures called { OnOk result (asker.new.calls + vec_len nodes.old ≡ asker.old.calls + vec_len nodes.new) }
+    ensures nodes { OnOk result (nodes.new.items ≡ nodes.old.items ++ fresh_nodes (best_for searcher.old.asked given.bound) given.leaf (take first route.now) (drop first route.now)) }
+    ensures called { OnOk result (searcher.new.calls + vec_len nodes.old ≡ searcher.old.calls + vec_len nodes.new) }
 
     // If an allocation failed, some of the searches were taken, and some of the nodes may stay.
-    ensures no_fewer { OnErr result (asker.old.calls ≤ asker.new.calls) }
-    ensures at_most { OnErr result (asker.new.calls + first ≤ asker.old.calls + length route.now) }
+    ensures no_fewer { OnErr result (searcher.old.calls ≤ searcher.new.calls) }
+    ensures at_most { OnErr result (searcher.new.calls + first ≤ searcher.old.calls + length route.now) }
 
     // The question and the former nodes stay.
     ensures longer { OnOk result (vec_len nodes.old ≤ vec_len nodes.new) }
-    ensures same { asker.new.asked ≡ asker.old.asked }
+    ensures same { searcher.new.asked ≡ searcher.old.asked }
     ensures front { take (length nodes.old.items) nodes.new.items ≡ nodes.old.items }
 {
     for count in first..route.len() {
-        let node = fresh_node(asker, route, given, count)?;
+        let node = fresh_node(searcher, route, given, count)?;
         nodes.push_reserved(node);
     }
     Ok(())
@@ -131,38 +139,43 @@ fn fresh_nodes<B: BestOf<A>, A: Allocator + Copy>(
 /// a leaf. It takes one search for the node itself, and one for each new node.
 #[tactic(auto, using(crate::proofs::ListingLemmas::Paths::beginning_fits, crate::proofs::TreeLemmas::ModifiedPlaces::get_there, crate::proofs::TreeLemmas::TestBoundaries::increasing))]
 fn search<B: BestOf<A>, A: Allocator + Copy>(
-    asker: &mut Asker<'_, B, A>,
+    searcher: &mut Searcher<'_, B, A>,
     nodes: &mut Vec<Node<A>, A>,
     node: NodeId,
     route: &[u32],
     given: Given,
 ) -> Result<Option<Route<A>>, NoMemory>
     requires in_range { node.0 < vec_len nodes.old }
-    requires route { IsTrue (is_route asker.old.asked.plan.plan asker.old.asked.request route.now) }
+    requires route { IsTrue (is_route searcher.old.asked.plan.plan searcher.old.asked.request route.now) }
     requires longer { OfNode nodes.old.items node (λ n. n.length < length route.now) }
     requires rising { OfNode nodes.old.items node (λ n. Rises nat_cmp n.excluded) }
-    requires floor { OfNode nodes.old.items node (IsFloorOf asker.old.asked.plan.plan asker.old.asked.request route.now given.floor) }
-    requires after { OfNode nodes.old.items node (λ n. IsFloorAfter asker.old.asked.plan.plan asker.old.asked.request route.now (n.length + 1) given.floor) }
+    requires floor { OfNode nodes.old.items node (IsFloorOf searcher.old.asked.plan.plan searcher.old.asked.request route.now given.floor) }
+    requires after { OfNode nodes.old.items node (λ n. IsFloorAfter searcher.old.asked.plan.plan searcher.old.asked.request route.now (n.length + 1) given.floor) }
     requires room { vec_len nodes.old + length route.now ≤ vec_capacity nodes.old }
 
     // It finds what the node carries, and adds the new nodes, by a search each.
-    ensures found { IfOk result (λ found. OfNode nodes.old.items node (λ n. found ≡ best_for asker.old.asked (take n.length route.now) n.excluded)) }
-    ensures nodes { OnOk result (OfNode nodes.old.items node (λ n. nodes.new.items ≡ nodes.old.items ++ fresh_after (best_for asker.old.asked) given.leaf n route.now)) }
-    ensures called { OnOk result (asker.new.calls + vec_len nodes.old ≡ asker.old.calls + (vec_len nodes.new + 1)) }
+    ensures found { IfOk result (λ found. OfNode nodes.old.items node (λ n. found ≡ best_for searcher.old.asked given.bound (take n.length route.now) n.excluded)) }
+    ensures nodes { OnOk result (OfNode nodes.old.items node (λ n. nodes.new.items ≡ nodes.old.items ++ fresh_after (best_for searcher.old.asked given.bound) given.leaf n route.now)) }
+    ensures called { OnOk result (searcher.new.calls + vec_len nodes.old ≡ searcher.old.calls + (vec_len nodes.new + 1)) }
 
     // If an allocation failed, some of the searches were taken, and some of the nodes may stay.
-    ensures no_fewer { OnErr result (asker.old.calls ≤ asker.new.calls) }
-    ensures at_most { OnErr result (OfNode nodes.old.items node (λ n. asker.new.calls + n.length ≤ asker.old.calls + length route.now)) }
+    ensures no_fewer { OnErr result (searcher.old.calls ≤ searcher.new.calls) }
+    ensures at_most { OnErr result (OfNode nodes.old.items node (λ n. searcher.new.calls + n.length ≤ searcher.old.calls + length route.now)) }
 
     // The question and the former nodes stay.
     ensures longer { OnOk result (vec_len nodes.old ≤ vec_len nodes.new) }
-    ensures same { asker.new.asked ≡ asker.old.asked }
+    ensures same { searcher.new.asked ≡ searcher.old.asked }
     ensures front { take (length nodes.old.items) nodes.new.items ≡ nodes.old.items }
 {
     let part = &nodes[node.0];
     let count = part.length;
-    let found = asker.ask(&route[..count], part.excluded.as_slice(), given.floor)?;
-    fresh_nodes(asker, nodes, route, given, count + 1)?;
+    let found = searcher.find_best(
+        &route[..count],
+        part.excluded.as_slice(),
+        given.floor,
+        given.bound,
+    )?;
+    fresh_nodes(searcher, nodes, route, given, count + 1)?;
     Ok(found)
 }
 
@@ -202,35 +215,35 @@ fn include_next<A: Allocator + Copy>(nodes: &mut Vec<Node<A>, A>, node: NodeId, 
 /// the nodes are as they were.
 #[tactic(auto, using(crate::proofs::TreeLemmas::ModifiedPlaces::get_same))]
 pub fn divide<B: BestOf<A>, A: Allocator + Copy>(
-    asker: &mut Asker<'_, B, A>,
+    searcher: &mut Searcher<'_, B, A>,
     nodes: &mut Vec<Node<A>, A>,
     node: NodeId,
     route: &[u32],
     given: Given,
 ) -> Result<Option<Route<A>>, NoMemory>
     requires in_range { node.0 < vec_len nodes.old }
-    requires route { IsTrue (is_route asker.old.asked.plan.plan asker.old.asked.request route.now) }
+    requires route { IsTrue (is_route searcher.old.asked.plan.plan searcher.old.asked.request route.now) }
     requires next { OfNode nodes.old.items node (λ n. CanExclude n route.now) }
-    requires floor { OfNode nodes.old.items node (IsFloorOf asker.old.asked.plan.plan asker.old.asked.request route.now given.floor) }
+    requires floor { OfNode nodes.old.items node (IsFloorOf searcher.old.asked.plan.plan searcher.old.asked.request route.now given.floor) }
     requires room { vec_len nodes.old + length route.now ≤ vec_capacity nodes.old }
 
     // It finds what the node carries, and changes and adds nodes, by a search each.
-    ensures found { IfOk result (λ found. OfNode nodes.old.items node (λ n. found ≡ best_for asker.old.asked (take n.length route.now) (wide_of n route.now))) }
-    ensures ok { OnOk result (OfNode nodes.old.items node (λ n. nodes.new.items ≡ parted (best_for asker.old.asked) given.leaf nodes.old.items node route.now n)) }
-    ensures called { OnOk result (asker.new.calls + vec_len nodes.old ≡ asker.old.calls + (vec_len nodes.new + 1)) }
+    ensures found { IfOk result (λ found. OfNode nodes.old.items node (λ n. found ≡ best_for searcher.old.asked given.bound (take n.length route.now) (wide_of n route.now))) }
+    ensures ok { OnOk result (OfNode nodes.old.items node (λ n. nodes.new.items ≡ parted (best_for searcher.old.asked given.bound) given.leaf nodes.old.items node route.now n)) }
+    ensures called { OnOk result (searcher.new.calls + vec_len nodes.old ≡ searcher.old.calls + (vec_len nodes.new + 1)) }
 
     // If an allocation failed, some of the searches were taken, and the nodes are as they were.
-    ensures no_fewer { OnErr result (asker.old.calls ≤ asker.new.calls) }
-    ensures at_most { OnErr result (OfNode nodes.old.items node (λ n. asker.new.calls + n.length ≤ asker.old.calls + length route.now)) }
+    ensures no_fewer { OnErr result (searcher.old.calls ≤ searcher.new.calls) }
+    ensures at_most { OnErr result (OfNode nodes.old.items node (λ n. searcher.new.calls + n.length ≤ searcher.old.calls + length route.now)) }
     ensures err { OnErr result (nodes.new.items ≡ nodes.old.items) }
 
     // No node goes, and the question stays.
     ensures longer { OnOk result (vec_len nodes.old ≤ vec_len nodes.new) }
-    ensures same { asker.new.asked ≡ asker.old.asked }
+    ensures same { searcher.new.asked ≡ searcher.old.asked }
 {
     exclude_next(nodes, node, route)?;
     let count = nodes.len();
-    match search(asker, nodes, node, route, given) {
+    match search(searcher, nodes, node, route, given) {
         Ok(found) => Ok(found),
         Err(refused) => {
             nodes.truncate(count);

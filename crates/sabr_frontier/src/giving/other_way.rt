@@ -27,7 +27,7 @@ const MAX_LINKS: usize = 64;
 pub struct RouteEnd<'a> {
     pub front: &'a [u32],
     pub here: Place,
-    pub shut: &'a [bool],
+    pub forbidden: &'a [bool],
     pub to: usize,
     pub last: u32,
     pub excluded: &'a [u32],
@@ -152,8 +152,8 @@ fn ends_on<A: Allocator + Copy>(
     is_other(end, onward.number)
 }
 
-/// Returns true if the route may go on by a contact of this leg in place of its last one, and end on one more. Of the
-/// first only the first that hasn't ended is tried, and of the others the last.
+/// Returns true if the route may take a contact of this leg in place of its last one, and then end on one more contact.
+/// Only one pair is tried: the first contact of the leg that hasn't ended, and the last contact of the second link.
 fn takes_detour<A: Allocator + Copy>(
     plan: &CountedPlan<'_, A>,
     looks: &mut Looks,
@@ -170,7 +170,7 @@ fn takes_detour<A: Allocator + Copy>(
     ensures fewer { looks.new.left ≤ looks.old.left }
     ensures yes { IsTrue result → IsOtherWay plan.now.plan request.now end.entry.front.now end.entry.last end.entry.excluded.now }
 {
-    if leg.to == end.to || end.shut[leg.to] {
+    if leg.to == end.to || end.forbidden[leg.to] {
         return false;
     }
     let at = end.here.at;
@@ -224,8 +224,8 @@ pub struct Ending<'a> {
     pub excluded: &'a [u32],
 }
 
-/// Returns true if a route may go on otherwise than by its last number: by one that isn't excluded, on which it ends,
-/// or after which one more leads to the destination. Of the first only the last pass of the link is tried.
+/// Returns true if a route is seen to have another ending in place of its last number. Either one number that isn't
+/// excluded leads to the destination; only the last contact of its link is tried. Or there is a detour of two numbers.
 ///
 /// It takes a look for each contact of the route, and at most two for each link that is tried.
 ///
@@ -245,7 +245,7 @@ pub fn goes_otherwise<A: Allocator + Copy>(
     ensures fewer { looks.new.left ≤ looks.old.left }
     ensures yes { IfOk result (λ yes. IsTrue yes → GoesOtherwise plan.now.plan request.now ending.entry.route.now ending.entry.excluded.now) }
 {
-    plan.tell_rules();
+    plan.rules_hold();
     plan.nodes();
     let Some((last, front)) = ending.route.split_last() else {
         return Ok(false);
@@ -259,7 +259,7 @@ pub fn goes_otherwise<A: Allocator + Copy>(
     let end = RouteEnd {
         front,
         here: led.here,
-        shut: led.shut.as_slice(),
+        forbidden: led.forbidden.as_slice(),
         to,
         last: *last,
         excluded: ending.excluded,

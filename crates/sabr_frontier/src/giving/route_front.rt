@@ -3,7 +3,7 @@
 ghost use Rattle.std.specs.Prelude.{◌≡◌, ℕ, ◌+◌, ◌≤◌, [], false, length, IfOk, IfSome, IsTrue, slice_index_or};
 ghost use Rattle.sabr_model.specs.plan.Plan.{IsPlan, has};
 ghost use Rattle.sabr_model.specs.routes.Route.{is_prefix};
-ghost use Rattle.sabr_search.specs.questions.Course.{AreShut};
+ghost use Rattle.sabr_search.specs.questions.PrefixPath.{AreForbidden};
 ghost use Rattle.sabr_search.specs.questions.Task.{HasNodes, is_closed};
 ghost use Rattle.sabr_frontier.specs.giving.Detours.{LeadsTo};
 
@@ -23,23 +23,23 @@ pub struct Place {
 #[derive(Drop)]
 pub struct RouteFront<A: Allocator + Copy> {
     pub here: Place,
-    pub shut: Vec<bool, A>,
+    pub forbidden: Vec<bool, A>,
 }
 
 /// Forbids the nodes to avoid. All are open before.
-fn shut_avoided<A: Allocator + Copy>(
-    shut: &mut Vec<bool, A>,
+fn forbid_avoided<A: Allocator + Copy>(
+    forbidden: &mut Vec<bool, A>,
     plan: &CountedPlan<'_, A>,
     request: &Request,
 )
     requires nodes { HasNodes plan.now.plan plan.now.table }
-    requires many { length shut.old.items ≡ length plan.now.table }
-    requires none { (k : ℕ) → slice_index_or shut.old.items k false ≡ false }
-    ensures { AreShut plan.now.table shut.new.items (λ x. has x request.now.avoided) }
+    requires many { length forbidden.old.items ≡ length plan.now.table }
+    requires none { (k : ℕ) → slice_index_or forbidden.old.items k false ≡ false }
+    ensures { AreForbidden plan.now.table forbidden.new.items (λ x. has x request.now.avoided) }
 {
     for node in request.avoided() {
         if let Some(index) = plan.node_index(*node) {
-            shut[index] = true;
+            forbidden[index] = true;
         }
     }
 }
@@ -52,20 +52,20 @@ fn start<A: Allocator + Copy>(
 ) -> Result<Option<RouteFront<A>>, NoMemory>
     requires nodes { HasNodes plan.now.plan plan.now.table }
     ensures leads { IfOk result (λ o. IfSome o (λ f. LeadsTo plan.now request.now [] f.here)) }
-    ensures shuts { IfOk result (λ o. IfSome o (λ f. AreShut plan.now.table f.shut.items (is_closed plan.now.plan request.now []))) }
+    ensures forbids { IfOk result (λ o. IfSome o (λ f. AreForbidden plan.now.table f.forbidden.items (is_closed plan.now.plan request.now []))) }
 {
     let Some(source) = plan.node_index(request.from()) else {
         return Ok(None);
     };
-    let mut shut = Vec::new(alloc);
-    shut.resize(plan.nodes(), false)?;
-    shut_avoided(&mut shut, plan, request);
-    shut[source] = true;
+    let mut forbidden = Vec::new(alloc);
+    forbidden.resize(plan.nodes(), false)?;
+    forbid_avoided(&mut forbidden, plan, request);
+    forbidden[source] = true;
     let here = Place {
         node: source,
         at: request.at(),
     };
-    Ok(Some(RouteFront { here, shut }))
+    Ok(Some(RouteFront { here, forbidden }))
 }
 
 /// Follows the front of a route: one look for each of its numbers.
@@ -87,12 +87,15 @@ pub fn follow_front<A: Allocator + Copy>(
     ensures looks { looks.old.left ≤ looks.new.left + length front.now }
     ensures fewer { looks.new.left ≤ looks.old.left }
     ensures leads { IfOk result (λ o. IfSome o (λ f. LeadsTo plan.now request.now front.now f.here)) }
-    ensures shuts { IfOk result (λ o. IfSome o (λ f. AreShut plan.now.table f.shut.items (is_closed plan.now.plan request.now front.now))) }
+    ensures forbids { IfOk result (λ o. IfSome o (λ f. AreForbidden plan.now.table f.forbidden.items (is_closed plan.now.plan request.now front.now))) }
 {
     let Some(first) = start(alloc, plan, request)? else {
         return Ok(None);
     };
-    let RouteFront { mut here, mut shut } = first;
+    let RouteFront {
+        mut here,
+        mut forbidden,
+    } = first;
     for place in 0..front.len() {
         let Some(hop) = plan.hop(looks, front[place]) else {
             unreachable!()
@@ -104,7 +107,7 @@ pub fn follow_front<A: Allocator + Copy>(
             node: hop.receiver,
             at,
         };
-        shut[hop.receiver] = true;
+        forbidden[hop.receiver] = true;
     }
-    Ok(Some(RouteFront { here, shut }))
+    Ok(Some(RouteFront { here, forbidden }))
 }

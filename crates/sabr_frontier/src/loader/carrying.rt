@@ -15,7 +15,7 @@ use crate::lists::holds;
 use crate::loader::leading::Lead;
 use crate::loader::load_fault::LoadFault;
 use crate::plan_request::PlanRequest;
-use sabr_model::{HopFault, Plan, Request, Route, Told, follow, follow_behind};
+use sabr_model::{HopFault, Plan, Request, Route, RouteSummary, follow, follow_behind};
 use std::alloc::Allocator;
 
 /// Returns true if a list begins with the prefix, is longer, and takes none of the excluded numbers next.
@@ -83,5 +83,5 @@ pub fn carried<A: Allocator + Copy>(
     let Ok(numbers) = Vec::from_slice(question.alloc, route) else {
         return Err(LoadFault::NoMemory);
     };
-    Ok(Some(Told::of(question.plan, route).route(numbers, delivery)))
+    Ok(Some(RouteSummary::of(question.plan, route).route(numbers, delivery)))
 }

@@ -2,21 +2,21 @@
 
 ghost use Rattle.std.specs.Prelude.{◌≡◌, ◌≤◌, ◌∷◌, ◌++◌, [], length, IfSome, IfNone, IsTrue, IsFalse};
 ghost use Rattle.sabr_model.specs.routes.Route.{is_path};
-ghost use Rattle.sabr_frontier.specs.loading.Leading.{IsLead, prefix_owed};
+ghost use Rattle.sabr_frontier.specs.loading.Leading.{IsLead, expected_prefix};
 
-use sabr_model::{Plan, Reached, Request, Told, follow_hop};
+use sabr_model::{Plan, Reached, Request, RouteSummary, follow_hop};
 use std::alloc::Allocator;
 
 /// Where a path leads, and what its record says besides its numbers and its delivery.
 #[derive(Clone, Copy)]
 pub struct Lead {
     pub here: Reached,
-    pub told: Told,
+    pub summary: RouteSummary,
 }
 
 /// A prefix that has to come as a part: it begins as the last part's prefix.
 #[derive(Clone, Copy)]
-pub struct Owed {
+pub struct ExpectedPrefix {
     /// The number of contacts at the front that it shares with the last part's prefix.
     pub length: usize,
     /// The one number after them.
@@ -25,12 +25,12 @@ pub struct Owed {
     pub lead: Lead,
 }
 
-impl Owed {
+impl ExpectedPrefix {
     /// Returns true if this is the prefix: a part of the last prefix, then the one number.
     pub fn is(&self, last: &[u32], prefix: &[u32]) -> bool
         requires { self.now.length ≤ length last.now }
-        ensures same { IsTrue result → prefix.now ≡ prefix_owed last.now self.now }
-        ensures other { IsFalse result → prefix.now ≡ prefix_owed last.now self.now → ⊥ }
+        ensures same { IsTrue result → prefix.now ≡ expected_prefix last.now self.now }
+        ensures other { IsFalse result → prefix.now ≡ expected_prefix last.now self.now → ⊥ }
     {
         let Some((number, front)) = prefix.split_last() else {
             return false;
@@ -49,7 +49,7 @@ impl Lead {
                 node: request.from(),
                 at: request.at(),
             },
-            told: Told::of(plan, &[]),
+            summary: RouteSummary::of(plan, &[]),
         }
     }
 
@@ -70,7 +70,7 @@ impl Lead {
         };
         Some(Lead {
             here,
-            told: self.told.extended(plan, prefix, number),
+            summary: self.summary.extended(plan, prefix, number),
         })
     }
 }

@@ -3,7 +3,7 @@
 ghost use Rattle.std.specs.Prelude.{◌≡◌};
 ghost use Rattle.sabr_frontier.specs.session.Paused.{IsPausedOver, seen_over};
 
-use crate::giving::asker::PausedAsker;
+use crate::giving::searcher::PausedSearcher;
 use crate::session::Session;
 use crate::tree::Tree;
 use sabr_index::Index;
@@ -16,7 +16,7 @@ use std::alloc::{Allocator, Global};
 #[derive(Drop)]
 pub struct PausedSession<B: BestOf<A>, A: Allocator + Copy = Global> {
     /// What finds the parts' best routes.
-    asker: PausedAsker<B, A>,
+    searcher: PausedSearcher<B, A>,
     /// The parts and the routes given.
     tree: Tree<A>,
     /// How long the journal was before each page that can be taken back.
@@ -25,8 +25,6 @@ pub struct PausedSession<B: BestOf<A>, A: Allocator + Copy = Global> {
     searches: u64,
     /// The looks that the searches of the last page took.
     looks: u64,
-    /// Whether a search began it.
-    is_sure: bool,
 }
 
 impl<'p, B: BestOf<A>, A: Allocator + Copy> Session<'p, B, A> {
@@ -39,21 +37,19 @@ impl<'p, B: BestOf<A>, A: Allocator + Copy> Session<'p, B, A> {
         ensures index { result.1 ≡ self.entry.plan }
     {
         let Session {
-            asker,
+            searcher,
             tree,
             pages,
             searches,
             looks,
-            is_sure,
         } = self;
-        let (asker, index) = asker.pause();
+        let (searcher, index) = searcher.pause();
         let paused = PausedSession {
-            asker,
+            searcher,
             tree,
             pages,
             searches,
             looks,
-            is_sure,
         };
         (paused, index)
     }
@@ -67,21 +63,19 @@ impl<B: BestOf<A>, A: Allocator + Copy> PausedSession<B, A> {
         ensures { result ≡ seen_over B.calls_of index.entry self }
     {
         let PausedSession {
-            asker,
+            searcher,
             tree,
             pages,
             searches,
             looks,
-            is_sure,
         } = self;
-        let asker = asker.resume(index);
+        let searcher = searcher.resume(index);
         Session {
-            asker,
+            searcher,
             tree,
             pages,
             searches,
             looks,
-            is_sure,
         }
     }
 }

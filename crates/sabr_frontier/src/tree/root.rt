@@ -40,6 +40,7 @@ impl<A: Allocator + Copy> Tree<A> {
             leaves: Vec::new(alloc),
             last: None,
             journal: Vec::new(alloc),
+            is_searched: true,
         })
     }
 }

@@ -46,7 +46,7 @@ pub record IsAccepted (p : ContactPlan) (from to start end : ℕ) : Type 0 where
   pub window : start < end
   pub apart : eqb from to ≡ false
   pub new : list_any (opens from to start) p.contacts ≡ false
-  pub room : p.greatest < 20000
+  pub room : p.largest < 20000
 
 -- if there is no refusal, each test failed
 choice : (a b c d : Bool) → cond a (Some EmptyWindow) (cond b (Some SelfPair) (cond c (Some DuplicateContact) (cond d (Some TooMany) None))) ≡ None → (a ≡ false) × (b ≡ false) × (c ≡ false) × (d ≡ false)
@@ -59,8 +59,8 @@ choice false false false false e = (refl, refl, refl, refl)
 -- a contact that is not refused has these facts
 pub accepted : (p : ContactPlan) (from to start end : ℕ) → contact_refusal p from to start end ≡ None → IsAccepted p from to start end
 accepted p from to start end e =
-    let parts = choice (leb end start) (eqb from to) (list_any (opens from to start) p.contacts) (leb 20000 p.greatest) e in
-    record { window = leb-false end start parts.0; apart = parts.1; new = parts.2; room = leb-false 20000 p.greatest parts.3 }
+    let parts = choice (leb end start) (eqb from to) (list_any (opens from to start) p.contacts) (leb 20000 p.largest) e in
+    record { window = leb-false end start parts.0; apart = parts.1; new = parts.2; room = leb-false 20000 p.largest parts.3 }
 
 -- a plan with one more contact that is not refused is a plan
 pub IsPlan-push : (p : ContactPlan) (from to start end rate : ℕ) → IsPlan p → IsNode from → IsNode to → rate < 2 ^ 64 → end ≤ last_time → contact_refusal p from to start end ≡ None
@@ -73,8 +73,8 @@ IsPlan-push p from to start end rate h hf ht hr he accept =
       contact_nodes = all_push (λ d. IsPair d.from d.to) p.contacts c h.contact_nodes (hf, ht, eqb-false from to a.apart);
       rates = all_push (λ d. d.rate < 2 ^ 64) p.contacts c h.rates hr;
       ranges_rise = h.ranges_rise;
-      numbers_rise = rises_push 0 p.contacts c h.numbers_rise (all_weaker (λ d. d.number ≤ p.greatest) (λ d. d.number < c.number) (λ d le. omega arith) p.contacts h.numbers_given) (omega arith);
-      numbers_given = all_push (λ d. d.number ≤ c.number) p.contacts c (all_weaker (λ d. d.number ≤ p.greatest) (λ d. d.number ≤ c.number) (λ d le. omega arith) p.contacts h.numbers_given) (omega arith);
+      numbers_rise = rises_push 0 p.contacts c h.numbers_rise (all_weaker (λ d. d.number ≤ p.largest) (λ d. d.number < c.number) (λ d le. omega arith) p.contacts h.numbers_given) (omega arith);
+      numbers_given = all_push (λ d. d.number ≤ c.number) p.contacts c (all_weaker (λ d. d.number ≤ p.largest) (λ d. d.number ≤ c.number) (λ d le. omega arith) p.contacts h.numbers_given) (omega arith);
       openings_differ = none_twice-push same_opening opening_flip p.contacts c h.openings_differ a.new;
       range_windows = h.range_windows;
       range_nodes = h.range_nodes;
@@ -85,7 +85,7 @@ IsPlan-push p from to start end rate h hf ht hr he accept =
     }
 
 -- the empty plan is a plan
-pub IsPlan-empty : IsPlan (record { contacts = []; ranges = []; greatest = 0 })
+pub IsPlan-empty : IsPlan (record { contacts = []; ranges = []; largest = 0 })
 unfolding IsStrictlySortedBy
 IsPlan-empty =
     record {
@@ -105,7 +105,7 @@ IsPlan-empty =
     }
 
 -- the contacts of one plan and the ranges of another are a plan
-pub plan_of_both : (p q : ContactPlan) → IsPlan p → IsPlan q → IsPlan (record { contacts = p.contacts; ranges = q.ranges; greatest = p.greatest })
+pub plan_of_both : (p q : ContactPlan) → IsPlan p → IsPlan q → IsPlan (record { contacts = p.contacts; ranges = q.ranges; largest = p.largest })
 plan_of_both p q h i =
     record {
       contact_windows = h.contact_windows;

@@ -121,7 +121,7 @@ sorted_filter t (r ∷ rs) sorted =
     ]
 
 -- a plan without some contacts is a plan
-pub IsPlan-fewer_contacts : (p : ContactPlan) (t : Contact → Bool) → IsPlan p → IsPlan (record { contacts = filter t p.contacts; ranges = p.ranges; greatest = p.greatest })
+pub IsPlan-fewer_contacts : (p : ContactPlan) (t : Contact → Bool) → IsPlan p → IsPlan (record { contacts = filter t p.contacts; ranges = p.ranges; largest = p.largest })
 IsPlan-fewer_contacts p t h =
     record {
       contact_windows = all_filter (λ d. IsWindow d.start d.end) t p.contacts h.contact_windows;
@@ -129,7 +129,7 @@ IsPlan-fewer_contacts p t h =
       rates = all_filter (λ d. d.rate < 2 ^ 64) t p.contacts h.rates;
       ranges_rise = h.ranges_rise;
       numbers_rise = rises_filter 0 t p.contacts h.numbers_rise;
-      numbers_given = all_filter (λ d. d.number ≤ p.greatest) t p.contacts h.numbers_given;
+      numbers_given = all_filter (λ d. d.number ≤ p.largest) t p.contacts h.numbers_given;
       openings_differ = none_twice-filter same_opening t p.contacts h.openings_differ;
       range_windows = h.range_windows;
       range_nodes = h.range_nodes;
@@ -140,7 +140,7 @@ IsPlan-fewer_contacts p t h =
     }
 
 -- a plan without some ranges is a plan
-pub IsPlan-fewer_ranges : (p : ContactPlan) (t : Range → Bool) → IsPlan p → IsPlan (record { contacts = p.contacts; ranges = filter t p.ranges; greatest = p.greatest })
+pub IsPlan-fewer_ranges : (p : ContactPlan) (t : Range → Bool) → IsPlan p → IsPlan (record { contacts = p.contacts; ranges = filter t p.ranges; largest = p.largest })
 IsPlan-fewer_ranges p t h =
     record {
       contact_windows = h.contact_windows;

@@ -24,7 +24,7 @@ rise_within low top (c ∷ cs) le rises all =
 -- the contacts
 pub few_contacts : (p : ContactPlan) → IsPlan p → length p.contacts ≤ most_records
 few_contacts p plan =
-    let within = rise_within 0 p.greatest p.contacts (omega arith) plan.numbers_rise plan.numbers_given in
+    let within = rise_within 0 p.largest p.contacts (omega arith) plan.numbers_rise plan.numbers_given in
     let given = plan.count in
     omega (arith, within, given)
 

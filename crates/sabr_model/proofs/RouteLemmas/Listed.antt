@@ -83,15 +83,15 @@ given : (top : ℕ) (cs : List Contact) (c : Contact) → AllByRecursion (λ d. 
 given top [] c all i = absurd i
 given top (d ∷ cs) c all i = ⊎_elim (λ e. subst (λ (x : Contact). x.number ≤ top) (sym e) all.0) (λ k. given top cs c all.1 k) i
 
-numbers_in_range : (p : ContactPlan) → IsPlan p → (a : ℕ) (s : List ℕ) (b : ℕ) → chain_end p a s ≡ Some b → AllByRecursion (λ n. IsIn n (range_with_len 1 p.greatest)) s
+numbers_in_range : (p : ContactPlan) → IsPlan p → (a : ℕ) (s : List ℕ) (b : ℕ) → chain_end p a s ≡ Some b → AllByRecursion (λ n. IsIn n (range_with_len 1 p.largest)) s
 numbers_in_range p good a [] b e = tt
 numbers_in_range p good a (n ∷ s) b e =
     let h = first_hop p a n s b e in
     let m = named_is p.contacts n h.contact h.named in
     let low = above 0 p.contacts h.contact good.numbers_rise m.0 in
-    let high = given p.greatest p.contacts h.contact good.numbers_given m.0 in
+    let high = given p.largest p.contacts h.contact good.numbers_given m.0 in
     let same = m.1 in
-    (in_range n 1 p.greatest (omega arith) (omega arith), numbers_in_range p good h.contact.to s b h.rest)
+    (in_range n 1 p.largest (omega arith) (omega arith), numbers_in_range p good h.contact.to s b h.rest)
 
 -- if a number is in a chain, the receiver of its contact is among the receivers
 its_receiver : (p : ContactPlan) (n : ℕ) (c : Contact) → contact_named p n ≡ Some c → (a : ℕ) (s : List ℕ) (b : ℕ) → chain_end p a s ≡ Some b → has n s ≡ true → has c.to (receivers p s) ≡ true
@@ -114,10 +114,10 @@ numbers_different p a (n ∷ s) b e d =
     let fresh : has n s ≡ false = false_from_ne_true (has n s) (λ h. both_ways (has f.contact.to (receivers p s)) (not-true (has f.contact.to (receivers p s)) parts.0) (its_receiver p n f.contact f.named f.contact.to s b f.rest h)) in
     and_from (not (has n s)) (are_different s) (not_from_false (has n s) fresh) (numbers_different p f.contact.to s b f.rest parts.1)
 
-pub route_is_candidate : (p : ContactPlan) (r : RouteRequest) (s : List ℕ) → IsPlan p → IsRoute p r s → IsIn s (candidates p.greatest)
+pub route_is_candidate : (p : ContactPlan) (r : RouteRequest) (s : List ℕ) → IsPlan p → IsRoute p r s → IsIn s (candidates p.largest)
 route_is_candidate p r s good h =
     let d = and_parts (not (has r.source (receivers p s))) (are_different (receivers p s)) h.different in
-    is_candidate p.greatest s (numbers_different p r.source s r.destination h.reaches d.1) (numbers_in_range p good r.source s r.destination h.reaches)
+    is_candidate p.largest s (numbers_different p r.source s r.destination h.reaches d.1) (numbers_in_range p good r.source s r.destination h.reaches)
 
 -- ---- the list
 

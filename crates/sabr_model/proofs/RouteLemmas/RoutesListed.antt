@@ -15,11 +15,11 @@ unfolding routes
 routes_are_listed p r good =
     record {
       members = λ s. (
-        λ c. (filter_in (is_route p r) s (candidates p.greatest) (in_order_is_in (by_key p r) s (filter (is_route p r) (candidates p.greatest)) (in_from_Contains (routes p r) s c))).1,
+        λ c. (filter_in (is_route p r) s (candidates p.largest) (in_order_is_in (by_key p r) s (filter (is_route p r) (candidates p.largest)) (in_from_Contains (routes p r) s c))).1,
         λ h. Contains-from_in (routes p r) s
-            (is_in_order (by_key p r) (key_tells p r) s (filter (is_route p r) (candidates p.greatest))
-            (in_filter (is_route p r) s (candidates p.greatest) (route_is_candidate p r s good (route_facts p r s h)) h)),
+            (is_in_order (by_key p r) (key_tells p r) s (filter (is_route p r) (candidates p.largest))
+            (in_filter (is_route p r) s (candidates p.largest) (route_is_candidate p r s good (route_facts p r s h)) h)),
       );
-      once = apart-none_twice same_numbers same_numbers_tell (routes p r) (apart-sorted (by_key p r) (key_total p r) (routes p r) (sorted_in_order (by_key p r) (key_total p r) (filter (is_route p r) (candidates p.greatest))));
-      rising = sorted_in_order (by_key p r) (key_total p r) (filter (is_route p r) (candidates p.greatest));
+      once = apart-none_twice same_numbers same_numbers_tell (routes p r) (apart-sorted (by_key p r) (key_total p r) (routes p r) (sorted_in_order (by_key p r) (key_total p r) (filter (is_route p r) (candidates p.largest))));
+      rising = sorted_in_order (by_key p r) (key_total p r) (filter (is_route p r) (candidates p.largest));
     }

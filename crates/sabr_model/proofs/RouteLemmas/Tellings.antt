@@ -9,7 +9,7 @@ use Rattle.std.proofs.lemmas.List.Elements.{filter_map-append}
 use Rattle.sabr_model.specs.declared.contact.Contact.{Contact}
 use Rattle.sabr_model.specs.plan.Plan.{ContactPlan, contact_named}
 use Rattle.sabr_model.specs.routes.Route.{contacts_of, until_of, entry_of}
-use Rattle.sabr_model.specs.routes.Telling.{told_of}
+use Rattle.sabr_model.specs.routes.Telling.{summary_of}
 
 module _ (p : ContactPlan) (n : ℕ) where
   until_more : (s : List ℕ) (o : Option Contact) → contact_named p n ≡ o → until_of p (s ++ n ∷ []) ≡ fold (λ m (d : Contact). min m d.end) (until_of p s) (cons_option o [])
@@ -33,7 +33,7 @@ module _ (p : ContactPlan) (n : ℕ) where
   entry_kept (x ∷ s) h = refl
 
   -- the number has no contact
-  pub told_none : (s : List ℕ) → contact_named p n ≡ None → told_of p s ≡ told_of p (s ++ n ∷ [])
+  pub told_none : (s : List ℕ) → contact_named p n ≡ None → summary_of p s ≡ summary_of p (s ++ n ∷ [])
   told_none s named =
       let until = until_more s None named in
       let entry : entry_of p (s ++ n ∷ []) ≡ entry_of p s = none s in
@@ -44,8 +44,8 @@ module _ (p : ContactPlan) (n : ℕ) where
       none (x ∷ s) = refl
 
   -- the number has a contact, and the list was empty
-  pub told_first : (s : List ℕ) (c : Contact) → contact_named p n ≡ Some c → (length s == 0) ≡ true → record { until = min (until_of p s) c.end; entry = c.to } ≡ told_of p (s ++ n ∷ [])
+  pub told_first : (s : List ℕ) (c : Contact) → contact_named p n ≡ Some c → (length s == 0) ≡ true → record { until = min (until_of p s) c.end; entry = c.to } ≡ summary_of p (s ++ n ∷ [])
   told_first s c named h = λ i. record { until = sym (until_more s (Some c) named) i; entry = sym (entry_first s (Some c) named h) i }
 
-  pub told_more : (s : List ℕ) (c : Contact) → contact_named p n ≡ Some c → (length s == 0) ≡ false → record { until = min (until_of p s) c.end; entry = entry_of p s } ≡ told_of p (s ++ n ∷ [])
+  pub told_more : (s : List ℕ) (c : Contact) → contact_named p n ≡ Some c → (length s == 0) ≡ false → record { until = min (until_of p s) c.end; entry = entry_of p s } ≡ summary_of p (s ++ n ∷ [])
   told_more s c named h = λ i. record { until = sym (until_more s (Some c) named) i; entry = sym (entry_kept s h) i }

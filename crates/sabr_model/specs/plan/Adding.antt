@@ -14,7 +14,7 @@ use Rattle.sabr_model.specs.plan.Plan.{ContactPlan, most_records, opens, overlap
 
 -- the contact that the plan would assign the next number
 abbrev pub next_contact : ContactPlan → ℕ → ℕ → ℕ → ℕ → ℕ → Contact
-next_contact p from to start end rate = record { number = p.greatest + 1; from = from; to = to; start = start; end = end; rate = rate }
+next_contact p from to start end rate = record { number = p.largest + 1; from = from; to = to; start = start; end = end; rate = rate }
 
 -- the first reason to refuse a record between two nodes over a window, if the plan has one that clashes with it, and
 -- that many
@@ -28,11 +28,11 @@ first_refusal one other start end clashes clash count =
 
 -- the first reason to refuse a contact
 abbrev pub contact_refusal : ContactPlan → ℕ → ℕ → ℕ → ℕ → Option AddFault
-contact_refusal p from to start end = first_refusal from to start end (list_any (opens from to start) p.contacts) DuplicateContact p.greatest
+contact_refusal p from to start end = first_refusal from to start end (list_any (opens from to start) p.contacts) DuplicateContact p.largest
 
 -- the plan with one more contact
 abbrev pub with_contact : ContactPlan → Contact → ContactPlan
-with_contact p c = record { contacts = p.contacts ++ c ∷ []; ranges = p.ranges; greatest = c.number }
+with_contact p c = record { contacts = p.contacts ++ c ∷ []; ranges = p.ranges; largest = c.number }
 
 -- the number of the contact with this sender, receiver and start
 abbrev pub number_of_opening : ContactPlan → ℕ → ℕ → ℕ → Option ℕ
@@ -40,7 +40,7 @@ number_of_opening p from to start = option_map (λ c. c.number) (find (opens fro
 
 -- the plan without the contact that has this sender, receiver and start; its number is never assigned again
 abbrev pub without_contact : ContactPlan → ℕ → ℕ → ℕ → ContactPlan
-without_contact p from to start = record { contacts = filter (λ c. not (opens from to start c)) p.contacts; ranges = p.ranges; greatest = p.greatest }
+without_contact p from to start = record { contacts = filter (λ c. not (opens from to start c)) p.contacts; ranges = p.ranges; largest = p.largest }
 
 -- a range of these fields
 abbrev pub new_range : ℕ → ℕ → ℕ → ℕ → ℕ → Range
@@ -56,7 +56,7 @@ by_range_key r s = by_numbers (range_key r) (range_key s)
 
 -- the plan with one more range
 abbrev pub with_range : ContactPlan → Range → ContactPlan
-with_range p r = record { contacts = p.contacts; ranges = put_in by_range_key r p.ranges; greatest = p.greatest }
+with_range p r = record { contacts = p.contacts; ranges = put_in by_range_key r p.ranges; largest = p.largest }
 
 -- the range is of this ordered pair and begins at this start
 abbrev pub begins : ℕ → ℕ → ℕ → Range → Bool
@@ -64,4 +64,4 @@ begins one other start r = (one == r.one) && (other == r.other) && (start == r.s
 
 -- the plan without the range of this ordered pair that has this start
 abbrev pub without_range : ContactPlan → ℕ → ℕ → ℕ → ContactPlan
-without_range p one other start = record { contacts = p.contacts; ranges = filter (λ r. not (begins one other start r)) p.ranges; greatest = p.greatest }
+without_range p one other start = record { contacts = p.contacts; ranges = filter (λ r. not (begins one other start r)) p.ranges; largest = p.largest }

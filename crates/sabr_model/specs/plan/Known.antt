@@ -16,7 +16,7 @@ light_of_word word = if word == 4294967295 then None else Some word
 -- the first contacts have their light times, in the same order
 abbrev pub BeginLights : List Range → List Contact → List (Option ℕ) → Type 0
 BeginLights ranges contacts lights =
-    (k : ℕ) (d : Contact) (t : Option ℕ) → k < length lights → slice_index_or lights k t ≡ light_of (record { contacts = []; ranges = ranges; greatest = 0 }) (slice_index_or contacts k d)
+    (k : ℕ) (d : Contact) (t : Option ℕ) → k < length lights → slice_index_or lights k t ≡ light_of (record { contacts = []; ranges = ranges; largest = 0 }) (slice_index_or contacts k d)
 
 -- each contact has its light time, in the same order
 pub record AreLights (ranges : List Range) (contacts : List Contact) (lights : List (Option ℕ)) : Type 0 where

@@ -12,7 +12,7 @@ use Rattle.sabr_model.specs.declared.contact.Range.{Range}
 pub record ContactPlan : Type 0 where
   pub contacts : List Contact
   pub ranges : List Range
-  pub greatest : ℕ
+  pub largest : ℕ
 
 -- a plan as its callers see it: its contacts and ranges, and the nodes that send or receive a standing contact, each
 -- once, in the order of their table
@@ -94,7 +94,7 @@ pub record IsPlan (p : ContactPlan) : Type 0 where
   pub contact_windows : AllByRecursion (λ c. IsWindow c.start c.end) p.contacts
   pub contact_nodes : AllByRecursion (λ c. IsPair c.from c.to) p.contacts
   pub numbers_rise : IsTrue (rises_above 0 (map (λ c. c.number) p.contacts))
-  pub numbers_given : AllByRecursion (λ c. c.number ≤ p.greatest) p.contacts
+  pub numbers_given : AllByRecursion (λ c. c.number ≤ p.largest) p.contacts
   pub openings_differ : IsTrue (none_twice same_opening p.contacts)
   pub range_windows : AllByRecursion (λ r. IsWindow r.start r.end) p.ranges
   pub range_nodes : AllByRecursion (λ r. IsPair r.one r.other) p.ranges
@@ -102,5 +102,5 @@ pub record IsPlan (p : ContactPlan) : Type 0 where
   pub ranges_rise : IsStrictlySortedBy by_numbers (map range_key p.ranges)
   pub lights : AllByRecursion (λ r. r.light ≤ most_light) p.ranges
   pub ranges_apart : IsTrue (none_twice overlap p.ranges)
-  pub count : p.greatest ≤ most_records
+  pub count : p.largest ≤ most_records
   pub range_count : length p.ranges ≤ most_records

@@ -19,7 +19,7 @@ candidates n = flat_map (lists_of_length (range_with_len 1 n)) (range_with_len 0
 
 -- the listing: the candidates that are routes, in order of their keys
 unfoldable pub routes : ContactPlan → RouteRequest → List (List ℕ)
-routes p r = in_order (by_key p r) (filter (is_route p r) (candidates p.greatest))
+routes p r = in_order (by_key p r) (filter (is_route p r) (candidates p.largest))
 
 -- a page: at most k routes of the listing, after the first i
 abbrev pub page_of : ContactPlan → RouteRequest → ℕ → ℕ → List (List ℕ)

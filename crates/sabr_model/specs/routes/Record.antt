@@ -25,17 +25,17 @@ abbrev pub record_key : RouteRecord → List ℕ
 record_key a = a.delivery ∷ length a.contacts ∷ a.contacts
 
 -- its termination time
-abbrev pub told_until : RouteRecord → ℕ
-told_until a = a.until
+abbrev pub summary_until : RouteRecord → ℕ
+summary_until a = a.until
 
 -- its entry node
-abbrev pub told_entry : RouteRecord → ℕ
-told_entry a = a.entry
+abbrev pub summary_entry : RouteRecord → ℕ
+summary_entry a = a.entry
 
 -- by key, then by termination time, then by entry node; less is better
 abbrev pub by_record : RouteRecord → RouteRecord → Ordering
-by_record = then_cmp (on record_key by_numbers) (then_cmp (on told_until nat_cmp) (on told_entry nat_cmp))
+by_record = then_cmp (on record_key by_numbers) (then_cmp (on summary_until nat_cmp) (on summary_entry nat_cmp))
 
 -- the order of records is total
 pub by_record_total : IsTotalOrder by_record
-by_record_total = then_total (on_texts record_key) (then_total (on_total told_until nat_cmp_total) (on_total told_entry nat_cmp_total))
+by_record_total = then_total (on_texts record_key) (then_total (on_total summary_until nat_cmp_total) (on_total summary_entry nat_cmp_total))

@@ -2,7 +2,7 @@
 use Rattle.std.specs.Prelude.{ℕ, List}
 use Rattle.sabr_model.specs.plan.Plan.{ContactPlan}
 use Rattle.sabr_model.specs.routes.Route.{until_of, entry_of}
-use Rattle.sabr_model.specs.declared.told.Told.{Told}
+use Rattle.sabr_model.specs.declared.route_summary.RouteSummary.{RouteSummary}
 
-abbrev pub told_of : ContactPlan → List ℕ → Told
-told_of p s = record { until = until_of p s; entry = entry_of p s }
+abbrev pub summary_of : ContactPlan → List ℕ → RouteSummary
+summary_of p s = record { until = until_of p s; entry = entry_of p s }

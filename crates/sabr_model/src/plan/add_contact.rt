@@ -30,11 +30,11 @@ impl<A: Allocator + Copy> Plan<A> {
         requires accepted { contact_refusal self.old.plan from to start end ≡ None }
 
         // It has the next number. An error changes nothing.
-        ensures number { IfOk result (λ n. n ≡ self.old.plan.greatest + 1) }
+        ensures number { IfOk result (λ n. n ≡ self.old.plan.largest + 1) }
         ensures ok { OnOk result (self.new.plan ≡ with_contact self.old.plan (next_contact self.old.plan from to start end rate)) }
         ensures err { OnErr result (self.new ≡ self.old) }
     {
-        let number = self.greatest + 1;
+        let number = self.largest + 1;
         let contact = Contact {
             number,
             from,
@@ -49,7 +49,7 @@ impl<A: Allocator + Copy> Plan<A> {
         self.ends.push_reserved(Ends::of(both.0, both.1));
         self.lights.clear();
         self.contacts.push_reserved(contact);
-        self.greatest = number;
+        self.largest = number;
         Ok(number)
     }
 
@@ -80,13 +80,13 @@ impl<A: Allocator + Copy> Plan<A> {
         ensures accepted { contact_refusal self.old.plan from to start end ≡ None → IsOkUnless result NoMemory }
 
         // It has the next number. An error changes nothing.
-        ensures number { IfOk result (λ n. n ≡ self.old.plan.greatest + 1) }
+        ensures number { IfOk result (λ n. n ≡ self.old.plan.largest + 1) }
         ensures ok { OnOk result (self.new.plan ≡ with_contact self.old.plan (next_contact self.old.plan from to start end rate)) }
         ensures err { OnErr result (self.new ≡ self.old) }
     {
         let clashes = Contact::any_opens(&self.contacts, from, to, start);
         let opening = Opening { from, to, start };
-        if let Some(fault) = opening.refusal(end, clashes, self.greatest) {
+        if let Some(fault) = opening.refusal(end, clashes, self.largest) {
             return Err(fault);
         }
         self.append(from, to, start, end, rate)

@@ -55,7 +55,7 @@ impl<A: Allocator + Copy> Plan<A> {
 #[inline(never)]
 pub fn light_of_contact(ranges: &[Range], contact: &Contact) -> Option<u32>
     requires { IsRangeList ranges.now }
-    ensures { result ≡ light_of (record { contacts = []; ranges = ranges.now; greatest = 0 }) contact.now }
+    ensures { result ≡ light_of (record { contacts = []; ranges = ranges.now; largest = 0 }) contact.now }
 {
     match light_in_force(ranges, contact.from, contact.to, contact.start) {
         Some(light) => Some(light),

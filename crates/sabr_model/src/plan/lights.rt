@@ -87,7 +87,7 @@ fn light_of_contact_near(
 ) -> Option<u32>
     requires ranges { IsRangeList ranges.now }
     requires rising { IsTrue rising → IsTrue (list_all is_rising ranges.now) }
-    ensures { result ≡ light_of (record { contacts = []; ranges = ranges.now; greatest = 0 }) contact.now }
+    ensures { result ≡ light_of (record { contacts = []; ranges = ranges.now; largest = 0 }) contact.now }
 {
     let (from, to, start) = (contact.from, contact.to, contact.start);
     if from <= to {

@@ -13,7 +13,6 @@ use std::alloc::Allocator;
 impl<A: Allocator + Copy> Plan<A> {
     /// Makes the plan of these contacts and ranges, where `largest` is the largest number ever assigned.
     ///
-    ///
     /// Its time grows with the number of contacts and ranges.
     ///
     /// # Errors
@@ -23,10 +22,10 @@ impl<A: Allocator + Copy> Plan<A> {
         alloc: A,
         contacts: Vec<Contact, A>,
         ranges: Vec<Range, A>,
-        greatest: u32,
+        largest: u32,
     ) -> Result<Plan<A>, NoMemory>
-        requires { IsPlan (record { contacts = contacts.items; ranges = ranges.items; greatest = greatest }) }
-        ensures { IfOk result (λ p. p.plan ≡ record { contacts = contacts.items; ranges = ranges.items; greatest = greatest }) }
+        requires { IsPlan (record { contacts = contacts.items; ranges = ranges.items; largest = largest }) }
+        ensures { IfOk result (λ p. p.plan ≡ record { contacts = contacts.items; ranges = ranges.items; largest = largest }) }
     {
         let (table, ends) = table_of(alloc, &contacts)?;
         let lights = lights_of(alloc, &contacts, &ranges)?;
@@ -35,7 +34,7 @@ impl<A: Allocator + Copy> Plan<A> {
             contacts,
             ranges,
             table,
-            greatest,
+            largest,
             ends,
             lights,
         })

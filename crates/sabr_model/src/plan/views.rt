@@ -19,7 +19,7 @@ impl<A: Allocator + Copy> Plan<A> {
     }
 
     /// States that a plan obeys the rules of contact plans, for proofs. It does nothing at run time.
-    pub fn tell_rules(&self)
+    pub fn rules_hold(&self)
         ensures { IsPlan self.now.plan }
     {
         self.contacts();
@@ -33,10 +33,10 @@ impl<A: Allocator + Copy> Plan<A> {
     }
 
     /// The largest number ever assigned to a contact, 0 at first.
-    pub fn greatest(&self) -> u32
-        ensures { result ≡ self.now.plan.greatest }
+    pub fn largest(&self) -> u32
+        ensures { result ≡ self.now.plan.largest }
     {
-        self.greatest
+        self.largest
     }
 
     /// Returns the standing contact with this number. `None` if the number was never assigned, or its contact was

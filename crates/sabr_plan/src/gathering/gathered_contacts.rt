@@ -20,7 +20,7 @@ pub struct GatheredContacts<A: Allocator + Copy = Global> {
     /// The contacts that were added. A deleted one ends at its start.
     contacts: Vec<Contact, A>,
     openings: KnownOpenings<A>,
-    greatest: u32,
+    largest: u32,
     /// The number of those that were deleted.
     deleted: usize,
 }
@@ -32,20 +32,20 @@ impl<A: Allocator + Copy> Model for GatheredContacts<A> {
 
     ghost Value = { ContactPlan };
 
-    ghost view = { λ g. plan_of_contacts (standing g.contacts.items) g.greatest };
+    ghost view = { λ g. plan_of_contacts (standing g.contacts.items) g.largest };
 
-    ghost invariant = { λ g. ContactsObey (standing g.contacts.items) g.greatest × KnowsSome g.openings.chains.befores.items g.openings.chains.lasts.items g.openings.rising g.openings.last g.contacts.items × (g.deleted ≡ 0 → standing g.contacts.items ≡ g.contacts.items) };
+    ghost invariant = { λ g. ContactsObey (standing g.contacts.items) g.largest × KnowsSome g.openings.chains.befores.items g.openings.chains.lasts.items g.openings.rising g.openings.last g.contacts.items × (g.deleted ≡ 0 → standing g.contacts.items ≡ g.contacts.items) };
 }
 
 impl<A: Allocator + Copy> GatheredContacts<A> {
     /// Makes an empty value. It doesn't allocate.
     pub fn new(alloc: A) -> GatheredContacts<A>
-        ensures { result ≡ record { contacts = []; ranges = []; greatest = 0 } }
+        ensures { result ≡ record { contacts = []; ranges = []; largest = 0 } }
     {
         GatheredContacts {
             contacts: Vec::new(alloc),
             openings: KnownOpenings::new(alloc),
-            greatest: 0,
+            largest: 0,
             deleted: 0,
         }
     }
@@ -71,18 +71,18 @@ impl<A: Allocator + Copy> GatheredContacts<A> {
         ensures accepted { contact_refusal self.old from to start end ≡ None → IsOkUnless result NoMemory }
 
         // It has the next number. An error changes nothing.
-        ensures number { IfOk result (λ n. n ≡ self.old.greatest + 1) }
+        ensures number { IfOk result (λ n. n ≡ self.old.largest + 1) }
         ensures ok { OnOk result (self.new ≡ with_contact self.old (next_contact self.old from to start end rate)) }
         ensures err { OnErr result (self.new ≡ self.old) }
     {
-        if start >= end || from == to || self.greatest as usize >= MAX_RECORDS {
+        if start >= end || from == to || self.largest as usize >= MAX_RECORDS {
             return Err(self.fault(from, to, start, end));
         }
         let opening = Opening { from, to, start };
         if self.contacts.reserve(1).is_err() || self.openings.has(&self.contacts, opening) {
             return Err(self.fault(from, to, start, end));
         }
-        let number = self.greatest + 1;
+        let number = self.largest + 1;
         self.contacts.push_reserved(Contact {
             number,
             from,
@@ -92,7 +92,7 @@ impl<A: Allocator + Copy> GatheredContacts<A> {
             rate,
         });
         self.openings.last = opening;
-        self.greatest = number;
+        self.largest = number;
         Ok(number)
     }
 
@@ -103,7 +103,7 @@ impl<A: Allocator + Copy> GatheredContacts<A> {
         ensures { result ≡ unwrap_or (contact_refusal self.now from to start end) NoMemory }
     {
         let clashes = self.has_opening(from, to, start);
-        let refusal = Opening { from, to, start }.refusal(end, clashes, self.greatest);
+        let refusal = Opening { from, to, start }.refusal(end, clashes, self.largest);
         refusal.unwrap_or(AddFault::NoMemory)
     }
 
@@ -156,19 +156,19 @@ impl<A: Allocator + Copy> GatheredContacts<A> {
     /// Returns the contacts by ascending number, and the largest number assigned so far. It doesn't allocate.
     pub fn into_contacts(self) -> (Vec<Contact, A>, u32)
         ensures contacts { result.0.items ≡ self.contacts }
-        ensures greatest { result.1 ≡ self.greatest }
+        ensures largest { result.1 ≡ self.largest }
         ensures alone { self.ranges ≡ [] }
         ensures rules { IsPlan self }
     {
         let GatheredContacts {
             mut contacts,
             openings: _,
-            greatest,
+            largest,
             deleted,
         } = self;
         if deleted > 0 {
             contacts.retain(|c| c.start < c.end);
         }
-        (contacts, greatest)
+        (contacts, largest)
     }
 }

@@ -12,12 +12,13 @@ use crate::gathering::chains::Chains;
 use sabr_model::{Range, comes_by};
 use std::alloc::{AllocError, Allocator};
 
-/// The number of buckets. With 4096, a plan of 10000 ranges by start takes 0.8 percent fewer instructions for one route,
-/// and one of 100 ranges 0.9 percent more. To vary it: `bench/figures.py --counts 1 --only cube,relay-moon-20000`.
+/// The number of buckets. With 4096, a plan of 10000 ranges by start takes 0.8 percent fewer instructions for one
+/// route, and one of 100 ranges 0.9 percent more. To vary it: `bench/figures.py --counts 1 --only
+/// cube,relay-moon-20000`.
 const BUCKETS: usize = 2048;
 
-/// The number of steps along chains, for each range, after which the ranges are put in order. With 1 and 2, 20000 ranges
-/// of one pair take more instructions.
+/// The number of steps along chains, for each range, after which the ranges are put in order. With 1 and 2, 20000
+/// ranges of one pair take more instructions.
 const LONG: usize = 4;
 
 /// The last end of ranges, by pair of nodes and second, and a hash table of ranges.

@@ -19,9 +19,9 @@ pub fn gathered_plan<A: Allocator + Copy>(
     contacts: GatheredContacts<A>,
     ranges: GatheredRanges<A>,
 ) -> Result<Plan<A>, NoMemory>
-    ensures { IfOk result (λ p. p.plan ≡ record { contacts = contacts.contacts; ranges = ranges; greatest = contacts.greatest }) }
+    ensures { IfOk result (λ p. p.plan ≡ record { contacts = contacts.contacts; ranges = ranges; largest = contacts.largest }) }
 {
-    let (contacts, greatest) = contacts.into_contacts();
+    let (contacts, largest) = contacts.into_contacts();
     let ranges = ranges.into_ranges()?;
-    Plan::of_parts(alloc, contacts, ranges, greatest)
+    Plan::of_parts(alloc, contacts, ranges, largest)
 }

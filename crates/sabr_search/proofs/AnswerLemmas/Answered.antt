@@ -76,7 +76,7 @@ module _ (task : SearchTask) (prefix : List ℕ) (asked : IsAsked task prefix) w
   ]
     where
       some_hop : (ns : List ℕ) (e : ℕ) → Leads (Takes task) task.start task.at ns task.goal e → 0 < length ns
-      some_hop [] e way = absurd (both_ways (slice_index_or task.shut task.start false) (subst (λ k. slice_index_or task.shut k false ≡ false) (sym way.0) asked.task_is.goal_open) asked.task_is.start_shut)
+      some_hop [] e way = absurd (both_ways (slice_index_or task.forbidden task.start false) (subst (λ k. slice_index_or task.forbidden k false ≡ false) (sym way.0) asked.task_is.goal_open) asked.task_is.start_forbidden)
       some_hop (n ∷ ns) e way = omega arith
 
   pub floor_of_ways : (d : ℕ) → IsFloor task.plan task.request prefix task.excluded d → IsNoneSooner task (left_of task prefix) d
@@ -84,9 +84,9 @@ module _ (task : SearchTask) (prefix : List ℕ) (asked : IsAsked task prefix) w
 
   pub answered_is_least : (o : Option RouteRecord) → IsAnswered task prefix o → IsLeast task.plan task.request prefix task.excluded o
   answered_is_least None none = none_is_least task asked.task_is prefix asked.behind (λ ns e route way. none ns e (left_all ns route) way)
-  answered_is_least (Some route) told =
-      found_is_least task asked.task_is prefix asked.behind facts (left_of task prefix) (route.delivery + 1) told.0 route told.1 told.2 told.3 (left_fits (route.delivery + 1) told.0 route.delivery told.2)
-      (λ ns e listed way. told.2.least ns e (left_all ns listed) way)
+  answered_is_least (Some route) summary =
+      found_is_least task asked.task_is prefix asked.behind facts (left_of task prefix) (route.delivery + 1) summary.0 route summary.1 summary.2 summary.3 (left_fits (route.delivery + 1) summary.0 route.delivery summary.2)
+      (λ ns e listed way. summary.2.least ns e (left_all ns listed) way)
 
   -- the route of the least way is no longer than the plan
   pub route_few : (s : List ℕ) (d : ℕ) → IsLeastWay task (left_of task prefix) (d + 1) s d → length prefix + length s ≤ length task.plan.contacts

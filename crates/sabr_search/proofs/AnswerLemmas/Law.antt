@@ -16,7 +16,7 @@ use Rattle.sabr_model.proofs.ListLemmas.Begins.{first_hop, receivers-cons}
 use Rattle.sabr_search.specs.layers.NumberOrder.{IsNotAfter}
 use Rattle.sabr_search.specs.questions.Part.{IsLeast}
 use Rattle.sabr_search.specs.layers.Picks.{IsLeastWay}
-use Rattle.sabr_search.specs.questions.Told.{IsTold}
+use Rattle.sabr_search.specs.questions.RouteSummary.{IsTold}
 use Rattle.sabr_search.specs.questions.Ways.{Leads}
 use Rattle.sabr_search.specs.questions.Task.{SearchTask, Takes, HasNodes, IsTask, IsBehind, latest_arrival}
 use Rattle.sabr_search.proofs.WayLemmas.Least.{least_in_part, none_in_part}
@@ -90,7 +90,7 @@ rising_few low top (c ∷ cs) rise all le =
 
 -- a plan has at most 20000 contacts
 pub contacts_few : (p : ContactPlan) → IsPlan p → length p.contacts ≤ 20000
-contacts_few p good = omega (arith, rising_few 0 p.greatest p.contacts good.numbers_rise good.numbers_given (omega arith), good.count)
+contacts_few p good = omega (arith, rising_few 0 p.largest p.contacts good.numbers_rise good.numbers_given (omega arith), good.count)
 
 -- ---- the law
 
@@ -114,14 +114,14 @@ pub found_is_least : (task : SearchTask) → IsTask task → (prefix : List ℕ)
     length prefix + length s ≤ task.request.max_hops →
     ((ns : List ℕ) (e : ℕ) → IsTrue (is_route task.plan task.request (prefix ++ ns)) → Leads (Takes task) task.start task.at ns task.goal e → route.delivery ≤ e) →
     IsLeast task.plan task.request prefix task.excluded (Some route)
-found_is_least task is prefix behind facts hops ceiling s route contacts least told short soonest =
+found_is_least task is prefix behind facts hops ceiling s route contacts least summary short soonest =
     let p = task.plan in
     let r = task.request in
     let found = least_in_part task prefix behind is.plan facts s route.delivery least.some least.way least.fewest short
     (λ ns e listed way. key_order task hops ceiling s route.delivery least ns e way (soonest ns e listed way)) in
     let f : List ℕ → ℕ → RouteRecord = λ c d. record { contacts = c; delivery = d; until = until_of p c; entry = entry_of p c } in
     let g : ℕ → ℕ → RouteRecord = λ u e. record { contacts = route.contacts; delivery = route.delivery; until = u; entry = e } in
-    let one : route ≡ f route.contacts route.delivery = ap (λ u. g u route.entry) told.until_is ∙ ap (g (until_of p route.contacts)) told.entry_is in
+    let one : route ≡ f route.contacts route.delivery = ap (λ u. g u route.entry) summary.until_is ∙ ap (g (until_of p route.contacts)) summary.entry_is in
     ap Some (one ∙ ap (λ c. f c route.delivery) contacts ∙ ap (f (prefix ++ s)) (sym found.1)) ∙ sym (ap (option_map (record_of p r)) found.0)
 
 -- if the part has no way, it has no route

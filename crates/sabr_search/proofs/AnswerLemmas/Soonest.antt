@@ -5,13 +5,13 @@ use Rattle.std.specs.Option.{option_and_then}
 use Rattle.sabr_model.specs.plan.Plan.{TabledPlan, has}
 use Rattle.sabr_model.specs.routes.Arrival.{RouteRequest, arrival_after}
 use Rattle.sabr_model.specs.routes.Route.{chain_end, receivers}
-use Rattle.sabr_model.specs.routes.Telling.{told_of}
+use Rattle.sabr_model.specs.routes.Telling.{summary_of}
 use Rattle.sabr_model.proofs.ListLemmas.Begins.{receivers-append, chain_end-append, different_apart}
 use Rattle.sabr_search.specs.questions.Task.{SearchTask, IsBehind, IsOfRequest, is_closed}
-use Rattle.sabr_search.specs.questions.Course.{IsStop}
+use Rattle.sabr_search.specs.questions.PrefixPath.{IsStop}
 use Rattle.sabr_search.specs.questions.FirstSteps.{tabled_of}
 use Rattle.sabr_search.specs.layers.Late.{AreSince}
-use Rattle.sabr_search.specs.layers.Reach.{AreSoonFor}
+use Rattle.sabr_search.specs.layers.NodeBounds.{AreSoonFor}
 use Rattle.sabr_search.proofs.WayLemmas.Prefixes.{IsPrefix}
 use Rattle.sabr_search.proofs.WayLemmas.Chains.{arrival_after-append, all_of, has_either}
 use Rattle.sabr_search.proofs.WayLemmas.RoutesAndWays.{same_some, way_from_chain, IsChain, chain_of_way}
@@ -27,7 +27,7 @@ soon_for task behind free since are = λ ns v node t some at chain after open'.
     are ns v t some (way_from_chain task [] behind ns task.start task.request.source task.at v node t (behind.stands ∙ sym behind.chained) chain at there open' (λ n more same here. ap (has n) free))
 
 -- a question starts where its prefix ends
-pub stop_of : (task : SearchTask) (prefix : List ℕ) → IsBehind task prefix → IsStop (tabled_of task) task.request prefix (record { node = task.start; at = task.at; told = told_of task.plan prefix })
+pub stop_of : (task : SearchTask) (prefix : List ℕ) → IsBehind task prefix → IsStop (tabled_of task) task.request prefix (record { node = task.start; at = task.at; summary = summary_of task.plan prefix })
 stop_of task prefix behind = record { last_node = behind.last_node; chained = behind.chained; stands = behind.stands; arrives = behind.arrives; tells = refl }
 
 -- the request closes no receiver of a prefix
@@ -39,7 +39,7 @@ receivers_open task prefix facts x one =
     (not-true (has x r.avoided) (all_of (λ n. not (has n r.avoided)) (receivers task.plan prefix) facts.allowed x one))
 
 -- what is known of the ways from the source is so of a question's ways, each of which goes on from its prefix
-pub soon_after : (task : SearchTask) (prefix : List ℕ) → IsOfRequest task → IsPrefix task.plan task.request prefix → IsStop (tabled_of task) task.request prefix (record { node = task.start; at = task.at; told = told_of task.plan prefix })
+pub soon_after : (task : SearchTask) (prefix : List ℕ) → IsOfRequest task → IsPrefix task.plan task.request prefix → IsStop (tabled_of task) task.request prefix (record { node = task.start; at = task.at; summary = summary_of task.plan prefix })
     → (soon : List ℕ) → AreSoonFor (tabled_of task) task.request soon → AreSince task soon
 soon_after task prefix over facts stop soon are = λ ns v t some way.
     let p = task.plan in

@@ -1,6 +1,8 @@
 -- What a search up to a bound tells: each way is above the bound, and how many looks it took.
 use Rattle.std.proofs.Common.{◌≡◌, ◌≢◌, inl, inr, ℕ, ◌+◌, ◌≤◌, ◌<◌, min, length, false, refl, arith}
-use Rattle.std.specs.Prelude.{IfOk, IsTrue}
+use Rattle.std.specs.Prelude.{IfOk, IfSome, IsTrue}
+use Rattle.std.specs.declared.option.Option.{Option}
+use Rattle.std.specs.declared.option.Option.TheVariants.{Some, None}
 use Rattle.std.specs.declared.result.Result.{Result}
 use Rattle.std.specs.declared.result.Result.TheVariants.{Ok, Err}
 use Rattle.std.proofs.lemmas.Bool.{cases_lt, cases_eq, cases_Bool}
@@ -11,7 +13,6 @@ use Rattle.sabr_search.specs.questions.Task.{SearchTask, IsTask, never, latest_a
 use Rattle.sabr_search.specs.layers.Late.{HasWayAt, IsNoneSooner, IsNoneWithin}
 use Rattle.sabr_search.specs.answers.Found.{IsEnoughUnless}
 use Rattle.sabr_search.specs.declared.found.Found.{Found}
-use Rattle.sabr_search.specs.declared.found.Found.TheVariants.{Way, Beyond, GaveUp}
 use Rattle.sabr_search.specs.answers.Answers.{IsWayBeyond}
 use Rattle.sabr_search.proofs.AnswerLemmas.Law.{way_early}
 use Rattle.sabr_search.proofs.AnswerLemmas.BoundedWays.{above_later}
@@ -20,7 +21,7 @@ use Rattle.sabr_search.proofs.AnswerLemmas.BoundedWays.{above_later}
 pub same_up_to : (b : Bound) (d h : ℕ) → d ≡ b.delivery → h ≤ b.hops → IsTrue (is_up_to b d h)
 same_up_to b d h same le = grind (arith, nat_tests, same, le)
 
--- what is up to a bound is up to the greatest one, and to the one with any number of hops
+-- what is up to a bound is up to the largest one, and to the one with any number of hops
 pub bound_up_to : (b : Bound) → b.delivery ≤ never → b.hops ≤ never → IsTrue (is_up_to no_bound b.delivery b.hops)
 bound_up_to b delivery hops = grind (arith, nat_tests, delivery, hops)
 
@@ -55,14 +56,14 @@ least_stopped task b hops most d way same other none =
       | inr apart ↦ absurd (omega (arith, other apart, less))
     ]
 
--- what a search gives up for may be something else, and what it finds is enough still
-pub enough_unless : {A E : Type 0} (R S : Type 0) (b : Bound) → (R → S) → (result : Result (Found A) E) → IfOk result (IsEnoughUnless R b) → IfOk result (IsEnoughUnless S b)
-enough_unless R S b follows (Ok (Way way)) enough = tt
-enough_unless R S b follows (Ok (Beyond own)) enough = enough
-enough_unless R S b follows (Ok GaveUp) enough = follows enough
+-- what a search gives up for may be something else
+pub enough_unless : {W E : Type 0} (R S : Type 0) (b : Bound) → (R → S) → (result : Result (Option (Found W)) E) → IfOk result (IsEnoughUnless R b) → IfOk result (IsEnoughUnless S b)
+enough_unless R S b follows (Ok (Some found)) enough = enough
+enough_unless R S b follows (Ok None) enough = follows enough
 enough_unless R S b follows (Err e) enough = tt
 
--- what follows of a result
-pub if_ok : {T E : Type 0} (result : Result T E) (P Q : T → Type 0) → ((x : T) → P x → Q x) → IfOk result P → IfOk result Q
-if_ok (Ok x) P Q follows is = follows x is
-if_ok (Err e) P Q follows is = tt
+-- what follows of what is found
+pub if_found : {T E : Type 0} (result : Result (Option T) E) (P Q : T → Type 0) → ((x : T) → P x → Q x) → IfOk result (λ o. IfSome o P) → IfOk result (λ o. IfSome o Q)
+if_found (Ok (Some x)) P Q follows is = follows x is
+if_found (Ok None) P Q follows is = tt
+if_found (Err e) P Q follows is = tt

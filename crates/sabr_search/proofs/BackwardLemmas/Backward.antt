@@ -19,5 +19,5 @@ get_set_other (y ∷ xs) (suc k) (suc j) x other = get_set_other xs k j x (λ sa
 pub set_other : (xs : List ℕ) (k j b : ℕ) → (j ≡ k → ⊥) → slice_index (slice_set xs k b) j ≡ slice_index xs j
 set_other xs k j b other = grind (arith, common_steps)
 
-pub not_start : (task : SearchTask) → IsTask task → (k : ℕ) → slice_index_or task.shut k false ≡ false → k ≡ task.start → ⊥
-not_start task is k unshut same = both_ways (slice_index_or task.shut task.start false) (rw same at unshut) is.start_shut
+pub not_start : (task : SearchTask) → IsTask task → (k : ℕ) → slice_index_or task.forbidden k false ≡ false → k ≡ task.start → ⊥
+not_start task is k permitted same = both_ways (slice_index_or task.forbidden task.start false) (rw same at permitted) is.start_forbidden

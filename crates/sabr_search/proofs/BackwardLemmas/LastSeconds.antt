@@ -12,7 +12,7 @@ use Rattle.sabr_model.specs.routes.Arrival.{RouteRequest}
 use Rattle.sabr_search.specs.declared.visit.Visit.{Visit}
 use Rattle.sabr_search.specs.questions.Task.{SearchTask, IsTask, IsBehind, Takes, never}
 use Rattle.sabr_search.specs.questions.FirstSteps.{tabled_of}
-use Rattle.sabr_search.specs.layers.Reach.{Goes, IsBetween, AreLateFor, AreCostsFor}
+use Rattle.sabr_search.specs.layers.NodeBounds.{Goes, IsBetween, AreLateFor, AreCostsFor}
 use Rattle.sabr_search.specs.layers.Latest.{IsWhole, IsBegun, IsLeftBy, IsTakenBy, IsNear, IsNearBy, AreRising, AreTaken}
 use Rattle.sabr_search.proofs.LinkLemmas.Arrivals.{arrives_later}
 use Rattle.sabr_index.specs.declared.link.Pass.{Pass}
@@ -38,17 +38,17 @@ flags_many xs k b = grind (arith, common_steps)
 -- at first the goal alone waits
 pub first_rising : (P : List ℕ → ℕ → Type 0) (task : SearchTask) → IsTask task → (late : List ℕ) (taken : List Bool) (queue : List Visit) → (until : ℕ) → IsBegun task until late taken queue → AreRising P task late taken queue (length task.table)
 first_rising P task is late taken queue until begun =
-    let zeros : List ℕ = replicate (length task.shut) 0 in
+    let zeros : List ℕ = replicate (length task.forbidden) 0 in
     let event : Visit = record { at = 0; node = task.goal } in
     record {
-      many = ap length begun.late_is ∙ set_many zeros task.goal until ∙ replicate_many (length task.shut) 0 ∙ is.as_many;
-      flags = ap length begun.taken_is ∙ length-replicate (length task.shut) false ∙ is.as_many;
+      many = ap length begun.late_is ∙ set_many zeros task.goal until ∙ replicate_many (length task.forbidden) 0 ∙ is.as_many;
+      flags = ap length begun.taken_is ∙ length-replicate (length task.forbidden) false ∙ is.as_many;
       inside = All-permutation (λ (e : Visit). e.node < length task.table) (event ∷ []) queue begun.waits (All-cons (λ (e : Visit). e.node < length task.table) event [] is.goal_in (λ i d lt. absurd (omega (arith, lt))));
       waits = λ w w_in off some. elim (cases_eq w task.goal) [
         | inl same ↦ (event, Contains-permutation (event ∷ []) queue event begun.waits (0, omega arith, refl), sym same)
-        | inr other ↦ absurd (omega (arith, some, ap (λ xs. slice_index xs w) begun.late_is, set_other zeros task.goal until w other, same_everywhere (length task.shut) 0 w))
+        | inr other ↦ absurd (omega (arith, some, ap (λ xs. slice_index xs w) begun.late_is, set_other zeros task.goal until w other, same_everywhere (length task.forbidden) 0 w))
       ];
-      over = λ w other on. absurd (both_ways (slice_index_or taken w false) (ap (λ xs. slice_index_or xs w false) begun.taken_is ∙ all_off (length task.shut) w) on);
+      over = λ w other on. absurd (both_ways (slice_index_or taken w false) (ap (λ xs. slice_index_or xs w false) begun.taken_is ∙ all_off (length task.forbidden) w) on);
     }
 
 -- one second more is later than it was
@@ -207,7 +207,7 @@ whole_step task whole n u t w b g = record {
   named = g.named;
   sender = g.sender;
   receiver = g.receiver;
-  unshut = whole.shuts w g.contact.to g.receiver ∙ g.unshut;
+  permitted = whole.forbids w g.contact.to g.receiver ∙ g.permitted;
   allowed = λ here. ap (has n) whole.free;
   arrives = g.arrives;
 }
@@ -219,8 +219,8 @@ other_node task whole u between same = between.other (same_some (sym between.sta
 -- at first the goal alone is reached in time before this second
 pub goal_begun : (task : SearchTask) → IsTask task → (until : ℕ) (late : List ℕ) (taken : List Bool) (queue : List Visit) → IsBegun task until late taken queue → slice_index late task.goal ≡ until
 goal_begun task is until late taken queue begun =
-    let zeros : List ℕ = replicate (length task.shut) 0 in
-    ap (λ xs. slice_index xs task.goal) begun.late_is ∙ set_here zeros task.goal until (omega (arith, replicate_many (length task.shut) 0, is.as_many, is.goal_in))
+    let zeros : List ℕ = replicate (length task.forbidden) 0 in
+    ap (λ xs. slice_index xs task.goal) begun.late_is ∙ set_here zeros task.goal until (omega (arith, replicate_many (length task.forbidden) 0, is.as_many, is.goal_in))
 
 -- so these are seconds from which on no way delivers before that one
 pub late_for : (task : SearchTask) → IsWhole task → (until : ℕ) (late : List ℕ) → until ≤ slice_index late task.goal → AreTaken (IsTakenBy task) task late → AreLateFor (tabled_of task) task.request until late
@@ -236,7 +236,7 @@ late_for task whole until late goal are = record {
       elim (cases_lt b (slice_index late w)) [
         | inr le ↦ omega (arith, le, read_or late w (omega (arith, are.many, w_in)))
         | inl less ↦
-            absurd (omega (arith, late_there, read_or late u (omega (arith, are.many, u_in)), are.over w w_in (omega (arith, less)) n u t b step less (whole.shuts u between.node between.stands ∙ between.unshut) other))
+            absurd (omega (arith, late_there, read_or late u (omega (arith, are.many, u_in)), are.over w w_in (omega (arith, less)) n u t b step less (whole.forbids u between.node between.stands ∙ between.permitted) other))
       ]);
 }
 
@@ -254,7 +254,7 @@ costs_for task whole near costs goal are turned = record {
       let of_u = turned u (omega (arith, are.many, u_in)) in
       elim (cases_lt 0 (slice_index near w)) [
         | inr le ↦ omega (arith, of_w, of_u, le, arrives_later task.plan task.request t g.contact b g.arrives)
-        | inl some ↦ omega (arith, of_w, of_u, are.over w w_in some n u t b step (whole.shuts u between.node between.stands ∙ between.unshut) (other_node task whole u between) since)
+        | inl some ↦ omega (arith, of_w, of_u, are.over w w_in some n u t b step (whole.forbids u between.node between.stands ∙ between.permitted) (other_node task whole u between) since)
       ]);
 }
 
@@ -274,4 +274,4 @@ late_before p r until by late before are = record { goal = λ g at. omega (arith
 
 -- the whole graph, as the question of the empty prefix
 pub whole_task : (task : SearchTask) → IsTask task → IsBehind task [] → task.excluded ≡ [] → IsWhole task
-whole_task task is behind free = record { is = is; goal_is = behind.goal_is; shuts = behind.shuts; free = free }
+whole_task task is behind free = record { is = is; goal_is = behind.goal_is; forbids = behind.forbids; free = free }

@@ -7,12 +7,12 @@ use Rattle.sabr_search.specs.questions.Ways.{Leads}
 use Rattle.sabr_search.specs.questions.Task.{SearchTask, Takes, IsTask}
 use Rattle.sabr_search.specs.layers.Deadlines.{AreLinked, HasDeadline}
 use Rattle.sabr_search.specs.layers.Late.{AreArrivals, AreLateLayers, IsMet}
-use Rattle.sabr_search.specs.layers.Level.{AreMet, AreSound, IsDeadEnd, IsLevelOf}
+use Rattle.sabr_search.specs.layers.WholeDeadlines.{AreMet, AreSound, IsDeadEnd, AreWholeDeadlinesOf}
 use Rattle.sabr_search.proofs.WayLemmas.RoutesAndWays.{same_some}
 use Rattle.sabr_search.proofs.ForwardLemmas.FirstWays.{goal_other}
 use Rattle.sabr_search.proofs.BackwardLemmas.Whole.{up_to_last, whole_of}
-use Rattle.sabr_search.proofs.LevelLemmas.DeadEnds.{dead_at}
-use Rattle.sabr_search.proofs.LevelLemmas.Leaves.{leaves_out_none}
+use Rattle.sabr_search.proofs.WholeLemmas.DeadEnds.{dead_at}
+use Rattle.sabr_search.proofs.WholeLemmas.Leaves.{leaves_out_none}
 
 module _ {A : Type 0} (task : SearchTask) (is : IsTask task) (since : List ℕ) (arrivals : AreArrivals task since) (d left : ℕ) (s : Deadlines A)
     (made : AreLateLayers task since d left s.ends.items s.late.items s.place.items s.entries.items) (linked : AreLinked s.entries.items s.fewer.items) where
@@ -32,7 +32,7 @@ module _ {A : Type 0} (task : SearchTask) (is : IsTask task) (since : List ℕ) 
       (r.0 ∷ on.0, on.1, omega (arith, on.2), on.3, (r.1, r.2, r.4, on.4))
 
   -- they are layers of the question itself
-  own_level : (most : ℕ) → ((j v x : ℕ) → j < most → HasDeadline s.ends.items s.entries.items j v x → j < left) → IsLevelOf task d most s
+  own_level : (most : ℕ) → ((j v x : ℕ) → j < most → HasDeadline s.ends.items s.entries.items j v x → j < left) → AreWholeDeadlinesOf task d most s
   own_level most within = record {
     most = most;
     within = omega arith;
@@ -43,7 +43,7 @@ module _ {A : Type 0} (task : SearchTask) (is : IsTask task) (since : List ℕ) 
     goal = refl;
     takes = λ n u t w b step. step;
     soonest = arrivals.least;
-    begins = λ unshut. absurd (both_ways (slice_index_or task.shut task.start false) unshut is.start_shut);
+    begins = λ permitted. absurd (both_ways (slice_index_or task.forbidden task.start false) permitted is.start_forbidden);
   }
 
   -- fewer hops come later than d
@@ -68,7 +68,7 @@ module _ {A : Type 0} (task : SearchTask) (is : IsTask task) (since : List ℕ) 
   are_met met =
       let r = rest left met.w met.x met.b (omega arith) met.entry met.in_time in
       record {
-        level = own_level left (λ j v x less e. less);
+        whole_deadlines = own_level left (λ j v x less e. less);
         sound = sound;
         fewer = own_dead left (λ j v x less e. less);
         met = λ dead. omega (arith, r.3, dead (met.n ∷ r.0) task.at r.1 (omega arith) (omega (arith, r.2)) (met.w, met.b, met.step, r.4));

@@ -51,7 +51,7 @@ pub set_many : {X : Type 0} (xs : List X) (k : ℕ) (b : X) → length (slice_se
 set_many xs k b = grind (arith, common_steps)
 
 module _ (task : SearchTask) (first begin : ℕ) (late place : List ℕ) (entries : List Deadline) (was : AreLate task first begin late place entries)
-    (u x : ℕ) (inside : u < length task.table) (unshut : slice_index_or task.shut u false ≡ false) (other : u ≢ task.goal) (later : slice_index late u < x)
+    (u x : ℕ) (inside : u < length task.table) (permitted : slice_index_or task.forbidden u false ≡ false) (other : u ≢ task.goal) (later : slice_index late u < x)
     (sound : (t : ℕ) → t < x → (n : ℕ) × (w : ℕ) × (b : ℕ) × Takes task n u t w b × InTimeFor entries first begin w b) where
   abbrev f : Deadline
   f = record { node = u; before = x }
@@ -66,7 +66,7 @@ module _ (task : SearchTask) (first begin : ℕ) (late place : List ℕ) (entrie
   ]
 
   new_entry : (e : Deadline) → e ≡ record { node = u; before = x } → IsLateEntry task e
-  new_entry e is = rw is (record { inside = inside; unshut = unshut; other = other; some = omega (arith, later) })
+  new_entry e is = rw is (record { inside = inside; permitted = permitted; other = other; some = omega (arith, later) })
 
   -- an entry of before or the new one is too late no later than its node
   old_by : (p : ℕ) (e : Deadline) → slice_get entries p ≡ Some e → e.before ≤ slice_index (slice_set late u x) e.node
@@ -202,11 +202,11 @@ module _ (task : SearchTask) (first begin : ℕ) (late place : List ℕ) (entrie
 
 -- if a link can be left later than before, each second sooner than that has a step in time
 pub sound_back : (task : SearchTask) → IsTask task → (u to latest last before first begin : ℕ) (entries : List Deadline) →
-    ((t : ℕ) → latest ≤ t → t < last → (b : ℕ) × (b < before) × (slice_index_or task.shut to false ≡ false → (n : ℕ) × Takes task n u t to b)) → latest < last → slice_index_or task.shut to false ≡ false →
+    ((t : ℕ) → latest ≤ t → t < last → (b : ℕ) × (b < before) × (slice_index_or task.forbidden to false ≡ false → (n : ℕ) × Takes task n u t to b)) → latest < last → slice_index_or task.forbidden to false ≡ false →
     ((b : ℕ) → b < before → InTimeFor entries first begin to b) → (t : ℕ) → t < last → (n : ℕ) × (w : ℕ) × (b : ℕ) × Takes task n u t w b × InTimeFor entries first begin w b
-sound_back task is u to latest last before first begin entries leaves later unshut given t less =
+sound_back task is u to latest last before first begin entries leaves later permitted given t less =
     let s = leaves (last - 1) (omega arith) (omega arith) in
-    let step = s.2 unshut in
+    let step = s.2 permitted in
     let sooner = (takes_timely task is.nodes).earlier step.0 u (last - 1) to s.0 t step.1 (omega arith) in
     (step.0, to, sooner.0, sooner.2, given sooner.0 (omega (arith, sooner.1, s.1)))
 
@@ -216,4 +216,4 @@ in_time_kept first begin entries reached0 kept w b t = (t.0, t.1, t.2, t.3, same
 
 -- what the layers say of a step stays true
 pub told_rises : (task : SearchTask) (since late late1 : List ℕ) (u t : ℕ) → ((k : ℕ) → slice_index late k ≤ slice_index late1 k) → IsToldLate task since late u t → IsToldLate task since late1 u t
-told_rises task since late late1 u t rises told = λ unshut other soon. omega (arith, told unshut other soon, rises u)
+told_rises task since late late1 u t rises told = λ permitted other soon. omega (arith, told permitted other soon, rises u)

@@ -13,11 +13,11 @@ use Rattle.sabr_search.proofs.ForwardLemmas.MadeLayers.{index_before, index_at, 
 
 -- an entry is the goal's, or one of another open node
 pub open_entry : (task : SearchTask) → IsTask task → (first begin : ℕ) (late place : List ℕ) (entries : List Deadline) → AreLate task first begin late place entries → (p : ℕ) (e : Deadline) → slice_get entries p ≡ Some e →
-    (e.node < length task.table) × (slice_index_or task.shut e.node false ≡ false)
+    (e.node < length task.table) × (slice_index_or task.forbidden e.node false ≡ false)
 open_entry task is first begin late place entries was zero e at =
     let same : e.node ≡ task.goal = (was.goal e at).0 in
-    (omega (arith, is.goal_in), ap (λ k. slice_index_or task.shut k false) same ∙ is.goal_open)
-open_entry task is first begin late place entries was (suc p) e at = let one = was.each (suc p) e (omega arith) at in (one.inside, one.unshut)
+    (omega (arith, is.goal_in), ap (λ k. slice_index_or task.forbidden k false) same ∙ is.goal_open)
+open_entry task is first begin late place entries was (suc p) e at = let one = was.each (suc p) e (omega arith) at in (one.inside, one.permitted)
 
 -- there is nothing after the end of a list
 pub nothing_past : (task : SearchTask) (first begin first' begin' : ℕ) (late place : List ℕ) (entries : List Deadline) → AreLate task first begin late place entries → begin' ≡ length entries → AreLate task first' begin' late place entries
@@ -132,12 +132,12 @@ module _ (task : SearchTask) (is : IsTask task) (since : List ℕ) (d left : ℕ
 
   taken' : (j w x n u t b : ℕ) → j < left + 1 → HasDeadline ends' entries' j w x → b < x → Takes task n u t w b → IsToldBy task since (HasDeadline ends' entries') j u t
   taken' j w x n u t b less e by step = elim (last_or_before j left less) [
-    | inl before ↦ λ unshut other soon.
-        (let r = made.taken j w x n u t b before (entry_was j w x (omega arith) e) by step unshut other soon in
+    | inl before ↦ λ permitted other soon.
+        (let r = made.taken j w x n u t b before (entry_was j w x (omega arith) e) by step permitted other soon in
         (r.0, r.1, r.2, entry_kept r.0 u r.1 r.3, r.4))
-    | inr same ↦ λ unshut other soon.
+    | inr same ↦ λ permitted other soon.
         (let old : HasDeadline ends entries left w x = entry_was left w x (omega arith) (rw same at e) in
-        let now = told old.0 (record { node = w; before = x }) n u t b old.1 old.2 old.3 step by unshut other soon in
+        let now = told old.0 (record { node = w; before = x }) n u t b old.1 old.2 old.3 step by permitted other soon in
         let r = newest u t (slice_get_within task.table u step.contact.from step.sender) now in
         (r.0, r.1, omega (arith, r.2), r.3, r.4))
   ]
@@ -204,7 +204,7 @@ linked_first e = record {
 
 -- the goal alone
 pub back_first : (task : SearchTask) → IsTask task → (since : List ℕ) (d : ℕ) (ends late place : List ℕ) (entries : List Deadline) → ends ≡ 0 ∷ 1 ∷ [] → entries ≡ record { node = task.goal; before = d + 1 } ∷ [] →
-    length place ≡ length task.shut → slice_index place task.goal ≡ 0 → length late ≡ length task.shut → slice_index late task.goal ≡ d + 1 → ((k : ℕ) → k ≢ task.goal → slice_index late k ≡ 0) → AreBackLayers task since d 0 ends late place entries
+    length place ≡ length task.forbidden → slice_index place task.goal ≡ 0 → length late ≡ length task.forbidden → slice_index late task.goal ≡ d + 1 → ((k : ℕ) → k ≢ task.goal → slice_index late k ≡ 0) → AreBackLayers task since d 0 ends late place entries
 back_first task is since d ends late place entries ends_is entries_is places place_is many late_is none =
     rw (ends_is, entries_is) (record {
       lists = record {

@@ -8,7 +8,7 @@ use Rattle.sabr_search.specs.questions.Task.{SearchTask, Takes}
 use Rattle.sabr_search.specs.layers.Deadlines.{AreLinked, IsLastBelow, head_of}
 use Rattle.sabr_search.specs.layers.Late.{InTimeFor, AreLate, IsNotedLate}
 use Rattle.sabr_search.proofs.BackwardLemmas.LateLists.{changed_late, pushed_late, take_set, take_push}
-use Rattle.sabr_search.proofs.LevelLemmas.Chained.{head_none, head_some, linked_set, linked_push}
+use Rattle.sabr_search.proofs.WholeLemmas.Chained.{head_none, head_some, linked_set, linked_push}
 
 -- a node's last entry is where it says
 pub last_of : (task : SearchTask) (first begin : ℕ) (late place : List ℕ) (entries : List Deadline) → AreLate task first begin late place entries → (v : ℕ) → v < length task.table → IsLastBelow entries v (length entries) (head_of late place v)
@@ -45,10 +45,10 @@ pub record AreNoted {A : Type 0} (task : SearchTask) (first begin u x : ℕ) (s 
   pub kept : take begin t.entries.items ≡ take begin s.entries.items
 
 pub late_noted : {A : Type 0} (task : SearchTask) (first begin : ℕ) (s t : Deadlines A) → AreLate task first begin s.late.items s.place.items s.entries.items → AreLinked s.entries.items s.fewer.items →
-    (u x : ℕ) → u < length task.table → slice_index_or task.shut u false ≡ false → u ≢ task.goal → slice_index s.late.items u < x →
+    (u x : ℕ) → u < length task.table → slice_index_or task.forbidden u false ≡ false → u ≢ task.goal → slice_index s.late.items u < x →
     ((t : ℕ) → t < x → (n : ℕ) × (w : ℕ) × (b : ℕ) × Takes task n u t w b × InTimeFor s.entries.items first begin w b) →
     IsNotedLate (head_of s.late.items s.place.items u) begin u x s t → AreNoted task first begin u x s t
-late_noted task first begin s t was linked u x inside unshut other later sound (inl here) = elim (cases_eq (slice_index s.late.items u) 0) [
+late_noted task first begin s t was linked u x inside permitted other later sound (inl here) = elim (cases_eq (slice_index s.late.items u) 0) [
   | inl none ↦ absurd (omega (arith, here.0, head_none s.late.items s.place.items u none))
   | inr yes' ↦
       (let some : 0 < slice_index s.late.items u = omega (arith, yes') in
@@ -57,13 +57,13 @@ late_noted task first begin s t was linked u x inside unshut other later sound (
       let place : head_of s.late.items s.place.items u - 1 ≡ slice_index s.place.items u = omega (arith, head) in
       let is : t.entries.items ≡ slice_set s.entries.items (slice_index s.place.items u) (record { node = u; before = x }) = here.2 ∙ ap (λ k. slice_set s.entries.items k (record { node = u; before = x })) place in
       record {
-        lists = rw (here.1, is) (changed_late task first begin s.late.items s.place.items s.entries.items was u x inside unshut other later sound some above);
+        lists = rw (here.1, is) (changed_late task first begin s.late.items s.place.items s.entries.items was u x inside permitted other later sound some above);
         linked = rw (is, here.3) (linked_set s.entries.items (slice_index s.place.items u) u x (slice_index s.late.items u) (was.top u inside some) s.fewer.items linked);
         kept = rw is (take_set begin s.entries.items (slice_index s.place.items u) (record { node = u; before = x }) above);
       })
 ]
-late_noted task first begin s t was linked u x inside unshut other later sound (inr new) = record {
-  lists = rw (new.1, new.2) (pushed_late task first begin s.late.items s.place.items s.entries.items was u x inside unshut other later sound (λ some. omega (arith, new.0, head_some s.late.items s.place.items u some)));
+late_noted task first begin s t was linked u x inside permitted other later sound (inr new) = record {
+  lists = rw (new.1, new.2) (pushed_late task first begin s.late.items s.place.items s.entries.items was u x inside permitted other later sound (λ some. omega (arith, new.0, head_some s.late.items s.place.items u some)));
   linked = rw (new.2, new.3) (linked_push s.entries.items (record { node = u; before = x }) s.fewer.items _ linked (last_of task first begin s.late.items s.place.items s.entries.items was u inside));
   kept = rw new.2 (take_push begin s.entries.items (record { node = u; before = x }) was.begins);
 }

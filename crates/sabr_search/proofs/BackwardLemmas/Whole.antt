@@ -6,7 +6,7 @@ use Rattle.sabr_search.specs.declared.backward.deadlines.Deadlines.{Deadlines}
 use Rattle.sabr_search.specs.questions.Task.{SearchTask, IsTask}
 use Rattle.sabr_search.specs.layers.Deadlines.{AreLinked, HasDeadline}
 use Rattle.sabr_search.specs.layers.Late.{AreBackLayers}
-use Rattle.sabr_search.specs.layers.Level.{AreWhole}
+use Rattle.sabr_search.specs.layers.WholeDeadlines.{AreWhole}
 use Rattle.sabr_search.proofs.ForwardLemmas.MadeLayers.{index_past}
 use Rattle.sabr_search.proofs.BackwardLemmas.LateMade.{open_entry}
 use Rattle.sabr_search.proofs.BackwardLemmas.LateNoted.{last_of}
@@ -43,6 +43,6 @@ module _ {A : Type 0} (task : SearchTask) (is : IsTask task) (since : List ℕ) 
     second_end = made.second_end;
     rising = λ j less. made.rising j (omega (arith, less, made.many));
     goal_first = made.goal_first;
-    unshut = λ p v here. (open_entry task is _ _ s.late.items s.place.items s.entries.items made.lists p _ here.1).1;
+    permitted = λ p v here. (open_entry task is _ _ s.late.items s.place.items s.entries.items made.lists p _ here.1).1;
     taken = λ j w x n u t b less e by step. made.taken j w x n u t b (within j w x less e) e by step;
   }

@@ -8,14 +8,16 @@ use Rattle.std.proofs.lemmas.List.Elements.{at_read}
 use Rattle.std.proofs.lemmas.List.{length-replicate}
 use Rattle.std.proofs.lemmas.Option.{slice_get_within}
 use Rattle.sabr_search.specs.declared.visit.Visit.{Visit}
-use Rattle.sabr_search.specs.declared.forward.layers.Best.{Best}
+use Rattle.sabr_search.specs.declared.found.Best.{Best}
+use Rattle.sabr_search.specs.declared.found.Outcome.{Outcome}
+use Rattle.sabr_search.specs.declared.found.Outcome.TheVariants.{Found, None, GaveUp}
 use Rattle.sabr_search.specs.questions.Ways.{Leads}
 use Rattle.sabr_search.specs.questions.Task.{SearchTask, Takes, IsTask, never, latest_arrival}
 use Rattle.sabr_search.specs.questions.FirstSteps.{IsNoneBefore}
 use Rattle.sabr_search.specs.layers.Lists.{IsKnown, AreClosed}
 use Rattle.sabr_search.specs.questions.Steps.{senders, degree}
-use Rattle.sabr_search.specs.layers.Made.{AreOpened}
-use Rattle.sabr_search.specs.layers.Settling.{IsBound, IsWaiting, AreBy, settled_count, AreArrivalsBy, sent_by_settled, IsQueue, AreSettling, IsFallen, AreSettledTaken, AreSettled, IsFirstWay, IsWayTo}
+use Rattle.sabr_search.specs.layers.Made.{AreOpened, IsOutcome}
+use Rattle.sabr_search.specs.layers.Settling.{IsBound, IsWaiting, AreBy, settled_count, AreArrivalsBy, sent_by_settled, IsQueue, AreSettling, IsFallen, AreSettledTaken, AreSettled, IsFirstWay, IsReached, IsWayTo}
 use Rattle.sabr_search.proofs.WayLemmas.Ways.{Leads-later}
 use Rattle.sabr_search.proofs.LinkLemmas.Counts.{settled_more}
 use Rattle.sabr_search.proofs.WayLemmas.RoutesAndWays.{takes_timely}
@@ -26,14 +28,14 @@ use Rattle.sabr_search.proofs.ForwardLemmas.Queues.{flag_here, flag_other, flag_
 
 -- the start is no goal
 pub goal_other : (task : SearchTask) → IsTask task → task.goal ≢ task.start
-goal_other task is same = both_ways (slice_index_or task.shut task.start false) (sym (ap (λ k. slice_index_or task.shut k false) same) ∙ is.goal_open) is.start_shut
+goal_other task is same = both_ways (slice_index_or task.forbidden task.start false) (sym (ap (λ k. slice_index_or task.forbidden k false) same) ∙ is.goal_open) is.start_forbidden
 
 -- a node is settled and its contacts are taken
 module _ (task : SearchTask) (until : ℕ) (late costs : List ℕ) (settled : List Bool) (u t : ℕ) (arrival0 : List ℕ) (best0 : Best) (arrival hops : List ℕ) (queue : List Visit) (best : Best)
     (state : AreSettling task until late costs (slice_set settled u true) u t arrival hops queue best) (fallen : IsFallen (slice_set settled u true) arrival0 best0 arrival best) (taken : AreSettledTaken task costs (slice_set settled u true) arrival best.delivery)
     (other : task.goal ≢ u) where
   pub settled_next : slice_index_or (slice_set settled u true) task.start false ≡ true → slice_index arrival0 task.start ≡ task.at → slice_index_or settled task.goal false ≡ false →
-      AreClosed task.shut arrival0 task.at → AreSettled task until late costs (slice_set settled u true) arrival hops queue best
+      AreClosed task.forbidden arrival0 task.at → AreSettled task until late costs (slice_set settled u true) arrival hops queue best
   settled_next start reached goal closed = record {
     flags = state.flags;
     many = state.many;
@@ -65,17 +67,17 @@ pub sent_grows : (task : SearchTask) (settled : List Bool) (u : ℕ) → u < len
 sent_grows task settled u within unsettled = settled_more settled u (senders task) within unsettled
 
 -- a way on from an open node costs at least what the goal costs less from its end
-pub costs_fall : (task : SearchTask) → IsTask task → (until : ℕ) (late costs : List ℕ) → IsBound task until late costs → (ns : List ℕ) (w b v t : ℕ) → slice_index_or task.shut w false ≡ false → task.request.at ≤ b → Leads (Takes task) w b ns v t → b + slice_index costs w ≤ t + slice_index costs v
+pub costs_fall : (task : SearchTask) → IsTask task → (until : ℕ) (late costs : List ℕ) → IsBound task until late costs → (ns : List ℕ) (w b v t : ℕ) → slice_index_or task.forbidden w false ≡ false → task.request.at ≤ b → Leads (Takes task) w b ns v t → b + slice_index costs w ≤ t + slice_index costs v
 costs_fall task is until late costs bound [] w b v t open' since way = omega (arith, way.1, ap (slice_index costs) way.0)
 costs_fall task is until late costs bound (n ∷ ns) w b v t open' since way =
     let later = (takes_timely task is.nodes).later n w b way.0 way.1 way.2 in
-    omega (arith, bound.lowers n w b way.0 way.1 way.2 open' since, costs_fall task is until late costs bound ns way.0 way.1 v t way.2.unshut (omega (arith, later, since)) way.3)
+    omega (arith, bound.lowers n w b way.0 way.1 way.2 open' since, costs_fall task is until late costs bound ns way.0 way.1 v t way.2.permitted (omega (arith, later, since)) way.3)
 
 -- the search stops when no event comes before the delivery
 module _ (task : SearchTask) (is : IsTask task) (until : ℕ) (bounds costs : List ℕ) (bound : IsBound task until bounds costs) (settled : List Bool) (arrival hops : List ℕ) (queue : List Visit) (best : Best) (was : AreSettled task until bounds costs settled arrival hops queue best) where
   -- a node is settled with that arrival, or it is too late there
   abbrev IsKnownAt : ℕ → ℕ → Type 0
-  IsKnownAt v a = ((slice_index_or settled v false ≡ true) × (slice_index arrival v ≡ a)) ⊎ ((slice_index_or task.shut v false ≡ false) × (slice_index_or bounds v never ≤ a))
+  IsKnownAt v a = ((slice_index_or settled v false ≡ true) × (slice_index arrival v ≡ a)) ⊎ ((slice_index_or task.forbidden v false ≡ false) × (slice_index_or bounds v never ≤ a))
 
   by_until : best.delivery ≤ until
   by_until = elim was.found [
@@ -96,17 +98,17 @@ module _ (task : SearchTask) (is : IsTask task) (until : ℕ) (bounds costs : Li
           (let there : IsKnownAt v a = inr late in
           let at_goal : IsKnownAt task.goal a = rw same at there in
           inl (omega (arith, goal_known a at_goal, (takes_timely task is.nodes).later n v a w b step)))
-      | inr other ↦ inr (inl (b, omega arith, inr (step.unshut, bound.steps n v a w b step late.0 other late.1)))
+      | inr other ↦ inr (inl (b, omega arith, inr (step.permitted, bound.steps n v a w b step late.0 other late.1)))
     ]
     | inl s ↦ elim (was.taken v n w b s.0 (rw s.1 step)) [
       | inl over ↦ inl (omega (arith, over))
       | inr reached ↦ elim (cases_Bool (slice_index_or settled w false)) [
         | inl on ↦ inr (inl (slice_index arrival w, reached.1, inl (on, refl)))
         | inr off ↦ elim (cases_lt (slice_index arrival w) (slice_index_or bounds w never)) [
-          | inr le ↦ inr (inl (b, omega arith, inr (step.unshut, omega (arith, le, reached.1))))
+          | inr le ↦ inr (inl (b, omega arith, inr (step.permitted, omega (arith, le, reached.1))))
           | inl less ↦
               (let within : w < length arrival = omega (arith, was.flags, is.as_many, slice_get_within task.table w step.contact.to step.receiver) in
-              inr (inr (slice_index arrival w, reached.1, was.queue_is.waits w within step.unshut off less)))
+              inr (inr (slice_index arrival w, reached.1, was.queue_is.waits w within step.permitted off less)))
         ]
       ]
     ]
@@ -119,7 +121,7 @@ module _ (task : SearchTask) (is : IsTask task) (until : ℕ) (bounds costs : Li
   reached_by stop (n ∷ ns) u a s v t known by since way =
       let later : task.request.at ≤ way.1 = omega (arith, since, (takes_timely task is.nodes).later n u s way.0 way.1 way.2) in
       let first = (takes_timely task is.nodes).earlier n u s way.0 way.1 a way.2 by in
-      let after : way.1 + slice_index costs way.0 ≤ t + slice_index costs v = costs_fall task is until bounds costs bound ns way.0 way.1 v t way.2.unshut later way.3 in
+      let after : way.1 + slice_index costs way.0 ≤ t + slice_index costs v = costs_fall task is until bounds costs bound ns way.0 way.1 v t way.2.permitted later way.3 in
       elim (steps_taken u a n way.0 first.0 known first.2) [
         | inl late ↦ inl (omega (arith, late, first.1, after))
         | inr found ↦ elim found [
@@ -128,38 +130,12 @@ module _ (task : SearchTask) (is : IsTask task) (until : ℕ) (bounds costs : Li
         ]
       ]
 
-  -- the first delivery is the least if no way delivers before it
-  pub way_found : IsNoneBefore task best.delivery → IsFirstWay task until best
-  way_found least = record {
-    least = least;
-    none = λ zero_hops ns e way. elim was.found [
-      | inl none ↦ omega (arith, none.1, least ns e way)
-      | inr found ↦ absurd (omega (arith, found.0))
-    ];
-    sooner = λ hops. elim was.found [
-      | inl none ↦ absurd (omega (arith, none.0))
-      | inr found ↦ found.2
-    ];
-    some = λ hops. elim was.found [
-      | inl none ↦ absurd (omega (arith, none.0))
-      | inr found ↦ found.3
-    ];
-    early = λ hops. elim was.found [
-      | inl none ↦ absurd (omega (arith, none.0))
-      | inr found ↦ way_early task is found.3.0 task.start task.at task.goal best.delivery is.time found.3.2
-    ];
-    few = elim was.found [
-      | inl none ↦ omega (arith, none.0, is.start_in)
-      | inr found ↦ omega (arith, found.1, count_short settled task.goal (omega (arith, was.many, is.as_many, is.goal_in)) was.goal_unsettled, was.many, is.as_many)
-    ];
-  }
-
-  pub first_found : ((f : Visit) → Contains queue f → best.delivery ≤ f.at) → IsFirstWay task until best
-  first_found stop = way_found (λ ns e way.
+  first_least : ((f : Visit) → Contains queue f → best.delivery ≤ f.at) → IsNoneBefore task best.delivery
+  first_least stop ns e way =
       elim (reached_by stop ns task.start task.at task.at task.goal e (inl (was.start_settled, was.start_reached)) (omega arith) bound.since way) [
         | inl late ↦ omega (arith, late, bound.there)
         | inr by ↦ omega (arith, by.1, goal_known by.0 by.2)
-      ])
+      ]
 
   known_arrival : (v c : ℕ) → IsKnownAt v c → slice_index arrival v ≤ c
   known_arrival v c known = elim known [
@@ -167,11 +143,32 @@ module _ (task : SearchTask) (is : IsTask task) (until : ℕ) (bounds costs : Li
     | inr late ↦ omega (arith, was.lowered v late.0, late.1)
   ]
 
-  pub arrivals_found : ((f : Visit) → Contains queue f → best.delivery ≤ f.at) → AreArrivalsBy task costs arrival best.delivery
+  arrivals_found : ((f : Visit) → Contains queue f → best.delivery ≤ f.at) → AreArrivalsBy task costs arrival best.delivery
   arrivals_found stop ns v t some way = elim (reached_by stop ns task.start task.at task.at v t (inl (was.start_settled, was.start_reached)) (omega arith) bound.since way) [
     | inl late ↦ omega (arith, late)
     | inr by ↦ omega (arith, by.1, known_arrival v by.0 by.2)
   ]
+
+  first_way : ((f : Visit) → Contains queue f → best.delivery ≤ f.at) → 0 < best.hops → IsFirstWay task until best
+  first_way stop some = elim was.found [
+    | inl none ↦ absurd (omega (arith, none.0, some))
+    | inr found ↦ record {
+      least = first_least stop;
+      positive = some;
+      sooner = found.2;
+      some = found.3;
+      early = way_early task is found.3.0 task.start task.at task.goal best.delivery is.time found.3.2;
+      few = omega (arith, found.1, count_short settled task.goal (omega (arith, was.many, is.as_many, is.goal_in)) was.goal_unsettled, was.many, is.as_many);
+    }
+  ]
+
+  pub reached_found : ((f : Visit) → Contains queue f → best.delivery ≤ f.at) → (reason : Type 0) (outcome : Outcome Best) → IsOutcome best outcome → IsReached task until costs arrival reason outcome
+  reached_found stop reason (Found way) same = rw same.0 (first_way stop same.1, arrivals_found stop)
+  reached_found stop reason None zero_hops = elim was.found [
+    | inl none ↦ (let least = first_least stop in let arrivals = arrivals_found stop in (rw none.1 at least, rw none.1 at arrivals))
+    | inr found ↦ absurd (omega (arith, found.0, zero_hops))
+  ]
+  reached_found stop reason GaveUp neither = absurd neither
 
 -- an event of a settled node goes
 pub settled_stale : (task : SearchTask) (until : ℕ) (late costs : List ℕ) (settled : List Bool) (arrival hops : List ℕ) (queue queue' : List Visit) (best : Best) → AreSettled task until late costs settled arrival hops queue best → IsQueue task late costs settled arrival queue' →
@@ -197,12 +194,12 @@ none_on zero = refl
 none_on (suc n) = none_on n
 
 -- what holds once the start is settled, and while the first steps are taken
-module _ (task : SearchTask) (is : IsTask task) (off settled : List Bool) (u : ℕ) (off_is : off ≡ replicate (length task.shut) false) (u_is : u ≡ task.start) (settled_is : settled ≡ slice_set off u true) where
+module _ (task : SearchTask) (is : IsTask task) (off settled : List Bool) (u : ℕ) (off_is : off ≡ replicate (length task.forbidden) false) (u_is : u ≡ task.start) (settled_is : settled ≡ slice_set off u true) where
   off_within : u < length off
-  off_within = omega (arith, u_is, is.start_in, is.as_many, ap length off_is, length-replicate (length task.shut) false)
+  off_within = omega (arith, u_is, is.start_in, is.as_many, ap length off_is, length-replicate (length task.forbidden) false)
 
   off_at : (k : ℕ) → slice_index_or off k false ≡ false
-  off_at k = ap (λ flags. slice_index_or flags k false) off_is ∙ all_off (length task.shut) k
+  off_at k = ap (λ flags. slice_index_or flags k false) off_is ∙ all_off (length task.forbidden) k
 
   -- the start alone is settled
   pub start_on : slice_index_or settled task.start false ≡ true
@@ -217,7 +214,7 @@ module _ (task : SearchTask) (is : IsTask task) (off settled : List Bool) (u : �
   ]
 
   pub one_settled : settled_count settled ≡ 1
-  one_settled = omega (arith, ap settled_count settled_is, count_more off u off_within (off_at u), ap settled_count off_is, none_on (length task.shut))
+  one_settled = omega (arith, ap settled_count settled_is, count_more off u off_within (off_at u), ap settled_count off_is, none_on (length task.forbidden))
 
   count_none : (ks : List ℕ) → count_by (λ k. slice_index_or off k false) ks ≡ 0
   count_none [] = refl
@@ -233,15 +230,15 @@ module _ (task : SearchTask) (is : IsTask task) (off settled : List Bool) (u : �
       | inr past ↦ omega (arith, index_past arrival k past)
     ]
 
-    pub start_state : IsBound task until late costs → (hops : List ℕ) (queue : List Visit) (best : Best) → length hops ≡ length task.shut → queue ≡ [] → best.hops ≡ 0 → best.delivery ≡ until → until ≤ latest_arrival + 1 → AreSettling task until late costs settled u task.at arrival (slice_set hops u 0) queue best
+    pub start_state : IsBound task until late costs → (hops : List ℕ) (queue : List Visit) (best : Best) → length hops ≡ length task.forbidden → queue ≡ [] → best.hops ≡ 0 → best.delivery ≡ until → until ≤ latest_arrival + 1 → AreSettling task until late costs settled u task.at arrival (slice_set hops u 0) queue best
     start_state bound hops queue best hops_many empty none delivery early = rw empty (record {
       on = ap (λ k. slice_index_or settled k false) u_is ∙ start_on;
       real = ([], sym no_hops, (sym u_is, refl));
       few = omega (arith, no_hops, one_settled);
       flags = opened.flags;
-      many = ap length settled_is ∙ flag_many off u ∙ ap length off_is ∙ length-replicate (length task.shut) false;
+      many = ap length settled_is ∙ flag_many off u ∙ ap length off_is ∙ length-replicate (length task.forbidden) false;
       closed = opened.closed;
-      early = λ n w b step k on open'. absurd (both_ways (slice_index_or task.shut k false) open' (ap (λ j. slice_index_or task.shut j false) (only_start k on) ∙ is.start_shut));
+      early = λ n w b step k on open'. absurd (both_ways (slice_index_or task.forbidden k false) open' (ap (λ j. slice_index_or task.forbidden j false) (only_start k on) ∙ is.start_forbidden));
       lowered = opened_by;
       queue_is = record {
         waits = λ k within open' off' less. absurd (omega (arith, opened.unreached k within open', less));
@@ -249,7 +246,7 @@ module _ (task : SearchTask) (is : IsTask task) (off settled : List Bool) (u : �
         before = λ i d lt. absurd (omega (arith, lt));
         order = λ i d lt. absurd (omega (arith, lt));
         inside = λ i d lt. absurd (omega (arith, lt));
-        unshut = λ i d lt. absurd (omega (arith, lt));
+        permitted = λ i d lt. absurd (omega (arith, lt));
         other = λ i d lt. absurd (omega (arith, lt));
       };
       hops_are = record { many = set_many hops u 0 ∙ hops_many; ways = λ k within open' less. absurd (omega (arith, opened.unreached k within open', less)) };

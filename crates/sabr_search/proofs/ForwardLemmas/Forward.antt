@@ -13,9 +13,9 @@ use Rattle.sabr_search.proofs.LinkLemmas.PlanFacts.{hop_arrival_is}
 use Rattle.sabr_search.proofs.WayLemmas.RoutesAndWays.{same_some}
 
 -- nothing was taken
-pub lowered_none : (shut : List Bool) (goal at begin : ℕ) (Given : Arrivals) (arrival place : List ℕ) (reached : List Visit) (best : ℕ) →
-    AreLists shut goal at begin arrival place reached → IsLowered shut goal at begin Given arrival reached best arrival place reached best
-lowered_none shut goal at begin Given arrival place reached best lists = record {
+pub lowered_none : (forbidden : List Bool) (goal at begin : ℕ) (Given : Arrivals) (arrival place : List ℕ) (reached : List Visit) (best : ℕ) →
+    AreLists forbidden goal at begin arrival place reached → IsLowered forbidden goal at begin Given arrival reached best arrival place reached best
+lowered_none forbidden goal at begin Given arrival place reached best lists = record {
   lists = lists;
   lower = omega arith;
   lowered = λ k. omega arith;
@@ -25,11 +25,11 @@ lowered_none shut goal at begin Given arrival place reached best lists = record 
 }
 
 -- more steps after some steps, if what the first are given is also given to the second
-pub lowered_more : (shut : List Bool) (goal at begin : ℕ) (Given Given' : Arrivals) (arrival0 : List ℕ) (reached0 : List Visit) (best0 : ℕ) (arrival1 place1 : List ℕ) (reached1 : List Visit) (best1 : ℕ) (arrival2 place2 : List ℕ) (reached2 : List Visit) (best2 : ℕ) →
+pub lowered_more : (forbidden : List Bool) (goal at begin : ℕ) (Given Given' : Arrivals) (arrival0 : List ℕ) (reached0 : List Visit) (best0 : ℕ) (arrival1 place1 : List ℕ) (reached1 : List Visit) (best1 : ℕ) (arrival2 place2 : List ℕ) (reached2 : List Visit) (best2 : ℕ) →
     ((w x : ℕ) → Given' w x → Given w x) →
-    IsLowered shut goal at begin Given arrival0 reached0 best0 arrival1 place1 reached1 best1 → IsLowered shut goal at begin Given' arrival1 reached1 best1 arrival2 place2 reached2 best2 →
-    IsLowered shut goal at begin Given arrival0 reached0 best0 arrival2 place2 reached2 best2
-lowered_more shut goal at begin Given Given' arrival0 reached0 best0 arrival1 place1 reached1 best1 arrival2 place2 reached2 best2 weaker one two = record {
+    IsLowered forbidden goal at begin Given arrival0 reached0 best0 arrival1 place1 reached1 best1 → IsLowered forbidden goal at begin Given' arrival1 reached1 best1 arrival2 place2 reached2 best2 →
+    IsLowered forbidden goal at begin Given arrival0 reached0 best0 arrival2 place2 reached2 best2
+lowered_more forbidden goal at begin Given Given' arrival0 reached0 best0 arrival1 place1 reached1 best1 arrival2 place2 reached2 best2 weaker one two = record {
   lists = two.lists;
   lower = omega (arith, one.lower, two.lower);
   lowered = λ k. omega (arith, one.lowered k, two.lowered k);
@@ -78,15 +78,15 @@ step_of_hop task is n h hop u t w x s =
 
 -- a hop in time to an open node is a step
 pub hop_takes : (task : SearchTask) → IsTask task → (n : ℕ) (h : Hop) → IsHopAt task n h → (u t x : ℕ) → ((c : Contact) × (contact_named task.plan n ≡ Some c) × (slice_get task.table u ≡ Some c.from)) →
-    slice_index_or task.shut h.receiver false ≡ false → (u ≡ task.start → has n task.excluded ≡ false) → hop_arrival task.request.margin t h ≡ Some x → Takes task n u t h.receiver x
-hop_takes task is n h hop u t x sent unshut allowed arrives =
+    slice_index_or task.forbidden h.receiver false ≡ false → (u ≡ task.start → has n task.excluded ≡ false) → hop_arrival task.request.margin t h ≡ Some x → Takes task n u t h.receiver x
+hop_takes task is n h hop u t x sent permitted allowed arrives =
     let same : sent.0 ≡ hop.contact = same_some (sym sent.1 ∙ hop.named) in
     record {
       contact = hop.contact;
       named = hop.named;
       sender = sent.2 ∙ ap (λ (c : Contact). Some c.from) same;
       receiver = hop.is.receiver;
-      unshut = unshut;
+      permitted = permitted;
       allowed = allowed;
       arrives = hop_arrival_is (record { plan = task.plan; table = task.table }) task.request t hop.contact h hop.is ∙ arrives;
     }

@@ -5,12 +5,15 @@ use Rattle.std.proofs.lemmas.Bool.{cases_lt, cases_eq}
 use Rattle.std.proofs.lemmas.List.{get_or_append_left, get_or_push}
 use Rattle.std.proofs.lemmas.Option.{slice_get-get_or, slice_get_within, get_or_from_slice_get}
 use Rattle.sabr_search.specs.declared.visit.Visit.{Visit}
-use Rattle.sabr_search.specs.declared.forward.layers.Best.{Best}
+use Rattle.sabr_search.specs.declared.found.Best.{Best}
+use Rattle.sabr_search.specs.declared.found.Outcome.{Outcome}
+use Rattle.sabr_search.specs.declared.found.Outcome.TheVariants.{Found, None, GaveUp}
+use Rattle.sabr_index.specs.declared.looks.Looks.{Looks}
 use Rattle.sabr_search.specs.questions.Ways.{Leads}
 use Rattle.sabr_search.specs.layers.Layers.{Entries, ReachedBy, IsTaken}
 use Rattle.sabr_search.specs.questions.Task.{SearchTask, Takes, IsTask, never}
 use Rattle.sabr_search.specs.layers.Lists.{AreLists, IsLowered, IsKnownFrom, GivenFrom, AreSources, IsBroughtTo}
-use Rattle.sabr_search.specs.layers.Made.{Entry, AreLayers, AreMade, IsBestWithin}
+use Rattle.sabr_search.specs.layers.Made.{Entry, AreLayers, AreMade, IsFound, IsMade, IsOutcome}
 use Rattle.sabr_search.specs.layers.Late.{IsNoneSooner}
 use Rattle.sabr_search.proofs.WayLemmas.Ways.{Leads-append, Leads-later}
 use Rattle.sabr_search.proofs.ForwardLemmas.HopLayers.{none_sooner}
@@ -21,9 +24,9 @@ use Rattle.sabr_search.proofs.LinkLemmas.PlanFacts.{takes_early}
 use Rattle.sabr_search.proofs.AnswerLemmas.Law.{way_early}
 
 -- a way of some hops ends at an open node
-way_open : (task : SearchTask) (ns : List ℕ) (u t v e : ℕ) → 0 < length ns → Leads (Takes task) u t ns v e → slice_index_or task.shut v false ≡ false
+way_open : (task : SearchTask) (ns : List ℕ) (u t v e : ℕ) → 0 < length ns → Leads (Takes task) u t ns v e → slice_index_or task.forbidden v false ≡ false
 way_open task [] u t v e more way = absurd (omega (arith, more))
-way_open task (n ∷ []) u t v e more way = rw way.3.0 at way.2.unshut
+way_open task (n ∷ []) u t v e more way = rw way.3.0 at way.2.permitted
 way_open task (n ∷ m ∷ ns) u t v e more way = way_open task (m ∷ ns) way.0 way.1 v e (omega arith) way.3
 
 -- reading a list with one element more
@@ -49,7 +52,7 @@ layer_of bounds p (suc m) first less = elim (cases_lt p (slice_index bounds m)) 
 -- layers with one bound more
 module _ (task : SearchTask) (is : IsTask task) (until hop : ℕ) (bounds arrival place : List ℕ) (reached : List Visit) (best : Best) (made : AreLayers task until hop bounds arrival place reached best)
     (bounds' arrival' place' : List ℕ) (reached' : List Visit) (delivery : ℕ)
-    (lowered : IsLowered task.shut task.goal task.at (slice_index bounds (hop + 1)) (GivenFrom task reached (slice_index bounds hop) (slice_index bounds (hop + 1))) arrival reached best.delivery arrival' place' reached' delivery)
+    (lowered : IsLowered task.forbidden task.goal task.at (slice_index bounds (hop + 1)) (GivenFrom task reached (slice_index bounds hop) (slice_index bounds (hop + 1))) arrival reached best.delivery arrival' place' reached' delivery)
     (known : IsKnownFrom task reached (slice_index bounds hop) (slice_index bounds (hop + 1)) arrival' delivery)
     (bounds_is : bounds' ≡ bounds ++ length reached' ∷ []) where
   many' : length bounds' ≡ hop + 1 + 2
@@ -90,16 +93,16 @@ module _ (task : SearchTask) (is : IsTask task) (until hop : ℕ) (bounds arriva
       (e.0, omega (arith, bound_before h (omega arith), e.1), below, was e.0 (record { node = v; at = a }) (omega (arith, made.last_bound)) e.3)
 
   -- a node that is reached by second b, before every arrival is late, has an entry by then
-  reached_by : (w b : ℕ) → slice_index_or task.shut w false ≡ false → w < length arrival' → slice_index arrival' w ≤ b → b < never → ReachedBy (Entry bounds' reached') (hop + 1) w b
-  reached_by w b unshut within le early =
+  reached_by : (w b : ℕ) → slice_index_or task.forbidden w false ≡ false → w < length arrival' → slice_index arrival' w ≤ b → b < never → ReachedBy (Entry bounds' reached') (hop + 1) w b
+  reached_by w b permitted within le early =
       let linked = lowered.lists.linked in
       let p : ℕ = slice_index place' w in
       let inside : p < length reached' = lowered.lists.placed.within w (omega (arith, linked.as_many)) in
       let d : Visit = record { node = 0; at = 0 } in
       let e : Visit = slice_index_or reached' p d in
       let at : slice_get reached' p ≡ Some e = slice_get-get_or reached' p d inside in
-      let node : e.node ≡ w = linked.node w d within unshut (omega arith) in
-      let time : e.at ≡ slice_index arrival' w = linked.time w d within unshut (omega arith) in
+      let node : e.node ≡ w = linked.node w d within permitted (omega arith) in
+      let time : e.at ≡ slice_index arrival' w = linked.time w d within permitted (omega arith) in
       let layer = layer_of bounds' p (hop + 1 + 1) (bound_before 0 (omega arith) ∙ made.first_bound) (omega (arith, last')) in
       (layer.0, e.at, omega (arith, layer.1), omega (arith, time), (p, layer.2, layer.3, at ∙ ap (λ k. Some (record { node = k; at = e.at })) node))
 
@@ -115,7 +118,7 @@ module _ (task : SearchTask) (is : IsTask task) (until hop : ℕ) (bounds arriva
         elim (known old.0 (record { node = v; at = a }) n w b old.1 old.2 old.3 s) [
           | inl late ↦ inl late
           | inr found ↦
-              (let r = reached_by w b s.unshut (omega (arith, lowered.lists.flags, is.as_many, slice_get_within task.table w s.contact.to s.receiver)) found.1 (omega (arith, takes_early task is n v a w b s)) in
+              (let r = reached_by w b s.permitted (omega (arith, lowered.lists.flags, is.as_many, slice_get_within task.table w s.contact.to s.receiver)) found.1 (omega (arith, takes_early task is n v a w b s)) in
               inr (r.0, r.1, omega (arith, r.2), r.3, r.4))
         ])
   ]
@@ -177,7 +180,7 @@ module _ (task : SearchTask) (is : IsTask task) (until hop : ℕ) (bounds arriva
   begins' : slice_get reached' 0 ≡ Some (record { node = task.start; at = task.at })
   begins' = kept 0 (record { node = task.start; at = task.at }) made.begins
 
-  lists' : AreLists task.shut task.goal task.at (slice_index bounds' (hop + 1 + 1)) arrival' place' reached'
+  lists' : AreLists task.forbidden task.goal task.at (slice_index bounds' (hop + 1 + 1)) arrival' place' reached'
   lists' = record {
     flags = lowered.lists.flags;
     closed = lowered.lists.closed;
@@ -282,7 +285,7 @@ module _ (task : SearchTask) (is : IsTask task) (until hop : ℕ) (bounds arriva
   beyond_never h a (inr past) = past.1 refl
 
   -- what the links to the goal bring it from there is known
-  brought : (delivery : ℕ) → ((n u b : ℕ) → Takes task n u (slice_index arrival u) task.goal b → slice_index_or task.shut u false ≡ false → delivery ≤ b) → 0 < hop →
+  brought : (delivery : ℕ) → ((n u b : ℕ) → Takes task n u (slice_index arrival u) task.goal b → slice_index_or task.forbidden u false ≡ false → delivery ≤ b) → 0 < hop →
       (v a n b : ℕ) → Entry bounds reached hop v a → Takes task n v a task.goal b → delivery ≤ b
   brought delivery known more v a n b e s =
       let d : Visit = record { node = v; at = a } in
@@ -290,11 +293,11 @@ module _ (task : SearchTask) (is : IsTask task) (until hop : ℕ) (bounds arriva
       let by : slice_index arrival v ≤ a = rw read at (made.lists.by e.0 d (slice_get_within reached e.0 d e.3)) in
       let sooner = (takes_timely task is.nodes).earlier n v a task.goal b (slice_index arrival v) s by in
       let way = made.real hop v a e in
-      let unshut = way_open task way.0 task.start task.at v a (omega (arith, way.1)) way.2 in
-      omega (arith, known n v sooner.0 sooner.2 unshut, sooner.1)
+      let permitted = way_open task way.0 task.start task.at v a (omega (arith, way.1)) way.2 in
+      omega (arith, known n v sooner.0 sooner.2 permitted, sooner.1)
 
   -- then no way of at most one hop more comes before it
-  pub least_with_last : (delivery : ℕ) → delivery ≤ best.delivery → ((n u b : ℕ) → Takes task n u (slice_index arrival u) task.goal b → slice_index_or task.shut u false ≡ false → delivery ≤ b) → 0 < hop →
+  pub least_with_last : (delivery : ℕ) → delivery ≤ best.delivery → ((n u b : ℕ) → Takes task n u (slice_index arrival u) task.goal b → slice_index_or task.forbidden u false ≡ false → delivery ≤ b) → 0 < hop →
       (ns : List ℕ) (e : ℕ) → length ns ≤ hop + 1 → Leads (Takes task) task.start task.at ns task.goal e → delivery ≤ e
   least_with_last delivery lower known more =
       none_sooner (Takes task) (takes_timely task is.nodes) Beyond task.start task.at task.goal (inl start_entry) beyond_never (hop + 1) delivery all
@@ -314,7 +317,7 @@ module _ (task : SearchTask) (is : IsTask task) (until hop : ℕ) (bounds arriva
 
   -- and if it is sooner than what was found, a way of one hop more brings it
   pub way_with_last : (delivery : ℕ) → delivery < best.delivery → IsBroughtTo task arrival delivery → (ns : List ℕ) × (length ns ≡ hop + 1) × Leads (Takes task) task.start task.at ns task.goal delivery
-  way_with_last delivery sooner (u, n, unshut, s) =
+  way_with_last delivery sooner (u, n, permitted, s) =
       let timely = takes_timely task is.nodes in
       let a : ℕ = slice_index arrival u in
       let d : Visit = record { node = 0; at = 0 } in
@@ -325,7 +328,7 @@ module _ (task : SearchTask) (is : IsTask task) (until hop : ℕ) (bounds arriva
       let inside : p < length reached = made.lists.placed.within u (omega (arith, linked.as_many)) in
       let e : Visit = slice_index_or reached p d in
       let at : slice_get reached p ≡ Some e = slice_get-get_or reached p d inside in
-      let is_there : slice_get reached p ≡ Some (record { node = u; at = a }) = at ∙ ap (λ k. Some (record { node = k; at = e.at })) (linked.node u d within unshut early) ∙ ap (λ k. Some (record { node = u; at = k })) (linked.time u d within unshut early) in
+      let is_there : slice_get reached p ≡ Some (record { node = u; at = a }) = at ∙ ap (λ k. Some (record { node = k; at = e.at })) (linked.node u d within permitted early) ∙ ap (λ k. Some (record { node = u; at = k })) (linked.time u d within permitted early) in
       let layer = layer_of bounds p (hop + 1) made.first_bound (omega (arith, made.last_bound)) in
       let en : Entry bounds reached layer.0 u a = (p, layer.2, layer.3, is_there) in
       elim (last_or_before layer.0 hop (omega (arith, layer.1))) [
@@ -354,7 +357,7 @@ module _ (task : SearchTask) (is : IsTask task) (until hop : ℕ) (bounds arriva
 -- the layers with one more, whatever the new layer brings
 pub layers_next : (task : SearchTask) → IsTask task → (until hop : ℕ) (bounds arrival place : List ℕ) (reached : List Visit) (best : Best) → AreLayers task until hop bounds arrival place reached best →
     (bounds' arrival' place' : List ℕ) (reached' : List Visit) (delivery : ℕ) →
-    IsLowered task.shut task.goal task.at (slice_index bounds (hop + 1)) (GivenFrom task reached (slice_index bounds hop) (slice_index bounds (hop + 1))) arrival reached best.delivery arrival' place' reached' delivery →
+    IsLowered task.forbidden task.goal task.at (slice_index bounds (hop + 1)) (GivenFrom task reached (slice_index bounds hop) (slice_index bounds (hop + 1))) arrival reached best.delivery arrival' place' reached' delivery →
     IsKnownFrom task reached (slice_index bounds hop) (slice_index bounds (hop + 1)) arrival' delivery →
     bounds' ≡ bounds ++ length reached' ∷ [] → (best' : Best) → ((delivery < best.delivery) × (best' ≡ record { delivery = delivery; hops = hop + 1 })) ⊎ ((best.delivery ≤ delivery) × (best' ≡ best)) →
     AreLayers task until (hop + 1) bounds' arrival' place' reached' best'
@@ -384,7 +387,7 @@ spent_fewer old left hop hops contacts le so_far =
 
 -- layer 0 is the start alone
 pub layers_first : (task : SearchTask) (until : ℕ) (bounds arrival place : List ℕ) (reached : List Visit) → bounds ≡ 0 ∷ 1 ∷ [] → reached ≡ record { node = task.start; at = task.at } ∷ [] →
-    AreLists task.shut task.goal task.at 1 arrival place reached → AreLayers task until 0 bounds arrival place reached (record { delivery = until; hops = 0 })
+    AreLists task.forbidden task.goal task.at 1 arrival place reached → AreLayers task until 0 bounds arrival place reached (record { delivery = until; hops = 0 })
 layers_first task until bounds arrival place reached bounds_is reached_is lists =
     rw (bounds_is, reached_is) (record {
       lists = rw reached_is at lists;
@@ -410,13 +413,17 @@ layers_first task until bounds arrival place reached bounds_is reached_is lists 
     one : List Visit
     one = record { node = task.start; at = task.at } ∷ []
 
--- what is found within fewer hops is the best within more, if nothing is sooner there
+-- what is found within that many hops is the outcome, if nothing is sooner there
+made_within : (task : SearchTask) (until hops : ℕ) (best : Best) → IsNoneSooner task hops best.delivery → IsFound task until hops best → (old : Looks) (outcome : Outcome Best) → IsOutcome best outcome → IsMade task until hops old outcome
+made_within task until hops best least found old (Found way) same = rw same.0 (elim found [ inl none ↦ absurd (omega (arith, none.0, same.1)) | inr within ↦ record { least = least; found = within } ])
+made_within task until hops best least found old None zero_hops = elim found [ inl none ↦ rw none.1 at least | inr within ↦ absurd (omega (arith, within.0, zero_hops)) ]
+made_within task until hops best least found old GaveUp neither = absurd neither
+
+-- so it is with what is found within fewer hops
 pub best_within : (task : SearchTask) (until hop : ℕ) (bounds arrival place : List ℕ) (reached : List Visit) (best : Best) → AreLayers task until hop bounds arrival place reached best →
-    (hops : ℕ) → hop ≤ hops → IsNoneSooner task hops best.delivery → IsBestWithin task until hops best
-best_within task until hop bounds arrival place reached best made hops within least = record {
-  least = least;
-  found = elim made.found [ inl none ↦ inl none | inr found ↦ inr (found.0, omega (arith, found.1), found.2, found.3) ];
-}
+    (hops : ℕ) → hop ≤ hops → IsNoneSooner task hops best.delivery → (old : Looks) (outcome : Outcome Best) → IsOutcome best outcome → IsMade task until hops old outcome
+best_within task until hop bounds arrival place reached best made hops within least =
+    made_within task until hops best least (elim made.found [ inl none ↦ inl none | inr found ↦ inr (found.0, omega (arith, found.1), found.2, found.3) ])
 
 -- ---- layers of which the last begins at `first`
 
@@ -424,14 +431,14 @@ module _ (task : SearchTask) (is : IsTask task) (until hop first begin : ℕ) (a
   last : slice_index made.0 (hop + 1) ≡ begin
   last = made.2.last_bound ∙ sym end
 
-  pub made_lists : AreLists task.shut task.goal task.at begin arrival place reached
+  pub made_lists : AreLists task.forbidden task.goal task.at begin arrival place reached
   made_lists = rw last at made.2.lists
 
   pub made_sources : AreSources task reached first begin
   made_sources = rw (made.1, last) at (sources_of task is until hop made.0 arrival place reached best made.2)
 
   -- one layer more begins after these
-  pub made_next : (arrival' place' : List ℕ) (reached' : List Visit) (delivery : ℕ) → IsLowered task.shut task.goal task.at begin (GivenFrom task reached first begin) arrival reached best.delivery arrival' place' reached' delivery → IsKnownFrom task reached first begin arrival' delivery →
+  pub made_next : (arrival' place' : List ℕ) (reached' : List Visit) (delivery : ℕ) → IsLowered task.forbidden task.goal task.at begin (GivenFrom task reached first begin) arrival reached best.delivery arrival' place' reached' delivery → IsKnownFrom task reached first begin arrival' delivery →
       (best' : Best) → ((delivery < best.delivery) × (best' ≡ record { delivery = delivery; hops = hop + 1 })) ⊎ ((best.delivery ≤ delivery) × (best' ≡ best)) → AreMade task until (hop + 1) begin arrival' place' reached' best'
   made_next arrival' place' reached' delivery lowered known best' which = (
     made.0 ++ length reached' ∷ [],
@@ -447,23 +454,22 @@ made_all task is until hop first arrival place reached best made none ns e way =
 
 -- with the links to the goal as one layer more, what is found is the best
 pub made_last : (task : SearchTask) → IsTask task → (until hop first : ℕ) (arrival place : List ℕ) (reached : List Visit) (best : Best) → AreMade task until hop first arrival place reached best → 0 < hop → (hops : ℕ) → hop + 1 ≡ hops → (delivery : ℕ) → delivery ≤ best.delivery →
-    ((n u b : ℕ) → Takes task n u (slice_index arrival u) task.goal b → slice_index_or task.shut u false ≡ false → delivery ≤ b) → (delivery ≡ best.delivery) ⊎ IsBroughtTo task arrival delivery →
-    (best' : Best) → ((delivery < best.delivery) × (best' ≡ record { delivery = delivery; hops = hops })) ⊎ ((best.delivery ≤ delivery) × (best' ≡ best)) → IsBestWithin task until hops best'
-made_last task is until hop first arrival place reached best made more hops next delivery lower known found best' (inl better) = rw better.1 (record {
-  least = λ ns e le way. least_with_last task is until hop made.0 arrival place reached best made.2 delivery lower known more ns e (omega (arith, le, next)) way;
-  found = elim found [
-    | inl same ↦ absurd (omega (arith, same, better.0))
-    | inr brought ↦
-        (let way = way_with_last task is until hop made.0 arrival place reached best made.2 delivery better.0 brought in
-        inr (omega (arith, next), omega arith, omega (arith, better.0, below_until task until hop made.0 arrival place reached best made.2), (way.0, way.1 ∙ next, way.2)))
-  ];
-})
+    ((n u b : ℕ) → Takes task n u (slice_index arrival u) task.goal b → slice_index_or task.forbidden u false ≡ false → delivery ≤ b) → (delivery ≡ best.delivery) ⊎ IsBroughtTo task arrival delivery →
+    (best' : Best) → ((delivery < best.delivery) × (best' ≡ record { delivery = delivery; hops = hops })) ⊎ ((best.delivery ≤ delivery) × (best' ≡ best)) → (old : Looks) (outcome : Outcome Best) → IsOutcome best' outcome → IsMade task until hops old outcome
+made_last task is until hop first arrival place reached best made more hops next delivery lower known found best' (inl better) = rw better.1 (made_within task until hops (record { delivery = delivery; hops = hops })
+    (λ ns e le way. least_with_last task is until hop made.0 arrival place reached best made.2 delivery lower known more ns e (omega (arith, le, next)) way)
+    (elim found [
+      | inl same ↦ absurd (omega (arith, same, better.0))
+      | inr brought ↦
+          (let way = way_with_last task is until hop made.0 arrival place reached best made.2 delivery better.0 brought in
+          inr (omega (arith, next), omega arith, omega (arith, better.0, below_until task until hop made.0 arrival place reached best made.2), (way.0, way.1 ∙ next, way.2)))
+    ]))
 made_last task is until hop first arrival place reached best made more hops next delivery lower known found best' (inr same) =
     rw same.1 (best_within task until hop made.0 arrival place reached best made.2 hops (omega (arith, next))
     (λ ns e le way. omega (arith, same.0, lower, least_with_last task is until hop made.0 arrival place reached best made.2 delivery lower known more ns e (omega (arith, le, next)) way)))
 
 -- no arrival at the goal is noted
-pub goal_unreached : (task : SearchTask) → IsTask task → (begin : ℕ) (arrival place : List ℕ) (reached : List Visit) → AreLists task.shut task.goal task.at begin arrival place reached → never ≤ slice_index arrival task.goal
+pub goal_unreached : (task : SearchTask) → IsTask task → (begin : ℕ) (arrival place : List ℕ) (reached : List Visit) → AreLists task.forbidden task.goal task.at begin arrival place reached → never ≤ slice_index arrival task.goal
 goal_unreached task is begin arrival place reached lists = elim (cases_lt (slice_index arrival task.goal) never) [
   | inr late ↦ late
   | inl early ↦

@@ -7,7 +7,7 @@ use Rattle.std.proofs.lemmas.List.Elements.{All-cons, All-head, All-tail, All-we
 use Rattle.std.proofs.lemmas.List.Sorted.{All-permutation, Contains-permutation}
 use Rattle.std.proofs.lemmas.List.Sums.{sum_by-set, count_by-le-length}
 use Rattle.sabr_search.specs.declared.visit.Visit.{Visit}
-use Rattle.sabr_search.specs.declared.forward.layers.Best.{Best}
+use Rattle.sabr_search.specs.declared.found.Best.{Best}
 use Rattle.sabr_search.specs.questions.Task.{SearchTask, Takes, IsTask, never, latest_arrival}
 use Rattle.sabr_search.specs.layers.Lists.{AreClosed, IsKnown}
 use Rattle.sabr_search.specs.layers.Settling.{IsBound, IsWaiting, AreSettledBy, AreBy, settled_count, IsWayTo, IsQueue, AreHops, IsFirst, AreSettling, IsFallen, AreSettledTaken}
@@ -101,8 +101,8 @@ found_better task is until late costs settled u t n w h arrival hops queue best 
 
 -- what is reached sooner is open
 pub open_sooner : (task : SearchTask) (until : ℕ) (late costs : List ℕ) (settled : List Bool) (u t w b : ℕ) (arrival hops : List ℕ) (queue : List Visit) (best : Best) → AreSettling task until late costs settled u t arrival hops queue best →
-    t ≤ b → b < slice_index arrival w → slice_index_or task.shut w false ≡ false
-open_sooner task until late costs settled u t w b arrival hops queue best so_far later less = false_from_ne_true (slice_index_or task.shut w false) (λ on. omega (arith, so_far.closed w on))
+    t ≤ b → b < slice_index arrival w → slice_index_or task.forbidden w false ≡ false
+open_sooner task until late costs settled u t w b arrival hops queue best so_far later less = false_from_ne_true (slice_index_or task.forbidden w false) (λ on. omega (arith, so_far.closed w on))
 
 -- an open node is reached sooner, and an event waits for it
 module _ (task : SearchTask) (is : IsTask task) (until : ℕ) (late costs : List ℕ) (settled : List Bool) (u t n b h : ℕ) (event : Visit) (arrival hops : List ℕ) (queue queue' : List Visit) (best : Best) (so_far : AreSettling task until late costs settled u t arrival hops queue best)
@@ -115,7 +115,7 @@ module _ (task : SearchTask) (is : IsTask task) (until : ℕ) (late costs : List
   early = so_far.early n w b step
 
   unsettled : slice_index_or settled w false ≡ false
-  unsettled = false_from_ne_true (slice_index_or settled w false) (λ on. omega (arith, less, early w on step.unshut))
+  unsettled = false_from_ne_true (slice_index_or settled w false) (λ on. omega (arith, less, early w on step.permitted))
 
   apart : u ≢ w
   apart same = both_ways (slice_index_or settled w false) unsettled (ap (λ k. slice_index_or settled k false) (sym same) ∙ so_far.on)
@@ -144,10 +144,10 @@ module _ (task : SearchTask) (is : IsTask task) (until : ℕ) (late costs : List
               (waits.0, Contains-permutation (event ∷ queue) queue' waits.0 moved (Contains-append_right (event ∷ []) queue waits.0 waits.1), waits.2, omega (arith, waits.3, same))
         ];
         late = all_more (λ (e : Visit). slice_index arrival' e.node + slice_index costs e.node ≤ e.at) (omega (arith, here, at_is)) (All-weaker (λ (e : Visit). slice_index arrival e.node + slice_index costs e.node ≤ e.at) (λ (e : Visit). slice_index arrival' e.node + slice_index costs e.node ≤ e.at) (λ e le. omega (arith, falls e.node)) queue was.late);
-        before = all_more (λ (e : Visit). e.at < slice_index_or late e.node never + slice_index costs e.node) (omega (arith, less, at_is, so_far.lowered w step.unshut)) was.before;
+        before = all_more (λ (e : Visit). e.at < slice_index_or late e.node never + slice_index costs e.node) (omega (arith, less, at_is, so_far.lowered w step.permitted)) was.before;
         order = all_more (λ (e : Visit). AreSettledBy task costs settled arrival' e.at) (λ k on open'. omega (arith, kept k on, at_is, early k on open')) (All-weaker (λ (e : Visit). AreSettledBy task costs settled arrival e.at) (λ (e : Visit). AreSettledBy task costs settled arrival' e.at) (λ e by k on open'. omega (arith, kept k on, by k on open')) queue was.order);
         inside = all_more (λ (e : Visit). e.node < length arrival') (omega (arith, many)) (All-weaker (λ (e : Visit). e.node < length arrival) (λ (e : Visit). e.node < length arrival') (λ e lt. omega (arith, many)) queue was.inside);
-        unshut = all_more (λ (e : Visit). slice_index_or task.shut e.node false ≡ false) step.unshut was.unshut;
+        permitted = all_more (λ (e : Visit). slice_index_or task.forbidden e.node false ≡ false) step.permitted was.permitted;
         other = all_more (λ (e : Visit). e.node ≢ task.goal) other was.other;
       }
 
@@ -237,8 +237,8 @@ module _ (task : SearchTask) (bounds costs : List ℕ) (settled : List Bool) (ar
   pub head_inside : e.node < length arrival
   head_inside = head (λ (f : Visit). f.node < length arrival) was.inside
 
-  pub head_open : slice_index_or task.shut e.node false ≡ false
-  head_open = head (λ (f : Visit). slice_index_or task.shut f.node false ≡ false) was.unshut
+  pub head_open : slice_index_or task.forbidden e.node false ≡ false
+  head_open = head (λ (f : Visit). slice_index_or task.forbidden f.node false ≡ false) was.permitted
 
   pub head_other : e.node ≢ task.goal
   head_other = head (λ (f : Visit). f.node ≢ task.goal) was.other
@@ -294,12 +294,12 @@ module _ (task : SearchTask) (bounds costs : List ℕ) (settled : List Bool) (ar
       before = tail (λ (f : Visit). f.at < slice_index_or bounds f.node never + slice_index costs f.node) was.before;
       order = λ i d lt. early_after _ (first i d lt) (tail (λ (f : Visit). AreSettledBy task costs settled arrival f.at) was.order i d lt);
       inside = tail (λ (f : Visit). f.node < length arrival) was.inside;
-      unshut = tail (λ (f : Visit). slice_index_or task.shut f.node false ≡ false) was.unshut;
+      permitted = tail (λ (f : Visit). slice_index_or task.forbidden f.node false ≡ false) was.permitted;
       other = tail (λ (f : Visit). f.node ≢ task.goal) was.other;
     }
 
     -- so its contacts can be taken
-    pub settles : (until : ℕ) (hops : List ℕ) (best : Best) → IsBound task until bounds costs → length arrival ≡ length task.shut → length settled ≡ length task.shut → AreClosed task.shut arrival task.at → task.at ≤ slice_index arrival e.node → AreBy task bounds arrival → best.delivery ≤ latest_arrival + 1 →
+    pub settles : (until : ℕ) (hops : List ℕ) (best : Best) → IsBound task until bounds costs → length arrival ≡ length task.forbidden → length settled ≡ length task.forbidden → AreClosed task.forbidden arrival task.at → task.at ≤ slice_index arrival e.node → AreBy task bounds arrival → best.delivery ≤ latest_arrival + 1 →
         best.delivery ≤ slice_index arrival task.goal → IsFirst task until settled best → AreHops task bounds settled arrival hops → AreSettling task until bounds costs (slice_set settled e.node true) e.node (slice_index arrival e.node) arrival hops queue' best
     settles until hops best bound flags many closed since lowered sooner goal_late found hops_are = record {
       on = flag_here settled e.node within;
@@ -330,6 +330,6 @@ module _ (task : SearchTask) (bounds costs : List ℕ) (settled : List Bool) (ar
     before = tail (λ (f : Visit). f.at < slice_index_or bounds f.node never + slice_index costs f.node) was.before;
     order = tail (λ (f : Visit). AreSettledBy task costs settled arrival f.at) was.order;
     inside = tail (λ (f : Visit). f.node < length arrival) was.inside;
-    unshut = tail (λ (f : Visit). slice_index_or task.shut f.node false ≡ false) was.unshut;
+    permitted = tail (λ (f : Visit). slice_index_or task.forbidden f.node false ≡ false) was.permitted;
     other = tail (λ (f : Visit). f.node ≢ task.goal) was.other;
   }

@@ -69,10 +69,10 @@ over_pass task is u to t x w b p s =
     }
 
 -- a pass in time to an open node is a step
-pub pass_takes : (task : SearchTask) → IsTask task → (u to t : ℕ) (x : Pass) (b : ℕ) (h : Hop) → IsPassAt task u to x → h.receiver ≡ to → IsHopAt task x.number h → slice_index_or task.shut to false ≡ false →
+pub pass_takes : (task : SearchTask) → IsTask task → (u to t : ℕ) (x : Pass) (b : ℕ) (h : Hop) → IsPassAt task u to x → h.receiver ≡ to → IsHopAt task x.number h → slice_index_or task.forbidden to false ≡ false →
     (u ≡ task.start → has x.number task.excluded ≡ false) → hop_arrival task.request.margin t h ≡ Some b → Takes task x.number u t to b
 pass_takes task is u to t x b h p same hop open' allowed arrives =
-    rw same at (hop_takes task is x.number h hop u t b (p.contact, p.named, p.sender) (ap (λ k. slice_index_or task.shut k false) same ∙ open') allowed arrives)
+    rw same at (hop_takes task is x.number h hop u t b (p.contact, p.named, p.sender) (ap (λ k. slice_index_or task.forbidden k false) same ∙ open') allowed arrives)
 
 -- a step over a pass, however its place is given
 pub step_at : (task : SearchTask) (passes : List Pass) (u t i k : ℕ) (x y : Pass) (w b : ℕ) → slice_get passes i ≡ Some x → slice_get passes k ≡ Some y → k ≡ i → Takes task y.number u t w b → Takes task x.number u t w b

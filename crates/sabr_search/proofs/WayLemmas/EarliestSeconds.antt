@@ -20,7 +20,7 @@ pub replicate_many : (n x : ℕ) → length (replicate n x) ≡ n
 replicate_many n x = grind (arith, common_steps)
 
 -- no way comes to a node before the search starts
-pub arrivals_since : (task : SearchTask) → IsTask task → (n : ℕ) → n ≡ length task.shut → AreArrivals task (replicate n task.at)
+pub arrivals_since : (task : SearchTask) → IsTask task → (n : ℕ) → n ≡ length task.forbidden → AreArrivals task (replicate n task.at)
 arrivals_since task is n n_is = record {
   flags = replicate_many n task.at ∙ n_is ∙ is.as_many;
   least = λ ns v t some way. omega (arith, same_everywhere n task.at v, Leads-later (Takes task) (takes_timely task is.nodes) ns task.start task.at v t way);

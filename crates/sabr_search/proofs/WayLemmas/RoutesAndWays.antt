@@ -22,7 +22,7 @@ takes_timely task nodes = record {
   later = λ n u t w b s. arrives_later task.plan task.request t s.contact b s.arrives;
   earlier = λ n u t w b a s le.
       (let sooner = arrival_is_monotone task.plan task.request s.contact a t b le s.arrives in
-      (sooner.0, sooner.2, record { contact = s.contact; named = s.named; sender = s.sender; receiver = s.receiver; unshut = s.unshut; allowed = s.allowed; arrives = sooner.1 }));
+      (sooner.0, sooner.2, record { contact = s.contact; named = s.named; sender = s.sender; receiver = s.receiver; permitted = s.permitted; allowed = s.allowed; arrives = sooner.1 }));
   one = λ n u t w b x d s z.
       (let same : s.contact ≡ z.contact = same_some (sym s.named ∙ z.named) in
       let to : s.contact.to ≡ z.contact.to = ap (λ (c : Contact). c.to) same in (
@@ -40,9 +40,9 @@ pub record IsChain (task : SearchTask) (prefix s : List ℕ) (v e t x : ℕ) : T
   pub open_nodes : (z : ℕ) → has z (receivers task.plan s) ≡ true → is_closed task.plan task.request prefix z ≡ false
 
 module _ (task : SearchTask) (prefix : List ℕ) (behind : IsBehind task prefix) where
-  -- the start is shut: it is the source or a receiver of the prefix
-  pub start_is_shut : slice_index_or task.shut task.start false ≡ true
-  start_is_shut =
+  -- the start is forbidden: it is the source or a receiver of the prefix
+  pub start_is_forbidden : slice_index_or task.forbidden task.start false ≡ true
+  start_is_forbidden =
       let p = task.plan in
       let source = task.request.source in
       let listed : has behind.last_node (source ∷ receivers p prefix) ≡ true =
@@ -50,7 +50,7 @@ module _ (task : SearchTask) (prefix : List ℕ) (behind : IsBehind task prefix)
         | [] ↦ λ e. or_left (eqb behind.last_node source) false (eq-eqb behind.last_node source (sym (same_some e)))
         | n ∷ q ↦ λ e. or_right (eqb behind.last_node source) (has behind.last_node (receivers p (n ∷ q))) (end_is_received p source n q behind.last_node e)
       ] behind.chained in
-      behind.shuts task.start behind.last_node behind.stands ∙ or_left (has behind.last_node (source ∷ receivers p prefix)) (has behind.last_node task.request.avoided) listed
+      behind.forbids task.start behind.last_node behind.stands ∙ or_left (has behind.last_node (source ∷ receivers p prefix)) (has behind.last_node task.request.avoided) listed
 
   -- a chain over open nodes, in time, is a way; only its first contact leaves the start
   pub way_from_chain : (s : List ℕ) (u v t z last e : ℕ) → slice_get task.table u ≡ Some v → chain_end task.plan v s ≡ Some last → slice_get task.table z ≡ Some last → arrival_after task.plan task.request t s ≡ Some e
@@ -65,28 +65,28 @@ module _ (task : SearchTask) (prefix : List ℕ) (behind : IsBehind task prefix)
       let place = behind.nodes.receivers n h.contact h.named in
       let closed : is_closed p task.request prefix h.contact.to ≡ false =
       stays h.contact.to (ap (has h.contact.to) (receivers-cons p n s h.contact h.named) ∙ or_left (eqb h.contact.to h.contact.to) (has h.contact.to (receivers p s)) (eq-eqb h.contact.to h.contact.to refl)) in
-      let unshut : slice_index_or task.shut place.0 false ≡ false = behind.shuts place.0 h.contact.to place.1 ∙ closed in
+      let permitted : slice_index_or task.forbidden place.0 false ≡ false = behind.forbids place.0 h.contact.to place.1 ∙ closed in
       let step : Takes task n u t place.0 next.0 = record {
         contact = h.contact;
         named = h.named;
         sender = at ∙ ap Some (sym h.sent);
         receiver = place.1;
-        unshut = unshut;
+        permitted = permitted;
         allowed = first n s refl;
         arrives = next.1;
       } in
       let rest : Leads (Takes task) place.0 next.0 s z e =
       way_from_chain s place.0 h.contact.to next.0 z last e place.1 h.rest to next.2
       (λ x has_x. stays x (ap (has x) (receivers-cons p n s h.contact h.named) ∙ or_right (eqb x h.contact.to) (has x (receivers p s)) has_x))
-      (λ m more same here. absurd (both_ways (slice_index_or task.shut place.0 false) unshut (rw here start_is_shut))) in
+      (λ m more same here. absurd (both_ways (slice_index_or task.forbidden place.0 false) permitted (rw here start_is_forbidden))) in
       (place.0, next.0, step, rest)
 
 -- no node is open that is closed after the prefix
 abbrev pub Opens : SearchTask → List ℕ → Type 0
-Opens task prefix = (k x : ℕ) → slice_get task.table k ≡ Some x → slice_index_or task.shut k false ≡ false → is_closed task.plan task.request prefix x ≡ false
+Opens task prefix = (k x : ℕ) → slice_get task.table k ≡ Some x → slice_index_or task.forbidden k false ≡ false → is_closed task.plan task.request prefix x ≡ false
 
 pub opens_of : (task : SearchTask) (prefix : List ℕ) → IsBehind task prefix → Opens task prefix
-opens_of task prefix behind k x at open' = sym (behind.shuts k x at) ∙ open'
+opens_of task prefix behind k x at open' = sym (behind.forbids k x at) ∙ open'
 
 module _ (task : SearchTask) (prefix : List ℕ) (opens : Opens task prefix) where
   pub chain_of_way : (s : List ℕ) (u t v e x : ℕ) → slice_get task.table u ≡ Some x → Leads (Takes task) u t s v e → IsChain task prefix s v e t x
@@ -103,7 +103,7 @@ module _ (task : SearchTask) (prefix : List ℕ) (opens : Opens task prefix) whe
         after = arrival_after-cons p task.request t n way.1 s step.contact step.named step.arrives ∙ rest.after;
         open_nodes = λ z h.
             ⊎_elim
-            (λ e. ap (is_closed p task.request prefix) (eqb-true z step.contact.to e) ∙ opens way.0 step.contact.to step.receiver step.unshut)
+            (λ e. ap (is_closed p task.request prefix) (eqb-true z step.contact.to e) ∙ opens way.0 step.contact.to step.receiver step.permitted)
             (λ k. rest.open_nodes z k)
             (or_cases (eqb z step.contact.to) (has z (receivers p s)) (sym (ap (has z) (receivers-cons p n s step.contact step.named)) ∙ h));
       }

@@ -5,19 +5,19 @@ use Rattle.std.specs.declared.option.Option.TheVariants.{Some, None}
 use Rattle.sabr_model.specs.routes.Record.{RouteRecord}
 use Rattle.sabr_search.specs.declared.bound.Bound.{Bound}
 use Rattle.sabr_search.specs.questions.Bounded.{is_up_to}
-use Rattle.sabr_search.specs.questions.Told.{IsTold}
+use Rattle.sabr_search.specs.questions.RouteSummary.{IsTold}
 use Rattle.sabr_search.specs.questions.Ways.{Leads}
 use Rattle.sabr_search.specs.questions.Task.{SearchTask, HasNodes, Takes, left_of}
 use Rattle.sabr_search.specs.layers.Picks.{IsLeastWay}
 
 -- the same search, with these forbidden nodes and from this second on
 abbrev pub narrowed : SearchTask → List Bool → ℕ → SearchTask
-narrowed task shut at = record task { shut = shut; at = at }
+narrowed task forbidden at = record task { forbidden = forbidden; at = at }
 
 -- the search starts no earlier, and each node that was forbidden is still forbidden
-pub record Narrows (task : SearchTask) (shut : List Bool) (at : ℕ) : Type 0 where
+pub record Narrows (task : SearchTask) (forbidden : List Bool) (at : ℕ) : Type 0 where
   pub later : task.at ≤ at
-  pub shuts : (k : ℕ) → slice_index_or shut k false ≡ false → slice_index_or task.shut k false ≡ false
+  pub forbids : (k : ℕ) → slice_index_or forbidden k false ≡ false → slice_index_or task.forbidden k false ≡ false
 
 -- no way of at most h hops leads to the goal
 abbrev pub HasNoWayWithin : SearchTask → ℕ → Type 0
@@ -31,13 +31,13 @@ IsWayBeyond task hops b = (ns : List ℕ) (e : ℕ) → length ns ≤ hops → L
 -- has to be one that may still be taken and delivers at the same second. If there was no way, there still is none. If
 -- each way was above a bound, each is above whatever is up to that.
 pub record AnswersStay : Type 0 where
-  pub least : (task : SearchTask) (shut : List Bool) (at hops fewer ceiling : ℕ) (s : List ℕ) (d : ℕ) → HasNodes task.plan task.table → Narrows task shut at → fewer ≤ hops
-      → IsLeastWay task hops ceiling s d → length s ≤ fewer → Leads (Takes (narrowed task shut at)) task.start at s task.goal d
-      → IsLeastWay (narrowed task shut at) fewer ceiling s d
-  pub none : (task : SearchTask) (shut : List Bool) (at hops fewer : ℕ) → HasNodes task.plan task.table → Narrows task shut at → fewer ≤ hops
-      → HasNoWayWithin task hops → HasNoWayWithin (narrowed task shut at) fewer
-  pub beyond : (task : SearchTask) (shut : List Bool) (at hops fewer : ℕ) (b c : Bound) → HasNodes task.plan task.table → Narrows task shut at → fewer ≤ hops
-      → IsTrue (is_up_to b c.delivery c.hops) → IsWayBeyond task hops b → IsWayBeyond (narrowed task shut at) fewer c
+  pub least : (task : SearchTask) (forbidden : List Bool) (at hops fewer ceiling : ℕ) (s : List ℕ) (d : ℕ) → HasNodes task.plan task.table → Narrows task forbidden at → fewer ≤ hops
+      → IsLeastWay task hops ceiling s d → length s ≤ fewer → Leads (Takes (narrowed task forbidden at)) task.start at s task.goal d
+      → IsLeastWay (narrowed task forbidden at) fewer ceiling s d
+  pub none : (task : SearchTask) (forbidden : List Bool) (at hops fewer : ℕ) → HasNodes task.plan task.table → Narrows task forbidden at → fewer ≤ hops
+      → HasNoWayWithin task hops → HasNoWayWithin (narrowed task forbidden at) fewer
+  pub beyond : (task : SearchTask) (forbidden : List Bool) (at hops fewer : ℕ) (b c : Bound) → HasNodes task.plan task.table → Narrows task forbidden at → fewer ≤ hops
+      → IsTrue (is_up_to b c.delivery c.hops) → IsWayBeyond task hops b → IsWayBeyond (narrowed task forbidden at) fewer c
 
 -- the answer after a prefix: the route goes on by the best way, or no way leads to the goal
 abbrev pub IsAnswered : SearchTask → List ℕ → Option RouteRecord → Type 0

@@ -1,10 +1,10 @@
 -- What is left of a question after its prefix, and which answer that is kept is its answer.
 use Rattle.std.specs.Prelude.{◌≡◌, ℕ, List, length, slice_get}
 use Rattle.std.specs.declared.option.Option.TheVariants.{Some}
-use Rattle.sabr_search.specs.declared.answers.Answer.{Answer}
+use Rattle.sabr_search.specs.declared.early.answers.Answer.{Answer}
 use Rattle.sabr_search.specs.declared.bound.Bound.{Bound}
 use Rattle.sabr_search.specs.declared.question.Question.{Question}
-use Rattle.sabr_search.specs.answers.KeptAnswers.{IsAnswerTo}
+use Rattle.sabr_search.specs.answers.CachedAnswers.{IsAnswerTo}
 use Rattle.sabr_search.specs.questions.Bounded.{bound_after}
 use Rattle.sabr_search.specs.questions.Task.{left_of}
 

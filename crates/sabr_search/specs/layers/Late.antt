@@ -29,7 +29,7 @@ InTimeFor entries first begin w b = (p : ℕ) × (e : Deadline) × (first ≤ p)
 -- an entry after the goal's: of another open node
 pub record IsLateEntry (task : SearchTask) (e : Deadline) : Type 0 where
   pub inside : e.node < length task.table
-  pub unshut : slice_index_or task.shut e.node false ≡ false
+  pub permitted : slice_index_or task.forbidden e.node false ≡ false
   pub other : e.node ≢ task.goal
   pub some : 0 < e.before
 
@@ -60,7 +60,7 @@ IsNotedLate head begin u x s t =
 
 -- what a step from node u at t leaves, if it leads to where there still is time: u is not too late
 abbrev pub IsToldLate : SearchTask → List ℕ → List ℕ → ℕ → ℕ → Type 0
-IsToldLate task since late u t = slice_index_or task.shut u false ≡ false → u ≢ task.goal → slice_index since u ≤ t → t < slice_index late u
+IsToldLate task since late u t = slice_index_or task.forbidden u false ≡ false → u ≢ task.goal → slice_index since u ≤ t → t < slice_index late u
 
 -- so it is for each step over these passes from node u that arrives before a second
 abbrev pub IsToldOver : SearchTask → List ℕ → List ℕ → ℕ → List Pass → ℕ → Type 0
@@ -85,7 +85,7 @@ IsLayerTold task since ends left entries late = AreTold task since entries (slic
 
 -- the same by the layers up to the one after j
 abbrev pub IsToldBy : SearchTask → List ℕ → Entries → ℕ → ℕ → ℕ → Type 0
-IsToldBy task since E j u t = slice_index_or task.shut u false ≡ false → u ≢ task.goal → slice_index since u ≤ t → (i : ℕ) × (x : ℕ) × (i ≤ j + 1) × E i u x × (t < x)
+IsToldBy task since E j u t = slice_index_or task.forbidden u false ≡ false → u ≢ task.goal → slice_index since u ≤ t → (i : ℕ) × (x : ℕ) × (i ≤ j + 1) × E i u x × (t < x)
 
 -- the layers up to `left` hops from the goal
 pub record AreBackLayers (task : SearchTask) (since : List ℕ) (d left : ℕ) (ends late place : List ℕ) (entries : List Deadline) : Type 0 where

@@ -11,12 +11,12 @@ use Rattle.sabr_search.specs.questions.Task.{SearchTask, IsTask, Takes, is_close
 pub record IsWhole (task : SearchTask) : Type 0 where
   pub is : IsTask task
   pub goal_is : slice_get task.table task.goal ≡ Some task.request.destination
-  pub shuts : (k x : ℕ) → slice_get task.table k ≡ Some x → slice_index_or task.shut k false ≡ is_closed task.plan task.request [] x
+  pub forbids : (k x : ℕ) → slice_get task.table k ≡ Some x → slice_index_or task.forbidden k false ≡ is_closed task.plan task.request [] x
   pub free : task.excluded ≡ []
 
 -- who is at node u at t is not too late, if it is an open node and not the goal
 abbrev pub IsLeftBy : SearchTask → List ℕ → ℕ → ℕ → Type 0
-IsLeftBy task late u t = slice_index_or task.shut u false ≡ false → u ≢ task.goal → t < slice_index late u
+IsLeftBy task late u t = slice_index_or task.forbidden u false ≡ false → u ≢ task.goal → t < slice_index late u
 
 -- so it is for each step over these passes from node u to node w before a second
 abbrev pub IsLeftOver : SearchTask → List ℕ → ℕ → List Pass → ℕ → ℕ → Type 0
@@ -29,7 +29,7 @@ IsTakenBy task late w = (n u t b : ℕ) → Takes task n u t w b → b < slice_i
 -- who goes on from node u at t, no earlier than the request begins, and is at node w at b is no nearer to the goal
 -- there than the seconds on the way make it, if u is an open node and not the goal
 abbrev pub IsNear : SearchTask → List ℕ → ℕ → ℕ → ℕ → ℕ → Type 0
-IsNear task near u t w b = slice_index_or task.shut u false ≡ false → u ≢ task.goal → task.request.at ≤ t → slice_index near w + t ≤ slice_index near u + b
+IsNear task near u t w b = slice_index_or task.forbidden u false ≡ false → u ≢ task.goal → task.request.at ≤ t → slice_index near w + t ≤ slice_index near u + b
 
 -- so it is for each step over these passes to node w
 abbrev pub IsNearOver : SearchTask → List ℕ → ℕ → List Pass → ℕ → Type 0
@@ -41,8 +41,8 @@ IsNearBy task near w = (n u t b : ℕ) → Takes task n u t w b → IsNear task 
 
 -- at first the goal alone waits, and is reached in time before second `until`
 pub record IsBegun (task : SearchTask) (until : ℕ) (late : List ℕ) (taken : List Bool) (queue : List Visit) : Type 0 where
-  pub late_is : late ≡ slice_set (replicate (length task.shut) 0) task.goal until
-  pub taken_is : taken ≡ replicate (length task.shut) false
+  pub late_is : late ≡ slice_set (replicate (length task.forbidden) 0) task.goal until
+  pub taken_is : taken ≡ replicate (length task.forbidden) false
   pub waits : IsPermutation (record { at = 0; node = task.goal } ∷ []) queue
 
 -- the seconds so far, while the links to node `now` are taken: P holds for each other node whose links are, or it waits

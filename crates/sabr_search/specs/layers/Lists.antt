@@ -11,14 +11,14 @@ pub record IsPlaced (place : List ℕ) (reached : List Visit) : Type 0 where
   pub own : (k : ℕ) (d : Visit) → k < length place → 0 < slice_index place k → (slice_index_or reached (slice_index place k) d).node ≡ k
 
 -- an open node that is reached has an entry with its arrival, which `place` names
-pub record IsLinked (shut : List Bool) (arrival place : List ℕ) (reached : List Visit) : Type 0 where
+pub record IsLinked (forbidden : List Bool) (arrival place : List ℕ) (reached : List Visit) : Type 0 where
   pub as_many : length place ≡ length arrival
-  pub node : (k : ℕ) (d : Visit) → k < length arrival → slice_index_or shut k false ≡ false → slice_index arrival k < never → (slice_index_or reached (slice_index place k) d).node ≡ k
-  pub time : (k : ℕ) (d : Visit) → k < length arrival → slice_index_or shut k false ≡ false → slice_index arrival k < never → (slice_index_or reached (slice_index place k) d).at ≡ slice_index arrival k
+  pub node : (k : ℕ) (d : Visit) → k < length arrival → slice_index_or forbidden k false ≡ false → slice_index arrival k < never → (slice_index_or reached (slice_index place k) d).node ≡ k
+  pub time : (k : ℕ) (d : Visit) → k < length arrival → slice_index_or forbidden k false ≡ false → slice_index arrival k < never → (slice_index_or reached (slice_index place k) d).at ≡ slice_index arrival k
 
 -- whatever nodes were forbidden, the open ones that are reached still have such entries
 abbrev pub StayLinked : {A : Type 0} → Layers A → Layers A → Type 0
-StayLinked old new = (shut : List Bool) → IsLinked shut old.arrival.items old.place.items old.reached.items → IsLinked shut new.arrival.items new.place.items new.reached.items
+StayLinked old new = (forbidden : List Bool) → IsLinked forbidden old.arrival.items old.place.items old.reached.items → IsLinked forbidden new.arrival.items new.place.items new.reached.items
 
 -- the layer that begins at `begin` has each node once
 pub record IsLayer (begin : ℕ) (place : List ℕ) (reached : List Visit) : Type 0 where
@@ -32,7 +32,7 @@ AddsOnly xs ys k t = (p : ℕ) (d : Visit) → p < length ys →
 
 -- nothing that arrives at t or later improves a forbidden node
 abbrev pub AreClosed : List Bool → List ℕ → ℕ → Type 0
-AreClosed shut arrival t = (k : ℕ) → slice_index_or shut k false ≡ true → slice_index arrival k ≤ t
+AreClosed forbidden arrival t = (k : ℕ) → slice_index_or forbidden k false ≡ true → slice_index arrival k ≤ t
 
 -- a relation that says which node is brought to by which second
 abbrev pub Arrivals : Type 1
@@ -44,20 +44,20 @@ AddsGiven xs ys Given = (p : ℕ) (d : Visit) → p < length ys →
     ((p < length xs) × (slice_index_or ys p d ≡ slice_index_or xs p d)) ⊎ Given (slice_index_or ys p d).node (slice_index_or ys p d).at
 
 -- what the lists are between two steps of a search, in the layer that begins at `begin`
-pub record AreLists (shut : List Bool) (goal at begin : ℕ) (arrival place : List ℕ) (reached : List Visit) : Type 0 where
-  pub flags : length arrival ≡ length shut
-  pub closed : AreClosed shut arrival at
+pub record AreLists (forbidden : List Bool) (goal at begin : ℕ) (arrival place : List ℕ) (reached : List Visit) : Type 0 where
+  pub flags : length arrival ≡ length forbidden
+  pub closed : AreClosed forbidden arrival at
   pub placed : IsPlaced place reached
-  pub linked : IsLinked shut arrival place reached
+  pub linked : IsLinked forbidden arrival place reached
   pub layer : IsLayer begin place reached
-  pub inside : (p : ℕ) (d : Visit) → p < length reached → (slice_index_or reached p d).node < length shut
+  pub inside : (p : ℕ) (d : Visit) → p < length reached → (slice_index_or reached p d).node < length forbidden
   pub other : (p : ℕ) (d : Visit) → p < length reached → (slice_index_or reached p d).node ≢ goal
   pub by : (p : ℕ) (d : Visit) → p < length reached → slice_index arrival (slice_index_or reached p d).node ≤ (slice_index_or reached p d).at
 
 -- what holds after more steps were taken: arrivals and the best delivery only fall, by what is given, and what came
 -- before the layer stays
-pub record IsLowered (shut : List Bool) (goal at begin : ℕ) (Given : Arrivals) (arrival0 : List ℕ) (reached0 : List Visit) (best0 : ℕ) (arrival place : List ℕ) (reached : List Visit) (best : ℕ) : Type 0 where
-  pub lists : AreLists shut goal at begin arrival place reached
+pub record IsLowered (forbidden : List Bool) (goal at begin : ℕ) (Given : Arrivals) (arrival0 : List ℕ) (reached0 : List Visit) (best0 : ℕ) (arrival place : List ℕ) (reached : List Visit) (best : ℕ) : Type 0 where
+  pub lists : AreLists forbidden goal at begin arrival place reached
   pub lower : best ≤ best0
   pub lowered : (k : ℕ) → slice_index arrival k ≤ slice_index arrival0 k
   pub before : take begin reached ≡ take begin reached0
@@ -66,7 +66,7 @@ pub record IsLowered (shut : List Bool) (goal at begin : ℕ) (Given : Arrivals)
 
 -- so it is for the layers of a search
 abbrev pub AreLowered : {A : Type 0} → SearchTask → ℕ → Arrivals → Layers A → ℕ → Layers A → ℕ → Type 0
-AreLowered task begin Given old best0 new best = IsLowered task.shut task.goal task.at begin Given old.arrival.items old.reached.items best0 new.arrival.items new.place.items new.reached.items best
+AreLowered task begin Given old best0 new best = IsLowered task.forbidden task.goal task.at begin Given old.arrival.items old.reached.items best0 new.arrival.items new.place.items new.reached.items best
 
 -- what arrives at node w at b is no news: it comes no earlier than the best delivery, or the node is reached by then
 abbrev pub IsKnown : ℕ → List ℕ → ℕ → ℕ → ℕ → Type 0
@@ -101,4 +101,4 @@ IsKnownFrom task reached first begin arrival best = (p : ℕ) (e : Visit) (n w x
 
 -- some contact that is taken at an open node at its arrival leads to the goal then
 abbrev pub IsBroughtTo : SearchTask → List ℕ → ℕ → Type 0
-IsBroughtTo task arrival b = (u : ℕ) × (n : ℕ) × (slice_index_or task.shut u false ≡ false) × Takes task n u (slice_index arrival u) task.goal b
+IsBroughtTo task arrival b = (u : ℕ) × (n : ℕ) × (slice_index_or task.forbidden u false ≡ false) × Takes task n u (slice_index arrival u) task.goal b

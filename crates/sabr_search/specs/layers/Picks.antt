@@ -14,7 +14,7 @@ IsAtMost (Some s) n = s.number ≤ n
 
 -- a step from node u at t that arrives at node w before a second, if that node is open
 abbrev pub IsStepOver : SearchTask → ℕ → ℕ → ℕ → ℕ → Step → Type 0
-IsStepOver task u t w before s = (s.node ≡ w) × (s.at < before) × (slice_index_or task.shut w false ≡ false → Takes task s.number u t w s.at)
+IsStepOver task u t w before s = (s.node ≡ w) × (s.at < before) × (slice_index_or task.forbidden w false ≡ false → Takes task s.number u t w s.at)
 
 -- the numbers lead to the goal with this delivery and number of hops, and no others that do come before them
 pub record IsPicked (task : SearchTask) (hops d : ℕ) (s : List ℕ) : Type 0 where

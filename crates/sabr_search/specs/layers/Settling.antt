@@ -3,11 +3,15 @@ use Rattle.std.specs.Prelude.{◌≡◌, ◌≢◌, ◌⊎◌, ℕ, ◌+◌, ◌
 use Rattle.std.specs.List.{count_by}
 use Rattle.std.specs.declared.option.Option.TheVariants.{Some}
 use Rattle.sabr_search.specs.declared.visit.Visit.{Visit}
-use Rattle.sabr_search.specs.declared.forward.layers.Best.{Best}
+use Rattle.sabr_search.specs.declared.found.Best.{Best}
+use Rattle.sabr_search.specs.declared.found.Outcome.{Outcome}
+use Rattle.sabr_search.specs.declared.found.Outcome.TheVariants.{Found, None, GaveUp}
+use Rattle.sabr_search.specs.declared.forward.settling.Forward.{Forward}
 use Rattle.sabr_search.specs.declared.forward.settling.Settling.{Settling}
 use Rattle.sabr_index.specs.declared.link.Pass.{Pass}
 use Rattle.sabr_search.specs.questions.Linked.{HasNumber}
 use Rattle.sabr_search.specs.questions.Ways.{Leads}
+use Rattle.sabr_search.specs.questions.FirstSteps.{IsNoneBefore}
 use Rattle.sabr_search.specs.questions.Task.{SearchTask, Takes, never, latest_arrival}
 use Rattle.sabr_search.specs.questions.Steps.{senders}
 use Rattle.sabr_search.specs.layers.Lists.{AreClosed, IsKnown}
@@ -21,10 +25,10 @@ AreArrivalsBy task costs arrival d = (ns : List ℕ) (v t : ℕ) → 0 < length 
 -- from there to the goal costs at the least, which no step lowers by more than its seconds
 pub record IsBound (task : SearchTask) (until : ℕ) (late costs : List ℕ) : Type 0 where
   pub goal : until ≤ slice_index_or late task.goal never
-  pub steps : (n u t w b : ℕ) → Takes task n u t w b → slice_index_or task.shut u false ≡ false → u ≢ task.goal → slice_index_or late u never ≤ t → slice_index_or late w never ≤ b
+  pub steps : (n u t w b : ℕ) → Takes task n u t w b → slice_index_or task.forbidden u false ≡ false → u ≢ task.goal → slice_index_or late u never ≤ t → slice_index_or late w never ≤ b
   pub there : slice_index costs task.goal ≡ 0
   pub since : task.request.at ≤ task.at
-  pub lowers : (n u t w b : ℕ) → Takes task n u t w b → slice_index_or task.shut u false ≡ false → task.request.at ≤ t → t + slice_index costs u ≤ b + slice_index costs w
+  pub lowers : (n u t w b : ℕ) → Takes task n u t w b → slice_index_or task.forbidden u false ≡ false → task.request.at ≤ t → t + slice_index costs u ≤ b + slice_index costs w
 
 -- these are steps from the start
 abbrev pub AreReal : SearchTask → List Visit → Type 0
@@ -32,7 +36,7 @@ AreReal task first = (k : ℕ) (s : Visit) → slice_get first k ≡ Some s → 
 
 -- a bundle that comes to a settled open node may be at the goal by second t, by what it costs at the least
 abbrev pub AreSettledBy : SearchTask → List ℕ → List Bool → List ℕ → ℕ → Type 0
-AreSettledBy task costs settled arrival t = (k : ℕ) → slice_index_or settled k false ≡ true → slice_index_or task.shut k false ≡ false → slice_index arrival k + slice_index costs k ≤ t
+AreSettledBy task costs settled arrival t = (k : ℕ) → slice_index_or settled k false ≡ true → slice_index_or task.forbidden k false ≡ false → slice_index arrival k + slice_index costs k ≤ t
 
 -- an event for node k at second t waits
 abbrev pub IsWaiting : List Visit → ℕ → ℕ → Type 0
@@ -54,7 +58,7 @@ IsWayTo task v h t = (ns : List ℕ) × (length ns ≡ h) × Leads (Takes task) 
 -- there
 pub record IsQueue (task : SearchTask) (bounds costs : List ℕ) (settled : List Bool) (arrival : List ℕ) (queue : List Visit) : Type 0 where
   -- an open node that is reached before it is too late there, and not settled, waits with its arrival
-  pub waits : (k : ℕ) → k < length arrival → slice_index_or task.shut k false ≡ false → slice_index_or settled k false ≡ false → slice_index arrival k < slice_index_or bounds k never → IsWaiting queue k (slice_index arrival k + slice_index costs k)
+  pub waits : (k : ℕ) → k < length arrival → slice_index_or task.forbidden k false ≡ false → slice_index_or settled k false ≡ false → slice_index arrival k < slice_index_or bounds k never → IsWaiting queue k (slice_index arrival k + slice_index costs k)
   -- no event is earlier than the arrival at its node
   pub late : All (λ (e : Visit). slice_index arrival e.node + slice_index costs e.node ≤ e.at) queue
   -- no event comes when it is too late at its node
@@ -63,14 +67,14 @@ pub record IsQueue (task : SearchTask) (bounds costs : List ℕ) (settled : List
   pub order : All (λ (e : Visit). AreSettledBy task costs settled arrival e.at) queue
   -- an event is of an open node, and not of the goal
   pub inside : All (λ (e : Visit). e.node < length arrival) queue
-  pub unshut : All (λ (e : Visit). slice_index_or task.shut e.node false ≡ false) queue
+  pub permitted : All (λ (e : Visit). slice_index_or task.forbidden e.node false ≡ false) queue
   pub other : All (λ (e : Visit). e.node ≢ task.goal) queue
 
 -- by node the hops of a way with its arrival, no more than there are settled nodes, if it is an open node that is
 -- reached before it is too late there
 pub record AreHops (task : SearchTask) (late : List ℕ) (settled : List Bool) (arrival hops : List ℕ) : Type 0 where
-  pub many : length hops ≡ length task.shut
-  pub ways : (k : ℕ) → k < length arrival → slice_index_or task.shut k false ≡ false → slice_index arrival k < slice_index_or late k never → (slice_index hops k ≤ settled_count settled) × IsWayTo task k (slice_index hops k) (slice_index arrival k)
+  pub many : length hops ≡ length task.forbidden
+  pub ways : (k : ℕ) → k < length arrival → slice_index_or task.forbidden k false ≡ false → slice_index arrival k < slice_index_or late k never → (slice_index hops k ≤ settled_count settled) × IsWayTo task k (slice_index hops k) (slice_index arrival k)
 
 -- no delivery is found before second `until`, or one that is sooner by a way of no more hops than there are settled
 -- nodes
@@ -81,16 +85,16 @@ IsFirst task until settled best =
 
 -- no open node's arrival is later than what is too late there
 abbrev pub AreBy : SearchTask → List ℕ → List ℕ → Type 0
-AreBy task late arrival = (k : ℕ) → slice_index_or task.shut k false ≡ false → slice_index arrival k ≤ slice_index_or late k never
+AreBy task late arrival = (k : ℕ) → slice_index_or task.forbidden k false ≡ false → slice_index arrival k ≤ slice_index_or late k never
 
 -- what holds while the contacts of node u are taken, which is settled and reached at t
 pub record AreSettling (task : SearchTask) (until : ℕ) (late costs : List ℕ) (settled : List Bool) (u t : ℕ) (arrival hops : List ℕ) (queue : List Visit) (best : Best) : Type 0 where
   pub on : slice_index_or settled u false ≡ true
   pub real : IsWayTo task u (slice_index hops u) t
   pub few : slice_index hops u < settled_count settled
-  pub flags : length arrival ≡ length task.shut
-  pub many : length settled ≡ length task.shut
-  pub closed : AreClosed task.shut arrival t
+  pub flags : length arrival ≡ length task.forbidden
+  pub many : length settled ≡ length task.forbidden
+  pub closed : AreClosed task.forbidden arrival t
   pub early : (n w b : ℕ) → Takes task n u t w b → AreSettledBy task costs settled arrival (b + slice_index costs w)
   pub lowered : AreBy task late arrival
   pub queue_is : IsQueue task late costs settled arrival queue
@@ -100,8 +104,8 @@ pub record AreSettling (task : SearchTask) (until : ℕ) (late costs : List ℕ)
   pub goal_late : best.delivery ≤ slice_index arrival task.goal
 
 -- so it is with what a search keeps, while the contacts of an event's node are taken
-abbrev pub StaySettling : {A : Type 0} → SearchTask → ℕ → (late costs : List ℕ) → List Bool → Visit → Settling A → Best → Type 0
-StaySettling task until late costs settled event s best = AreSettling task until late costs settled event.node event.at s.arrival.items s.hops.items s.queue best
+abbrev pub StaySettling : {A : Type 0} → Forward A → List Bool → Visit → Settling A → Best → Type 0
+StaySettling forward settled event s best = AreSettling forward.task.now forward.until forward.late.now forward.costs.now settled event.node event.at s.arrival.items s.hops.items s.queue best
 
 -- what these passes bring from node u at t is known
 abbrev pub IsKnownOver : SearchTask → List Pass → ℕ → ℕ → (costs arrival : List ℕ) → ℕ → Type 0
@@ -120,12 +124,12 @@ AreSettledTaken task costs settled arrival best =
 
 -- what holds between two events
 pub record AreSettled (task : SearchTask) (until : ℕ) (late costs : List ℕ) (settled : List Bool) (arrival hops : List ℕ) (queue : List Visit) (best : Best) : Type 0 where
-  pub flags : length arrival ≡ length task.shut
-  pub many : length settled ≡ length task.shut
+  pub flags : length arrival ≡ length task.forbidden
+  pub many : length settled ≡ length task.forbidden
   pub start_settled : slice_index_or settled task.start false ≡ true
   pub start_reached : slice_index arrival task.start ≡ task.at
   pub goal_unsettled : slice_index_or settled task.goal false ≡ false
-  pub closed : AreClosed task.shut arrival task.at
+  pub closed : AreClosed task.forbidden arrival task.at
   pub lowered : AreBy task late arrival
   pub queue_is : IsQueue task late costs settled arrival queue
   pub hops_are : AreHops task late settled arrival hops
@@ -135,15 +139,22 @@ pub record AreSettled (task : SearchTask) (until : ℕ) (late costs : List ℕ) 
   pub taken : AreSettledTaken task costs settled arrival best.delivery
 
 -- so it is with what a search keeps
-abbrev pub StaySettled : {A : Type 0} → SearchTask → ℕ → (late costs : List ℕ) → Settling A → Best → Type 0
-StaySettled task until late costs s best = AreSettled task until late costs s.settled.items s.arrival.items s.hops.items s.queue best
+abbrev pub StaySettled : {A : Type 0} → Forward A → Settling A → Best → Type 0
+StaySettled forward s best = AreSettled forward.task.now forward.until forward.late.now forward.costs.now s.settled.items s.arrival.items s.hops.items s.queue best
 
 -- what a search before second `until` found: no way to the goal comes before the delivery, and some way comes then with
--- that number of hops, fewer than there are nodes; or no way comes there before that second
+-- that number of hops, fewer than there are nodes
 pub record IsFirstWay (task : SearchTask) (until : ℕ) (best : Best) : Type 0 where
-  pub least : (ns : List ℕ) (e : ℕ) → Leads (Takes task) task.start task.at ns task.goal e → best.delivery ≤ e
-  pub none : best.hops ≡ 0 → (ns : List ℕ) (e : ℕ) → Leads (Takes task) task.start task.at ns task.goal e → until ≤ e
-  pub sooner : 0 < best.hops → best.delivery < until
-  pub some : 0 < best.hops → IsWayTo task task.goal best.hops best.delivery
-  pub early : 0 < best.hops → best.delivery ≤ latest_arrival
+  pub least : IsNoneBefore task best.delivery
+  pub positive : 0 < best.hops
+  pub sooner : best.delivery < until
+  pub some : IsWayTo task task.goal best.hops best.delivery
+  pub early : best.delivery ≤ latest_arrival
   pub few : best.hops < length task.table
+
+-- how it ended: with such a way and arrivals by its delivery; no way delivers before second `until`, and the arrivals
+-- are by that; or it gave up for this reason alone
+abbrev pub IsReached : SearchTask → (until : ℕ) → (costs arrival : List ℕ) → Type 0 → Outcome Best → Type 0
+IsReached task until costs arrival reason (Found best) = IsFirstWay task until best × AreArrivalsBy task costs arrival best.delivery
+IsReached task until costs arrival reason None = IsNoneBefore task until × AreArrivalsBy task costs arrival until
+IsReached task until costs arrival reason GaveUp = reason

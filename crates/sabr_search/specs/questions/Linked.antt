@@ -42,7 +42,7 @@ HasNumber passes n = (k : ℕ) × (x : Pass) × (slice_get passes k ≡ Some x) 
 
 -- who is at node u at t arrives over some contact at node w before a second, if that node is open
 abbrev pub IsLeftBefore : SearchTask → ℕ → ℕ → ℕ → ℕ → Type 0
-IsLeftBefore task u w before t = (b : ℕ) × (b < before) × (slice_index_or task.shut w false ≡ false → (n : ℕ) × Takes task n u t w b)
+IsLeftBefore task u w before t = (b : ℕ) × (b < before) × (slice_index_or task.forbidden w false ≡ false → (n : ℕ) × Takes task n u t w b)
 
 -- the passes at the places of the link
 abbrev pub passes_of : List Pass → Link → List Pass

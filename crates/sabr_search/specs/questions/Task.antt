@@ -13,7 +13,7 @@ pub record SearchTask : Type 0 where
   pub plan : ContactPlan
   pub request : RouteRequest
   pub table : List ℕ
-  pub shut : List Bool
+  pub forbidden : List Bool
   pub excluded : List ℕ
   pub start : ℕ
   pub goal : ℕ
@@ -21,7 +21,7 @@ pub record SearchTask : Type 0 where
 
 -- the question over a plan with its table
 abbrev pub task_of : TabledPlan → RouteRequest → List Bool → List ℕ → ℕ → ℕ → ℕ → SearchTask
-task_of p r shut excluded start at goal = record { plan = p.plan; request = r; table = p.table; shut = shut; excluded = excluded; start = start; goal = goal; at = at }
+task_of p r forbidden excluded start at goal = record { plan = p.plan; request = r; table = p.table; forbidden = forbidden; excluded = excluded; start = start; goal = goal; at = at }
 
 -- a plan has no more nodes
 abbrev pub most_nodes : ℕ
@@ -42,17 +42,17 @@ abbrev pub latest_arrival : ℕ
 latest_arrival = 253372764799
 
 -- what holds for every search: the plan and the request obey their rules, each node has a flag, they are few, the start
--- is shut, and the goal is open
+-- is forbidden, and the goal is open
 pub record IsTask (task : SearchTask) : Type 0 where
   pub plan : IsPlan task.plan
   pub nodes : HasNodes task.plan task.table
   pub margin : task.request.margin ≤ 1000000
-  pub as_many : length task.shut ≡ length task.table
+  pub as_many : length task.forbidden ≡ length task.table
   pub few : length task.table ≤ most_nodes
   pub start_in : task.start < length task.table
   pub goal_in : task.goal < length task.table
-  pub start_shut : slice_index_or task.shut task.start false ≡ true
-  pub goal_open : slice_index_or task.shut task.goal false ≡ false
+  pub start_forbidden : slice_index_or task.forbidden task.start false ≡ true
+  pub goal_open : slice_index_or task.forbidden task.goal false ≡ false
   pub time : task.at ≤ latest_arrival
 
 -- contact n takes what is there at second t from the node at place u to the open node at place w at second b
@@ -61,7 +61,7 @@ pub record Takes (task : SearchTask) (n u t w b : ℕ) : Type 0 where
   pub named : contact_named task.plan n ≡ Some contact
   pub sender : slice_get task.table u ≡ Some contact.from
   pub receiver : slice_get task.table w ≡ Some contact.to
-  pub unshut : slice_index_or task.shut w false ≡ false
+  pub permitted : slice_index_or task.forbidden w false ≡ false
   pub allowed : u ≡ task.start → has n task.excluded ≡ false
   pub arrives : arrival task.plan task.request t contact ≡ Some b
 
@@ -77,14 +77,14 @@ pub record IsBehind (task : SearchTask) (prefix : List ℕ) : Type 0 where
   pub stands : slice_get task.table task.start ≡ Some last_node
   pub arrives : arrival_after task.plan task.request task.request.at prefix ≡ Some task.at
   pub goal_is : slice_get task.table task.goal ≡ Some task.request.destination
-  pub shuts : (k x : ℕ) → slice_get task.table k ≡ Some x → slice_index_or task.shut k false ≡ is_closed task.plan task.request prefix x
+  pub forbids : (k x : ℕ) → slice_get task.table k ≡ Some x → slice_index_or task.forbidden k false ≡ is_closed task.plan task.request prefix x
 
 -- the goal is the destination, the search starts no earlier than the request begins, and no node is open that the
 -- request closes: the source, and those to avoid
 pub record IsOfRequest (task : SearchTask) : Type 0 where
   pub goal_is : slice_get task.table task.goal ≡ Some task.request.destination
   pub since : task.request.at ≤ task.at
-  pub closes : (k x : ℕ) → slice_get task.table k ≡ Some x → slice_index_or task.shut k false ≡ false → is_closed task.plan task.request [] x ≡ false
+  pub closes : (k x : ℕ) → slice_get task.table k ≡ Some x → slice_index_or task.forbidden k false ≡ false → is_closed task.plan task.request [] x ≡ false
 
 -- a question after a prefix: the search starts where the prefix ends
 pub record IsAsked (task : SearchTask) (prefix : List ℕ) : Type 0 where

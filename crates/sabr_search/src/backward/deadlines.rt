@@ -25,7 +25,8 @@ pub struct Deadlines<A: Allocator + Copy> {
     pub place: Vec<usize, A>,
     /// The entries, layer by layer; the first is the goal's.
     pub entries: Vec<Deadline, A>,
-    /// By entry the place after the one of the same node with the next fewer hops; 0 if there is none.
+    /// For each entry, one more than the place of the same node's previous entry, which has fewer hops; 0 if there is
+    /// none.
     pub fewer: Vec<usize, A>,
     /// Where layers end, after a 0: layer h has the entries from `ends[h]` to before `ends[h + 1]`.
     pub ends: Vec<usize, A>,

@@ -1,18 +1,19 @@
 //! Hop layers made backward from the goal for a delivery. For each number of hops they hold the nodes from which that
 //! many hops lead to the goal by then, starting later than fewer hops can.
 
-ghost use Rattle.std.specs.Prelude.{◌≡◌, ◌≢◌, ℕ, ◌+◌, ◌*◌, ◌^◌, ◌≤◌, ◌<◌, take, length, true, false, IsTrue, slice_get, slice_index, slice_index_or, slice_set, Some, None, OnOk, IfOk, IfSome, IfNone, [], ◌∷◌};
+ghost use Rattle.std.specs.Prelude.{◌≡◌, ◌≢◌, ℕ, ◌+◌, ◌*◌, ◌^◌, ◌≤◌, ◌<◌, take, length, true, false, IsTrue, slice_get, slice_index, slice_index_or, slice_set, Some, None, OnOk, IfOk, [], ◌∷◌};
 ghost use Rattle.sabr_search.specs.questions.Task.{IsTask, never};
 ghost use Rattle.sabr_search.specs.questions.Steps.{received};
 ghost use Rattle.sabr_search.specs.questions.Linked.{IsLinkWithin};
 ghost use Rattle.sabr_search.specs.layers.Deadlines.{AreLinked, IsApart, head_of};
 ghost use Rattle.sabr_search.specs.questions.FirstSteps.{AreFirstSteps};
 ghost use Rattle.sabr_search.specs.layers.Settling.{AreReal};
-ghost use Rattle.sabr_search.specs.layers.Late.{InTimeFor, AreLateAfter, IsNotedLate, IsToldTo, IsToldOver, IsToldByHead, IsLayerTold, AreArrivals, IsNoneWithin};
-ghost use Rattle.sabr_search.specs.layers.Level.{AreMet, AreWhole};
+ghost use Rattle.sabr_search.specs.layers.Late.{InTimeFor, AreLateAfter, IsNotedLate, IsToldTo, IsToldOver, IsToldByHead, IsLayerTold, AreArrivals};
+ghost use Rattle.sabr_search.specs.layers.WholeDeadlines.{AreWhole, IsMadeBack};
 
 use crate::backward::deadlines::{Deadline, Deadlines};
 use crate::backward::since::Since;
+use crate::found::Outcome;
 use crate::links::over_link::{WalkedLink, is_soonest};
 use crate::task::Task;
 use crate::visit::Visit;
@@ -29,7 +30,9 @@ pub struct Aim<'t, 'a, 's, A: Allocator + Copy> {
     pub since: &'s Since<'s>,
     /// Where the first steps come to, and when.
     pub first: &'s [Visit],
-    /// The second that the layers are made for: no way delivers before it. Within a limit on hops it may have to rise.
+    /// The delivery that the layers are made for. In a question's own search, no way delivers before it, and with a
+    /// limit on hops the earliest delivery may be later (`best_within`). Of layers over the whole graph it is the
+    /// floor.
     pub delivery: u64,
 }
 
@@ -56,9 +59,9 @@ impl<A: Allocator + Copy> Deadlines<A> {
         Ok(())
     }
 
-    /// Returns true if a link to a node that is left in time before `before` needn't be taken: its sender is in no layer,
-    /// as the start, or what is listed with it shows that its sender is too late then already, or that no way comes there
-    /// soon enough. What is cheapest is compared first.
+    /// Returns true if a link needn't be taken to a node that has to be left before `before`: its bounds show that the
+    /// deadline of its sender doesn't rise, or that no way comes to its sender early enough; or its sender is
+    /// forbidden, as the start is, or is the goal. The cheapest comparison comes first.
     #[inline(always)]
     fn brings_nothing(&self, aim: &Aim<'_, '_, '_, A>, head: SenderHead, before: u64) -> bool
         requires task { IsTask aim.now.task.now }
@@ -66,7 +69,7 @@ impl<A: Allocator + Copy> Deadlines<A> {
         requires arrivals { length aim.now.since.now ≡ length aim.now.task.now.table }
         requires node { head.node < length aim.now.task.now.table }
         ensures told { IsTrue result → IsToldByHead aim.now.task.now aim.now.since.now self.now.late.items head before }
-        ensures unshut { result ≡ false → slice_index_or aim.now.task.now.shut head.node false ≡ false }
+        ensures permitted { result ≡ false → slice_index_or aim.now.task.now.forbidden head.node false ≡ false }
         ensures other { result ≡ false → head.node ≢ aim.now.task.now.goal }
     {
         let node = head.node;
@@ -78,7 +81,7 @@ impl<A: Allocator + Copy> Deadlines<A> {
         if is_soonest(head.soonest, head.least_light, since, before) {
             return true;
         }
-        node == aim.task.goal() || aim.task.shut()[node]
+        node == aim.task.goal() || aim.task.forbidden()[node]
     }
 
     /// Takes one link to the node of an entry of layer `left`, for layer `left + 1`.
@@ -92,11 +95,11 @@ impl<A: Allocator + Copy> Deadlines<A> {
     ) -> Result<(), NoMemory>
         requires task { IsTask aim.now.task.now }
         requires bounded { left + 1 < length self.old.ends.items }
-        requires unshut { slice_index_or aim.now.task.now.shut from.node false ≡ false }
+        requires permitted { slice_index_or aim.now.task.now.forbidden from.node false ≡ false }
         requires other { from.node ≢ aim.now.task.now.goal }
         requires link { IsLinkWithin aim.now.task.now from.node to.node from.passes.now from.bounds }
         requires node { from.node < length aim.now.task.now.table }
-        requires receiver { slice_index_or aim.now.task.now.shut to.node false ≡ false }
+        requires receiver { slice_index_or aim.now.task.now.forbidden to.node false ≡ false }
         requires arrivals { length aim.now.since.now ≡ length aim.now.task.now.table }
         requires few { length from.passes.now ≤ looks.old.left }
         requires given { (b : ℕ) → b < to.before → InTimeFor self.old.entries.items (slice_index self.old.ends.items left) (slice_index self.old.ends.items (left + 1)) to.node b }
@@ -134,7 +137,8 @@ impl<A: Allocator + Copy> Deadlines<A> {
         Ok(())
     }
 
-    /// Takes every link to the node of an entry of layer `left`. Returns false if more looks might be needed than are left.
+    /// Takes every link to the node of an entry of layer `left`. Returns false if more looks might be needed than are
+    /// left.
     fn take_senders(
         &mut self,
         aim: &Aim<'_, '_, '_, A>,
@@ -145,7 +149,7 @@ impl<A: Allocator + Copy> Deadlines<A> {
         requires task { IsTask aim.now.task.now }
         requires bounded { left + 1 < length self.old.ends.items }
         requires node { to.node < length aim.now.task.now.table }
-        requires receiver { slice_index_or aim.now.task.now.shut to.node false ≡ false }
+        requires receiver { slice_index_or aim.now.task.now.forbidden to.node false ≡ false }
         requires arrivals { length aim.now.since.now ≡ length aim.now.task.now.table }
         requires given { (b : ℕ) → b < to.before → InTimeFor self.old.entries.items (slice_index self.old.ends.items left) (slice_index self.old.ends.items (left + 1)) to.node b }
         requires lists { AreLateAfter aim.now.task.now self.old.ends.items left self.old.late.items self.old.place.items self.old.entries.items }
@@ -177,8 +181,8 @@ impl<A: Allocator + Copy> Deadlines<A> {
         Ok(true)
     }
 
-    /// Makes layer `left + 1` from layer `left`, with at most one look for each contact. Returns false if more looks might
-    /// be needed than are left.
+    /// Makes layer `left + 1` from layer `left`, with at most one look for each contact. Returns false if more looks
+    /// might be needed than are left.
     fn next_back(
         &mut self,
         aim: &Aim<'_, '_, '_, A>,
@@ -218,16 +222,16 @@ impl<A: Allocator + Copy> Deadlines<A> {
         ensures ends { OnOk result (self.new.ends.items ≡ 0 ∷ 1 ∷ []) }
         ensures entries { OnOk result (self.new.entries.items ≡ record { node = task.now.goal; before = delivery + 1 } ∷ []) }
         ensures linked { OnOk result (self.new.fewer.items ≡ 0 ∷ []) }
-        ensures flags { OnOk result (length self.new.place.items ≡ length task.now.shut) }
+        ensures flags { OnOk result (length self.new.place.items ≡ length task.now.forbidden) }
         ensures place { OnOk result (slice_index self.new.place.items task.now.goal ≡ 0) }
-        ensures many { OnOk result (length self.new.late.items ≡ length task.now.shut) }
+        ensures many { OnOk result (length self.new.late.items ≡ length task.now.forbidden) }
         ensures late { OnOk result (slice_index self.new.late.items task.now.goal ≡ delivery + 1) }
         ensures none { OnOk result ((k : ℕ) → k ≢ task.now.goal → slice_index self.new.late.items k ≡ 0) }
     {
-        self.place.resize(task.shut().len(), 0)?;
+        self.place.resize(task.forbidden().len(), 0)?;
         self.place[task.goal()] = 0;
         self.late.clear();
-        self.late.resize(task.shut().len(), 0)?;
+        self.late.resize(task.forbidden().len(), 0)?;
         self.late[task.goal()] = delivery + 1;
         self.entries.clear();
         self.entries.push(Deadline {
@@ -257,8 +261,8 @@ impl<A: Allocator + Copy> Deadlines<A> {
         false
     }
 
-    /// Makes layers backward from the goal until one has no node, each with at most one look for each contact. Returns false
-    /// if more looks might be needed than are left, or more layers than there are nodes.
+    /// Makes layers backward from the goal until one has no node, each with at most one look for each contact. Returns
+    /// false if more looks might be needed than are left, or more layers than there are nodes.
     pub fn make_whole(
         &mut self,
         aim: &Aim<'_, '_, '_, A>,
@@ -270,7 +274,7 @@ impl<A: Allocator + Copy> Deadlines<A> {
         ensures whole { IfOk result (λ all. IsTrue all → (most : ℕ) → AreWhole aim.now.task.now aim.now.since.now aim.now.delivery most self.new) }
     {
         self.first_back(aim.task, aim.delivery)?;
-        for left in 0..aim.task.shut().len() {
+        for left in 0..aim.task.forbidden().len() {
             if self.ends[left] == self.ends[left + 1] {
                 return Ok(true);
             }
@@ -284,42 +288,38 @@ impl<A: Allocator + Copy> Deadlines<A> {
         Ok(false)
     }
 
-    /// Makes layers backward from the goal until the start is in time for one, each with at most one look for each
-    /// contact. Returns how many hops that layer is from the goal; `hops` if the start is in time for none of so many
-    /// layers. None if more looks might be needed than are left.
+    /// Makes layers backward from the goal, each with at most one look for each contact, until a first step comes in
+    /// time to a node of one of them. Returns the number of hops from there to the goal, which is below `hops`; or
+    /// `Outcome::None` if there is no such node, or `Outcome::GaveUp` if more looks might be needed than are left.
     pub fn make_back(
         &mut self,
         aim: &Aim<'_, '_, '_, A>,
         looks: &mut Looks,
         hops: usize,
-    ) -> Result<Option<usize>, NoMemory>
+    ) -> Result<Outcome<usize>, NoMemory>
         requires task { IsTask aim.now.task.now }
         requires arrivals { AreArrivals aim.now.task.now aim.now.since.now }
         requires early { aim.now.delivery < never }
         requires steps { AreFirstSteps aim.now.task.now aim.now.first.now }
         requires real { AreReal aim.now.task.now aim.now.first.now }
         ensures counted { looks.old.left ≤ looks.new.left + hops * length aim.now.task.now.plan.contacts }
-        ensures within { IfOk result (λ o. IfSome o (λ left. left ≤ hops)) }
-        ensures layers { IfOk result (λ o. IfSome o (λ left. left < hops → looks.old.left ≤ looks.new.left + (left + 1) * length aim.now.task.now.plan.contacts)) }
-        ensures met { IfOk result (λ o. IfSome o (λ left. left < hops → AreMet aim.now.task.now aim.now.delivery left self.new)) }
-        ensures beyond { IfOk result (λ o. IfSome o (λ left. left ≡ hops → IsNoneWithin aim.now.task.now hops aim.now.delivery)) }
-        ensures none { IfOk result (λ o. IfNone o (looks.old.left < hops * length aim.now.task.now.plan.contacts)) }
+        ensures made { IfOk result (IsMadeBack aim.now.task.now aim.now.delivery hops looks.old looks.new self.new) }
     {
         self.first_back(aim.task, aim.delivery)?;
         for left in 0..hops {
             if self.is_met(aim.first) {
-                return Ok(Some(left));
+                return Ok(Outcome::Found(left));
             }
             if self.ends[left] == self.ends[left + 1] {
-                return Ok(Some(hops));
+                return Ok(Outcome::None);
             }
             let whole = self.next_back(aim, looks, left)?;
             if !whole {
-                return Ok(None);
+                return Ok(Outcome::GaveUp);
             }
             let end = self.entries.len();
             self.ends.push(end)?;
         }
-        Ok(Some(hops))
+        Ok(Outcome::None)
     }
 }

@@ -1,15 +1,15 @@
-//! For each node, the second from which on no way leads to the destination in time: from the goal backward over the whole
-//! graph.
+//! For each node, the second from which on no way leads to the destination in time: from the goal backward over the
+//! whole graph.
 
 ghost use Rattle.std.specs.Prelude.{◌≡◌, ◌≢◌, ℕ, ◌+◌, ◌*◌, ◌^◌, ◌≤◌, ◌<◌, [], Some, IfOk, OnOk, IsTrue, false, length, slice_get, slice_index, slice_index_or};
 ghost use Rattle.sabr_search.specs.questions.Task.{IsTask};
 ghost use Rattle.sabr_search.specs.questions.Linked.{IsLinkWithin};
 ghost use Rattle.sabr_search.specs.questions.FirstSteps.{tabled_of};
-ghost use Rattle.sabr_search.specs.layers.Reach.{AreLateFor};
+ghost use Rattle.sabr_search.specs.layers.NodeBounds.{AreLateFor};
 ghost use Rattle.sabr_search.specs.layers.Latest.{IsWhole, IsBegun, AreRising, AreTaken, IsTakenBy, IsLeftOver};
 
-use crate::forward::queue::{LAST_AT, Queue};
 use crate::links::over_link::{WalkedLink, is_soonest};
+use crate::queue::{LAST_AT, Queue};
 use crate::task::Task;
 use crate::visit::Visit;
 use sabr_index::{Looks, Sender};
@@ -33,7 +33,7 @@ impl<A: Allocator + Copy> Latest<A> {
         requires task { IsTask task.now }
         ensures { IfOk result (λ l. IsBegun task.now until l.late.items l.taken.items l.queue) }
     {
-        let nodes = task.shut().len();
+        let nodes = task.forbidden().len();
         let mut late = Vec::new(alloc);
         late.resize(nodes, 0)?;
         late[task.goal()] = until;
@@ -76,7 +76,7 @@ impl<A: Allocator + Copy> Latest<A> {
         if node == task.goal() {
             return Ok(());
         }
-        if task.shut()[node] {
+        if task.forbidden()[node] {
             return Ok(());
         }
         let latest = self.late[node];
@@ -134,15 +134,15 @@ impl<A: Allocator + Copy> Latest<A> {
         Ok(true)
     }
 
-    /// Takes the links of the nodes that wait, until none does. Returns false if more looks might be needed than are left,
-    /// or after two nodes for each contact.
+    /// Takes the links of the nodes that wait, until none does. Returns false if more looks might be needed than are
+    /// left, or after two nodes for each contact.
     fn take_all(&mut self, task: &Task<'_, A>, looks: &mut Looks) -> Result<bool, NoMemory>
         requires task { IsTask task.now }
         requires rising { AreRising (IsTakenBy task.now) task.now self.old.late.items self.old.taken.items self.old.queue (length task.now.table) }
         ensures rises { OnOk result ((k : ℕ) → slice_index self.old.late.items k ≤ slice_index self.new.late.items k) }
         ensures taken { IfOk result (λ all. IsTrue all → AreTaken (IsTakenBy task.now) task.now self.new.late.items) }
     {
-        for _ in 0..task.two_passes() {
+        for _ in 0..task.two_scans() {
             let Some(event) = self.queue.pop() else {
                 return Ok(true);
             };
@@ -159,8 +159,8 @@ impl<A: Allocator + Copy> Latest<A> {
     }
 }
 
-/// Returns for each node a second from which on no way over the whole graph delivers before `until`. Nothing is known of
-/// any node if more looks might be needed than are left.
+/// Returns for each node a second from which on no way over the whole graph delivers before `until`. Nothing is known
+/// of any node if more looks might be needed than are left.
 pub fn latest_by<A: Allocator + Copy>(
     alloc: A,
     task: &Task<'_, A>,

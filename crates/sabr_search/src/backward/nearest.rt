@@ -6,11 +6,11 @@ ghost use Rattle.std.specs.Prelude.{◌≡◌, ◌≢◌, ℕ, ◌+◌, ◌≤�
 ghost use Rattle.sabr_search.specs.questions.Task.{IsTask, Takes, never};
 ghost use Rattle.sabr_search.specs.questions.Linked.{AreSendersAt, HasNumber};
 ghost use Rattle.sabr_search.specs.questions.FirstSteps.{tabled_of};
-ghost use Rattle.sabr_search.specs.layers.Reach.{AreCostsFor};
+ghost use Rattle.sabr_search.specs.layers.NodeBounds.{AreCostsFor};
 ghost use Rattle.sabr_search.specs.layers.Latest.{IsWhole, AreRising, AreTaken, IsNearBy, IsNearOver};
 
 use crate::backward::latest::Latest;
-use crate::forward::queue::LAST_AT;
+use crate::queue::LAST_AT;
 use crate::task::Task;
 use crate::visit::{NEVER, Visit};
 use sabr_index::Senders;
@@ -56,7 +56,7 @@ impl<A: Allocator + Copy> Latest<A> {
         if node == task.goal() {
             return Ok(());
         }
-        if task.shut()[node] {
+        if task.forbidden()[node] {
             return Ok(());
         }
         let cost = task.cost(head.least_light.min(MAX_LIGHT));
@@ -108,7 +108,7 @@ impl<A: Allocator + Copy> Latest<A> {
         ensures rises { OnOk result ((k : ℕ) → slice_index self.old.late.items k ≤ slice_index self.new.late.items k) }
         ensures taken { IfOk result (λ all. IsTrue all → AreTaken (IsNearBy task.now) task.now self.new.late.items) }
     {
-        for _ in 0..task.two_passes() {
+        for _ in 0..task.two_scans() {
             let Some(event) = self.queue.pop() else {
                 return Ok(true);
             };
@@ -151,7 +151,7 @@ pub fn costs_of<A: Allocator + Copy>(
     ensures costs { IfOk result (λ v. AreCostsFor (tabled_of task.now) task.now.request v.items) }
 {
     let mut nearest = Latest::begin(alloc, task, NEVER)?;
-    hops.resize(task.shut().len(), 0)?;
+    hops.resize(task.forbidden().len(), 0)?;
     let all = nearest.near_all(task, hops)?;
     if !all {
         return Ok(Vec::new(alloc));

@@ -2,6 +2,7 @@
 
 ghost use Rattle.std.specs.Prelude.{◌≡◌, ◌≤◌, ◌<◌, ◌^◌, ℕ, length, slice_index};
 
+use crate::visit::seconds_of;
 use std::marker::Model;
 
 /// For each node, a second before which no way comes there. Contracts see a list of them. Each is found when it is
@@ -12,7 +13,7 @@ pub struct Since<'a> {
     pub nodes: usize,
     /// For each node, its earliest arrival, or a later second; 0 after the list's end.
     pub arrival: &'a [u64],
-    /// For each node, the fewest seconds of a way to the goal; 0 after the list's end.
+    /// For each node, a number of seconds that each way to the goal takes at least; 0 after the list's end.
     pub costs: &'a [u64],
     /// For each node, a second before which no way comes there; 0 after the list's end.
     pub soon: &'a [u64],
@@ -29,32 +30,7 @@ impl<'a> Model for Since<'a> {
     ghost view = { λ s. since_of s.nodes s.arrival.now s.costs.now s.soon.now s.delivery };
 }
 
-/// Returns the seconds of a node in a list; 0 after its end.
-#[inline(always)]
-pub fn seconds_of(seconds: &[u64], node: usize) -> u64
-    ensures { result ≡ slice_index seconds.now node }
-{
-    match seconds.get(node) {
-        Some(second) => *second,
-        None => 0,
-    }
-}
-
 impl<'a> Since<'a> {
-    /// These seconds.
-    pub fn of(seconds: &'a [u64]) -> Since<'a>
-        ensures many { length result ≡ length seconds.now }
-        ensures each { (k : ℕ) → slice_index result k ≤ slice_index seconds.now k }
-    {
-        Since {
-            nodes: seconds.len(),
-            arrival: &[],
-            costs: &[],
-            soon: seconds,
-            delivery: 0,
-        }
-    }
-
     /// The seconds of a list, for that many nodes.
     pub fn soonest(nodes: usize, soon: &'a [u64]) -> Since<'a>
         ensures many { length result ≡ nodes }

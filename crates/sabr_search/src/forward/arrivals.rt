@@ -1,4 +1,5 @@
-//! By node the arrival before which another is news, before a search has reached any.
+//! The list of arrivals with which a search forward begins: for each node, the second that an arrival there has to
+//! beat.
 
 ghost use Rattle.std.specs.Prelude.{◌≡◌, ℕ, ◌^◌, ◌≤◌, ◌<◌, OnOk, true, false, length, slice_index, slice_index_or};
 ghost use Rattle.sabr_search.specs.questions.Task.{IsTask, never};
@@ -25,19 +26,20 @@ fn too_late<A: Allocator + Copy>(
 }
 
 /// Lets nothing improve a node that is forbidden.
-fn shut_out<A: Allocator + Copy>(arrival: &mut Vec<u64, A>, shut: &[bool], node: usize)
-    requires { length arrival.old.items ≡ length shut.now }
+fn forbidden_out<A: Allocator + Copy>(arrival: &mut Vec<u64, A>, forbidden: &[bool], node: usize)
+    requires { length arrival.old.items ≡ length forbidden.now }
     ensures many { length arrival.new.items ≡ length arrival.old.items }
-    ensures kept { (k : ℕ) → slice_index_or shut.now k false ≡ false → slice_index arrival.new.items k ≡ slice_index arrival.old.items k }
+    ensures kept { (k : ℕ) → slice_index_or forbidden.now k false ≡ false → slice_index arrival.new.items k ≡ slice_index arrival.old.items k }
     ensures falls { (k : ℕ) → slice_index arrival.new.items k ≤ slice_index arrival.old.items k }
-    ensures zero { slice_index_or shut.now node false ≡ true → slice_index arrival.new.items node ≡ 0 }
+    ensures zero { slice_index_or forbidden.now node false ≡ true → slice_index arrival.new.items node ≡ 0 }
 {
-    if node < shut.len() && shut[node] {
+    if node < forbidden.len() && forbidden[node] {
         arrival[node] = 0;
     }
 }
 
-/// Marks every open node as reached when it is too late there, and lets nothing improve a forbidden one.
+/// Fills the list of arrivals: 0 for a forbidden node, which no arrival beats, and for each other node the first second
+/// that is too late there. The start has the second at which the search starts.
 pub fn open_nodes<A: Allocator + Copy>(
     arrival: &mut Vec<u64, A>,
     task: &Task<'_, A>,
@@ -46,11 +48,11 @@ pub fn open_nodes<A: Allocator + Copy>(
     requires { IsTask task.now }
     ensures { OnOk result (AreOpened task.now late.now arrival.new.items) }
 {
-    let shut = task.shut();
-    too_late(arrival, shut.len(), late)?;
-    let nodes = task.shut_nodes();
+    let forbidden = task.forbidden();
+    too_late(arrival, forbidden.len(), late)?;
+    let nodes = task.forbidden_nodes();
     for place in 0..nodes.len() {
-        shut_out(arrival, shut, nodes[place] as usize);
+        forbidden_out(arrival, forbidden, nodes[place] as usize);
     }
     arrival[task.start()] = task.at();
     Ok(())

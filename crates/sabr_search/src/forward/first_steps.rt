@@ -49,7 +49,7 @@ impl<'a, A: Allocator + Copy> Task<'a, A> {
             if link.passes.len() as u64 > looks.left() {
                 return Ok(false);
             }
-            if self.shut()[link.to] {
+            if self.forbidden()[link.to] {
                 continue;
             }
             let at = self.arrive_over(looks, link, from.at, NEVER);

@@ -1,28 +1,22 @@
 //! Hop layers, made forward: for each number of hops, the nodes that it reaches earlier than fewer do, and when.
 
-ghost use Rattle.std.specs.Prelude.{◌≡◌, ◌≢◌, ◌⊎◌, IsTrue, min, ℕ, [], ◌∷◌, ◌+◌, ◌*◌, ◌^◌, ◌≤◌, ◌<◌, length, take, slice_set, slice_index, slice_index_or, true, false, OnOk, IfOk, IfSome, IfNone};
+ghost use Rattle.std.specs.Prelude.{◌≡◌, ◌≢◌, ◌⊎◌, IsTrue, min, ℕ, [], ◌∷◌, ◌+◌, ◌*◌, ◌^◌, ◌≤◌, ◌<◌, length, take, slice_set, slice_index, slice_index_or, true, false, OnOk, IfOk};
 ghost use Rattle.sabr_search.specs.questions.Task.{IsTask, Takes, never, latest_arrival};
 ghost use Rattle.sabr_search.specs.questions.Steps.{degree};
 ghost use Rattle.sabr_search.specs.questions.Linked.{IsLinkWithin, HasNumber};
 ghost use Rattle.sabr_search.specs.layers.Lists.{IsPlaced, StayLinked, IsLayer, AddsOnly, AreLists, AreLowered, IsKnown, AreSources, GivenAt, GivenFrom, IsKnownFrom, IsBroughtTo};
 ghost use Rattle.sabr_search.specs.questions.FirstSteps.{IsNoneBefore};
-ghost use Rattle.sabr_search.specs.layers.Made.{AreOpened, IsBestWithin};
+ghost use Rattle.sabr_search.specs.layers.Made.{AreOpened, IsMade};
 
 use crate::forward::arrivals::open_nodes;
 use crate::forward::news::{brings_none, news_before};
+use crate::found::{Best, Outcome};
 use crate::links::over_link::{WalkedLink, is_soonest};
 use crate::task::Task;
 use crate::visit::{NEVER, Visit};
 use sabr_index::Looks;
 use sabr_model::NoMemory;
 use std::alloc::Allocator;
-
-/// A delivery, and the number of hops with which it is reached; no hops if there is none.
-#[derive(Clone, Copy)]
-pub struct Best {
-    pub delivery: u64,
-    pub hops: usize,
-}
 
 /// The layer that is made: where its entries begin, and the earliest delivery so far.
 #[derive(Clone, Copy)]
@@ -93,7 +87,7 @@ impl<A: Allocator + Copy> Layers<A> {
         requires since { task.now.at ≤ at }
         requires few { length link.passes.now ≤ looks.old.left }
         requires later { 0 < layer.begin }
-        requires lists { AreLists task.now.shut task.now.goal task.now.at layer.begin self.old.arrival.items self.old.place.items self.old.reached.items }
+        requires lists { AreLists task.now.forbidden task.now.goal task.now.at layer.begin self.old.arrival.items self.old.place.items self.old.reached.items }
         ensures looks { looks.old.left ≤ looks.new.left + length link.entry.passes.now }
         ensures lowered { IfOk result (λ b. AreLowered task.now layer.begin (GivenAt task.now link.entry.from at) self.old layer.best self.new b) }
         ensures known { IfOk result (λ b. (n w x : ℕ) → HasNumber link.entry.passes.now n → Takes task.now n link.entry.from at w x → IsKnown task.now.goal self.new.arrival.items b w x) }
@@ -126,7 +120,7 @@ impl<A: Allocator + Copy> Layers<A> {
         requires early { from.at ≤ latest_arrival }
         requires few { degree task.now from.node ≤ looks.old.left }
         requires later { 0 < begin }
-        requires lists { AreLists task.now.shut task.now.goal task.now.at begin self.old.arrival.items self.old.place.items self.old.reached.items }
+        requires lists { AreLists task.now.forbidden task.now.goal task.now.at begin self.old.arrival.items self.old.place.items self.old.reached.items }
         ensures looks { looks.old.left ≤ looks.new.left + degree task.now from.node }
         ensures lowered { IfOk result (λ b. AreLowered task.now begin (GivenAt task.now from.node from.at) self.old best self.new b) }
         ensures known { IfOk result (λ b. (n w x : ℕ) → Takes task.now n from.node from.at w x → IsKnown task.now.goal self.new.arrival.items b w x) }
@@ -159,7 +153,7 @@ impl<A: Allocator + Copy> Layers<A> {
         requires last { begin ≡ length self.old.reached.items }
         requires later { 0 < begin }
         requires sources { AreSources task.now self.old.reached.items first begin }
-        requires lists { AreLists task.now.shut task.now.goal task.now.at begin self.old.arrival.items self.old.place.items self.old.reached.items }
+        requires lists { AreLists task.now.forbidden task.now.goal task.now.at begin self.old.arrival.items self.old.place.items self.old.reached.items }
         ensures looks { looks.old.left ≤ looks.new.left + length task.now.plan.contacts }
         ensures lowered { IfOk result (λ b. AreLowered task.now begin (GivenFrom task.now self.old.reached.items first begin) self.old best self.new b) }
         ensures known { IfOk result (λ b. IsKnownFrom task.now self.old.reached.items first begin self.new.arrival.items b) }
@@ -180,7 +174,7 @@ impl<A: Allocator + Copy> Layers<A> {
         requires many { length self.now.arrival.items ≡ length task.now.table }
         ensures looks { looks.old.left ≤ looks.new.left + length task.now.plan.contacts }
         ensures lower { result ≤ best }
-        ensures known { (n u b : ℕ) → Takes task.now n u (slice_index self.now.arrival.items u) task.now.goal b → slice_index_or task.now.shut u false ≡ false → result ≤ b }
+        ensures known { (n u b : ℕ) → Takes task.now n u (slice_index self.now.arrival.items u) task.now.goal b → slice_index_or task.now.forbidden u false ≡ false → result ≤ b }
         ensures found { (result ≡ best) ⊎ IsBroughtTo task.now self.now.arrival.items result }
     {
         let goal = task.goal();
@@ -192,7 +186,7 @@ impl<A: Allocator + Copy> Layers<A> {
             if is_soonest(head.soonest, head.least_light, at, least) {
                 continue;
             }
-            if task.shut()[head.node] {
+            if task.forbidden()[head.node] {
                 continue;
             }
             let from = senders.at(place);
@@ -211,11 +205,11 @@ impl<A: Allocator + Copy> Layers<A> {
     fn first_layer(&mut self, task: &Task<'_, A>) -> Result<(), NoMemory>
         requires { IsTask task.now }
         ensures reached { OnOk result (self.new.reached.items ≡ record { node = task.now.start; at = task.now.at } ∷ []) }
-        ensures lists { OnOk result (AreLists task.now.shut task.now.goal task.now.at 1 self.new.arrival.items self.new.place.items self.new.reached.items) }
+        ensures lists { OnOk result (AreLists task.now.forbidden task.now.goal task.now.at 1 self.new.arrival.items self.new.place.items self.new.reached.items) }
     {
         open_nodes(&mut self.arrival, task, &[])?;
         self.place.clear();
-        self.place.resize(task.shut().len(), 0)?;
+        self.place.resize(task.forbidden().len(), 0)?;
         self.reached.clear();
         self.reached.push(Visit {
             node: task.start(),
@@ -224,9 +218,9 @@ impl<A: Allocator + Copy> Layers<A> {
         Ok(())
     }
 
-    /// Makes layers until the goal is reached by `lower`, before which no way delivers, no node is new, or the hops are
-    /// used up. Returns the earliest delivery, without hops if none comes before `until`; none if more looks might be
-    /// needed than are left.
+    /// Makes layers until the goal is reached at `lower` or before, a layer has no node, or the hops are used up. No
+    /// way delivers before `lower`. Returns the earliest delivery and its hops, `Outcome::None` if no way delivers
+    /// before `until`, or `Outcome::GaveUp` if more looks might be needed than are left.
     pub fn make(
         &mut self,
         task: &Task<'_, A>,
@@ -234,12 +228,11 @@ impl<A: Allocator + Copy> Layers<A> {
         hops: usize,
         lower: u64,
         until: u64,
-    ) -> Result<Option<Best>, NoMemory>
+    ) -> Result<Outcome<Best>, NoMemory>
         requires task { IsTask task.now }
         requires lower { IsNoneBefore task.now lower }
         ensures counted { looks.old.left ≤ looks.new.left + hops * length task.now.plan.contacts }
-        ensures none { IfOk result (λ o. IfNone o (looks.old.left < hops * length task.now.plan.contacts)) }
-        ensures best { IfOk result (λ o. IfSome o (IsBestWithin task.now until hops)) }
+        ensures made { IfOk result (IsMade task.now until hops looks.old) }
     {
         self.first_layer(task)?;
         let mut best = Best {
@@ -248,15 +241,15 @@ impl<A: Allocator + Copy> Layers<A> {
         };
         let mut first = 0;
         for hop in 0..hops {
-            if task.one_pass() > looks.left() {
-                return Ok(None);
+            if task.one_scan() > looks.left() {
+                return Ok(Outcome::GaveUp);
             }
             if hop > 0 && hop + 1 == hops {
                 let delivery = self.last_layer(task, looks, best.delivery);
                 if delivery < best.delivery {
-                    return Ok(Some(Best { delivery, hops }));
+                    best = Best { delivery, hops };
                 }
-                return Ok(Some(best));
+                return Ok(best.outcome());
             }
             let begin = self.reached.len();
             let delivery = self.next_layer(task, looks, first, begin, best.delivery)?;
@@ -268,13 +261,13 @@ impl<A: Allocator + Copy> Layers<A> {
             }
             let end = self.reached.len();
             if best.delivery <= lower {
-                return Ok(Some(best));
+                return Ok(best.outcome());
             }
             if end == begin {
-                return Ok(Some(best));
+                return Ok(best.outcome());
             }
             first = begin;
         }
-        Ok(Some(best))
+        Ok(best.outcome())
     }
 }

@@ -15,7 +15,7 @@ pub fn news_before<A: Allocator + Copy>(
     to: usize,
     best: u64,
 ) -> u64
-    requires many { length arrival.now ≡ length task.now.shut }
+    requires many { length arrival.now ≡ length task.now.forbidden }
     requires task { IsTask task.now }
     requires node { to < length task.now.table }
     ensures goal { to ≡ task.now.goal → result ≡ best }
@@ -28,8 +28,8 @@ pub fn news_before<A: Allocator + Copy>(
     }
 }
 
-/// Returns true if, by the bounds of a link, nothing that is at its sender at `at` comes to its receiver sooner than is known.
-/// Whether the link has ended is seen first.
+/// Returns true if, by the bounds of a link, nothing that is at its sender at `at` comes to its receiver sooner than is
+/// known. Whether the link has ended is seen first.
 #[inline(always)]
 pub fn brings_none(arrival: &[u64], link: &Link, at: u64) -> bool
     requires receiver { link.now.receiver < length arrival.now }

@@ -1,22 +1,21 @@
 //! Nodes settled in order of their arrival and of what the goal costs from there, up to the first delivery at the goal.
 
-ghost use Rattle.std.specs.Prelude.{◌≡◌, ◌≢◌, ℕ, min, [], ◌+◌, ◌-◌, ◌^◌, ◌≤◌, ◌<◌, length, slice_get, slice_set, slice_index, slice_index_or, replicate, Some, OnOk, IfOk, IfSome, IfNone, true, false};
+ghost use Rattle.std.specs.Prelude.{◌≡◌, ◌≢◌, ℕ, min, [], ◌+◌, ◌-◌, ◌^◌, ◌≤◌, ◌<◌, length, slice_get, slice_set, slice_index, slice_index_or, replicate, Some, OnOk, IfOk, true, false};
 ghost use Rattle.sabr_search.specs.questions.Task.{IsTask, Takes, latest_arrival};
 ghost use Rattle.sabr_search.specs.questions.Steps.{degree};
 ghost use Rattle.sabr_search.specs.questions.Linked.{AreLinksAt, IsLinkWithin, HasNumber};
 ghost use Rattle.sabr_search.specs.layers.Lists.{IsKnown};
-ghost use Rattle.sabr_search.specs.layers.Made.{AreOpened};
+ghost use Rattle.sabr_search.specs.layers.Made.{AreOpened, UnlessGaveUp};
 ghost use Rattle.sabr_search.specs.questions.FirstSteps.{AreFirstSteps};
-ghost use Rattle.sabr_search.specs.layers.Settling.{IsBound, AreReal, AreArrivalsBy, IsFirstWay, StaySettling, StaySettled, IsKnownOver, IsFallen, AreSettledTaken};
+ghost use Rattle.sabr_search.specs.layers.Settling.{IsBound, AreReal, IsReached, StaySettling, StaySettled, IsKnownOver, IsFallen, AreSettledTaken};
 
-use crate::backward::since::seconds_of;
 use crate::forward::arrivals::open_nodes;
-use crate::forward::layers::Best;
 use crate::forward::news::brings_none;
-use crate::forward::queue::Queue;
+use crate::found::{Best, Outcome};
 use crate::links::over_link::WalkedLink;
+use crate::queue::Queue;
 use crate::task::Task;
-use crate::visit::Visit;
+use crate::visit::{Visit, seconds_of};
 use sabr_index::{Links, Looks};
 use sabr_model::NoMemory;
 use std::alloc::Allocator;
@@ -28,16 +27,16 @@ pub struct Forward<'t, 'a, 'b, A: Allocator + Copy> {
     pub task: &'t Task<'a, A>,
     /// For each node, a second from which on no way is at the goal before `until`; none is known after the list's end.
     pub late: &'b [u64],
-    /// For each node, the fewest seconds of a way to the goal; 0 after the list's end.
+    /// For each node, a number of seconds that each way to the goal takes at least; 0 after the list's end.
     pub costs: &'b [u64],
     /// For each node, the hops of such a way, as far as the list goes.
     pub hops: &'b [u64],
-    /// No delivery from this second on is looked for; no later than after every arrival.
+    /// Only deliveries before this second are sought. It is at most the first second after every arrival.
     pub until: u64,
 }
 
 impl<'t, 'a, 'b, A: Allocator + Copy> Forward<'t, 'a, 'b, A> {
-    /// Returns the fewest seconds of a way from a node to the goal.
+    /// Returns a number of seconds that each way from a node to the goal takes at least.
     #[inline(always)]
     fn cost(&self, node: usize) -> u64
         ensures { result ≡ slice_index self.now.costs.now node }
@@ -48,14 +47,11 @@ impl<'t, 'a, 'b, A: Allocator + Copy> Forward<'t, 'a, 'b, A> {
     /// Returns the rank of a node among those of one second: the hops from it to the goal.
     #[inline(always)]
     fn rank(&self, node: usize) -> u64 {
-        match self.hops.get(node) {
-            Some(hops) => *hops,
-            None => 0,
-        }
+        seconds_of(self.hops, node)
     }
 
-    /// Returns the second before which an arrival at a node is news: from then on, no way over it delivers before
-    /// `delivery`. The goal's own arrival is no sooner than that.
+    /// Returns the second that an arrival at node `to` has to beat to be news. From that second on, an arrival is no
+    /// sooner than a known one, or no way from it delivers before `delivery`. At the goal only `delivery` counts.
     #[inline(always)]
     fn news(&self, arrival: &[u64], to: usize, delivery: u64) -> u64
         requires node { to < length arrival.now }
@@ -93,11 +89,11 @@ impl<A: Allocator + Copy> Settling<A> {
     fn first_events(&mut self, forward: &Forward<'_, '_, '_, A>) -> Result<(), NoMemory>
         requires { IsTask forward.now.task.now }
         ensures arrivals { OnOk result (AreOpened forward.now.task.now forward.now.late.now self.new.arrival.items) }
-        ensures hops { OnOk result (length self.new.hops.items ≡ length forward.now.task.now.shut) }
-        ensures settled { OnOk result (self.new.settled.items ≡ replicate (length forward.now.task.now.shut) false) }
+        ensures hops { OnOk result (length self.new.hops.items ≡ length forward.now.task.now.forbidden) }
+        ensures settled { OnOk result (self.new.settled.items ≡ replicate (length forward.now.task.now.forbidden) false) }
         ensures queue { OnOk result (self.new.queue ≡ []) }
     {
-        let nodes = forward.task.shut().len();
+        let nodes = forward.task.forbidden().len();
         open_nodes(&mut self.arrival, forward.task, forward.late)?;
         self.hops.resize(nodes, 0)?;
         self.settled.clear();
@@ -120,10 +116,10 @@ impl<A: Allocator + Copy> Settling<A> {
         requires later { event.at ≤ step.at }
         requires sooner { step.at + slice_index forward.now.costs.now step.node < best.delivery }
         requires news { step.node ≢ forward.now.task.now.goal → step.at < slice_index self.old.arrival.items step.node }
-        requires step { slice_index_or forward.now.task.now.shut step.node false ≡ false → (n : ℕ) × Takes forward.now.task.now n event.node event.at step.node step.at }
-        requires state { StaySettling forward.now.task.now forward.now.until forward.now.late.now forward.now.costs.now self.old.settled.items event self.old best }
+        requires step { slice_index_or forward.now.task.now.forbidden step.node false ≡ false → (n : ℕ) × Takes forward.now.task.now n event.node event.at step.node step.at }
+        requires state { StaySettling forward.now self.old.settled.items event self.old best }
         ensures settled { self.new.settled ≡ self.old.settled }
-        ensures state { IfOk result (StaySettling forward.now.task.now forward.now.until forward.now.late.now forward.now.costs.now self.old.settled.items event self.new) }
+        ensures state { IfOk result (StaySettling forward.now self.old.settled.items event self.new) }
         ensures fallen { IfOk result (λ b. IsFallen self.old.settled.items self.old.arrival.items best self.new.arrival.items b) }
         ensures known { IfOk result (λ b. IsKnown forward.now.task.now.goal self.new.arrival.items (b.delivery - slice_index forward.now.costs.now step.node) step.node step.at) }
         ensures pushes { OnOk result (length self.new.queue ≤ length self.old.queue + 1) }
@@ -162,10 +158,10 @@ impl<A: Allocator + Copy> Settling<A> {
         requires link { IsLinkWithin forward.now.task.now link.from link.to link.passes.now link.bounds }
         requires receiver { link.to < length forward.now.task.now.table }
         requires few { length link.passes.now ≤ looks.old.left }
-        requires state { StaySettling forward.now.task.now forward.now.until forward.now.late.now forward.now.costs.now self.old.settled.items event self.old best }
+        requires state { StaySettling forward.now self.old.settled.items event self.old best }
         ensures settled { self.new.settled ≡ self.old.settled }
         ensures looks { looks.old.left ≤ looks.new.left + length link.entry.passes.now }
-        ensures state { IfOk result (StaySettling forward.now.task.now forward.now.until forward.now.late.now forward.now.costs.now self.old.settled.items event self.new) }
+        ensures state { IfOk result (StaySettling forward.now self.old.settled.items event self.new) }
         ensures fallen { IfOk result (λ b. IsFallen self.old.settled.items self.old.arrival.items best self.new.arrival.items b) }
         ensures known { IfOk result (λ b. IsKnownOver forward.now.task.now link.entry.passes.now link.entry.from event.at forward.now.costs.now self.new.arrival.items b.delivery) }
         ensures pushes { OnOk result (length self.new.queue + looks.new.left ≤ length self.old.queue + looks.old.left) }
@@ -197,11 +193,11 @@ impl<A: Allocator + Copy> Settling<A> {
         requires reached { slice_index self.old.arrival.items event.node ≡ event.at }
         requires links { AreLinksAt forward.now.task.now event.node links.links.now links.passes.now }
         requires few { length links.passes.now ≤ looks.old.left }
-        requires state { StaySettling forward.now.task.now forward.now.until forward.now.late.now forward.now.costs.now (slice_set self.old.settled.items event.node true) event self.old best }
+        requires state { StaySettling forward.now (slice_set self.old.settled.items event.node true) event self.old best }
         requires taken { AreSettledTaken forward.now.task.now forward.now.costs.now self.old.settled.items self.old.arrival.items best.delivery }
         ensures settled { self.new.settled.items ≡ slice_set self.old.settled.items event.node true }
         ensures looks { looks.old.left ≤ looks.new.left + length links.entry.passes.now }
-        ensures state { IfOk result (StaySettling forward.now.task.now forward.now.until forward.now.late.now forward.now.costs.now (slice_set self.old.settled.items event.node true) event self.new) }
+        ensures state { IfOk result (StaySettling forward.now (slice_set self.old.settled.items event.node true) event self.new) }
         ensures fallen { IfOk result (λ b. IsFallen (slice_set self.old.settled.items event.node true) self.old.arrival.items best self.new.arrival.items b) }
         ensures taken { IfOk result (λ b. AreSettledTaken forward.now.task.now forward.now.costs.now (slice_set self.old.settled.items event.node true) self.new.arrival.items b.delivery) }
         ensures pushes { OnOk result (length self.new.queue + looks.new.left ≤ length self.old.queue + looks.old.left) }
@@ -231,11 +227,11 @@ impl<A: Allocator + Copy> Settling<A> {
         requires steps { AreFirstSteps forward.now.task.now first.now }
         requires real { AreReal forward.now.task.now first.now }
         requires arrivals { AreOpened forward.now.task.now forward.now.late.now self.old.arrival.items }
-        requires hops { length self.old.hops.items ≡ length forward.now.task.now.shut }
-        requires settled { self.old.settled.items ≡ replicate (length forward.now.task.now.shut) false }
+        requires hops { length self.old.hops.items ≡ length forward.now.task.now.forbidden }
+        requires settled { self.old.settled.items ≡ replicate (length forward.now.task.now.forbidden) false }
         requires queue { self.old.queue ≡ [] }
         ensures settled { self.new.settled.items ≡ slice_set self.old.settled.items forward.now.task.now.start true }
-        ensures state { IfOk result (StaySettled forward.now.task.now forward.now.until forward.now.late.now forward.now.costs.now self.new) }
+        ensures state { IfOk result (StaySettled forward.now self.new) }
     {
         let event = Visit {
             at: forward.task.at(),
@@ -256,15 +252,16 @@ impl<A: Allocator + Copy> Settling<A> {
         Ok(best)
     }
 
-    /// Settles nodes, until no event comes before the first delivery at the goal. Returns that delivery and the hops of
-    /// a way with it; no hops if no way leads there. Looks at each contact of another node than the start at most once.
-    /// None if more looks might be needed than are left.
+    /// Settles nodes until no waiting event comes before the first delivery at the goal. Returns that delivery and the
+    /// hops of a way with it, `Outcome::None` if no way delivers before `forward.until`, or `Outcome::GaveUp` if more
+    /// looks might be needed than are left. Takes at most one look for each contact that another node than the start
+    /// sends.
     fn settle_all(
         &mut self,
         forward: &Forward<'_, '_, '_, A>,
         looks: &mut Looks,
         first: &[Visit],
-    ) -> Result<Option<Best>, NoMemory>
+    ) -> Result<Outcome<Best>, NoMemory>
         requires task { IsTask forward.now.task.now }
         requires until { forward.now.until ≤ latest_arrival + 1 }
         requires bound { IsBound forward.now.task.now forward.now.until forward.now.late.now forward.now.costs.now }
@@ -272,20 +269,18 @@ impl<A: Allocator + Copy> Settling<A> {
         requires steps { AreFirstSteps forward.now.task.now first.now }
         requires real { AreReal forward.now.task.now first.now }
         ensures counted { looks.old.left + degree forward.now.task.now forward.now.task.now.start ≤ looks.new.left + length forward.now.task.now.plan.contacts }
-        ensures none { IfOk result (λ o. IfNone o (looks.old.left + degree forward.now.task.now forward.now.task.now.start < length forward.now.task.now.plan.contacts)) }
-        ensures first { IfOk result (λ o. IfSome o (IsFirstWay forward.now.task.now forward.now.until)) }
-        ensures arrivals { IfOk result (λ o. IfSome o (λ best. AreArrivalsBy forward.now.task.now forward.now.costs.now self.new.arrival.items best.delivery)) }
+        ensures reached { IfOk result (IsReached forward.now.task.now forward.now.until forward.now.costs.now self.new.arrival.items (looks.old.left + degree forward.now.task.now forward.now.task.now.start < length forward.now.task.now.plan.contacts)) }
     {
         self.first_events(forward)?;
         let mut best = self.settle_start(forward, first)?;
         while let Some(event) = self.queue.pop() {
             if event.at >= best.delivery {
-                return Ok(Some(best));
+                return Ok(best.outcome());
             }
             if !self.settled[event.node] {
                 let links = forward.task.links(event.node);
                 if links.passes.len() as u64 > looks.left() {
-                    return Ok(None);
+                    return Ok(Outcome::GaveUp);
                 }
                 let reached = Visit {
                     at: self.arrival[event.node],
@@ -294,31 +289,30 @@ impl<A: Allocator + Copy> Settling<A> {
                 best = self.settle(forward, looks, reached, links, best)?;
             }
         }
-        Ok(Some(best))
+        Ok(best.outcome())
     }
 
-    /// Settles as many nodes as it takes to find the first delivery at the goal. Returns it and the hops of a way with
-    /// it; no hops if no way leads there. No way that may deliver by then comes to a node before its arrival. None if
-    /// more looks might be needed than are left.
+    /// Settles as many nodes as it takes to find the first delivery at the goal. Returns that delivery and the hops of
+    /// a way with it, `Outcome::None` if no way delivers before `forward.until`, or `Outcome::GaveUp` if more looks
+    /// might be needed than are left. Unless it gave up, each way comes to a node `n` at `arrival[n]` or later, or so
+    /// late that it doesn't deliver before the first delivery or `forward.until`.
     pub fn run(
         &mut self,
         forward: &Forward<'_, '_, '_, A>,
         looks: &mut Looks,
         first: &mut Vec<Visit, A>,
-    ) -> Result<Option<Best>, NoMemory>
+    ) -> Result<Outcome<Best>, NoMemory>
         requires task { IsTask forward.now.task.now }
         requires until { forward.now.until ≤ latest_arrival + 1 }
         requires bound { IsBound forward.now.task.now forward.now.until forward.now.late.now forward.now.costs.now }
         ensures counted { looks.old.left ≤ looks.new.left + length forward.now.task.now.plan.contacts }
-        ensures none { IfOk result (λ o. IfNone o (looks.old.left < length forward.now.task.now.plan.contacts)) }
-        ensures way { IfOk result (λ o. IfSome o (IsFirstWay forward.now.task.now forward.now.until)) }
-        ensures arrivals { IfOk result (λ o. IfSome o (λ best. AreArrivalsBy forward.now.task.now forward.now.costs.now self.new.arrival.items best.delivery)) }
-        ensures steps { IfOk result (λ o. IfSome o (λ _. AreFirstSteps forward.now.task.now first.new.items)) }
-        ensures real { IfOk result (λ o. IfSome o (λ _. AreReal forward.now.task.now first.new.items)) }
+        ensures reached { IfOk result (IsReached forward.now.task.now forward.now.until forward.now.costs.now self.new.arrival.items (looks.old.left < length forward.now.task.now.plan.contacts)) }
+        ensures steps { IfOk result (UnlessGaveUp (AreFirstSteps forward.now.task.now first.new.items)) }
+        ensures real { IfOk result (UnlessGaveUp (AreReal forward.now.task.now first.new.items)) }
     {
         let whole = forward.task.first_steps(looks, first)?;
         if !whole {
-            return Ok(None);
+            return Ok(Outcome::GaveUp);
         }
         self.settle_all(forward, looks, first)
     }

@@ -4,9 +4,10 @@ ghost use Rattle.std.specs.Prelude.{[], ◌≤◌, ℕ, IfOk, min, slice_index};
 ghost use Rattle.sabr_search.specs.questions.Task.{IsBehind, never};
 ghost use Rattle.sabr_search.specs.questions.FirstSteps.{tabled_of};
 ghost use Rattle.sabr_search.specs.layers.Latest.{IsWhole};
-ghost use Rattle.sabr_search.specs.layers.Reach.{AreLateFor, AreSoonFor};
+ghost use Rattle.sabr_search.specs.layers.NodeBounds.{AreLateFor, AreSoonFor};
 
 use crate::forward::settling::{Forward, Settling};
+use crate::found::Outcome;
 use crate::task::Task;
 use crate::visit::UNDELIVERED;
 use sabr_index::Looks;
@@ -22,8 +23,9 @@ fn lower<A: Allocator + Copy>(seconds: &mut Vec<u64, A>, most: u64)
     }
 }
 
-/// Finds for each node a second before which no way over the whole graph comes there from the source: its soonest arrival,
-/// or the first delivery if that is sooner. Nothing is known of any node if more looks might be needed than are left.
+/// Finds for each node a second before which no way over the whole graph comes there from the source: its soonest
+/// arrival, or the first delivery if that is sooner. Nothing is known of any node if more looks might be needed than
+/// are left.
 pub fn soonest_of<A: Allocator + Copy>(
     alloc: A,
     task: &Task<'_, A>,
@@ -45,9 +47,11 @@ pub fn soonest_of<A: Allocator + Copy>(
     let mut settling = Settling::new(alloc);
     let mut first = Vec::new(alloc);
     let found = settling.run(&forward, looks, &mut first)?;
-    let Some(best) = found else {
-        return Ok(Vec::new(alloc));
+    let most = match found {
+        Outcome::Found(best) => best.delivery,
+        Outcome::None => UNDELIVERED,
+        Outcome::GaveUp => return Ok(Vec::new(alloc)),
     };
-    lower(&mut settling.arrival, best.delivery);
+    lower(&mut settling.arrival, most);
     Ok(settling.arrival)
 }

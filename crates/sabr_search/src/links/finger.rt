@@ -57,7 +57,8 @@ impl Finger {
         self.seeks(numbers, in_order, number)
     }
 
-    /// Does the same by binary search. The finger then stands after the number, or where it would stand.
+    /// Does the same wherever the number stands. In a rising list it takes a binary search, after which the finger
+    /// stands after the number, or where the number would stand. In another list it takes a pass, and the finger stays.
     #[inline(never)]
     fn seeks(&mut self, numbers: &[u32], in_order: bool, number: u32) -> bool
         requires { IsTrue in_order → IsNonDecreasing numbers.now }
@@ -79,8 +80,8 @@ impl Finger {
     }
 }
 
-/// Returns true if the number is less than the first of a rising list, or greater than the last. Over 24 questions for 100
-/// and 1000 routes, that saves 2 to 6 percent of the instructions.
+/// Returns true if the number is less than the first of a rising list, or greater than the last. Over 24 questions for
+/// 100 and 1000 routes, that saves 2 to 6 percent of the instructions.
 #[inline(always)]
 fn is_outside(numbers: &[u32], number: u32) -> bool
     requires { IsNonDecreasing numbers.now }
@@ -90,11 +91,11 @@ fn is_outside(numbers: &[u32], number: u32) -> bool
         return true;
     }
     let least = numbers[0];
-    let greatest = numbers[numbers.len() - 1];
+    let largest = numbers[numbers.len() - 1];
     if number < least {
         return true;
     }
-    if greatest < number {
+    if largest < number {
         return true;
     }
     false

@@ -10,8 +10,8 @@ use crate::task::Task;
 use sabr_index::{Looks, Pass};
 use std::alloc::Allocator;
 
-/// Returns the number of passes that start before `before`; these come first. A binary search: it asks passes for
-/// the bound that their starts are.
+/// Returns the number of passes that start before `before`. The passes are in order of their starts, so it is a binary
+/// search. It takes no look.
 fn started(passes: &[Pass], before: u64) -> usize
     requires { AreInOrder passes.now }
     ensures within { result ≤ length passes.now }

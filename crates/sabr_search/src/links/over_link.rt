@@ -23,8 +23,8 @@ pub struct WalkedLink<'a> {
     pub bounds: LinkBounds,
 }
 
-/// Returns true if, by what bounds the arrivals over a whole link, nothing that is at its sender at `at` or later
-/// arrives before `before`.
+/// Returns true if two bounds of a whole link, `soonest` and `least_light`, show that nothing that is at its sender at
+/// `at` or later arrives before `before`.
 pub fn is_soonest(soonest: u64, least_light: u32, at: u64, before: u64) -> bool
     ensures late { IsTrue result → (before ≤ soonest) ⊎ (before ≤ at + least_light) }
     ensures early { result ≡ false → at < before }
@@ -111,7 +111,7 @@ impl<'a, A: Allocator + Copy> Task<'a, A> {
         ensures some_looks { result < before → looks.new.left < looks.old.left }
         ensures upper { result ≤ before }
         ensures later { result < before → at ≤ result }
-        ensures sound { result < before → slice_index_or self.now.shut link.entry.to false ≡ false → (n : ℕ) × Takes self.now n link.entry.from at link.entry.to result }
+        ensures sound { result < before → slice_index_or self.now.forbidden link.entry.to false ≡ false → (n : ℕ) × Takes self.now n link.entry.from at link.entry.to result }
         ensures full { (n w b : ℕ) → HasNumber link.entry.passes.now n → Takes self.now n link.entry.from at w b → result ≤ b }
     {
         if rules_out(link.bounds, at, before) {

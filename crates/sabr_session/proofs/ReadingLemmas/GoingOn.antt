@@ -1,6 +1,7 @@
 -- A text that goes on with a piece, or that a piece ends.
 use Rattle.std.proofs.Common.{◌≡◌, ℕ, ◌+◌, ◌≤◌, ◌⊎◌, inl, inr, Bool, true, false, ◌&&◌, List, [], ◌∷◌, ◌++◌, length, refl, sym, ap, ◌∙◌, arith, Result, Ok, Err, append_assoc, length-append}
 use Rattle.sabr_plan.specs.Canonical.{digest_of}
+use Rattle.sabr_plan.specs.Steps.{and_then}
 use Rattle.sabr_plan.specs.Words.{TextLines, is_one_line, has_bytes, lines_of}
 use Rattle.sabr_plan.proofs.Held.{one_line-append}
 use Rattle.sabr_plan.proofs.Lines.{lines_of-one, lines_of-line}
@@ -10,7 +11,7 @@ use Rattle.sabr_session.specs.SessionRead.{Said, misspelled, read_line, is_after
 use Rattle.sabr_frontier.specs.session.Session.{Seen}
 use Rattle.sabr_session.specs.SessionFed.{SessionFed, IsSessionFrom, OpenText, outcome, outcome_of, is_bad_front, GoesOn, IsRefusedPiece, weight}
 use Rattle.sabr_session.specs.SessionLeaving.{Leaves}
-use Rattle.sabr_session.proofs.ReadingLemmas.SessionOutcomes.{outcome-end, outcome-read, line_refused, line_read, rest_held, rest_refused}
+use Rattle.sabr_session.proofs.ReadingLemmas.SessionOutcomes.{outcome-line, outcome-held, outcome-end, outcome-refused, outcome-read}
 use Rattle.sabr_session.proofs.ReadingLemmas.NeverRead.{misspelled_not, line_not_read}
 
 -- what stands before a piece and after some of it, over one plan
@@ -25,33 +26,44 @@ pub nothing_taken : (t : OpenText) (piece : List ℕ) → HasTaken t piece t pie
 nothing_taken t piece = record { plan = refl; calls = refl; same = λ more ended. refl; held = refl; grows = omega arith }
 
 module _ (old : OpenText) (piece : List ℕ) (t : OpenText) (rest : List ℕ) (taken : HasTaken old piece t rest) (held : is_one_line t.fed.held ≡ true) where
-  -- a line of the piece is refused
-  pub line_then_refused : (front back : List ℕ) → is_one_line front ≡ true → rest ≡ front ++ 10 ∷ back → (f : SessionFault) (new : Said)
-      → Leaves {U = Unit {0}} (read_line t.plan.plan (digest_of t.plan.plan) (t.fed.lines + 1) t.fed.said (t.fed.held ++ front)) (Err f) new → IsRefusedPiece old piece f
-  line_then_refused front back one parted f new (inl memory) = inl memory
-  line_then_refused front back one parted f new (inr is) =
-      let e : read_line old.plan.plan (digest_of old.plan.plan) (t.fed.lines + 1) t.fed.said (t.fed.held ++ front) ≡ Err f = rw (← taken.plan) is in
-      inr (line_not_read _ _ _ _ _ f e, line_refused old.plan.plan (digest_of old.plan.plan) old.fed piece t.fed rest taken.same held front back one parted f e)
+  module _ (front back : List ℕ) (one : is_one_line front ≡ true) (parted : rest ≡ front ++ 10 ∷ back) where
+    -- a line of the piece ends
+    line_ends : (more : List ℕ) (ended : Bool) → outcome old.plan.plan (digest_of old.plan.plan) old.fed (piece ++ more) ended
+        ≡ and_then (read_line old.plan.plan (digest_of old.plan.plan) (t.fed.lines + 1) t.fed.said (t.fed.held ++ front)) (λ r. outcome old.plan.plan (digest_of old.plan.plan) (record { lines = t.fed.lines + 1; said = r; held = [] }) (back ++ more) ended)
+    line_ends more ended =
+        let p = old.plan.plan in
+        taken.same more ended ∙ ap (λ (b : List ℕ). outcome p (digest_of p) t.fed (b ++ more) ended) parted ∙ outcome-line p (digest_of p) t.fed front back more ended held one
 
-  -- what is open after it
-  open_after : (front back : List ℕ) → is_one_line front ≡ true → rest ≡ front ++ 10 ∷ back → (lines_of (t.fed.held ++ rest)).open_line ≡ (lines_of back).open_line
-  open_after front back one parted =
-      let line = t.fed.held ++ front in
-      let whole : is_one_line line ≡ true = one_line-append t.fed.held front held one in
-      let bytes : t.fed.held ++ rest ≡ line ++ 10 ∷ back = ap (λ (b : List ℕ). t.fed.held ++ b) parted ∙ sym (append_assoc t.fed.held front (10 ∷ back)) in
-      ap (λ (u : TextLines). u.open_line) (ap lines_of bytes ∙ lines_of-line line back whole)
+    -- it is refused
+    pub line_then_refused : (f : SessionFault) (new : Said)
+        → Leaves {U = Unit {0}} (read_line t.plan.plan (digest_of t.plan.plan) (t.fed.lines + 1) t.fed.said (t.fed.held ++ front)) (Err f) new → IsRefusedPiece old piece f
+    line_then_refused f new (inl memory) = inl memory
+    line_then_refused f new (inr is) =
+        let e : read_line old.plan.plan (digest_of old.plan.plan) (t.fed.lines + 1) t.fed.said (t.fed.held ++ front) ≡ Err f = rw (← taken.plan) is in
+        inr (line_not_read _ _ _ _ _ f e, λ more ended. line_ends more ended ∙ rw e refl)
 
-  -- or read
-  pub line_then_read : (front back : List ℕ) → is_one_line front ≡ true → rest ≡ front ++ 10 ∷ back → (new : OpenText) → new.plan ≡ t.plan → new.calls ≡ t.calls
-      → read_line t.plan.plan (digest_of t.plan.plan) (t.fed.lines + 1) t.fed.said (t.fed.held ++ front) ≡ Ok new.fed.said
-      → new.fed.lines ≡ t.fed.lines + 1 → new.fed.held ≡ [] → length t.fed.held + length front ≤ 660008 → HasTaken old piece new back
-  line_then_read front back one parted new plan calls is lines none short = record {
-    plan = plan ∙ taken.plan;
-    calls = calls ∙ taken.calls;
-    same = line_read old.plan.plan (digest_of old.plan.plan) old.fed piece t.fed rest taken.same held front back one parted new.fed (rw (← taken.plan) is) lines none;
-    held = taken.held ∙ open_after front back one parted ∙ ap (λ (b : List ℕ). (lines_of (b ++ back)).open_line) (sym none);
-    grows = omega (arith, taken.grows, lines, ap length none, ap length parted, length-append front (10 ∷ back));
-  }
+    -- what is open after it
+    open_after : (lines_of (t.fed.held ++ rest)).open_line ≡ (lines_of back).open_line
+    open_after =
+        let whole : is_one_line (t.fed.held ++ front) ≡ true = one_line-append t.fed.held front held one in
+        let bytes : t.fed.held ++ rest ≡ (t.fed.held ++ front) ++ 10 ∷ back = ap (λ (b : List ℕ). t.fed.held ++ b) parted ∙ sym (append_assoc t.fed.held front (10 ∷ back)) in
+        ap (λ (u : TextLines). u.open_line) (ap lines_of bytes ∙ lines_of-line (t.fed.held ++ front) back whole)
+
+    -- or read
+    pub line_then_read : (new : OpenText) → new.plan ≡ t.plan → new.calls ≡ t.calls
+        → read_line t.plan.plan (digest_of t.plan.plan) (t.fed.lines + 1) t.fed.said (t.fed.held ++ front) ≡ Ok new.fed.said
+        → new.fed.lines ≡ t.fed.lines + 1 → new.fed.held ≡ [] → length t.fed.held + length front ≤ 660008 → HasTaken old piece new back
+    line_then_read new plan calls is lines none short =
+        let p = old.plan.plan in
+        let e : read_line p (digest_of p) (t.fed.lines + 1) t.fed.said (t.fed.held ++ front) ≡ Ok new.fed.said = rw (← taken.plan) is in
+        let made : ◌≡◌ {A = SessionFed} (record { lines = t.fed.lines + 1; said = new.fed.said; held = [] }) new.fed = rw (← lines, ← none) refl in
+        record {
+          plan = plan ∙ taken.plan;
+          calls = calls ∙ taken.calls;
+          same = λ more ended. line_ends more ended ∙ rw e (ap (λ (s : SessionFed). outcome p (digest_of p) s (back ++ more) ended) made);
+          held = taken.held ∙ open_after ∙ ap (λ (b : List ℕ). (lines_of (b ++ back)).open_line) (sym none);
+          grows = omega (arith, taken.grows, lines, ap length none, ap length parted, length-append front (10 ∷ back));
+        }
 
   -- what is after the last LF is held
   pub rest_then_held : (new : OpenText) → is_one_line rest ≡ true → new ≡ record t { fed = record t.fed { held = t.fed.held ++ rest } }
@@ -66,7 +78,7 @@ module _ (old : OpenText) (piece : List ℕ) (t : OpenText) (rest : List ℕ) (t
         plan = plan;
         calls = ap (λ (t : OpenText). t.calls) is ∙ taken.calls;
         held = ap (λ (s : SessionFed). s.held) fed ∙ sym (taken.held ∙ ap (λ (u : TextLines). u.open_line) (lines_of-one (t.fed.held ++ rest) whole));
-        same = λ more ended. rest_held p h old.fed piece t.fed rest taken.same held new.fed fed more ended ∙ rw plan refl;
+        same = λ more ended. taken.same more ended ∙ outcome-held p h t.fed rest more ended ∙ ap (λ (s : SessionFed). outcome p h s more ended) (sym fed) ∙ rw plan refl;
         fine = rw (plan, fed) (outcome-read p h (record t.fed { held = t.fed.held ++ rest }) whole good);
       }
 
@@ -77,7 +89,7 @@ module _ (old : OpenText) (piece : List ℕ) (t : OpenText) (rest : List ℕ) (t
   rest_then_refused f one (inr (is, bad)) =
       inr (
         rw is (misspelled_not (t.fed.lines + 1)),
-        λ more ended. rest_refused old.plan.plan (digest_of old.plan.plan) old.fed piece t.fed rest taken.same held one bad more ended ∙ ap Err (sym is),
+        λ more ended. taken.same more ended ∙ outcome-refused old.plan.plan (digest_of old.plan.plan) t.fed rest more ended held one bad ∙ ap Err (sym is),
       )
 
 module _ (s : OpenText) (one : is_one_line s.fed.held ≡ true) where

@@ -157,29 +157,3 @@ module _ (p : ContactPlan) (h : List ℕ) where
       by_bytes true true long q = absurd cc
       by_bytes false some true q = absurd cc
       by_bytes false some false q = refl
-
--- after a piece: what was fed, and what is left of the piece
-module _ (p : ContactPlan) (h : List ℕ) (first : SessionFed) (piece : List ℕ) (s : SessionFed) (rest : List ℕ)
-    (same : (more : List ℕ) (ended : Bool) → outcome p h first (piece ++ more) ended ≡ outcome p h s (rest ++ more) ended) (held : is_one_line s.held ≡ true) where
-  module _ (front back : List ℕ) (one : is_one_line front ≡ true) (parted : rest ≡ front ++ 10 ∷ back) where
-    -- a line ends
-    line_ends : (more : List ℕ) (ended : Bool) → outcome p h first (piece ++ more) ended ≡ and_then (read_line p h (s.lines + 1) s.said (s.held ++ front)) (λ r. outcome p h (record { lines = s.lines + 1; said = r; held = [] }) (back ++ more) ended)
-    line_ends more ended = same more ended ∙ ap (λ t. outcome p h s (t ++ more) ended) parted ∙ outcome-line p h s front back more ended held one
-
-    -- it is refused
-    pub line_refused : (f : SessionFault) → read_line p h (s.lines + 1) s.said (s.held ++ front) ≡ Err f → (more : List ℕ) (ended : Bool) → outcome p h first (piece ++ more) ended ≡ Err f
-    line_refused f e more ended = line_ends more ended ∙ rw e refl
-
-    -- or read
-    pub line_read : (new : SessionFed) → read_line p h (s.lines + 1) s.said (s.held ++ front) ≡ Ok new.said → new.lines ≡ s.lines + 1 → new.held ≡ [] → (more : List ℕ) (ended : Bool) → outcome p h first (piece ++ more) ended ≡ outcome p h new (back ++ more) ended
-    line_read new e lines none more ended =
-        let made : ◌≡◌ {A = SessionFed} (record { lines = s.lines + 1; said = new.said; held = [] }) new = rw (← lines, ← none) refl in
-        line_ends more ended ∙ rw e (ap (λ t. outcome p h t (back ++ more) ended) made)
-
-  -- what is after the last LF is held
-  pub rest_held : (new : SessionFed) → new ≡ record { lines = s.lines; said = s.said; held = s.held ++ rest } → (more : List ℕ) (ended : Bool) → outcome p h first (piece ++ more) ended ≡ outcome p h new more ended
-  rest_held new is more ended = same more ended ∙ outcome-held p h s rest more ended ∙ ap (λ t. outcome p h t more ended) (sym is)
-
-  -- or refused
-  pub rest_refused : is_one_line rest ≡ true → is_bad_front (s.lines + 1) s.said (s.held ++ rest) ≡ true → (more : List ℕ) (ended : Bool) → outcome p h first (piece ++ more) ended ≡ Err (misspelled (s.lines + 1))
-  rest_refused one bad more ended = same more ended ∙ outcome-refused p h s rest more ended held one bad

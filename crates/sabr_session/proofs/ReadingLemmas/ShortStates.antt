@@ -1,12 +1,11 @@
 -- What a text says of well-formed states over a plan is within its bounds.
-use Rattle.std.proofs.Common.{◌≡◌, ℕ, ◌+◌, ◌*◌, ◌<◌, ◌≤◌, Bool, true, false, cond, ltb, ◌⊎◌, inl, inr, List, [], ◌∷◌, ◌++◌, map, filter, length, refl, sym, subst, arith, Option, Some, None, unwrap_or}
+use Rattle.std.proofs.Common.{◌≡◌, ℕ, ◌+◌, ◌*◌, ◌<◌, ◌≤◌, Bool, true, ltb, ◌⊎◌, inl, inr, List, [], ◌∷◌, ◌++◌, map, length, refl, sym, subst, arith, Option, Some, None, unwrap_or}
 use Rattle.sabr_model.proofs.PlanLemmas.Deletions.{length-filter_le}
 use Rattle.std.specs.List.{AllByRecursion, flat_map}
 use Rattle.std.specs.Option.{option_map_or}
 use Rattle.std.specs.Ordering.{nat_cmp}
 use Rattle.std.specs.declared.cmp.Ordering.TheVariants.{Less, Equal, Greater}
 use Rattle.std.proofs.lemmas.Bool.{and_parts, lt-ltb}
-use Rattle.std.proofs.lemmas.Bool.Decides.{nat_tests}
 use Rattle.std.proofs.lemmas.Cmp.{ranked}
 use Rattle.std.proofs.lemmas.List.{length-append, length-map}
 use borrow.Author.Tests.{ltb-true}
@@ -98,7 +97,7 @@ module _ (p : ContactPlan) (r : RouteRequest) (good : IsPlan p) (asked : IsReque
   chain_low a (n ∷ s) b e =
       let h = first_hop p a n s b e in
       let m = named_is p.contacts n h.contact h.named in
-      let bounds = given_number 0 p.greatest p.contacts h.contact good.numbers_rise good.numbers_given m.0 in
+      let bounds = given_number 0 p.largest p.contacts h.contact good.numbers_rise good.numbers_given m.0 in
       let low = bounds.0 in
       let high = bounds.1 in
       let same = m.1 in

@@ -1,5 +1,5 @@
 -- What was given at each step, where all steps give something.
-use Rattle.std.proofs.Common.{◌≡◌, ℕ, Bool, true, false, cond, refl, Option, Some, None, Result, Ok, Err}
+use Rattle.std.proofs.Common.{◌≡◌, ℕ, refl, Option, Some, None, Result, Ok, Err}
 use Rattle.std.specs.Option.{option_and_then, option_map}
 use Rattle.sabr_plan.specs.Steps.{and_then, given_as}
 use Rattle.sabr_session.specs.SessionRead.{spelled_at}

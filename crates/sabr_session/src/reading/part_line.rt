@@ -5,8 +5,8 @@ ghost use Rattle.std.specs.Option.{option_copied};
 ghost use Rattle.sabr_session.specs.SessionWords.{words_of};
 ghost use Rattle.sabr_session.specs.SessionLines.{carried_of, lists_of, part_of};
 
-use crate::reading::contact_list::{list_to_end, list_to_slash};
 use crate::reading::first_lines::after_label;
+use crate::reading::lists::{list_to_end, list_to_slash};
 use sabr_model::NoMemory;
 use std::alloc::Allocator;
 use std::marker::Model;

@@ -1,26 +1,31 @@
-//! A session text that is read in chunks.
+//! A session text that is read in chunks, or from a reader.
 
-ghost use Rattle.std.specs.Prelude.{◌≡◌, ◌+◌, ◌<◌, ◌≤◌, length, Ok, MatchResult, IfOk, OnOk};
+ghost use Rattle.std.specs.Prelude.{◌≡◌, ◌+◌, ◌<◌, ◌≤◌, length, Ok, MatchResult, IfOk, IfErr, OnOk};
 ghost use Rattle.sabr_model.specs.routes.Asking.{IsRequest};
 ghost use Rattle.sabr_plan.specs.Canonical.{digest_of};
 ghost use Rattle.sabr_frontier.specs.listing.Listing.{IsState};
 ghost use Rattle.sabr_session.specs.SessionRead.{most_bytes};
 ghost use Rattle.sabr_session.specs.SessionFed.{IsFed, IsFinished, opened_over, weight_of, weight_bound};
+ghost use Rattle.sabr_session.specs.SessionGiven.{ReadsSession};
+ghost use Rattle.sabr_session.specs.declared.session_fault.SessionFault.TheVariants as fault;
 
-use crate::reading::text_so_far::TextSoFar;
+use crate::reading::line_reader::LineReader;
 use crate::session_fault::SessionFault;
 use sabr_frontier::Session;
-use sabr_model::Plan;
+use sabr_model::{Failed, Plan, Read};
 use sabr_search::BestOf;
 use std::alloc::{Allocator, Global};
 use std::marker::Model;
+
+/// The size of the buffer that the reader fills, in bytes. Not varied in measurements.
+const PIECE_BYTES: usize = 4096;
 
 /// A session text over a plan that is read in chunks of any length. It holds one line at a time.
 ///
 /// Contracts see the bytes that were fed, or their fault.
 #[derive(Drop)]
 pub struct SessionFeed<'p, B: BestOf<A>, A: Allocator + Copy = Global> {
-    text: Result<TextSoFar<'p, B, A>, SessionFault>,
+    text: Result<LineReader<'p, B, A>, SessionFault>,
 }
 
 impl<'p, B: BestOf<A>, A: Allocator + Copy> Model for SessionFeed<'p, B, A> {
@@ -40,7 +45,7 @@ impl<'p, B: BestOf<A>, A: Allocator + Copy> SessionFeed<'p, B, A> {
         ensures { result ≡ Ok (opened_over plan.now (B.calls_of finder)) }
     {
         SessionFeed {
-            text: Ok(TextSoFar::new(alloc, plan, digest, finder)),
+            text: Ok(LineReader::new(alloc, plan, digest, finder)),
         }
     }
 
@@ -88,7 +93,7 @@ impl<'p, B: BestOf<A>, A: Allocator + Copy> SessionFeed<'p, B, A> {
         ensures accepted { IfOk result (λ s. IsRequest s.request) }
     {
         let session = self.text?.finish()?;
-        session.request().tell_limits();
+        session.request().limits_hold();
         Ok(session)
     }
 
@@ -100,6 +105,42 @@ impl<'p, B: BestOf<A>, A: Allocator + Copy> SessionFeed<'p, B, A> {
         match &self.text {
             Ok(text) => text.held(),
             Err(_) => 0,
+        }
+    }
+}
+
+/// Reads the session of a text over a plan, to the end of the text or to its first fault.
+///
+/// The digest is that of the plan. It runs no search, so the routes of the text need not be the best: a text that was
+/// changed may leave routes out. For any text the state is well formed, and later pages list only routes that the text
+/// doesn't count as emitted. After a fault, more of the reader's bytes may have been read.
+///
+/// # Errors
+///
+/// The errors of [`SessionFeed::feed`], as soon as the bytes that show them were read. [`SessionFault::Read`] if the
+/// reader failed after bytes without a fault. At the end of the text, those of [`SessionFeed::finish`]. The finder is
+/// dropped.
+pub fn read_session<'p, R: Read, B: BestOf<A>, A: Allocator + Copy>(
+    alloc: A,
+    reader: &mut R,
+    plan: &'p Plan<A>,
+    digest: &[u8; 32],
+    finder: B,
+) -> Result<Session<'p, B, A>, SessionFault>
+    requires { digest.now ≡ digest_of plan.now.plan }
+    ensures read { ReadsSession plan.now (R.input reader.old) result (R.input reader.new) }
+    ensures failed { IfErr result (λ f. f ≡ fault.Read → (R.input reader.new).failures ≡ (R.input reader.old).failures + 1) }
+    ensures calls { IfOk result (λ s. s.calls ≡ B.calls_of finder) }
+    ensures formed { IfOk result (λ s. IsState s.plan.plan s.request s.state) }
+    ensures accepted { IfOk result (λ s. IsRequest s.request) }
+{
+    let mut buffer = [0u8; PIECE_BYTES];
+    let mut feed = SessionFeed::new(alloc, plan, digest, finder);
+    loop {
+        match reader.read(&mut buffer) {
+            Ok(0) => return feed.finish(),
+            Ok(count) => feed.feed(&buffer[..count])?,
+            Err(Failed) => return Err(SessionFault::Read),
         }
     }
 }

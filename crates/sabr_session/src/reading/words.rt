@@ -7,6 +7,7 @@ ghost use Rattle.std.specs.Str.{bytes_eq};
 ghost use Rattle.sabr_plan.specs.Numbers.{number_within};
 ghost use Rattle.sabr_session.specs.SessionWords.{is_space, words_of, words_after, most_number};
 
+use itoa::Buffer;
 use sabr_plan::{leading_number, number_within};
 
 /// The largest number of 32 bits, the type of contact numbers, margins and limits on hops.
@@ -66,4 +67,22 @@ pub(crate) fn first_number(text: &[u8]) -> (&[u8], Option<u64>, Option<&[u8]>)
     }
     let (word, rest) = first_word(text);
     (word, number_within(word, 1, MAX_NUMBER), rest)
+}
+
+/// Reads a number up to 340282366920938463463374607431768211455, decimal without a sign or leading zero.
+pub(crate) fn count_within(text: &[u8]) -> Option<u128>
+    ensures { result ≡ number_within 0 340282366920938463463374607431768211455 text.now }
+{
+    let Ok(digits) = str::from_utf8(text) else {
+        return None;
+    };
+    let Ok(count) = digits.parse::<u128>() else {
+        return None;
+    };
+    let mut buffer = Buffer::new();
+    if buffer.format(count).as_bytes() == text {
+        Some(count)
+    } else {
+        None
+    }
 }

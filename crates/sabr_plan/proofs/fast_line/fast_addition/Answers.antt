@@ -36,10 +36,10 @@ returns c =
     let back = more_words adds.name (more_words start (more_words end (more_words first (more_words second (more_words value (no_words c.in_ok-behind.ensures)))))) in
     let whole = first_a adds.first back in
     let line = adds.first.blanks ++ 97 ∷ back.line in
-    let greatest = c.greatest_value.ensures in
+    let largest = c.largest_value.ensures in
     record {
       line = line;
       parts = whole.0;
       one = plain_one line whole.1;
-      holds = said c.args.reference.now c.in_ok-target.target line adds.name.front.word _ _ (no_comment adds.first.blanks back.line adds.first.blank) whole.1 whole.2 adds.name.front.holds (added c.args.reference.now c.in_ok-target.target start.front.word end.front.word first.front.word second.front.word value.front.word _ start.front.holds end.front.holds (ap (λ o. ok_or o BadNode) first.front.holds) (ap (λ o. ok_or o BadNode) second.front.holds) (ap (λ o. ok_or o BadNumber) (rw greatest at value.front.holds)));
+      holds = said c.args.reference.now c.in_ok-target.target line adds.name.front.word _ _ (no_comment adds.first.blanks back.line adds.first.blank) whole.1 whole.2 adds.name.front.holds (added c.args.reference.now c.in_ok-target.target start.front.word end.front.word first.front.word second.front.word value.front.word _ start.front.holds end.front.holds (ap (λ o. ok_or o BadNode) first.front.holds) (ap (λ o. ok_or o BadNode) second.front.holds) (ap (λ o. ok_or o BadNumber) (rw largest at value.front.holds)));
     }

@@ -20,4 +20,4 @@ returns g c =
     ]
     in
     let written = rw (c.in_ok-listing.ensures {u = tt}) at c.write_page.ensures in
-    (Ok c.in_ok-plan.plan, c.in_ok-plan.ensures.read, rw (← keeps, ← first_report_is p r c.args.count c.tell_rules.ensures, ← first_place p r c.args.count c.tell_rules.ensures) written)
+    (Ok c.in_ok-plan.plan, c.in_ok-plan.ensures.read, rw (← keeps, ← first_report_is p r c.args.count c.rules_hold.ensures, ← first_place p r c.args.count c.rules_hold.ensures) written)

@@ -18,8 +18,8 @@ send_report-requires-clause-times g c =
     let listing = c.args.listing.now in
     subst (All HasSpelledTimes) (sym (c.as_slice.ensures.value ∙ (c.in_ok-routes.ensures {u = tt}).routes))
     (records_spelled listing.plan.plan listing.request _
-    (subst (λ (q : TabledPlan). IsPlan q.plan) c.plan.ensures c.tell_rules.ensures)
-    (subst IsRequest c.request.ensures c.tell_limits.ensures))
+    (subst (λ (q : TabledPlan). IsPlan q.plan) c.plan.ensures c.rules_hold.ensures)
+    (subst IsRequest c.request.ensures c.limits_hold.ensures))
 
 pub returns-in_err-send_report : goal.returns-in_err-send_report
 returns-in_err-send_report g c =

@@ -3,7 +3,7 @@ use Rattle.std.specs.Prelude.{IsTrue}
 use Rattle.std.proofs.lemmas.Option.{slice_get_within}
 use Rattle.sabr_model.specs.routes.Route.{is_route}
 use Rattle.sabr_model.proofs.RouteLemmas.Prefixes.{beginning_is_prefix}
-use Rattle.sabr_search.specs.questions.Course.{AreShut}
+use Rattle.sabr_search.specs.questions.PrefixPath.{AreForbidden}
 use Rattle.sabr_search.specs.questions.Task.{is_closed}
 use Rattle.sabr_search.proofs.LinkLemmas.PlanFacts.{has_nodes}
 use Rattle.sabr_frontier.proofs.GivingLemmas.Detours.{route_end}
@@ -30,8 +30,8 @@ ends_on-requires-clause-end g c =
     let r = c.args.request.now in
     let front = c.in-Some.front.now in
     let numbers : c.args.ending.route.now ≡ front ++ c.in-Some.last.now ∷ [] = (c.in-Some.ensures {u = tt}).cases.0 in
-    route_end p r _ c.tell_rules.ensures (has_nodes p c.nodes.ensures.tabled) (rw c.in-Some-2.is at c.in_ok-led.ensures.leads)
-    (subst (λ xs. AreShut p.table xs (is_closed p.plan r front)) (sym c.as_slice.ensures.value) (rw c.in-Some-2.is at c.in_ok-led.ensures.shuts))
+    route_end p r _ c.rules_hold.ensures (has_nodes p c.nodes.ensures.tabled) (rw c.in-Some-2.is at c.in_ok-led.ensures.leads)
+    (subst (λ xs. AreForbidden p.table xs (is_closed p.plan r front)) (sym c.as_slice.ensures.value) (rw c.in-Some-2.is at c.in_ok-led.ensures.forbids))
     (rw c.to.ensures.value at c.in-Some-node_index.ensures) (subst (λ s. IsTrue (is_route p.plan r s)) numbers c.requires.route)
 
 pub detours-requires-clause-end : goal.detours-requires-clause-end
@@ -40,6 +40,6 @@ detours-requires-clause-end g c =
     let r = c.args.request.now in
     let front = c.in-Some.front.now in
     let numbers : c.args.ending.route.now ≡ front ++ c.in-Some.last.now ∷ [] = (c.in-Some.ensures {u = tt}).cases.0 in
-    route_end p r _ c.tell_rules.ensures (has_nodes p c.nodes.ensures.tabled) (rw c.in-Some-2.is at c.in_ok-led.ensures.leads)
-    (subst (λ xs. AreShut p.table xs (is_closed p.plan r front)) (sym c.as_slice.ensures.value) (rw c.in-Some-2.is at c.in_ok-led.ensures.shuts))
+    route_end p r _ c.rules_hold.ensures (has_nodes p c.nodes.ensures.tabled) (rw c.in-Some-2.is at c.in_ok-led.ensures.leads)
+    (subst (λ xs. AreForbidden p.table xs (is_closed p.plan r front)) (sym c.as_slice.ensures.value) (rw c.in-Some-2.is at c.in_ok-led.ensures.forbids))
     (rw c.to.ensures.value at c.in-Some-node_index.ensures) (subst (λ s. IsTrue (is_route p.plan r s)) numbers c.requires.route)

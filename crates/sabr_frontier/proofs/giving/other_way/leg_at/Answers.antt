@@ -1,6 +1,5 @@
-use Rattle.std.proofs.Common.{◌≡◌, ◌+◌, ◌-◌, ◌<◌, ◌≤◌, length, Some, slice_get, slice_index, take, drop, ap, subst, sym, ◌∙◌, arith}
+use Rattle.std.proofs.Common.{slice_get, slice_index, ap, sym, ◌∙◌, arith}
 use Rattle.std.proofs.lemmas.Option.{slice_get-get_or, slice_get_within}
-use Rattle.sabr_index.specs.Links.{AreLinksOf, IsLinkOf}
 use Rattle.sabr_model.proofs.ListLemmas.Different.{part_at}
 use Rattle.sabr_frontier.proofs.giving.other_way.leg_at.Goals as goal
 

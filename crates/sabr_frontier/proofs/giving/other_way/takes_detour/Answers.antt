@@ -1,4 +1,4 @@
-use Rattle.std.proofs.Common.{◌≡◌, ◌∷◌, [], ◌∙◌, sym, arith}
+use Rattle.std.proofs.Common.{◌∷◌, [], ◌∙◌, sym, arith}
 use Rattle.std.proofs.lemmas.Option.{slice_get-get_or}
 use Rattle.sabr_frontier.proofs.GivingLemmas.Detours.{ends_over, value_if}
 use Rattle.sabr_frontier.proofs.giving.other_way.takes_detour.Goals as goal

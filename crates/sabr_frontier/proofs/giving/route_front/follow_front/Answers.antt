@@ -1,11 +1,10 @@
-use Rattle.std.proofs.Common.{◌≡◌, ◌+◌, ◌∷◌, ◌++◌, [], Some, None, take, length, slice_index, slice_get, ap, sym, subst, refl, ◌∙◌, arith}
+use Rattle.std.proofs.Common.{◌≡◌, ◌+◌, Some, None, take, slice_index, slice_get, sym, subst, refl, ◌∙◌, arith}
 use Rattle.std.proofs.lemmas.List.{take_all, take_more}
 use Rattle.std.proofs.lemmas.Option.{slice_get-get_or, slice_get_within}
-use Rattle.sabr_model.specs.declared.contact.Contact.{Contact}
-use Rattle.sabr_search.specs.questions.Course.{AreShut}
+use Rattle.sabr_search.specs.questions.PrefixPath.{AreForbidden}
 use Rattle.sabr_search.specs.questions.Task.{is_closed}
 use Rattle.sabr_search.proofs.LinkLemmas.PlanFacts.{hop_small}
-use Rattle.sabr_search.proofs.WayLemmas.Courses.{hop_at, shut_more, closed_more}
+use Rattle.sabr_search.proofs.WayLemmas.PrefixPaths.{hop_at, forbidden_more, closed_more}
 use Rattle.sabr_frontier.specs.declared.giving.route_front.Place.{Place}
 use Rattle.sabr_frontier.specs.giving.Detours.{LeadsTo}
 use Rattle.sabr_frontier.proofs.GivingLemmas.Detours.{hop_arrives_so, hop_leads}
@@ -34,7 +33,7 @@ unreachable-requires-in_default-arrive g c =
 pub index_mut-requires : goal.index_mut-requires
 index_mut-requires g c =
     let hop = (c.in-Some-hop.ensures {u = tt}).value in
-    omega (arith, c.loop-place.invariant.shuts.many, slice_get_within c.args.plan.now.table c.in-Some-hop.hop.receiver hop.contact.to hop.is.receiver)
+    omega (arith, c.loop-place.invariant.forbids.many, slice_get_within c.args.plan.now.table c.in-Some-hop.hop.receiver hop.contact.to hop.is.receiver)
 
 pub loop-place-preserved : goal.loop-place-preserved
 loop-place-preserved g c =
@@ -53,14 +52,14 @@ loop-place-preserved g c =
     record {
       counted = omega (arith, so_far.counted, c.hop.ensures.counted);
       leads = subst (λ q. LeadsTo p r q next) (sym (take_more front i 0 c.loop-place-test.true)) (hop_leads p r (take i front) c.loop-place.here so_far.leads n step h hop next refl there);
-      shuts = shut_more p.plan p.table c.requires.nodes c.loop-place.shut.items (is_closed p.plan r (take i front)) (is_closed p.plan r (take (i + 1) front)) h.receiver hop.contact.to so_far.shuts hop.is.receiver (closed_more p.plan r front i n hop.contact at hop.named);
+      forbids = forbidden_more p.plan p.table c.requires.nodes c.loop-place.forbidden.items (is_closed p.plan r (take i front)) (is_closed p.plan r (take (i + 1) front)) h.receiver hop.contact.to so_far.forbids hop.is.receiver (closed_more p.plan r front i n hop.contact at hop.named);
     }
 
 pub returns-clause-leads : goal.returns-clause-leads
 returns-clause-leads g c =
     subst (λ q. LeadsTo c.args.plan.now c.args.request.now q c.loop-place.here) (take_all c.loop-place.place c.args.front.now c.loop-place-test.false) c.loop-place.invariant.leads
 
-pub returns-clause-shuts : goal.returns-clause-shuts
-returns-clause-shuts g c =
+pub returns-clause-forbids : goal.returns-clause-forbids
+returns-clause-forbids g c =
     let p = c.args.plan.now in
-    subst (λ q. AreShut p.table c.loop-place.shut.items (is_closed p.plan c.args.request.now q)) (take_all c.loop-place.place c.args.front.now c.loop-place-test.false) c.loop-place.invariant.shuts
+    subst (λ q. AreForbidden p.table c.loop-place.forbidden.items (is_closed p.plan c.args.request.now q)) (take_all c.loop-place.place c.args.front.now c.loop-place-test.false) c.loop-place.invariant.forbids

@@ -1,9 +1,9 @@
-use Rattle.std.proofs.Common.{◌≡◌, [], ap, sym, ◌∙◌}
+use Rattle.std.proofs.Common.{[], ap, sym}
 use Rattle.std.specs.Prelude.{Some}
 use Rattle.sabr_model.specs.plan.Plan.{has}
 use Rattle.sabr_model.proofs.RouteLemmas.Prefixes.{empty_is_path}
 use Rattle.sabr_search.specs.questions.Task.{is_closed}
-use Rattle.sabr_search.proofs.WayLemmas.Courses.{shut_more, closed_none}
+use Rattle.sabr_search.proofs.WayLemmas.PrefixPaths.{forbidden_more, closed_none}
 use Rattle.sabr_frontier.proofs.giving.route_front.start.Goals as goal
 
 pub returns-clause-leads : goal.returns-clause-leads
@@ -15,8 +15,8 @@ returns-clause-leads g c = record {
   arrives = ap Some (sym c.at.ensures.value);
 }
 
-pub returns-clause-shuts : goal.returns-clause-shuts
-returns-clause-shuts g c =
+pub returns-clause-forbids : goal.returns-clause-forbids
+returns-clause-forbids g c =
     let p = c.args.plan.now in
     let r = c.args.request.now in
-    shut_more p.plan p.table c.requires.nodes c.shut_avoided.new.shut.items (λ x. has x r.avoided) (is_closed p.plan r []) c.in-Some.source r.source c.shut_avoided.ensures (rw c.from.ensures.value at c.in-Some.ensures) (closed_none p.plan r)
+    forbidden_more p.plan p.table c.requires.nodes c.forbid_avoided.new.forbidden.items (λ x. has x r.avoided) (is_closed p.plan r []) c.in-Some.source r.source c.forbid_avoided.ensures (rw c.from.ensures.value at c.in-Some.ensures) (closed_none p.plan r)

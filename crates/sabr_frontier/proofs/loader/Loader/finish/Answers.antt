@@ -5,17 +5,17 @@ use Rattle.sabr_model.specs.plan.Plan.{IsPlan, TabledPlan, ContactPlan}
 use Rattle.sabr_model.specs.routes.Arrival.{RouteRequest}
 use Rattle.sabr_model.specs.routes.Asking.{IsRequest}
 use Rattle.sabr_model.specs.routes.Record.{RouteRecord, record_of}
-use Rattle.sabr_frontier.specs.declared.loader.held.Held.{Held}
+use Rattle.sabr_frontier.specs.declared.loader.partial_tree.PartialTree.{PartialTree}
 use Rattle.sabr_frontier.specs.declared.loader.load_fault.LoadFault.{LoadFault}
 use Rattle.sabr_frontier.specs.declared.loader.load_fault.LoadFault.TheVariants.{NoMemory}
-use Rattle.sabr_frontier.specs.tree.Asking.{Asking, IsAtRest}
+use Rattle.sabr_frontier.specs.tree.Searching.{Searching, IsAtRest}
 use Rattle.sabr_frontier.specs.listing.Listing.{IsState, leaves_in}
 use Rattle.sabr_frontier.specs.loading.Loading.{IsClosedState, IsCounted, IsRefusedBy, Loaded, session_with, state_with}
 use Rattle.sabr_frontier.specs.session.Session.{session_over}
 use Rattle.sabr_frontier.specs.tree.Shape.{shape_of, shown, Shape, front_of, numbers_of, part_at, part_of, prefix_of}
 use Rattle.sabr_frontier.specs.tree.Sound.{IsTree, AreGiven, IsLent}
-use Rattle.sabr_frontier.specs.loading.Holding.{IsLastPlace, IsLoader, IsWrongLast, holding_of, is_paid, loaded, loaded_tree, Holding, AreLent, IsAnswered, IsGiven, IsHeld, pairs_in, parts_in, parts_of}
-use Rattle.sabr_frontier.proofs.LoadingLemmas.AnsweredParts.{paid_closed, unpaid_open, paid_owes, pairs_two}
+use Rattle.sabr_frontier.specs.loading.Partial.{IsLastPlace, IsLoader, IsWrongLast, partial_shape_of, is_complete, loaded, loaded_tree, PartialShape, AreLent, IsAnswered, IsGiven, IsPartial, pairs_in, parts_in, parts_of}
+use Rattle.sabr_frontier.proofs.LoadingLemmas.AnsweredParts.{complete_closed, incomplete_open, complete_expects, pairs_two}
 use Rattle.sabr_frontier.proofs.TreeLemmas.IndexedNodes.{tree_indexed}
 use Rattle.std.proofs.lemmas.Bool.{cases_Bool}
 use Rattle.std.specs.Option.{option_map}
@@ -32,9 +32,9 @@ use Rattle.sabr_frontier.specs.listing.Rising.{has, Rises}
 use Rattle.sabr_frontier.specs.listing.Tree.{set_of}
 use Rattle.sabr_frontier.specs.listing.State.{pair_of, Member, leaves, leaves_of}
 use Rattle.sabr_frontier.specs.listing.Formed.{InOrder}
-use Rattle.sabr_frontier.specs.listing.Owing.{Owing, onward, Owes}
+use Rattle.sabr_frontier.specs.listing.Expecting.{Prefixes, onward, Expects}
 use Rattle.sabr_frontier.specs.tree.Queue.{InPairs}
-use Rattle.sabr_frontier.specs.tree.Taking.{ids_from}
+use Rattle.sabr_frontier.specs.tree.Giving.{ids_from}
 use Rattle.sabr_frontier.proofs.ListingLemmas.Rising.{length-put_in}
 use Rattle.sabr_frontier.proofs.ListingLemmas.NumbersAfter.{number_after-snoc, number_after-of_longer}
 use Rattle.sabr_frontier.proofs.ListingLemmas.ClosedTrees.{In_Member, Member_In, set_of_has, has_set_of, last_same}
@@ -53,12 +53,12 @@ module _ (route path : List ℕ → Bool) where
   leaf_is s e m = Member-map_cases (λ x. e.0 ++ x ∷ []) s e.1 (Member-filter_cases route s (map (λ x. e.0 ++ x ∷ []) e.1) m).1
 
   -- if no number makes a leaf, the first number asks for more
-  first_onward : (e : List ℕ × List ℕ) (x : ℕ) → has nat_cmp x e.1 ≡ true → leaves_of route e ≡ [] → (y : ℕ) × (more : Owing) × (onward route path e ≡ (e.0 ++ y ∷ []) ∷ more)
+  first_onward : (e : List ℕ × List ℕ) (x : ℕ) → has nat_cmp x e.1 ≡ true → leaves_of route e ≡ [] → (y : ℕ) × (more : Prefixes) × (onward route path e ≡ (e.0 ++ y ∷ []) ∷ more)
   first_onward e x h none = at e.1 h none
     where
-      at : (X : List ℕ) → has nat_cmp x X ≡ true → leaves_of route (e.0, X) ≡ [] → (y : ℕ) × (more : Owing) × (onward route path (e.0, X) ≡ (e.0 ++ y ∷ []) ∷ more)
+      at : (X : List ℕ) → has nat_cmp x X ≡ true → leaves_of route (e.0, X) ≡ [] → (y : ℕ) × (more : Prefixes) × (onward route path (e.0, X) ≡ (e.0 ++ y ∷ []) ∷ more)
       at [] h none = absurd (true≢false (sym h))
-      at (y ∷ X) h none = elim (route (e.0 ++ y ∷ [])) as (λ b. cond b ((e.0 ++ y ∷ []) ∷ leaves_of route (e.0, X)) (leaves_of route (e.0, X)) ≡ [] → (z : ℕ) × (more : Owing) × (cond (not b) ((e.0 ++ y ∷ []) ∷ onward route path (e.0, X)) (onward route path (e.0, X)) ≡ (e.0 ++ z ∷ []) ∷ more)) [
+      at (y ∷ X) h none = elim (route (e.0 ++ y ∷ [])) as (λ b. cond b ((e.0 ++ y ∷ []) ∷ leaves_of route (e.0, X)) (leaves_of route (e.0, X)) ≡ [] → (z : ℕ) × (more : Prefixes) × (cond (not b) ((e.0 ++ y ∷ []) ∷ onward route path (e.0, X)) (onward route path (e.0, X)) ≡ (e.0 ++ z ∷ []) ∷ more)) [
         | true ↦ λ k. absurd cc
         | false ↦ λ k. (y, onward route path (e.0, X), refl)
       ] none
@@ -73,7 +73,7 @@ module _ (route path : List ℕ → Bool) where
   ] refl
 
   -- the first leaf of a pair and those after it goes on after the pair's prefix
-  first_leaf : (e : List ℕ × List ℕ) (T : Pairs) (os : Owing) → Owes route path os (e ∷ T) [] → (x : ℕ) → has nat_cmp x e.1 ≡ true → (s : List ℕ) × (more : List (List ℕ)) × (n : ℕ) × (flat_map (leaves_of route) (e ∷ T) ≡ s ∷ more) × (number_after e.0 s ≡ Some n)
+  first_leaf : (e : List ℕ × List ℕ) (T : Pairs) (os : Prefixes) → Expects route path os (e ∷ T) [] → (x : ℕ) → has nat_cmp x e.1 ≡ true → (s : List ℕ) × (more : List (List ℕ)) × (n : ℕ) × (flat_map (leaves_of route) (e ∷ T) ≡ s ∷ more) × (number_after e.0 s ≡ Some n)
   first_leaf e [] os w x h = elim (leaf_or_none e (flat_map (leaves_of route) [])) [
     | inl v ↦ v
     | inr k ↦
@@ -109,7 +109,7 @@ module _ (p : ContactPlan) (r : RouteRequest) (L : List RouteRecord) where
   begins q s n h = let w = number_after_some q s n h in (ap (take (length q)) w.1 ∙ take-append_seam q (n ∷ w.0), omega (arith, ap (length {A = ℕ}) w.1, length-append q (n ∷ w.0)))
 
   -- a node of a prefix, whose leaf is the first of these
-  one_lent : {A : Type 0} (q : List ℕ) (n : Node A) (T : Pairs) (os : Owing) (F : List RouteRecord) → n.leaf ≡ length F → n.length ≡ length q → L ≡ F ++ map (record_of p r) (flat_map (leaves_of route) ((q, n.excluded) ∷ T)) → Owes route path os ((q, n.excluded) ∷ T) [] → (prefix_of L n ≡ q) × IsLent L n
+  one_lent : {A : Type 0} (q : List ℕ) (n : Node A) (T : Pairs) (os : Prefixes) (F : List RouteRecord) → n.leaf ≡ length F → n.length ≡ length q → L ≡ F ++ map (record_of p r) (flat_map (leaves_of route) ((q, n.excluded) ∷ T)) → Expects route path os ((q, n.excluded) ∷ T) [] → (prefix_of L n ≡ q) × IsLent L n
   one_lent q n T os F leaf len is w = elim w.2.busy [
     | inl e ↦
         let none : n.length ≡ 0 = len ∙ ap (length {A = ℕ}) e in
@@ -122,7 +122,7 @@ module _ (p : ContactPlan) (r : RouteRequest) (L : List RouteRecord) where
   ]
 
   -- all of them
-  all_lent : {A : Type 0} (qs : List (List ℕ)) (ns : List (Node A)) (c : ℕ) (os : Owing) (F : List RouteRecord) → AreLent route c qs ns → c ≡ length F → L ≡ F ++ map (record_of p r) (flat_map (leaves_of route) (map pair_of (parts_of qs ns))) → Owes route path os (map pair_of (parts_of qs ns)) [] → (map (λ n. part_of L (Some n)) ns ≡ parts_of qs ns) × ((n : Node A) → Member n ns → IsLent L n)
+  all_lent : {A : Type 0} (qs : List (List ℕ)) (ns : List (Node A)) (c : ℕ) (os : Prefixes) (F : List RouteRecord) → AreLent route c qs ns → c ≡ length F → L ≡ F ++ map (record_of p r) (flat_map (leaves_of route) (map pair_of (parts_of qs ns))) → Expects route path os (map pair_of (parts_of qs ns)) [] → (map (λ n. part_of L (Some n)) ns ≡ parts_of qs ns) × ((n : Node A) → Member n ns → IsLent L n)
   all_lent [] [] c os F h e is w = (refl, λ n m. absurd m)
   all_lent [] (n ∷ ns) c os F h e is w = absurd h
   all_lent (q ∷ qs) [] c os F h e is w = absurd h
@@ -189,7 +189,7 @@ module _ (route : List ℕ → Bool) where
 
 -- ---- the last is one of them
 
-module _ {A : Type 0} (p : ContactPlan) (r : RouteRequest) (h : Holding A) (held : IsHeld p r h) (paid : is_paid h ≡ true) where
+module _ {A : Type 0} (p : ContactPlan) (r : RouteRequest) (h : PartialShape A) (partial : IsPartial p r h) (complete : is_complete h ≡ true) where
   abbrev T : Pairs
   T = pairs_in h
 
@@ -197,13 +197,13 @@ module _ {A : Type 0} (p : ContactPlan) (r : RouteRequest) (h : Holding A) (held
   S = flat_map (leaves_of (is_route p r)) T
 
   sound : h.sound ≡ true
-  sound = (Rattle.std.proofs.lemmas.Bool.and_parts h.sound _ paid).0
+  sound = (Rattle.std.proofs.lemmas.Bool.and_parts h.sound _ complete).0
 
   answered : IsAnswered p r h
-  answered = held.answered sound
+  answered = partial.answered sound
 
   count : length h.leaves ≡ length (leaves (is_route p r) T)
-  count = ap (length {A = RouteRecord}) answered.leaves ∙ length-map S (record_of p r) ∙ sym (leaves_counted (is_route p r) T held.order)
+  count = ap (length {A = RouteRecord}) answered.leaves ∙ length-map S (record_of p r) ∙ sym (leaves_counted (is_route p r) T partial.order)
 
   given_right : (last : List ℕ) → IsGiven h.leaves last → ((last ≡ []) × (leaves (is_route p r) T ≡ [])) ⊎ (has by_numbers last (leaves (is_route p r) T) ≡ true)
   given_right last (inl w) = inl (w.0, ap set_of (nil_from_length S (sym (length-map S (record_of p r)) ∙ ap (length {A = RouteRecord}) (sym answered.leaves ∙ w.1))))
@@ -235,18 +235,18 @@ module _ {A : Type 0} (p : ContactPlan) (r : RouteRequest) (h : Holding A) (held
   module _ (emitted : ℕ) (last : List ℕ) (place : Option ℕ) (at : IsLastPlace h.leaves emitted last place) where
     formed_then : IsState p r (state_with (parts_in h) emitted last)
     formed_then = record {
-      order = held.order;
-      closed = paid_closed p r h held paid;
+      order = partial.order;
+      closed = complete_closed p r h partial complete;
       count = at.count ∙ count;
       right = given_right last at.right;
-      carried = held.carried;
+      carried = partial.carried;
     }
 
     abbrev t : Shape A
     t = loaded_tree h place
 
     lent_all : (map (λ n. part_of h.leaves (Some n)) h.nodes ≡ parts_in h) × ((n : Node A) → Member n h.nodes → IsLent h.leaves n)
-    lent_all = all_lent p r h.leaves h.prefixes h.nodes 0 ([] ∷ []) [] answered.lent refl answered.leaves (paid_owes p r h held paid)
+    lent_all = all_lent p r h.leaves h.prefixes h.nodes 0 ([] ∷ []) [] answered.lent refl answered.leaves (complete_expects p r h partial complete)
 
     shown_then : shown t ≡ state_with (parts_in h) emitted last
     shown_then = let parts = parts_by_ids h.leaves [] h.nodes ∙ lent_all.0 in λ i. record { emitted = sym at.count i; last = at.is i; parts = parts i }
@@ -272,86 +272,87 @@ module _ {A : Type 0} (p : ContactPlan) (r : RouteRequest) (h : Holding A) (held
       known = λ id m. let w = ids_cases id 0 (length h.nodes) m in let l = w.1 in omega (arith, l);
       listed = λ id l. ids_has id 0 (length h.nodes) (omega arith) (omega (arith, l));
       lent = lent_all.1;
-      records = held.records;
+      records = partial.records;
       given = given_then;
+      least = λ is. absurd (true≢false (sym is));
     }
 
--- with nothing owed and the last route in its place, the parts make a tree, and their state is well formed
-module _ {A : Type 0} {plan : TabledPlan} {r : RouteRequest} {held : Held A} (h : IsLoader plan r held) (paid : is_paid (holding_of held) ≡ true)
-    {emitted : ℕ} {last : List ℕ} {place : Option ℕ} {leaves : List RouteRecord} (are : leaves ≡ held.leaves.items) (found : IsLastPlace leaves emitted last place) where
-  at : IsLastPlace held.leaves.items emitted last place
+-- with nothing expected and the last route in its place, the parts make a tree, and their state is well formed
+module _ {A : Type 0} {plan : TabledPlan} {r : RouteRequest} {partial : PartialTree A} (h : IsLoader plan r partial) (complete : is_complete (partial_shape_of partial) ≡ true)
+    {emitted : ℕ} {last : List ℕ} {place : Option ℕ} {leaves : List RouteRecord} (are : leaves ≡ partial.leaves.items) (found : IsLastPlace leaves emitted last place) where
+  at : IsLastPlace partial.leaves.items emitted last place
   at = subst (λ xs. IsLastPlace xs emitted last place) are found
 
-  tree_is : IsTree plan.plan r (loaded_tree (holding_of held) place)
-  tree_is = loaded_is_tree plan.plan r (holding_of held) h.held paid emitted last place at
+  tree_is : IsTree plan.plan r (loaded_tree (partial_shape_of partial) place)
+  tree_is = loaded_is_tree plan.plan r (partial_shape_of partial) h.partial complete emitted last place at
 
-  module _ {calls : ℕ} {v : Loaded} (is : loaded plan r held calls ≡ v) where
+  module _ {calls : ℕ} {v : Loaded} (is : loaded plan r partial calls ≡ v) where
     formed : IsState v.plan.plan v.request (state_with v.parts emitted last)
     formed =
         subst (λ (w : Loaded). IsState w.plan.plan w.request (state_with w.parts emitted last)) is
-        (formed_then plan.plan r (holding_of held) h.held paid emitted last place at)
+        (formed_then plan.plan r (partial_shape_of partial) h.partial complete emitted last place at)
 
     -- only memory can be refused
     refused : {X : Type 0} (answer : Result X LoadFault) → IsErrAnd answer (λ f. f ≡ NoMemory) → IfErr answer (IsRefusedBy v.plan.plan v.request (state_with v.parts emitted last))
     refused (Ok x) bad = absurd bad
     refused (Err f) e = rw e formed
 
-pub returns-then-not-is_paid-clause-err : goal.returns-then-not-is_paid-clause-err
-returns-then-not-is_paid-clause-err g c =
+pub returns-then-not-is_complete-clause-err : goal.returns-then-not-is_complete-clause-err
+returns-then-not-is_complete-clause-err g c =
     let s = c.self.inside in
     subst (λ (v : Loaded). IsClosedState v.plan.plan v.request (state_with v.parts c.args.emitted c.args.last.now) → ⊥) c.self.view_is
-    (unpaid_open s.question.plan.now.plan s.question.request (holding_of s.held) c.self.invariant.held (sym c.is_paid.ensures ∙ c.if-not-is_paid.true))
+    (incomplete_open s.question.plan.now.plan s.question.request (partial_shape_of s.partial) c.self.invariant.partial (sym c.is_complete.ensures ∙ c.if-not-is_complete.true))
 
 pub returns-in_default-clause-err : goal.returns-in_default-clause-err
 returns-in_default-clause-err g c =
     let s = c.self.inside in
     let p = s.question.plan.now.plan in
     let r = s.question.request in
-    let h = holding_of s.held in
+    let h = partial_shape_of s.partial in
     let emitted = c.args.emitted in
     let last = c.args.last.now in
-    let paid = sym c.is_paid.ensures ∙ c.if-not-is_paid.false in
+    let complete = sym c.is_complete.ensures ∙ c.if-not-is_complete.false in
     let wrong = subst (λ xs. IsWrongLast xs emitted last) c.as_slice.ensures.value c.in_default.ensures.none in
     subst (λ (v : Loaded). IsClosedState v.plan.plan v.request (state_with v.parts emitted last) × (IsCounted v.plan.plan v.request (state_with v.parts emitted last) → ⊥)) c.self.view_is
-    (paid_closed p r h c.self.invariant.held paid, wrong_count p r h c.self.invariant.held paid emitted last wrong)
+    (complete_closed p r h c.self.invariant.partial complete, wrong_count p r h c.self.invariant.partial complete emitted last wrong)
 
 pub returns-in_err-tree-clause-err : goal.returns-in_err-tree-clause-err
-returns-in_err-tree-clause-err g c = refused c.self.invariant (sym c.is_paid.ensures ∙ c.if-not-is_paid.false) c.as_slice.ensures.value c.in-Some.ensures.some c.self.view_is c.from_residual.result c.from_residual.ensures.1
+returns-in_err-tree-clause-err g c = refused c.self.invariant (sym c.is_complete.ensures ∙ c.if-not-is_complete.false) c.as_slice.ensures.value c.in-Some.ensures.some c.self.view_is c.from_residual.result c.from_residual.ensures.1
 
-pub returns-in_err-asker-clause-err : goal.returns-in_err-asker-clause-err
-returns-in_err-asker-clause-err g c = refused c.self.invariant (sym c.is_paid.ensures ∙ c.if-not-is_paid.false) c.as_slice.ensures.value c.in-Some.ensures.some c.self.view_is c.from_residual-in_err-asker.result c.from_residual-in_err-asker.ensures.1
+pub returns-in_err-searcher-clause-err : goal.returns-in_err-searcher-clause-err
+returns-in_err-searcher-clause-err g c = refused c.self.invariant (sym c.is_complete.ensures ∙ c.if-not-is_complete.false) c.as_slice.ensures.value c.in-Some.ensures.some c.self.view_is c.from_residual-in_err-searcher.result c.from_residual-in_err-searcher.ensures.1
 
 pub into_tree-requires : goal.into_tree-requires
 into_tree-requires g c =
     let s = c.self.inside in
-    tree_indexed s.question.plan.now.plan s.question.request (loaded_tree (holding_of s.held) c.in-Some.last)
-    (tree_is c.self.invariant (sym c.is_paid.ensures ∙ c.if-not-is_paid.false) c.as_slice.ensures.value c.in-Some.ensures.some)
+    tree_indexed s.question.plan.now.plan s.question.request (loaded_tree (partial_shape_of s.partial) c.in-Some.last)
+    (tree_is c.self.invariant (sym c.is_complete.ensures ∙ c.if-not-is_complete.false) c.as_slice.ensures.value c.in-Some.ensures.some)
 
 pub of_tree-requires-clause-rules : goal.of_tree-requires-clause-rules
-of_tree-requires-clause-rules g c = subst (λ (a : Asking). IsPlan a.asked.plan.plan) (sym c.in_ok-asker.ensures) c.self.invariant.rules
+of_tree-requires-clause-rules g c = subst (λ (a : Searching). IsPlan a.asked.plan.plan) (sym c.in_ok-searcher.ensures) c.self.invariant.rules
 
 pub of_tree-requires-clause-limits : goal.of_tree-requires-clause-limits
-of_tree-requires-clause-limits g c = subst (λ (a : Asking). IsRequest a.asked.request) (sym c.in_ok-asker.ensures) c.self.invariant.limits
+of_tree-requires-clause-limits g c = subst (λ (a : Searching). IsRequest a.asked.request) (sym c.in_ok-searcher.ensures) c.self.invariant.limits
 
 pub of_tree-requires-clause-rest : goal.of_tree-requires-clause-rest
-of_tree-requires-clause-rest g c = subst IsAtRest (sym c.in_ok-asker.ensures) (record { unbounded = refl; begun = refl })
+of_tree-requires-clause-rest g c = subst IsAtRest (sym c.in_ok-searcher.ensures) refl
 
 pub of_tree-requires-clause-sound : goal.of_tree-requires-clause-sound
 of_tree-requires-clause-sound g c =
     let s = c.self.inside in
-    subst (λ (a : Asking). IsTree a.asked.plan.plan a.asked.request (shape_of c.in_ok-tree.tree)) (sym c.in_ok-asker.ensures)
+    subst (λ (a : Searching). IsTree a.asked.plan.plan a.asked.request (shape_of c.in_ok-tree.tree)) (sym c.in_ok-searcher.ensures)
     (subst (IsTree s.question.plan.now.plan s.question.request) (sym c.in_ok-tree.ensures.shape)
-    (tree_is c.self.invariant (sym c.is_paid.ensures ∙ c.if-not-is_paid.false) c.as_slice.ensures.value c.in-Some.ensures.some))
+    (tree_is c.self.invariant (sym c.is_complete.ensures ∙ c.if-not-is_complete.false) c.as_slice.ensures.value c.in-Some.ensures.some))
 
 pub returns-clause-ok : goal.returns-clause-ok
 returns-clause-ok g c =
     let s = c.self.inside in
-    let a = c.in_ok-asker.ensures in
-    let paid = sym c.is_paid.ensures ∙ c.if-not-is_paid.false in
-    let placed = at c.self.invariant (sym c.is_paid.ensures ∙ c.if-not-is_paid.false) c.as_slice.ensures.value c.in-Some.ensures.some in
-    let state = ap shown c.in_ok-tree.ensures.shape ∙ shown_then s.question.plan.now.plan s.question.request (holding_of s.held) c.self.invariant.held paid c.args.emitted c.args.last.now c.in-Some.last placed in
+    let a = c.in_ok-searcher.ensures in
+    let complete = sym c.is_complete.ensures ∙ c.if-not-is_complete.false in
+    let placed = at c.self.invariant (sym c.is_complete.ensures ∙ c.if-not-is_complete.false) c.as_slice.ensures.value c.in-Some.ensures.some in
+    let state = ap shown c.in_ok-tree.ensures.shape ∙ shown_then s.question.plan.now.plan s.question.request (partial_shape_of s.partial) c.self.invariant.partial complete c.args.emitted c.args.last.now c.in-Some.last placed in
     subst (λ (v : Loaded). c.of_tree.result ≡ session_with v c.args.emitted c.args.last.now) c.self.view_is
     (c.of_tree.ensures ∙ (λ i. session_over (a i).asked.plan (a i).asked.request (state i) (a i).calls))
 
 pub returns-clause-formed : goal.returns-clause-formed
-returns-clause-formed g c = formed c.self.invariant (sym c.is_paid.ensures ∙ c.if-not-is_paid.false) c.as_slice.ensures.value c.in-Some.ensures.some c.self.view_is
+returns-clause-formed g c = formed c.self.invariant (sym c.is_complete.ensures ∙ c.if-not-is_complete.false) c.as_slice.ensures.value c.in-Some.ensures.some c.self.view_is

@@ -1,6 +1,6 @@
 use Rattle.std.proofs.Common.{sym, subst}
-use Rattle.sabr_frontier.specs.loading.Holding.{IsHeld}
-use Rattle.sabr_frontier.proofs.LoadingLemmas.AnsweredParts.{nothing_is_held}
+use Rattle.sabr_frontier.specs.loading.Partial.{IsPartial}
+use Rattle.sabr_frontier.proofs.LoadingLemmas.AnsweredParts.{nothing_yet_is}
 use Rattle.sabr_frontier.proofs.loader.Loader.new.Goals as goal
 
 pub invariant_of-result : goal.invariant_of-result
@@ -8,7 +8,7 @@ invariant_of-result g c =
     let p = c.args.plan.now.plan in
     let r = c.args.request in
     record {
-      rules = c.tell_rules.ensures;
-      limits = c.tell_limits.ensures;
-      held = subst (IsHeld p r) (sym c.new.ensures) (nothing_is_held p r {A = g.row.A.Denot});
+      rules = c.rules_hold.ensures;
+      limits = c.limits_hold.ensures;
+      partial = subst (IsPartial p r) (sym c.new.ensures) (nothing_yet_is p r {A = g.row.A.Denot});
     }

@@ -1,6 +1,6 @@
 use Rattle.std.proofs.Common.{◌≡◌, ◌-◌, ◌<◌, ◌∷◌, length, reverse, arith, ap, sym, subst, ◌∙◌}
 use Rattle.sabr_frontier.specs.tree.Shape.{Shape, shape_of, shown}
-use Rattle.sabr_frontier.specs.session.Session.{AreStarts, AreSure, IsSound, Seen, former_of}
+use Rattle.sabr_frontier.specs.session.Session.{AreStarts, IsSound, Seen, former_of}
 use Rattle.sabr_frontier.proofs.SessionLemmas.Pages.{sound_undos, sound_back, last_first}
 use Rattle.sabr_frontier.specs.tree.Undo.{IsIndexBack, undone_times}
 use Rattle.sabr_frontier.proofs.TreeLemmas.MergedIndex.{index_back}
@@ -9,20 +9,20 @@ use Rattle.sabr_frontier.proofs.session.Session.back.Goals as goal
 pub undo_to-requires-clause-possible : goal.undo_to-requires-clause-possible
 undo_to-requires-clause-possible g c =
     let s = c.self.inside in
-    sound_undos s.asker.asked.plan.plan s.asker.asked.request (length s.tree.journal.items - c.in-Some.start) (length s.tree.journal.items) (shape_of s.tree) (omega arith) c.self.invariant.0.sound
+    sound_undos s.searcher.asked.plan.plan s.searcher.asked.request (length s.tree.journal.items - c.in-Some.start) (length s.tree.journal.items) (shape_of s.tree) (omega arith) c.self.invariant.0.sound
 
 pub undo_to-requires-clause-index : goal.undo_to-requires-clause-index
 undo_to-requires-clause-index g c =
     let s = c.self.inside in
     let t = shape_of s.tree in
     let m = length t.journal - c.in-Some.start in
-    subst (IsIndexBack (undone_times m t)) (sym c.self.invariant.0.index) (index_back s.asker.asked.plan.plan s.asker.asked.request t m (omega arith) c.self.invariant.0.sound)
+    subst (IsIndexBack (undone_times m t)) (sym c.self.invariant.0.index) (index_back s.searcher.asked.plan.plan s.searcher.asked.request t m (omega arith) c.self.invariant.0.sound)
 
 pub invariant_of-self-2 : goal.invariant_of-self-2
 invariant_of-self-2 g c =
     let s = c.self.inside in
-    let p = s.asker.asked.plan.plan in
-    let r = s.asker.asked.request in
+    let p = s.searcher.asked.plan.plan in
+    let r = s.searcher.asked.request in
     let t = shape_of s.tree in
     let start = c.in-Some.start in
     let rest = reverse c.pop.new.self.items in
@@ -38,7 +38,6 @@ invariant_of-self-2 g c =
         starts = subst (AreStarts rest) (sym (ap (λ (z : Shape g.row.A.Denot). length z.journal) same ∙ before.1)) starts.1;
         index = c.undo_to.ensures.index;
         room = c.undo_to.ensures.room;
-        sure = λ yes. subst (AreSure p r rest) (sym same) (subst (λ z. AreSure p r z t) pages (c.self.invariant.0.sure yes)).1;
       },
       c.self.invariant.1,
     )

@@ -1,27 +1,26 @@
 use Rattle.std.proofs.Common.{◌+◌, ◌≤◌, ap, length, sym, subst, arith, ◌∙◌}
 use Rattle.std.specs.Prelude.{IfOk, IsTrue, ◌↔◌, ◌≡◌}
 use Rattle.sabr_frontier.specs.listing.Listing.{state_at}
-use Rattle.sabr_frontier.specs.tree.Asking.{Asked}
+use Rattle.sabr_frontier.specs.tree.Searching.{Asked}
 use Rattle.sabr_frontier.specs.session.Session.{IsSession, Seen}
 use Rattle.sabr_frontier.specs.tree.Shape.{shape_of}
 use Rattle.sabr_frontier.proofs.SessionLemmas.Pages.{sound_tree}
 use Rattle.sabr_frontier.proofs.SessionLemmas.Verdicts.{nodes_are_parts}
-use Rattle.sabr_frontier.proofs.GivingLemmas.Sums.{at_rest}
 use Rattle.sabr_frontier.proofs.session.Session.certify.Goals as goal
 
 pub is_placed-placed-requires-clause-tree : goal.is_placed-placed-requires-clause-tree
 is_placed-placed-requires-clause-tree g c =
     let s = c.self.inside in
     let t = shape_of s.tree in
-    sound_tree s.asker.asked.plan.plan s.asker.asked.request (length t.journal) t c.self.invariant.0.sound
+    sound_tree s.searcher.asked.plan.plan s.searcher.asked.request (length t.journal) t c.self.invariant.0.sound
 
 pub invariant_of-self : goal.invariant_of-self
 invariant_of-self g c =
     let s = c.self.inside in
-    let last = c.is_placed-placed.new.asker in
+    let last = c.is_placed-placed.new.searcher in
     let asked = c.take_sum.ensures.begun ∙ ap (λ (a : Asked). record a { since = last.calls + 1 }) c.is_placed-placed.ensures.same in (
-      subst (λ (a : Asked). IsSession a.plan a.request s.tree s.pages.items s.is_sure) (sym asked) c.self.invariant.0,
-      at_rest s.asker last c.take_sum.new.self c.is_placed-placed.ensures.same c.take_sum.ensures.begun c.take_sum.ensures.calls c.self.invariant.1.unbounded,
+      subst (λ (a : Asked). IsSession a.plan a.request s.tree s.pages.items) (sym asked) c.self.invariant.0,
+      c.take_sum.ensures.rest,
     )
 
 pub returns-clause-ok : goal.returns-clause-ok
@@ -31,7 +30,7 @@ pub returns-clause-calls : goal.returns-clause-calls
 returns-clause-calls g c =
     let s = c.self.inside in
     let t = shape_of s.tree in
-    let few = nodes_are_parts s.asker.asked.plan.plan s.asker.asked.request t (sound_tree s.asker.asked.plan.plan s.asker.asked.request (length t.journal) t c.self.invariant.0.sound) in
+    let few = nodes_are_parts s.searcher.asked.plan.plan s.searcher.asked.request t (sound_tree s.searcher.asked.plan.plan s.searcher.asked.request (length t.journal) t c.self.invariant.0.sound) in
     subst (λ (v : Seen). c.take_sum.new.self.calls ≤ v.calls + length v.state.parts) c.self.view_is (omega (arith, few, c.is_placed-placed.ensures.called, c.take_sum.ensures.calls))
 
 pub returns-clause-no_fewer : goal.returns-clause-no_fewer

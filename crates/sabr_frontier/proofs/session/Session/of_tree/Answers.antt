@@ -1,12 +1,12 @@
-use Rattle.std.proofs.Common.{◌≡◌, length, reverse, ap, sym, subst, true≢false}
+use Rattle.std.proofs.Common.{◌≡◌, length, reverse, ap, sym, subst}
 use Rattle.sabr_frontier.specs.tree.Shape.{shape_of}
 use Rattle.sabr_frontier.specs.session.Session.{AreStarts, IsSoundFor}
 use Rattle.sabr_frontier.proofs.session.Session.of_tree.Goals as goal
 
 pub invariant_of-result : goal.invariant_of-result
 invariant_of-result g c =
-    let p = c.args.asker.asked.plan.plan in
-    let r = c.args.asker.asked.request in
+    let p = c.args.searcher.asked.plan.plan in
+    let r = c.args.searcher.asked.request in
     let none : length c.args.tree.journal.items ≡ 0 = ap length c.requires.fresh in (
       record {
         rules = c.requires.rules;
@@ -15,7 +15,6 @@ invariant_of-result g c =
         starts = subst (λ z. AreStarts (reverse z) (length c.args.tree.journal.items)) (sym c.new-pages.ensures.items) none;
         index = c.requires.index;
         room = c.requires.room;
-        sure = λ is. absurd (true≢false (sym is));
       },
       c.requires.rest,
     )

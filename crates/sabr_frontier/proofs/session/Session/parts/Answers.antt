@@ -11,5 +11,5 @@ returns g c =
     let s = c.self.inside in
     let t = shape_of s.tree in
     (λ i. map (seen_at (c.as_slice-3.ensures.value i) (c.as_slice-2.ensures.value i)) ((c.as_slice.ensures.value ∙ c.self.invariant.0.index) i))
-    ∙ seen_all s.asker.asked.plan.plan s.asker.asked.request t (sound_tree s.asker.asked.plan.plan s.asker.asked.request (length t.journal) t c.self.invariant.0.sound) t.index
+    ∙ seen_all s.searcher.asked.plan.plan s.searcher.asked.request t (sound_tree s.searcher.asked.plan.plan s.searcher.asked.request (length t.journal) t c.self.invariant.0.sound) t.index
     ∙ ap (λ (v : Seen). map (seen_part v.plan.plan v.request) v.state.parts) c.self.view_is

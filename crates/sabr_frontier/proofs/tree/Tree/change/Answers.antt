@@ -30,7 +30,7 @@ returns-clause-shape g c x e =
     let leaves = c.push_reserved-2.ensures.items ∙ ap (λ (z : RouteRecord). t.leaves.items ++ z ∷ []) route in
     let last : c.len.result ≡ length t.leaves.items = omega (arith, c.len.ensures) in
     let journal = c.push_reserved.ensures.items ∙ ap (λ n. t.journal.items ++ record { node = c.args.node; nodes = n; last = t.last } ∷ []) first in
-    λ i. record { nodes = nodes i; index = order_of (leaves i) (nodes i); leaves = leaves i; last = Some (last i); journal = journal i }
+    λ i. record { nodes = nodes i; index = order_of (leaves i) (nodes i); leaves = leaves i; last = Some (last i); journal = journal i; is_searched = t.is_searched }
 
 pub returns-clause-room : goal.returns-clause-room
 returns-clause-room g c = record {

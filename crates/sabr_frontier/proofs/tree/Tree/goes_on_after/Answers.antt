@@ -1,9 +1,9 @@
-use Rattle.std.proofs.Common.{◌≡◌, false, ◌||◌, Ok, Err, arith, ap, sym, ◌∙◌}
+use Rattle.std.proofs.Common.{◌≡◌, false, ◌||◌, None, Ok, Err, arith, ap, sym, ◌∙◌}
 use Rattle.std.specs.Prelude.{IfOk}
 use Rattle.sabr_frontier.specs.declared.tree.Node.{Node}
-use Rattle.sabr_frontier.specs.tree.Asking.{best_for}
+use Rattle.sabr_frontier.specs.tree.Searching.{best_for}
 use Rattle.sabr_frontier.specs.tree.Left.{others_carry, part_goes_on}
-use Rattle.sabr_frontier.specs.tree.Taking.{OfNode}
+use Rattle.sabr_frontier.specs.tree.Giving.{OfNode}
 use Rattle.sabr_frontier.proofs.TreeLemmas.ModifiedPlaces.{get_there}
 use Rattle.sabr_frontier.proofs.tree.Tree.goes_on_after.Goals as goal
 
@@ -25,7 +25,7 @@ returns-clause-ok g c =
     let nodes = c.args.self.now.nodes.items in
     let m = c.index.result.now in
     let s = c.args.route.now in
-    let best = best_for c.args.asker.now.asked in
+    let best = best_for c.args.searcher.now.asked None in
     let here = get_there nodes c.args.node.0 m (omega arith) c.index.ensures in
     let others : others_carry nodes c.args.node ≡ false = ap (λ z. others_carry z c.args.node) (sym c.as_slice.ensures.value) ∙ sym c.others_carry.ensures ∙ c.if-others_carry.false in
     elim c.part_goes_on.result as (λ r. IfOk r (λ yes. yes ≡ part_goes_on best m s) → IfOk r (λ yes. OfNode nodes c.args.node (λ n. yes ≡ (others_carry nodes c.args.node || part_goes_on best n s)))) [

@@ -10,8 +10,8 @@ use Rattle.sabr_frontier.proofs.tree.Tree.is_placed.Goals.{in-Some+else-is_passe
 
 pub returns-then-is_passed-clause-placed : goal.returns-then-is_passed-clause-placed
 returns-then-is_passed-clause-placed g c =
-    let p = c.args.asker.now.asked.plan.plan in
-    let r = c.args.asker.now.asked.request in
+    let p = c.args.searcher.now.asked.plan.plan in
+    let r = c.args.searcher.now.asked.request in
     let t = shape_of c.args.self.now in
     let x = c.in-Some.last.now in
     let found = sym (ap (list_any (λ y. is_lt (by_record x y))) c.as_slice.ensures.value) ∙ sym c.is_passed.ensures ∙ c.if-is_passed.true in
@@ -19,15 +19,15 @@ returns-then-is_passed-clause-placed g c =
 
 pub returns-then-not-is_below-clause-placed : goal.returns-then-not-is_below-clause-placed
 returns-then-not-is_below-clause-placed g c =
-    let p = c.args.asker.now.asked.plan.plan in
-    let r = c.args.asker.now.asked.request in
+    let p = c.args.searcher.now.asked.plan.plan in
+    let r = c.args.searcher.now.asked.request in
     let t = shape_of c.args.self.now in
     refused p r c.requires.plan t c.requires.tree (reached p r c.requires.plan t c.requires.tree c.in-Some.last.now c.in-Some-next_carried.next.now (sym c.in-Some.ensures) c.in-Some-next_carried.ensures.some (sym c.is_below.ensures ∙ c.if-not-is_below.true))
 
 pub returns-clause-placed : goal.returns-clause-placed
 returns-clause-placed g c =
-    let p = c.args.asker.now.asked.plan.plan in
-    let r = c.args.asker.now.asked.request in
+    let p = c.args.searcher.now.asked.plan.plan in
+    let r = c.args.searcher.now.asked.request in
     let t = shape_of c.args.self.now in
     let first : LeavesComeFirst p r (shown t) = elim c.match-last_given.branch [
       | in-Some+else-is_passed+in-Some-next_carried+else-not-is_below w ↦

@@ -1,4 +1,4 @@
-use Rattle.std.proofs.Common.{◌++◌, ◌∷◌, [], arith, ap, sym, subst, ◌∙◌, None}
+use Rattle.std.proofs.Common.{◌++◌, ◌∷◌, true, [], arith, ap, sym, subst, ◌∙◌, None}
 use Rattle.sabr_frontier.specs.declared.tree.Node.{Node}
 use Rattle.sabr_frontier.specs.tree.Root.{first_id}
 use Rattle.sabr_frontier.specs.tree.Winners.{AreWinners}
@@ -9,7 +9,7 @@ pub returns-clause-shape : goal.returns-clause-shape
 returns-clause-shape g c =
     let first : Node g.row.A.Denot = record { leaf = 0; length = 0; excluded = []; route = c.args.found } in
     let nodes = c.push_reserved-2.ensures.items ∙ (λ i. (c.in_ok-reserve.ensures.items ∙ c.new-nodes.ensures.items) i ++ record first { excluded = c.none.ensures i } ∷ []) in
-    λ i. record { nodes = nodes i; index = order_one c.new-2.result.items c.push_reserved-2.new.self.items _ nodes i; leaves = c.new-2.ensures.items i; last = None; journal = c.new-3.ensures.items i }
+    λ i. record { nodes = nodes i; index = order_one c.new-2.result.items c.push_reserved-2.new.self.items _ nodes i; leaves = c.new-2.ensures.items i; last = None; journal = c.new-3.ensures.items i; is_searched = true }
 
 pub returns-clause-room : goal.returns-clause-room
 returns-clause-room g c = record {

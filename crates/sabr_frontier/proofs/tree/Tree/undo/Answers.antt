@@ -30,7 +30,7 @@ returns-clause-former g c =
     let possible = c.requires.possible in
     let after = undone_by t (Some e) (Some r) in
     let indexed : after.index ≡ order_of after.leaves after.nodes = subst IsIndexed base possible.indexed in
-    (λ i. record { nodes = nodes i; index = order_of (sym (front_push _ _ _ l) i) (nodes i); leaves = sym (front_push _ _ _ l) i; last = e.last; journal = sym (front_push _ _ _ j) i })
+    (λ i. record { nodes = nodes i; index = order_of (sym (front_push _ _ _ l) i) (nodes i); leaves = sym (front_push _ _ _ l) i; last = e.last; journal = sym (front_push _ _ _ j) i; is_searched = t.is_searched })
     ∙ (λ i. record after { index = sym indexed i }) ∙ sym base
 
 pub returns-clause-room : goal.returns-clause-room

@@ -28,13 +28,13 @@ look_up_ends-requires-clause-table g c =
 
 pub look_up_ends-requires-clause-few : goal.look_up_ends-requires-clause-few
 look_up_ends-requires-clause-few g c =
-    let p : ContactPlan = record { contacts = c.self.inside.contacts.items; ranges = c.self.inside.ranges.items; greatest = c.self.inside.greatest } in
+    let p : ContactPlan = record { contacts = c.self.inside.contacts.items; ranges = c.self.inside.ranges.items; largest = c.self.inside.largest } in
     let kept = filter_same _ (λ (d : Contact). not (eqb d.number c.in-Some.contact.now.number)) _ (λ d b f' k. search rules) _ _ c.retain.ensures.filtered in
     rw (c.deref-3.ensures.value, kept) (few_contacts _ (IsPlan-fewer_contacts p (λ d. not (eqb d.number c.in-Some.contact.now.number)) c.self.invariant.0))
 
 pub invariant_of-self : goal.invariant_of-self
 invariant_of-self g c =
-    let p : ContactPlan = record { contacts = c.self.inside.contacts.items; ranges = c.self.inside.ranges.items; greatest = c.self.inside.greatest } in
+    let p : ContactPlan = record { contacts = c.self.inside.contacts.items; ranges = c.self.inside.ranges.items; largest = c.self.inside.largest } in
     let kept = filter_same _ (λ (d : Contact). not (eqb d.number c.in-Some.contact.now.number)) _ (λ d b f' k. search rules) _ _ c.retain.ensures.filtered in
     rw (kept, c.clear.ensures.items) (
       IsPlan-fewer_contacts p (λ d. not (eqb d.number c.in-Some.contact.now.number)) c.self.invariant.0,
@@ -44,10 +44,10 @@ invariant_of-self g c =
 
 pub returns-clause-ok : goal.returns-clause-ok
 returns-clause-ok g c =
-    let p : ContactPlan = record { contacts = c.self.inside.contacts.items; ranges = c.self.inside.ranges.items; greatest = c.self.inside.greatest } in
+    let p : ContactPlan = record { contacts = c.self.inside.contacts.items; ranges = c.self.inside.ranges.items; largest = c.self.inside.largest } in
     let kept = filter_same _ (λ (d : Contact). not (eqb d.number c.in-Some.contact.now.number)) _ (λ d b f' k. search rules) _ _ c.retain.ensures.filtered in
     let cs = c.self.inside.contacts.items in
     let found : find (opens c.args.from c.args.to c.args.start) cs ≡ Some c.in-Some.contact.now = ap (find (opens c.args.from c.args.to c.args.start)) (sym c.deref.ensures.value) ∙ sym c.in-Some.ensures in
-    ap (λ (xs : List Contact). let q : ContactPlan = record { contacts = xs; ranges = c.self.inside.ranges.items; greatest = c.self.inside.greatest } in q)
+    ap (λ (xs : List Contact). let q : ContactPlan = record { contacts = xs; ranges = c.self.inside.ranges.items; largest = c.self.inside.largest } in q)
     (kept ∙ sym (without_opening p c.args.from c.args.to c.args.start c.in-Some.contact.now c.self.invariant.0 found))
     ∙ ap (λ (q : TabledPlan). without_contact q.plan c.args.from c.args.to c.args.start) c.self.view_is

@@ -9,15 +9,15 @@ use Rattle.sabr_model.proofs.plan.Plan.light.Goals as goal
 
 pub light_of_contact-requires : goal.light_of_contact-requires
 light_of_contact-requires g c =
-    let p : ContactPlan = record { contacts = c.self.inside.contacts.items; ranges = c.self.inside.ranges.items; greatest = c.self.inside.greatest } in
+    let p : ContactPlan = record { contacts = c.self.inside.contacts.items; ranges = c.self.inside.ranges.items; largest = c.self.inside.largest } in
     subst IsRangeList (sym c.deref.ensures.value) (range_list p c.self.invariant.0)
 
 pub returns : goal.returns
 returns g c =
-    let p : ContactPlan = record { contacts = c.self.inside.contacts.items; ranges = c.self.inside.ranges.items; greatest = c.self.inside.greatest } in
+    let p : ContactPlan = record { contacts = c.self.inside.contacts.items; ranges = c.self.inside.ranges.items; largest = c.self.inside.largest } in
     let contact = c.args.contact.now in
     let is : c.light_of_contact.result ≡ light_of p contact =
-    c.light_of_contact.ensures ∙ ap (λ (rs : List Range). let q : ContactPlan = record { contacts = p.contacts; ranges = rs; greatest = p.greatest } in light_of q contact) c.deref.ensures.value in
+    c.light_of_contact.ensures ∙ ap (λ (rs : List Range). let q : ContactPlan = record { contacts = p.contacts; ranges = rs; largest = p.largest } in light_of q contact) c.deref.ensures.value in
     record {
       value = is ∙ ap (λ (q : TabledPlan). light_of q.plan contact) c.self.view_is;
       limit = subst (λ (o : Option ℕ). IfSome o (λ l. l ≤ 1000000)) (sym is) (light_of_limit p contact c.self.invariant.0);

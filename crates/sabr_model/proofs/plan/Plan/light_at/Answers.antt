@@ -8,12 +8,12 @@ use Rattle.sabr_model.proofs.plan.Plan.light_at.Goals as goal
 
 pub light_of_contact-requires : goal.light_of_contact-requires
 light_of_contact-requires g c =
-    let p : ContactPlan = record { contacts = c.self.inside.contacts.items; ranges = c.self.inside.ranges.items; greatest = c.self.inside.greatest } in
+    let p : ContactPlan = record { contacts = c.self.inside.contacts.items; ranges = c.self.inside.ranges.items; largest = c.self.inside.largest } in
     subst IsRangeList (sym c.deref.ensures.value) (range_list p c.self.invariant.0)
 
 pub returns-in-Some : goal.returns-in-Some
 returns-in-Some g c =
-    let p : ContactPlan = record { contacts = c.self.inside.contacts.items; ranges = c.self.inside.ranges.items; greatest = c.self.inside.greatest } in
+    let p : ContactPlan = record { contacts = c.self.inside.contacts.items; ranges = c.self.inside.ranges.items; largest = c.self.inside.largest } in
     let contact = c.args.contact.now in
     let light = c.in-Some.light in
     let there : contact ≡ get_or c.self.inside.contacts.items c.args.place contact = c.requires.there ∙ ap (λ (q : TabledPlan). get_or q.plan.contacts c.args.place contact) (sym c.self.view_is) in

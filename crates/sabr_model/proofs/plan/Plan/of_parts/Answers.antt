@@ -14,12 +14,12 @@ use Rattle.sabr_model.proofs.plan.Plan.of_parts.Goals as goal
 
 pub table_of-requires : goal.table_of-requires
 table_of-requires g c =
-    let p : ContactPlan = record { contacts = c.args.contacts.items; ranges = c.args.ranges.items; greatest = c.args.greatest } in
+    let p : ContactPlan = record { contacts = c.args.contacts.items; ranges = c.args.ranges.items; largest = c.args.largest } in
     subst (λ (cs : List Contact). length cs ≤ 20000) (sym c.deref.ensures.value) (few_contacts p c.requires)
 
 pub lights_of-requires : goal.lights_of-requires
 lights_of-requires g c =
-    let p : ContactPlan = record { contacts = c.args.contacts.items; ranges = c.args.ranges.items; greatest = c.args.greatest } in
+    let p : ContactPlan = record { contacts = c.args.contacts.items; ranges = c.args.ranges.items; largest = c.args.largest } in
     record {
       ranges = subst IsRangeList (sym c.deref-3.ensures.value) (range_list p c.requires);
       limit = subst (λ (rs : List Range). AllByRecursion (λ r. r.light ≤ 1000000) rs) (sym c.deref-3.ensures.value) c.requires.lights;

@@ -12,12 +12,12 @@ use Rattle.sabr_model.proofs.plan.Plan.put_range.Goals as goal
 
 pub ranges_until-place-requires : goal.ranges_until-place-requires
 ranges_until-place-requires g c =
-    let p : ContactPlan = record { contacts = c.self.inside.contacts.items; ranges = c.self.inside.ranges.items; greatest = c.self.inside.greatest } in
+    let p : ContactPlan = record { contacts = c.self.inside.contacts.items; ranges = c.self.inside.ranges.items; largest = c.self.inside.largest } in
     subst IsRangeList (sym c.deref.ensures.value) (range_list p c.self.invariant.0)
 
 pub invariant_of-self-2 : goal.invariant_of-self-2
 invariant_of-self-2 g c =
-    let p : ContactPlan = record { contacts = c.self.inside.contacts.items; ranges = c.self.inside.ranges.items; greatest = c.self.inside.greatest } in
+    let p : ContactPlan = record { contacts = c.self.inside.contacts.items; ranges = c.self.inside.ranges.items; largest = c.self.inside.largest } in
     let accept : range_refusal p c.args.range ≡ None = ap (λ (q : TabledPlan). range_refusal q.plan c.args.range) c.self.view_is ∙ c.requires.accepted in
     let place = c.ranges_until-place.result in
     let lent : c.deref.result.now ≡ p.ranges = c.deref.ensures.value in
@@ -28,7 +28,7 @@ invariant_of-self-2 g c =
 
 pub returns-clause-ok : goal.returns-clause-ok
 returns-clause-ok g c =
-    let p : ContactPlan = record { contacts = c.self.inside.contacts.items; ranges = c.self.inside.ranges.items; greatest = c.self.inside.greatest } in
+    let p : ContactPlan = record { contacts = c.self.inside.contacts.items; ranges = c.self.inside.ranges.items; largest = c.self.inside.largest } in
     let accept : range_refusal p c.args.range ≡ None = ap (λ (q : TabledPlan). range_refusal q.plan c.args.range) c.self.view_is ∙ c.requires.accepted in
     let place = c.ranges_until-place.result in
     let lent : c.deref.result.now ≡ p.ranges = c.deref.ensures.value in

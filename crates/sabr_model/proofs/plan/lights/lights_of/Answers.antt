@@ -11,7 +11,7 @@ use Rattle.sabr_model.proofs.plan.lights.lights_of.Goals as goal
 
 pub word_of-requires : goal.word_of-requires
 word_of-requires g c =
-    let p : ContactPlan = record { contacts = []; ranges = c.args.ranges.now; greatest = 0 } in
+    let p : ContactPlan = record { contacts = []; ranges = c.args.ranges.now; largest = 0 } in
     let contact = get_or c.args.contacts.now c.loop-contact.contact-index (record { number = 0; from = 0; to = 0; start = 0; end = 0; rate = 0 }) in
     subst (λ (o : Option ℕ). IfSome o (λ l. l ≤ 1000000)) (sym c.light_of_contact_near-light.ensures) (light_of_small p contact c.requires.limit)
 
@@ -21,7 +21,7 @@ loop-contact-preserved g c =
     let none : Contact = record { number = 0; from = 0; to = 0; start = 0; end = 0; rate = 0 } in
     let words = c.loop-contact.words.items in
     let many = c.loop-contact.invariant.as_many in
-    let p : ContactPlan = record { contacts = []; ranges = c.args.ranges.now; greatest = 0 } in
+    let p : ContactPlan = record { contacts = []; ranges = c.args.ranges.now; largest = 0 } in
     let word = c.word_of.result in
     let is = λ (d : Contact) (w : ℕ). light_of_word w ≡ light_of p d in
     record {

@@ -9,5 +9,5 @@ abbrev pub invariant-loop-contact : goal.invariant-loop-contact
 invariant-loop-contact g l = record {
   as_many : length l.words.items ≡ l.contact-index;
   room : length l.contacts ≤ vec_capacity l.words;
-  each : (k : ℕ) (d : Contact) (w : ℕ) → k < l.contact-index → light_of_word (slice_index_or l.words.items k w) ≡ light_of (record { contacts = []; ranges = l.ranges; greatest = 0 }) (slice_index_or l.contacts k d);
+  each : (k : ℕ) (d : Contact) (w : ℕ) → k < l.contact-index → light_of_word (slice_index_or l.words.items k w) ≡ light_of (record { contacts = []; ranges = l.ranges; largest = 0 }) (slice_index_or l.contacts k d);
 }

@@ -11,7 +11,7 @@ pub returns : goal.returns
 unfolding obeyed
 returns g c =
     let q = c.self.inside.contacts in
-    let of : ContactPlan → ContactPlan = λ p. record { contacts = p.contacts; ranges = c.self.inside.ranges; greatest = p.greatest } in
+    let of : ContactPlan → ContactPlan = λ p. record { contacts = p.contacts; ranges = c.self.inside.ranges; largest = p.largest } in
     let p = of q in
     let a = c.args.a in
     let is : IsAnswered (contact_refusal p a.first a.second a.start a.end) c.add.result (with_contact p (next_contact p a.first a.second a.start a.end a.value)) (of c.add.new.self) = record { refused = λ f e. inl (c.add.ensures.refused f e); accepted = c.add.ensures.accepted; ok = on_ok_weaker c.add.result (λ e. ap of e) c.add.ensures.ok } in

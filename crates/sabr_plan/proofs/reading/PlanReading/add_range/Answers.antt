@@ -12,7 +12,7 @@ pub returns : goal.returns
 unfolding obeyed
 returns g c =
     let q = c.self.inside.contacts in
-    let of : List Range → ContactPlan = λ rs. record { contacts = q.contacts; ranges = rs; greatest = q.greatest } in
+    let of : List Range → ContactPlan = λ rs. record { contacts = q.contacts; ranges = rs; largest = q.largest } in
     let p = of c.self.inside.ranges in
     let a = c.args.a in
     let r = new_range a.first a.second a.start a.end a.value in

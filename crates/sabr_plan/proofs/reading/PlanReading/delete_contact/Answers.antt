@@ -11,7 +11,7 @@ pub returns : goal.returns
 unfolding obeyed
 returns g c =
     let q = c.self.inside.contacts in
-    let of : ContactPlan → ContactPlan = λ p. record { contacts = p.contacts; ranges = c.self.inside.ranges; greatest = p.greatest } in
+    let of : ContactPlan → ContactPlan = λ p. record { contacts = p.contacts; ranges = c.self.inside.ranges; largest = p.largest } in
     let p = of q in
     let d = c.args.d in
     let is = contact_deleted (number_of_opening p d.first d.second d.start) c.delete.result (without_contact p d.first d.second d.start) (of c.delete.new.self) c.delete.ensures.value (on_ok_weaker c.delete.result (λ e. ap of e) c.delete.ensures.ok) in

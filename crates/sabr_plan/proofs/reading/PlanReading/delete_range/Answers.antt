@@ -13,7 +13,7 @@ pub returns : goal.returns
 unfolding obeyed
 returns g c =
     let q = c.self.inside.contacts in
-    let of : List Range → ContactPlan = λ rs. record { contacts = q.contacts; ranges = rs; greatest = q.greatest } in
+    let of : List Range → ContactPlan = λ rs. record { contacts = q.contacts; ranges = rs; largest = q.largest } in
     let p = of c.self.inside.ranges in
     let d = c.args.d in
     let is = range_deleted (list_any (begins d.first d.second d.start) p.ranges) c.delete.result (without_range p d.first d.second d.start) (of c.delete.new.self) c.delete.ensures.refused c.delete.ensures.accepted (on_ok_weaker c.delete.result (λ e. ap of e) c.delete.ensures.ok) in

@@ -7,4 +7,4 @@ pub overflow_sub-left : goal.overflow_sub-left
 overflow_sub-left g c = omega (arith, (prefix_facts c.args.self.now.task.now.plan c.args.self.now.task.now.request c.args.self.now.prefix.now c.requires.fits).within, c.max_hops-max_hops.ensures.value, ap (λ (r : RouteRequest). r.max_hops) c.request.ensures)
 
 pub overflow_sub-others : goal.overflow_sub-others
-overflow_sub-others g c = omega (arith, ap length c.shut.ensures, c.requires.task_is.as_many, c.requires.task_is.start_in)
+overflow_sub-others g c = omega (arith, ap length c.forbidden.ensures, c.requires.task_is.as_many, c.requires.task_is.start_in)

@@ -3,6 +3,3 @@ use Rattle.sabr_search.proofs.search.Search.find_early.Goals as goal
 
 pub next-requires-clause-request : goal.next-requires-clause-request
 next-requires-clause-request g c = of_request c.args.asked.now.task.now c.args.asked.now.prefix.now c.requires.asked.behind
-
-pub returns-then-not-serves-clause-early : goal.returns-then-not-serves-clause-early
-returns-then-not-serves-clause-early g c = c.find_level.ensures c.args.kept.now.answers.slots.items

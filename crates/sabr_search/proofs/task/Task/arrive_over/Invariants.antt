@@ -11,7 +11,7 @@ invariant-loop-place g l = record {
   some_looks : l.least < l.before → l.looks.left < l.fn.looks.left;
   later : l.at ≤ l.least;
   upper : l.least ≤ l.before;
-  sound : l.least < l.before → slice_index_or l.self.shut l.link.to false ≡ false → (n : ℕ) × Takes l.self n l.link.from l.at l.link.to l.least;
+  sound : l.least < l.before → slice_index_or l.self.forbidden l.link.to false ≡ false → (n : ℕ) × Takes l.self n l.link.from l.at l.link.to l.least;
   full : (k : ℕ) (x : Pass) (w b : ℕ) → k < l.place → slice_get l.passes k ≡ Some x → Takes l.self x.number l.link.from l.at w b → l.least ≤ b;
 }
 

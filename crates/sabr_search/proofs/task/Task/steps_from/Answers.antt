@@ -7,8 +7,8 @@ use Rattle.sabr_search.proofs.ForwardLemmas.Forward.{last_or_before}
 use Rattle.sabr_search.proofs.LinkLemmas.OverLinks.{in_place}
 use Rattle.sabr_search.proofs.task.Task.steps_from.Goals as goal
 
-pub loop-place-preserved-then-shut-link : goal.loop-place-preserved-then-shut-link
-loop-place-preserved-then-shut-link g c =
+pub loop-place-preserved-then-forbidden-link : goal.loop-place-preserved-then-forbidden-link
+loop-place-preserved-then-forbidden-link g c =
     let task = c.args.self.now in
     let so_far = c.loop-place.invariant in
     let here = c.link-link.ensures.here in
@@ -24,7 +24,7 @@ loop-place-preserved-then-shut-link g c =
         | inr same ↦
             (let has' = link.own j x n at same has in
             let to = link.leads c.requires.task n c.args.from.at w b has' s in
-            absurd (both_ways (slice_index_or task.shut w false) s.unshut (ap (λ k. slice_index_or task.shut k false) to ∙ subst (λ xs. slice_index_or xs c.link-link.result.to false ≡ true) c.shut.ensures c.if-shut-link.true)))
+            absurd (both_ways (slice_index_or task.forbidden w false) s.permitted (ap (λ k. slice_index_or task.forbidden k false) to ∙ subst (λ xs. slice_index_or xs c.link-link.result.to false ≡ true) c.forbidden.ensures c.if-forbidden-link.true)))
       ];
     }
 
@@ -40,7 +40,7 @@ loop-place-preserved g c =
       all = omega (arith, so_far.placed c.loop-place.place here.link (omega arith) here.here, c.arrive_over-at.ensures.looks, link.few);
       real = λ k x at. elim (c.in_ok-put_step.ensures.only k x at) [
         | inl old ↦ so_far.real k x old
-        | inr is ↦ rw (← is.0) ((rw c.link-link.ensures.from at c.arrive_over-at.ensures.sound) is.1 (subst (λ xs. slice_index_or xs c.link-link.result.to false ≡ false) c.shut.ensures c.if-shut-link.false))
+        | inr is ↦ rw (← is.0) ((rw c.link-link.ensures.from at c.arrive_over-at.ensures.sound) is.1 (subst (λ xs. slice_index_or xs c.link-link.result.to false ≡ false) c.forbidden.ensures c.if-forbidden-link.false))
       ];
       inside = λ k x at. elim (c.in_ok-put_step.ensures.only k x at) [
         | inl old ↦ so_far.inside k x old

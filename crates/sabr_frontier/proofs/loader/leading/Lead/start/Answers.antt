@@ -6,5 +6,5 @@ pub returns : goal.returns
 returns g c = record {
   path = empty_is_path c.args.plan.now.plan c.args.request.now;
   reached = record { node = ap Some (sym c.from.ensures.value); at = ap Some (sym c.at.ensures.value) };
-  told = c.of.ensures;
+  summary = c.of.ensures;
 }

@@ -4,4 +4,4 @@ use Rattle.sabr_frontier.proofs.session.last_page.LastPage.into_index_and_finder
 
 pub returns-clause-calls : goal.returns-clause-calls
 returns-clause-calls g c =
-    ap g.B.BestOf.calls_of c.into_finder.ensures ∙ c.pause-asker.ensures.calls ∙ ap (λ (v : LastSeen). v.calls) c.self.view_is
+    ap g.B.BestOf.calls_of c.into_finder.ensures ∙ c.pause-searcher.ensures.calls ∙ ap (λ (v : LastSeen). v.calls) c.self.view_is

@@ -40,8 +40,8 @@ invariant_of-self-2 g c =
     let left = deletes o cs k found c.self.invariant.0.openings_differ in
     let then = ended (get_or cs k no_contact) c.args.start in
     let chained = subst (λ ds. AreChained (contact_buckets ds) chains.befores.items chains.lasts.items) c.deref.ensures.value c.find_standing.ensures.chained in
-    subst (λ x. ContactsObey (standing (set cs k (ended x c.args.start))) s.greatest × KnowsSome chains.befores.items chains.lasts.items s.openings.rising s.openings.last (set cs k (ended x c.args.start)) × (c.saturating_add-self-inside.result ≡ 0 → standing (set cs k (ended x c.args.start)) ≡ set cs k (ended x c.args.start))) (sym (there cs k c.index_mut.result.now found.0 c.index_mut.ensures.value)) (
-      subst (λ ds. ContactsObey ds s.greatest) (sym left.0) (IsPlan-fewer_contacts (plan_of_contacts (standing cs) s.greatest) (λ d. not (opens o.from o.to o.start d)) c.self.invariant.0),
+    subst (λ x. ContactsObey (standing (set cs k (ended x c.args.start))) s.largest × KnowsSome chains.befores.items chains.lasts.items s.openings.rising s.openings.last (set cs k (ended x c.args.start)) × (c.saturating_add-self-inside.result ≡ 0 → standing (set cs k (ended x c.args.start)) ≡ set cs k (ended x c.args.start))) (sym (there cs k c.index_mut.result.now found.0 c.index_mut.ensures.value)) (
+      subst (λ ds. ContactsObey ds s.largest) (sym left.0) (IsPlan-fewer_contacts (plan_of_contacts (standing cs) s.largest) (λ d. not (opens o.from o.to o.start d)) c.self.invariant.0),
       (
         subst (λ ks. AreChained ks chains.befores.items chains.lasts.items) (sym (map-set_same (λ (d : Contact). opening_bucket (opening_of d)) cs k then no_contact refl)) chained,
         λ up. open_by_set s.openings.last cs k c.args.start (c.self.invariant.1.1 up),
@@ -67,6 +67,6 @@ returns-clause-ok g c =
     let k = c.in-Some.index in
     let found : IsFound o cs (Some k) = subst (λ ds. IsFound o ds (Some k)) c.deref.ensures.value (c.in-Some.ensures {u = tt}).found in
     let left = deletes o cs k found c.self.invariant.0.openings_differ in
-    ap (λ x. plan_of_contacts (standing (set cs k (ended x c.args.start))) s.greatest) (there cs k c.index_mut.result.now found.0 c.index_mut.ensures.value)
-    ∙ ap (λ ds. plan_of_contacts ds s.greatest) left.0
+    ap (λ x. plan_of_contacts (standing (set cs k (ended x c.args.start))) s.largest) (there cs k c.index_mut.result.now found.0 c.index_mut.ensures.value)
+    ∙ ap (λ ds. plan_of_contacts ds s.largest) left.0
     ∙ ap (λ (q : ContactPlan). without_contact q c.args.from c.args.to c.args.start) (c.self.view_is ∙ c.sweep.ensures)

@@ -13,7 +13,7 @@ invariant_of-self g c =
     let cs = s.contacts.items in
     let left = filter_same _ stands _ (λ d b f' k. search rules) _ _ c.retain.ensures.filtered in
     rw (left, c.clear.ensures.befores, c.clear.ensures.lasts) (
-      IsPlan-fewer_contacts (plan_of_contacts (standing cs) s.greatest) stands c.self.invariant.0,
+      IsPlan-fewer_contacts (plan_of_contacts (standing cs) s.largest) stands c.self.invariant.0,
       (chained_none _, λ up. all_filter (λ d. opening_number (opening_of d) ≤ opening_number s.openings.last) stands cs (c.self.invariant.1.1 up)),
       λ no. standing_twice cs,
     )
@@ -21,6 +21,6 @@ invariant_of-self g c =
 pub returns : goal.returns
 returns g c =
     let s = c.self.inside in
-    ap (λ ds. plan_of_contacts (standing ds) s.greatest) (filter_same _ stands _ (λ d b f' k. search rules) _ _ c.retain.ensures.filtered)
-    ∙ ap (λ ds. plan_of_contacts ds s.greatest) (standing_twice s.contacts.items)
+    ap (λ ds. plan_of_contacts (standing ds) s.largest) (filter_same _ stands _ (λ d b f' k. search rules) _ _ c.retain.ensures.filtered)
+    ∙ ap (λ ds. plan_of_contacts ds s.largest) (standing_twice s.contacts.items)
     ∙ c.self.view_is

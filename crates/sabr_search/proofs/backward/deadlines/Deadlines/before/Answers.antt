@@ -3,7 +3,7 @@ use Rattle.std.proofs.lemmas.Option.{slice_get_read, slice_get_within}
 use Rattle.sabr_search.specs.declared.backward.deadlines.Deadline.{Deadline}
 use Rattle.sabr_search.proofs.ForwardLemmas.LayerEntries.{read_at}
 use Rattle.sabr_search.proofs.WayLemmas.RoutesAndWays.{same_some}
-use Rattle.sabr_search.proofs.LevelLemmas.Chained.{IsLastTo, last_begins, last_goes, latest_here, latest_none}
+use Rattle.sabr_search.proofs.WholeLemmas.Chained.{IsLastTo, last_begins, last_goes, latest_here, latest_none}
 use Rattle.sabr_search.proofs.backward.deadlines.Deadlines.before.Given.{Over}
 use Rattle.sabr_search.proofs.backward.deadlines.Deadlines.before.Goals.{After-index}
 use Rattle.sabr_search.proofs.backward.deadlines.Deadlines.before.Goals as goal

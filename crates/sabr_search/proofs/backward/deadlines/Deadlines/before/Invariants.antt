@@ -1,4 +1,4 @@
-use Rattle.sabr_search.proofs.LevelLemmas.Chained.{IsLastTo}
+use Rattle.sabr_search.proofs.WholeLemmas.Chained.{IsLastTo}
 use Rattle.sabr_search.proofs.backward.deadlines.Deadlines.before.Given as goal
 
 abbrev pub invariant-loop-place : goal.invariant-loop-place

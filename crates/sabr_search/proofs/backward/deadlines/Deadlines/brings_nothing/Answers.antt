@@ -6,7 +6,7 @@ use Rattle.sabr_search.proofs.ForwardLemmas.LayerEntries.{read_at}
 use Rattle.sabr_search.proofs.backward.deadlines.Deadlines.brings_nothing.Goals as goal
 
 pub returns-then-is_soonest-clause-told : goal.returns-then-is_soonest-clause-told
-returns-then-is_soonest-clause-told g c = λ told to end passes link n t w b has s less unshut other soon.
+returns-then-is_soonest-clause-told g c = λ told to end passes link n t w b has s less permitted other soon.
     let late = read_at c.args.self.now.late.items c.args.head.node c.index-late.result.now (omega (arith, c.requires.many, c.requires.node)) c.index-late.ensures in
     elim (cases_lt t (slice_index c.args.self.now.late.items c.args.head.node)) [
       | inl before ↦ before
@@ -15,5 +15,5 @@ returns-then-is_soonest-clause-told g c = λ told to end passes link n t w b has
     ]
 
 pub returns-then-is_soonest-2-clause-told : goal.returns-then-is_soonest-2-clause-told
-returns-then-is_soonest-2-clause-told g c = λ told to end passes link n t w b has s less unshut other soon.
+returns-then-is_soonest-2-clause-told g c = λ told to end passes link n t w b has s less permitted other soon.
     absurd (omega (arith, less, ruled_out c.args.aim.now.task.now c.requires.task c.args.head.node to passes link.0 (bounds_until end c.args.head) link.1 c.at-since.result c.args.before (inr (c.is_soonest-2.ensures.late c.if-is_soonest-2.true)) n t w b has (omega (arith, soon, c.at-since.ensures)) s))

@@ -1,6 +1,6 @@
 use Rattle.std.proofs.Common.{◌<◌, slice_index, sym, arith}
 use Rattle.sabr_search.proofs.ForwardLemmas.LayerEntries.{read_at}
-use Rattle.sabr_search.proofs.LevelLemmas.Chained.{head_none, head_some}
+use Rattle.sabr_search.proofs.WholeLemmas.Chained.{head_none, head_some}
 use Rattle.sabr_search.proofs.backward.deadlines.Deadlines.head.Goals as goal
 
 pub overflow_add-result : goal.overflow_add-result

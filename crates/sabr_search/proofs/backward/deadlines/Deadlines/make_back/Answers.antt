@@ -28,15 +28,15 @@ is_met-requires g c = λ k s at.
 pub next_back-requires-clause-apart : goal.next_back-requires-clause-apart
 next_back-requires-clause-apart g c = λ p q e f. c.loop-left.invariant.made.layers.apart c.loop-left.left p q e f (omega arith)
 
-pub returns-then-is_met-clause-met : goal.returns-then-is_met-clause-met
-returns-then-is_met-clause-met g c =
+pub returns-then-is_met-clause-made : goal.returns-then-is_met-clause-made
+returns-then-is_met-clause-made g c =
     let task = c.args.aim.now.task.now in
     let own = c.loop-left.self in
     let made = c.loop-left.invariant.made in
     let by = c.is_met.ensures.met c.if-is_met.true in
     let s : Visit = by.1 in
     let step = c.requires.real by.0 s by.2 in
-    λ less. are_met task c.requires.task _ c.requires.arrivals _ c.loop-left.left own made c.loop-left.invariant.linked (met_by task _ _ c.loop-left.left own.ends.items own.late.items own.place.items own.entries.items made step.0 s.node s.at step.1 by.3)
+    (c.loop-left-test.true, spent_fewer _ _ _ _ _ (omega arith) c.loop-left.invariant.counted, are_met task c.requires.task _ c.requires.arrivals _ c.loop-left.left own made c.loop-left.invariant.linked (met_by task _ _ c.loop-left.left own.ends.items own.late.items own.place.items own.entries.items made step.0 s.node s.at step.1 by.3))
 
 pub loop-left-preserved : goal.loop-left-preserved
 loop-left-preserved g c =
@@ -61,26 +61,23 @@ loop-left-preserved g c =
       linked = one.linked;
     }
 
-pub returns-then-index-clause-beyond : goal.returns-then-index-clause-beyond
-returns-then-index-clause-beyond g c =
+pub returns-then-index-clause-made : goal.returns-then-index-clause-made
+returns-then-index-clause-made g c =
     let left = c.loop-left.left in
     let old = c.loop-left.self in
     let made = c.loop-left.invariant.made in
     let empty : slice_index old.ends.items left ≡ slice_index old.ends.items (left + 1) =
     sym (read_at old.ends.items left c.index.result.now (omega (arith, made.layers.many)) c.index.ensures) ∙ c.if-index.true ∙ read_at old.ends.items (left + 1) c.index-in-loop-left.result.now (omega (arith, made.layers.many)) c.index-in-loop-left.ensures in
     let dead = own_dead c.args.aim.now.task.now c.requires.task _ c.requires.arrivals _ left old made c.loop-left.invariant.linked c.args.hops (λ j v x less. before_last c.args.aim.now.task.now c.requires.task _ _ left old made.layers empty j v x) in
-    λ same ns e le way. dead ns c.args.aim.now.task.now.at e (omega arith) le way
+    λ ns e le way. dead ns c.args.aim.now.task.now.at e (omega arith) le way
 
-pub returns-clause-beyond : goal.returns-clause-beyond
-returns-clause-beyond g c =
+pub returns-clause-made : goal.returns-clause-made
+returns-clause-made g c =
     let dead = own_dead c.args.aim.now.task.now c.requires.task _ c.requires.arrivals _ c.loop-left.left c.loop-left.self c.loop-left.invariant.made c.loop-left.invariant.linked c.args.hops (λ j v x less e. omega (arith, less, c.loop-left-test.false)) in
-    λ same ns e le way. dead ns c.args.aim.now.task.now.at e (omega arith) le way
+    λ ns e le way. dead ns c.args.aim.now.task.now.at e (omega arith) le way
 
 pub returns-then-is_met-clause-counted : goal.returns-then-is_met-clause-counted
 returns-then-is_met-clause-counted g c = spent_fewer _ _ _ _ _ (omega arith) c.loop-left.invariant.counted
-
-pub returns-then-is_met-clause-layers : goal.returns-then-is_met-clause-layers
-returns-then-is_met-clause-layers g c = λ less. spent_fewer _ _ _ _ _ (omega arith) c.loop-left.invariant.counted
 
 pub returns-then-index-clause-counted : goal.returns-then-index-clause-counted
 returns-then-index-clause-counted g c = spent_fewer _ _ _ _ _ (omega arith) c.loop-left.invariant.counted
@@ -91,8 +88,8 @@ returns-in_err-whole-clause-counted g c = spent_more _ _ _ _ _ _ c.loop-left-tes
 pub returns-then-not-whole-clause-counted : goal.returns-then-not-whole-clause-counted
 returns-then-not-whole-clause-counted g c = spent_more _ _ _ _ _ _ c.loop-left-test.true c.loop-left.invariant.counted c.next_back.ensures.counted
 
-pub returns-then-not-whole-clause-none : goal.returns-then-not-whole-clause-none
-returns-then-not-whole-clause-none g c = none_more _ _ _ _ _ c.loop-left-test.true c.loop-left.invariant.counted (c.in_ok-whole.ensures.none c.if-not-whole.true)
+pub returns-then-not-whole-clause-made : goal.returns-then-not-whole-clause-made
+returns-then-not-whole-clause-made g c = none_more _ _ _ _ _ c.loop-left-test.true c.loop-left.invariant.counted (c.in_ok-whole.ensures.none c.if-not-whole.true)
 
 pub returns-in_err-push-clause-counted : goal.returns-in_err-push-clause-counted
 returns-in_err-push-clause-counted g c = spent_more _ _ _ _ _ _ c.loop-left-test.true c.loop-left.invariant.counted c.next_back.ensures.counted

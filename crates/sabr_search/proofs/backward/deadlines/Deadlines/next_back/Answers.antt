@@ -34,7 +34,7 @@ within g c =
     rw (read g c).0 (received_within c.args.aim.now.task.now old.ends.items old.entries.items c.args.left c.loop-place.place c.index-to.result.now c.requires.apart (omega (arith, (read g c).0)) (omega (arith, (read g c).1, c.loop-place-test.true)) (read g c).2)
 
 -- and its node is open
-open_node : (g : Over) (c : After-index-to g) → (c.index-to.result.now.node < length c.args.aim.now.task.now.table) × (slice_index_or c.args.aim.now.task.now.shut c.index-to.result.now.node false ≡ false)
+open_node : (g : Over) (c : After-index-to g) → (c.index-to.result.now.node < length c.args.aim.now.task.now.table) × (slice_index_or c.args.aim.now.task.now.forbidden c.index-to.result.now.node false ≡ false)
 open_node g c = open_entry c.args.aim.now.task.now c.requires.task _ _ _ _ c.args.self.now.entries.items c.requires.lists c.loop-place.place c.index-to.result.now (read g c).2
 
 pub take_senders-requires-clause-node : goal.take_senders-requires-clause-node

@@ -13,11 +13,11 @@ use Rattle.sabr_search.proofs.backward.deadlines.Deadlines.take_sender.Goals.{th
 use Rattle.sabr_search.proofs.ForwardLemmas.Queues.{set_here}
 
 pub returns-then-from-since-clause-told : goal.returns-then-from-since-clause-told
-returns-then-from-since-clause-told g c = λ n t w b has s less unshut other soon.
+returns-then-from-since-clause-told g c = λ n t w b has s less permitted other soon.
     absurd (omega (arith, soon, left_before c.args.aim.now.task.now c.requires.task c.args.from.node c.args.to.node c.args.from.passes.now c.args.from.bounds c.requires.link c.at-since.result c.if-from-since.true n t w b has s, c.at-since.ensures))
 
 pub returns-then-last-latest-clause-told : goal.returns-then-last-latest-clause-told
-returns-then-last-latest-clause-told g c = λ n t w b has s less unshut other soon.
+returns-then-last-latest-clause-told g c = λ n t w b has s less permitted other soon.
     let latest = read_at c.args.self.now.late.items c.args.from.node c.index-latest.result.now (omega (arith, c.requires.node, c.requires.lists.many)) c.index-latest.ensures in
     let sooner : t < c.leave_over-last.result = c.leave_over-last.ensures.full n t w b has s less in
     elim c.then-last-latest.branch [
@@ -37,7 +37,7 @@ noted g c new how =
     let own = c.args.self.now in
     let latest = read_at own.late.items c.args.from.node c.index-latest.result.now (omega (arith, c.requires.node, c.requires.lists.many)) c.index-latest.ensures in
     let begin : c.index-begin.result.now ≡ slice_index own.ends.items (c.args.left + 1) = read_at own.ends.items (c.args.left + 1) c.index-begin.result.now c.requires.bounded c.index-begin.ensures in
-    late_noted task _ _ own new c.requires.lists c.requires.linked c.args.from.node c.leave_over-last.result c.requires.node c.requires.unshut c.requires.other (omega (arith, latest, c.if-last-latest.false))
+    late_noted task _ _ own new c.requires.lists c.requires.linked c.args.from.node c.leave_over-last.result c.requires.node c.requires.permitted c.requires.other (omega (arith, latest, c.if-last-latest.false))
     (sound_back task c.requires.task c.args.from.node c.args.to.node c.index-latest.result.now c.leave_over-last.result c.args.to.before _ _ own.entries.items (λ t from less. c.leave_over-last.ensures.sound t from less) c.if-last-latest.false c.requires.receiver c.requires.given)
     (rw begin at how)
 
@@ -51,5 +51,5 @@ pub returns-clause-kept : goal.returns-clause-kept
 returns-clause-kept g c = (noted g (goal.at.returns-clause-kept g c).After-index-begin c.note_late.new.self c.in_ok-note_late.ensures.noted).kept
 
 pub returns-clause-told : goal.returns-clause-told
-returns-clause-told g c = λ n t w b has s less unshut other soon.
+returns-clause-told g c = λ n t w b has s less permitted other soon.
     rw c.in_ok-note_late.ensures.late (omega (arith, set_here c.args.self.now.late.items c.args.from.node c.leave_over-last.result (omega (arith, c.requires.node, c.requires.lists.many)), c.leave_over-last.ensures.full n t w b has s less))

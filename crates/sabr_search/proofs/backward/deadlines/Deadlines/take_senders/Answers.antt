@@ -29,8 +29,8 @@ take_sender-requires-clause-given g c = λ b less.
 one_node : (g : Over) (c : After-at-from g) → c.at-from.result.node ≡ c.head-head.result.node
 one_node g c = ap (λ (s : SentLink). s.sender) (same_some (sym c.at-from.ensures.link ∙ c.head-head.ensures.1))
 
-pub take_sender-requires-clause-unshut : goal.take_sender-requires-clause-unshut
-take_sender-requires-clause-unshut g c = rw (one_node g (goal.at.take_sender-requires-clause-unshut g c).After-at-from) (c.brings_nothing.ensures.unshut c.if-brings_nothing.false)
+pub take_sender-requires-clause-permitted : goal.take_sender-requires-clause-permitted
+take_sender-requires-clause-permitted g c = rw (one_node g (goal.at.take_sender-requires-clause-permitted g c).After-at-from) (c.brings_nothing.ensures.permitted c.if-brings_nothing.false)
 
 pub take_sender-requires-clause-other : goal.take_sender-requires-clause-other
 take_sender-requires-clause-other g c = rw (one_node g (goal.at.take_sender-requires-clause-other g c).After-at-from) (c.brings_nothing.ensures.other c.if-brings_nothing.false)

@@ -26,11 +26,11 @@ pub returns-then-node-goal-clause-told : goal.returns-then-node-goal-clause-told
 returns-then-node-goal-clause-told g c = λ s at n t b has step open' other since.
     absurd (other (sender_is g (goal.at.returns-then-node-goal-clause-told g c).After-head-head s at ∙ c.if-node-goal.true ∙ c.goal.ensures))
 
-pub returns-then-shut-node-clause-told : goal.returns-then-shut-node-clause-told
-returns-then-shut-node-clause-told g c = λ s at n t b has step open' other since.
+pub returns-then-forbidden-node-clause-told : goal.returns-then-forbidden-node-clause-told
+returns-then-forbidden-node-clause-told g c = λ s at n t b has step open' other since.
     let node = c.head-head.result.node in
-    let is = sender_is g (goal.at.returns-then-shut-node-clause-told g c).After-head-head s at in
-    absurd (both_ways (slice_index_or c.args.task.now.shut node false) (rw is at open') (subst (λ xs. slice_index_or xs node false ≡ true) c.shut.ensures c.if-shut-node.true))
+    let is = sender_is g (goal.at.returns-then-forbidden-node-clause-told g c).After-head-head s at in
+    absurd (both_ways (slice_index_or c.args.task.now.forbidden node false) (rw is at open') (subst (λ xs. slice_index_or xs node false ≡ true) c.forbidden.ensures c.if-forbidden-node.true))
 
 -- over the link a step takes the cost of its least light time
 over : (g : Over) (c : After-saturating_sub-last g) (s : SentLink) → slice_get c.args.senders.now c.args.place ≡ Some s → (n t b : ℕ) → HasNumber s.passes n → Takes c.args.task.now n s.sender t c.args.to b → t + c.cost-cost.result ≤ b

@@ -14,12 +14,12 @@ returns-then-node-to-clause-told g c = λ n t b has s less open' other.
 pub returns-then-node-goal-clause-told : goal.returns-then-node-goal-clause-told
 returns-then-node-goal-clause-told g c = λ n t b has s less open' other. absurd (other (c.if-node-goal.true ∙ c.goal.ensures))
 
-pub returns-then-shut-node-clause-told : goal.returns-then-shut-node-clause-told
-returns-then-shut-node-clause-told g c = λ n t b has s less open' other.
-    absurd (both_ways (slice_index_or c.args.task.now.shut c.args.from.node false) open' (subst (λ xs. slice_index_or xs c.args.from.node false ≡ true) c.shut.ensures c.if-shut-node.true))
+pub returns-then-forbidden-node-clause-told : goal.returns-then-forbidden-node-clause-told
+returns-then-forbidden-node-clause-told g c = λ n t b has s less open' other.
+    absurd (both_ways (slice_index_or c.args.task.now.forbidden c.args.from.node false) open' (subst (λ xs. slice_index_or xs c.args.from.node false ≡ true) c.forbidden.ensures c.if-forbidden-node.true))
 
 pub leave_over-last-requires-clause-other : goal.leave_over-last-requires-clause-other
-leave_over-last-requires-clause-other g c = not_start c.args.task.now c.requires.task c.args.from.node (subst (λ xs. slice_index_or xs c.args.from.node false ≡ false) c.shut.ensures c.if-shut-node.false)
+leave_over-last-requires-clause-other g c = not_start c.args.task.now c.requires.task c.args.from.node (subst (λ xs. slice_index_or xs c.args.from.node false ≡ false) c.forbidden.ensures c.if-forbidden-node.false)
 
 pub returns-then-last-latest-clause-told : goal.returns-then-last-latest-clause-told
 returns-then-last-latest-clause-told g c = λ n t b has s less open' other.

@@ -14,7 +14,7 @@ use Rattle.sabr_search.proofs.forward.layers.Layers.last_layer.Goals as goal
 
 -- what is known of one link to the goal
 abbrev IsKnownOf : SearchTask → ℕ → List ℕ → ℕ → SentLink → Type 0
-IsKnownOf task to arrival least s = (n b : ℕ) → HasNumber s.passes n → Takes task n s.sender (slice_index arrival s.sender) to b → slice_index_or task.shut s.sender false ≡ false → least ≤ b
+IsKnownOf task to arrival least s = (n b : ℕ) → HasNumber s.passes n → Takes task n s.sender (slice_index arrival s.sender) to b → slice_index_or task.forbidden s.sender false ≡ false → least ≤ b
 
 pub loop-place-preserved-then-is_soonest : goal.loop-place-preserved-then-is_soonest
 loop-place-preserved-then-is_soonest g c =
@@ -34,8 +34,8 @@ loop-place-preserved-then-is_soonest g c =
       found = so_far.found;
     }
 
-pub loop-place-preserved-then-shut-head : goal.loop-place-preserved-then-shut-head
-loop-place-preserved-then-shut-head g c =
+pub loop-place-preserved-then-forbidden-head : goal.loop-place-preserved-then-forbidden-head
+loop-place-preserved-then-forbidden-head g c =
     let task = c.args.task.now in
     let to = c.goal-goal.result in
     let arrival = c.args.self.now.arrival.items in
@@ -45,7 +45,7 @@ loop-place-preserved-then-shut-head g c =
       counted = omega (arith, so_far.counted, (passes_within task to c.senders-senders.result c.senders-senders.ensures c.loop-place.place _ here.1).0);
       lower = so_far.lower;
       known = each_until (IsKnownOf task to arrival c.loop-place.least) c.senders-senders.result c.loop-place.place _ here.1 so_far.known
-          (λ n b has s open'. absurd (both_ways (slice_index_or task.shut c.head-head.result.node false) open' (subst (λ xs. slice_index_or xs c.head-head.result.node false ≡ true) c.shut.ensures c.if-shut-head.true)));
+          (λ n b has s open'. absurd (both_ways (slice_index_or task.forbidden c.head-head.result.node false) open' (subst (λ xs. slice_index_or xs c.head-head.result.node false ≡ true) c.forbidden.ensures c.if-forbidden-head.true)));
       found = so_far.found;
     }
 
@@ -75,9 +75,9 @@ loop-place-preserved g c =
       found = elim (cases_lt c.arrive_over-least.result c.loop-place.least) [
         | inr more ↦ (let same : c.arrive_over-least.result ≡ c.loop-place.least = omega (arith, more, over.upper) in rw same so_far.found)
         | inl less ↦
-            (let step = over.sound less (ap (λ k. slice_index_or task.shut k false) c.goal-goal.ensures ∙ c.requires.task.goal_open) in
-            let open' : slice_index_or task.shut c.head-head.result.node false ≡ false = subst (λ xs. slice_index_or xs c.head-head.result.node false ≡ false) c.shut.ensures c.if-shut-head.false in
-            inr (u, step.0, subst (λ k. slice_index_or task.shut k false ≡ false) (sym node) open', subst (λ t. Takes task step.0 u t task.goal c.arrive_over-least.result) at (subst (λ k. Takes task step.0 u c.index-at.result.now k c.arrive_over-least.result) c.goal-goal.ensures step.1)))
+            (let step = over.sound less (ap (λ k. slice_index_or task.forbidden k false) c.goal-goal.ensures ∙ c.requires.task.goal_open) in
+            let open' : slice_index_or task.forbidden c.head-head.result.node false ≡ false = subst (λ xs. slice_index_or xs c.head-head.result.node false ≡ false) c.forbidden.ensures c.if-forbidden-head.false in
+            inr (u, step.0, subst (λ k. slice_index_or task.forbidden k false ≡ false) (sym node) open', subst (λ t. Takes task step.0 u t task.goal c.arrive_over-least.result) at (subst (λ k. Takes task step.0 u c.index-at.result.now k c.arrive_over-least.result) c.goal-goal.ensures step.1)))
       ];
     }
 

@@ -2,7 +2,7 @@ use Rattle.std.proofs.Common.{◌+◌, [], ◌∷◌, inl, inr, refl, arith}
 use Rattle.sabr_search.specs.layers.Made.{AreMade}
 use Rattle.sabr_search.proofs.ForwardLemmas.MadeLayers.{layers_first, best_within, least_within, made_lists, made_sources, made_next, made_last, made_all, spent_more, spent_fewer, none_more}
 use Rattle.sabr_search.proofs.forward.layers.Layers.make.Given.{Over}
-use Rattle.sabr_search.proofs.forward.layers.Layers.make.Goals.{After-len-end, then-delivery-best-2, else-delivery-best-2}
+use Rattle.sabr_search.proofs.forward.layers.Layers.make.Goals.{After-len-end, then-delivery-best, else-delivery-best, then-delivery-best-2, else-delivery-best-2}
 use Rattle.sabr_search.proofs.forward.layers.Layers.make.Goals as goal
 
 pub loop-hop-init : goal.loop-hop-init
@@ -25,25 +25,21 @@ made g c =
     made_next c.args.task.now c.requires.task c.args.until c.loop-hop.hop c.loop-hop.first c.len-begin.result _ _ _ c.loop-hop.best c.loop-hop.invariant.layers (omega (arith, c.len-begin.ensures, c.loop-hop.self.reached.ok.0)) _ _ _ c.in_ok-delivery.delivery c.in_ok-delivery.ensures.lowered c.in_ok-delivery.ensures.known c.if-delivery-best-2.best
     (elim c.if-delivery-best-2.branch [ then-delivery-best-2 w ↦ inl (w.if-delivery-best-2.true, w.best-is) | else-delivery-best-2 w ↦ inr (w.if-delivery-best-2.false, w.best-is) ])
 
-pub returns-then-best-lower-clause-best : goal.returns-then-best-lower-clause-best
-returns-then-best-lower-clause-best g c =
-    best_within c.args.task.now c.args.until (c.loop-hop.hop + 1) _ _ _ _ _ (made g (goal.at.returns-then-best-lower-clause-best g c).After-len-end).2 c.args.hops (omega arith) (λ ns e le way. omega (arith, c.requires.lower ns e way, c.if-best-lower.true))
+pub returns-then-best-lower-clause-made : goal.returns-then-best-lower-clause-made
+returns-then-best-lower-clause-made g c =
+    best_within c.args.task.now c.args.until (c.loop-hop.hop + 1) _ _ _ _ _ (made g (goal.at.returns-then-best-lower-clause-made g c).After-len-end).2 c.args.hops (omega arith) (λ ns e le way. omega (arith, c.requires.lower ns e way, c.if-best-lower.true)) _ _ c.outcome-then-best-lower.ensures
 
-pub returns-then-end-begin-clause-best : goal.returns-then-end-begin-clause-best
-returns-then-end-begin-clause-best g c =
-    let made = made g (goal.at.returns-then-end-begin-clause-best g c).After-len-end in
+pub returns-then-end-begin-clause-made : goal.returns-then-end-begin-clause-made
+returns-then-end-begin-clause-made g c =
+    let made = made g (goal.at.returns-then-end-begin-clause-made g c).After-len-end in
     best_within c.args.task.now c.args.until (c.loop-hop.hop + 1) _ _ _ _ _ made.2 c.args.hops (omega arith)
-    (λ ns e le way. made_all c.args.task.now c.requires.task c.args.until (c.loop-hop.hop + 1) c.len-begin.result _ _ _ c.if-delivery-best-2.best made (omega (arith, c.len-end.ensures, c.next_layer.new.self.reached.ok.0, c.if-end-begin.true)) ns e way)
+    (λ ns e le way. made_all c.args.task.now c.requires.task c.args.until (c.loop-hop.hop + 1) c.len-begin.result _ _ _ c.if-delivery-best-2.best made (omega (arith, c.len-end.ensures, c.next_layer.new.self.reached.ok.0, c.if-end-begin.true)) ns e way) _ _ c.outcome-then-end-begin.ensures
 
-pub returns-then-delivery-best-clause-best : goal.returns-then-delivery-best-clause-best
-returns-then-delivery-best-clause-best g c =
+pub returns-then-hop-hops-clause-made : goal.returns-then-hop-hops-clause-made
+returns-then-hop-hops-clause-made g c =
     let last = c.last_layer-delivery.ensures in
-    made_last c.args.task.now c.requires.task c.args.until c.loop-hop.hop c.loop-hop.first _ _ _ c.loop-hop.best c.loop-hop.invariant.layers c.if-hop-gt0.true c.args.hops c.if-hop-hops.true c.last_layer-delivery.result last.lower last.known last.found _ (inl (c.if-delivery-best.true, refl))
-
-pub returns-then-hop-hops-clause-best : goal.returns-then-hop-hops-clause-best
-returns-then-hop-hops-clause-best g c =
-    let last = c.last_layer-delivery.ensures in
-    made_last c.args.task.now c.requires.task c.args.until c.loop-hop.hop c.loop-hop.first _ _ _ c.loop-hop.best c.loop-hop.invariant.layers c.if-hop-gt0.true c.args.hops c.if-hop-hops.true c.last_layer-delivery.result last.lower last.known last.found _ (inr (c.if-delivery-best.false, refl))
+    made_last c.args.task.now c.requires.task c.args.until c.loop-hop.hop c.loop-hop.first _ _ _ c.loop-hop.best c.loop-hop.invariant.layers c.if-hop-gt0.true c.args.hops c.if-hop-hops.true c.last_layer-delivery.result last.lower last.known last.found c.if-delivery-best.best
+    (elim c.if-delivery-best.branch [ then-delivery-best w ↦ inl (w.if-delivery-best.true, w.best-is) | else-delivery-best w ↦ inr (w.if-delivery-best.false, w.best-is) ]) _ _ c.outcome.ensures
 
 pub loop-hop-preserved : goal.loop-hop-preserved
 loop-hop-preserved g c = record {
@@ -51,16 +47,16 @@ loop-hop-preserved g c = record {
   counted = omega (arith, c.next_layer.ensures.looks, c.loop-hop.invariant.counted);
 }
 
-pub returns-clause-best : goal.returns-clause-best
-returns-clause-best g c =
+pub returns-clause-made : goal.returns-clause-made
+returns-clause-made g c =
     let made = c.loop-hop.invariant.layers.2 in
-    best_within c.args.task.now c.args.until c.loop-hop.hop _ _ _ _ _ made c.args.hops (omega arith) (λ ns e le way. least_within c.args.task.now c.requires.task c.args.until c.loop-hop.hop _ _ _ _ _ made ns e (omega (arith, le)) way)
+    best_within c.args.task.now c.args.until c.loop-hop.hop _ _ _ _ _ made c.args.hops (omega arith) (λ ns e le way. least_within c.args.task.now c.requires.task c.args.until c.loop-hop.hop _ _ _ _ _ made ns e (omega (arith, le)) way) _ _ c.outcome-2.ensures
 
-pub returns-then-one_pass-left-clause-counted : goal.returns-then-one_pass-left-clause-counted
-returns-then-one_pass-left-clause-counted g c = spent_fewer _ _ _ _ _ (omega arith) c.loop-hop.invariant.counted
+pub returns-then-one_scan-left-clause-counted : goal.returns-then-one_scan-left-clause-counted
+returns-then-one_scan-left-clause-counted g c = spent_fewer _ _ _ _ _ (omega arith) c.loop-hop.invariant.counted
 
-pub returns-then-one_pass-left-clause-none : goal.returns-then-one_pass-left-clause-none
-returns-then-one_pass-left-clause-none g c = none_more _ _ _ _ _ c.loop-hop-test.true c.loop-hop.invariant.counted (omega (arith, c.one_pass.ensures.value, c.if-one_pass-left.true, c.left.ensures))
+pub returns-then-one_scan-left-clause-made : goal.returns-then-one_scan-left-clause-made
+returns-then-one_scan-left-clause-made g c = none_more _ _ _ _ _ c.loop-hop-test.true c.loop-hop.invariant.counted (omega (arith, c.one_scan.ensures.value, c.if-one_scan-left.true, c.left.ensures))
 
 pub returns-in_err-delivery-clause-counted : goal.returns-in_err-delivery-clause-counted
 returns-in_err-delivery-clause-counted g c = spent_more _ _ _ _ _ _ c.loop-hop-test.true c.loop-hop.invariant.counted c.next_layer.ensures.looks

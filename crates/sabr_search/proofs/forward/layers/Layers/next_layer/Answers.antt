@@ -40,7 +40,7 @@ loop-place-preserved g c =
     let gained = c.in_ok-least.ensures.lowered in
     record {
       counted = omega (arith, c.take_all.ensures.looks, so_far.counted, more g here);
-      lowered = lowered_more task.shut task.goal task.at c.args.begin (GivenFrom task old.reached.items c.args.first c.args.begin) (λ w x. (n : ℕ) × Takes task n from.node from.at w x) _ _ _ _ _ _ _ _ _ _ _
+      lowered = lowered_more task.forbidden task.goal task.at c.args.begin (GivenFrom task old.reached.items c.args.first c.args.begin) (λ w x. (n : ℕ) × Takes task n from.node from.at w x) _ _ _ _ _ _ _ _ _ _ _
           (λ w x given. (place, from, given.0, le, c.loop-place-test.true, at, given.1)) so_far.lowered gained;
       known = λ p e n w x above below here s. elim (last_or_before p place below) [
         | inl before ↦ known_lower task.goal _ _ _ _ w x gained.lowered gained.lower (so_far.known p e n w x above before here s)

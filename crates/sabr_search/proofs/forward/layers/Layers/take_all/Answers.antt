@@ -58,7 +58,7 @@ loop-place-preserved g c =
       links = so_far.links;
       counted = omega (arith, own, c.take_link.ensures.looks, link.few);
       placed = λ k x from at. omega (arith, own, c.take_link.ensures.looks, link.later k x (omega (arith, from)) at);
-      lowered = lowered_more task.shut task.goal task.at c.args.begin (λ w x. (n : ℕ) × Takes task n u t w x) _ _ _ _ _ _ _ _ _ _ _ _ (λ w x given. given) so_far.lowered gained;
+      lowered = lowered_more task.forbidden task.goal task.at c.args.begin (λ w x. (n : ℕ) × Takes task n u t w x) _ _ _ _ _ _ _ _ _ _ _ _ (λ w x given. given) so_far.lowered gained;
       known = λ j x n w b less at has s. elim (last_or_before j c.loop-place.place less) [
         | inl before ↦ known_lower task.goal _ _ _ _ w b gained.lowered gained.lower (so_far.known j x n w b before at has s)
         | inr same ↦ (rw c.link-link.ensures.from at c.in_ok-least.ensures.known) n w b (link.own j x n at same has) s

@@ -21,7 +21,7 @@ pub returns-then-to-goal-clause-lowered : goal.returns-then-to-goal-clause-lower
 returns-then-to-goal-clause-lowered g c =
     let task = c.args.task.now in
     let same : c.args.link.to ≡ task.goal = c.if-to-goal.true ∙ c.goal.ensures in
-    let step = c.arrive_over-arrival.ensures.sound c.if-arrival-before.false (ap (λ k. slice_index_or task.shut k false) same ∙ c.requires.task.goal_open) in
+    let step = c.arrive_over-arrival.ensures.sound c.if-arrival-before.false (ap (λ k. slice_index_or task.forbidden k false) same ∙ c.requires.task.goal_open) in
     record {
       lists = c.requires.lists;
       lower = omega (arith, c.if-arrival-before.false, c.news_before-before.ensures.goal same);
@@ -44,7 +44,7 @@ returns-clause-lowered g c =
     let other : w ≢ task.goal = λ same. c.if-to-goal.false (same ∙ sym c.goal.ensures) in
     let within : w < length own.arrival.items = omega (arith, was.flags, c.requires.task.as_many, c.requires.receiver) in
     let less : b < slice_index own.arrival.items w = omega (arith, c.if-arrival-before.false, rw c.deref.ensures.value at c.news_before-before.ensures.other other) in
-    let open' : slice_index_or task.shut w false ≡ false = false_from_ne_true (slice_index_or task.shut w false) (λ on. omega (arith, was.closed w on, less, c.arrive_over-arrival.ensures.later c.if-arrival-before.false, c.requires.since)) in
+    let open' : slice_index_or task.forbidden w false ≡ false = false_from_ne_true (slice_index_or task.forbidden w false) (λ on. omega (arith, was.closed w on, less, c.arrive_over-arrival.ensures.later c.if-arrival-before.false, c.requires.since)) in
     let step : (n : ℕ) × Takes task n c.args.link.from c.args.at w b = c.arrive_over-arrival.ensures.sound c.if-arrival-before.false open' in
     let noted = c.in_ok-note.ensures in
     record {
@@ -52,7 +52,7 @@ returns-clause-lowered g c =
         flags = rw noted.arrivals (set_many own.arrival.items w b ∙ was.flags);
         closed = λ k on. rw noted.arrivals (omega (arith, set_falls own.arrival.items w b within less k, was.closed k on));
         placed = noted.placed;
-        linked = noted.linked task.shut was.linked;
+        linked = noted.linked task.forbidden was.linked;
         layer = noted.layer;
         inside = λ p d inside. elim (noted.entries p d inside) [
           | inl old ↦ rw old.1 (was.inside p d old.0)

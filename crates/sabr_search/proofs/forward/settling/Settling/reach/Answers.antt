@@ -16,7 +16,7 @@ pub returns-then-node-goal-clause-state : goal.returns-then-node-goal-clause-sta
 returns-then-node-goal-clause-state g c =
     let task = c.args.forward.now.task.now in
     let at : c.args.step.node ≡ task.goal = c.if-node-goal.true ∙ c.goal.ensures in
-    let step = c.requires.step (ap (λ k. slice_index_or task.shut k false) at ∙ c.requires.task.goal_open) in
+    let step = c.requires.step (ap (λ k. slice_index_or task.forbidden k false) at ∙ c.requires.task.goal_open) in
     let hops = read_hops c.args.self.now.settled.items c.args.self.now.hops.items c.args.event.node c.index.result.now c.requires.state.on (c.requires.state.many ∙ sym c.requires.state.hops_are.many) c.index.ensures in
     found_better task c.requires.task _ _ _ _ _ _ step.0 c.args.step.node c.index.result.now _ _ _ _ c.args.step.at c.requires.state hops (omega (arith, c.requires.sooner)) at step.1
 

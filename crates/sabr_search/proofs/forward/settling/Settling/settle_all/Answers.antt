@@ -1,7 +1,7 @@
 use Rattle.std.proofs.Common.{◌≡◌, ◌<◌, length, slice_index_or, false, refl, sym, ◌∙◌, arith}
 use Rattle.std.proofs.lemmas.List.Sorted.{length_permutation}
 use Rattle.sabr_search.proofs.ForwardLemmas.Queues.{head_inside, waits_later, queue_stale}
-use Rattle.sabr_search.proofs.ForwardLemmas.FirstWays.{start_sent, next_most, next_state, next_counted, next_settled, settled_stale, first_found, arrivals_found, read_flag}
+use Rattle.sabr_search.proofs.ForwardLemmas.FirstWays.{start_sent, next_most, next_state, next_counted, next_settled, settled_stale, reached_found, read_flag}
 use Rattle.sabr_search.proofs.ForwardLemmas.LayerEntries.{read_at}
 use Rattle.sabr_search.proofs.forward.settling.Settling.settle_all.Goals as goal
 
@@ -45,8 +45,8 @@ links-links-requires-clause-node g c =
     let was = c.loop-event.invariant.settled in
     omega (arith, was.flags, c.requires.task.as_many, head_inside _ _ _ _ _ _ _ c.in-Some.event was.queue_is c.in-Some.ensures.moved c.in-Some.ensures.first)
 
-pub returns-then-links-left-clause-none : goal.returns-then-links-left-clause-none
-returns-then-links-left-clause-none g c =
+pub returns-then-links-left-clause-reached : goal.returns-then-links-left-clause-reached
+returns-then-links-left-clause-reached g c =
     let was = c.loop-event.invariant.settled in
     let within : c.in-Some.event.node < length c.loop-event.self.settled.items = omega (arith, was.flags, was.many, head_inside _ _ _ _ _ _ _ c.in-Some.event was.queue_is c.in-Some.ensures.moved c.in-Some.ensures.first) in
     let off : slice_index_or c.loop-event.self.settled.items c.in-Some.event.node false ≡ false = sym (read_flag c.loop-event.self.settled.items c.in-Some.event.node c.index.result.now within c.index.ensures) ∙ c.if-not-index.true in
@@ -91,24 +91,13 @@ loop-event-preserved g c =
       settled = settled_stale _ _ _ _ _ _ _ _ _ _ was (queue_stale _ _ _ _ _ _ _ c.in-Some.event was.queue_is c.in-Some.ensures.moved c.in-Some.ensures.first on);
     }
 
-pub returns-then-event-best-clause-first : goal.returns-then-event-best-clause-first
-returns-then-event-best-clause-first g c =
+pub returns-then-event-best-clause-reached : goal.returns-then-event-best-clause-reached
+returns-then-event-best-clause-reached g c =
     let was = c.loop-event.invariant.settled in
-    first_found c.args.forward.now.task.now c.requires.task _ _ _ c.requires.bound _ _ _ _ c.loop-event.best was
-    (λ f there. omega (arith, c.if-event-best.true, waits_later _ _ _ _ _ _ _ c.in-Some.event was.queue_is c.in-Some.ensures.moved c.in-Some.ensures.first f there))
+    reached_found c.args.forward.now.task.now c.requires.task _ _ _ c.requires.bound _ _ _ _ c.loop-event.best was
+    (λ f there. omega (arith, c.if-event-best.true, waits_later _ _ _ _ _ _ _ c.in-Some.event was.queue_is c.in-Some.ensures.moved c.in-Some.ensures.first f there)) _ _ c.outcome.ensures
 
-pub returns-clause-first : goal.returns-clause-first
-returns-clause-first g c =
-    first_found c.args.forward.now.task.now c.requires.task _ _ _ c.requires.bound _ _ _ _ c.loop-event.best c.loop-event.invariant.settled
-    (λ f there. (let none = rw c.in_default.ensures.none at there in absurd (omega (arith, none.1))))
-
-pub returns-then-event-best-clause-arrivals : goal.returns-then-event-best-clause-arrivals
-returns-then-event-best-clause-arrivals g c =
-    let was = c.loop-event.invariant.settled in
-    arrivals_found c.args.forward.now.task.now c.requires.task _ _ _ c.requires.bound _ _ _ _ c.loop-event.best was
-    (λ f there. omega (arith, c.if-event-best.true, waits_later _ _ _ _ _ _ _ c.in-Some.event was.queue_is c.in-Some.ensures.moved c.in-Some.ensures.first f there))
-
-pub returns-clause-arrivals : goal.returns-clause-arrivals
-returns-clause-arrivals g c =
-    arrivals_found c.args.forward.now.task.now c.requires.task _ _ _ c.requires.bound _ _ _ _ c.loop-event.best c.loop-event.invariant.settled
-    (λ f there. (let none = rw c.in_default.ensures.none at there in absurd (omega (arith, none.1))))
+pub returns-clause-reached : goal.returns-clause-reached
+returns-clause-reached g c =
+    reached_found c.args.forward.now.task.now c.requires.task _ _ _ c.requires.bound _ _ _ _ c.loop-event.best c.loop-event.invariant.settled
+    (λ f there. (let none = rw c.in_default.ensures.none at there in absurd (omega (arith, none.1)))) _ _ c.outcome-2.ensures

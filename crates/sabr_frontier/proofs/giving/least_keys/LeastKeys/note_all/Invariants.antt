@@ -1,6 +1,0 @@
-use Rattle.std.proofs.Common.{take}
-use Rattle.sabr_frontier.specs.giving.LeastKeys.{AreNoted, carried_keys}
-use Rattle.sabr_frontier.proofs.giving.least_keys.LeastKeys.note_all.Given as goal
-
-abbrev pub invariant-loop-place : goal.invariant-loop-place
-invariant-loop-place g l = AreNoted l.fn.self (carried_keys (take l.place l.nodes)) l.self

@@ -1,6 +1,0 @@
-use Rattle.std.proofs.Common.{arith}
-use Rattle.sabr_frontier.proofs.TreeLemmas.Floors.{floor_on}
-use Rattle.sabr_frontier.proofs.giving.peek.longer_go_on.Goals as goal
-
-pub ask_after-requires-clause-floor : goal.ask_after-requires-clause-floor
-ask_after-requires-clause-floor g c = floor_on c.loop-count.invariant.same c.args.route.now c.args.first c.loop-count.count c.args.floor (omega arith) (omega (arith, c.loop-count-test.true)) c.requires.floor

@@ -1,0 +1,67 @@
+use Rattle.std.proofs.Common.{◌≡◌, ◌∷◌, ◌++◌, [], List, ℕ, map, length, refl, sym, ap, subst, ◌∙◌, inl, inr, true≢false, append-nil}
+use Rattle.std.proofs.lemmas.Bool.{false_from_ne_true}
+use Rattle.sabr_model.specs.routes.Record.{record_of}
+use Rattle.sabr_model.specs.routes.Route.{is_path}
+use Rattle.sabr_frontier.specs.declared.loader.leading.ExpectedPrefix.{ExpectedPrefix}
+use Rattle.sabr_frontier.specs.loading.Leading.{AreSteps, IsLead, step_of}
+use Rattle.std.proofs.lemmas.List.{map-append}
+use Rattle.sabr_frontier.proofs.ListingLemmas.ListMembers.{Member-append_cases}
+use Rattle.sabr_frontier.proofs.LoadingLemmas.CheckedParts.{leaf_there, no_leaf, none_onward, onward_there}
+use Rattle.sabr_frontier.proofs.loader.check.Checked.put.Goals as goal
+
+pub returns-in_default : goal.returns-in_default
+returns-in_default g c =
+    let s = c.args.prefix.now ++ c.args.number ∷ [] in
+    record {
+      path = sym (false_from_ne_true (is_path c.args.question.now.plan.now.plan c.args.question.now.request s) c.in_default.ensures.none);
+      leaves = λ h. absurd (true≢false (sym h));
+      onward = λ h. absurd (true≢false (sym h));
+      steps = λ h. h;
+    }
+
+pub returns-then-lead-to-clause-leaves : goal.returns-then-lead-to-clause-leaves
+returns-then-lead-to-clause-leaves g c _ =
+    let lead = c.in-Some.lead in
+    let old = c.args.self.now.leaves.items in
+    let numbers = c.in_ok-numbers.ensures in
+    let leaf = leaf_there c.args.question.now.plan.now.plan c.args.question.now.request c.args.prefix.now c.args.number lead c.in-Some.ensures.lead (c.if-lead-to.true ∙ c.to.ensures.value) in
+    c.in_ok-push.ensures.items ∙ ap (λ x. old ++ x ∷ []) (c.route-route.ensures ∙ (λ i. record { contacts = numbers i; delivery = lead.here.at; until = lead.summary.until; entry = lead.summary.entry }))
+    ∙ sym (ap (λ z. old ++ z) leaf)
+
+pub returns-then-lead-to-clause-onward : goal.returns-then-lead-to-clause-onward
+returns-then-lead-to-clause-onward g c _ =
+    let old : List (List ℕ) = map (step_of c.args.prefix.now) c.args.self.now.onward.items in
+    let none = none_onward c.args.question.now.plan.now.plan c.args.question.now.request c.args.prefix.now c.args.number c.in-Some.lead c.in-Some.ensures.lead (c.if-lead-to.true ∙ c.to.ensures.value) in
+    sym (ap (λ z. old ++ z) none ∙ append-nil old)
+
+pub returns-clause-leaves : goal.returns-clause-leaves
+returns-clause-leaves g c _ =
+    let p = c.args.question.now.plan.now.plan in
+    let r = c.args.question.now.request in
+    let old = c.args.self.now.leaves.items in
+    let none = no_leaf p r c.args.prefix.now c.args.number c.in-Some.lead c.in-Some.ensures.lead (λ e. c.if-lead-to.false (e ∙ sym c.to.ensures.value)) in
+    sym (ap (λ z. old ++ map (record_of p r) z) none ∙ append-nil old)
+
+pub returns-clause-onward : goal.returns-clause-onward
+returns-clause-onward g c _ =
+    let q = c.args.prefix.now in
+    let old = c.args.self.now.onward.items in
+    let expected : ExpectedPrefix = record { length = length q; number = c.args.number; lead = c.in-Some.lead } in
+    let there = onward_there c.args.question.now.plan.now.plan c.args.question.now.request q c.args.number c.in-Some.lead c.in-Some.ensures.lead (λ e. c.if-lead-to.false (e ∙ sym c.to.ensures.value)) in
+    ap (map (step_of q)) c.in_ok-push-2.ensures.items ∙ map-append (step_of q) old (expected ∷ []) ∙ sym (ap (λ z. map (step_of q) old ++ z) there)
+
+pub returns-clause-steps : goal.returns-clause-steps
+returns-clause-steps g c known =
+    let p = c.args.question.now.plan.now.plan in
+    let r = c.args.question.now.request in
+    let q = c.args.prefix.now in
+    let old = c.args.self.now.onward.items in
+    let expected : ExpectedPrefix = record { length = length q; number = c.args.number; lead = c.in-Some.lead } in
+    subst (AreSteps p r q) (sym c.in_ok-push-2.ensures.items)
+    (λ o m. elim (Member-append_cases o old (expected ∷ []) m) [
+      | inl k ↦ known o k
+      | inr k ↦ elim k [
+        | inl same ↦ subst (λ (z : ExpectedPrefix). (z.length ≡ length q) × IsLead p r (step_of q z) z.lead) (sym same) (refl, c.in-Some.ensures.lead)
+        | inr z ↦ absurd z
+      ]
+    ])

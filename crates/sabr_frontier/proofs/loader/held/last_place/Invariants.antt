@@ -1,7 +1,0 @@
-use Rattle.std.proofs.Common.{◌≡◌, take}
-use Rattle.sabr_model.specs.routes.Record.{RouteRecord}
-use Rattle.sabr_frontier.specs.listing.State.{Member}
-use Rattle.sabr_frontier.proofs.loader.held.last_place.Given as goal
-
-abbrev pub invariant-loop-i : goal.invariant-loop-i
-invariant-loop-i g l = (x : RouteRecord) → Member x (take l.i l.leaves) → x.contacts ≡ l.last → ⊥

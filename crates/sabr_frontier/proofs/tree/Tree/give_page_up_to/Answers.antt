@@ -1,0 +1,88 @@
+use Rattle.std.proofs.Common.{◌≡◌, ◌+◌, ◌-◌, ◌∙◌, suc, length, arith, refl, sym, subst, inl, inr}
+use Rattle.sabr_model.specs.plan.Plan.{IsPlan}
+use Rattle.sabr_frontier.specs.giving.SmallestKeys.{AreNoted, CarryKeys, carried_keys}
+use Rattle.sabr_frontier.specs.tree.Searching.{Asked}
+use Rattle.sabr_frontier.specs.tree.Shape.{shape_of, shown}
+use Rattle.sabr_frontier.specs.tree.Sound.{IsTree}
+use Rattle.sabr_frontier.proofs.GivingLemmas.CutWays.{IsCutWay, step_within, turn_is, way_end, way_first, way_on}
+use Rattle.sabr_frontier.proofs.GivingLemmas.EarlyRoutes.{carry_keys}
+use Rattle.sabr_frontier.proofs.SessionLemmas.CutPages.{cut_tree}
+use Rattle.sabr_frontier.proofs.SessionLemmas.Pages.{sound_tree, given_same}
+use Rattle.sabr_frontier.proofs.tree.Tree.give_page_up_to.Goals as goal
+
+pub note_all-requires : goal.note_all-requires
+note_all-requires g c =
+    let a = c.args.searcher.now.asked in
+    let t = shape_of c.args.self.now in
+    subst CarryKeys (sym c.as_slice.ensures.value) (carry_keys a.plan.plan a.request t c.requires.plan c.requires.limits (sound_tree a.plan.plan a.request (length t.journal) t c.requires.sound))
+
+pub loop-init : goal.loop-init
+loop-init g c =
+    let a = c.args.searcher.now.asked in
+    let t = shape_of c.args.self.now in
+    let tree = sound_tree a.plan.plan a.request (length t.journal) t c.requires.sound in
+    let noted = subst (λ z. AreNoted c.new-keys.result (carried_keys z) c.note_all.new.self) c.as_slice.ensures.value c.in_ok-note_all.ensures in
+    record {
+      way = way_first a c.args.count (c.args.count - 0) t c.args.routes.now.items c.args.searcher.now.calls c.new-keys.result c.note_all.new.self (omega arith) tree c.new-keys.ensures noted;
+      room = c.requires.room;
+      same = refl;
+    }
+
+pub returns-then-is_empty-clause-routes : goal.returns-then-is_empty-clause-routes
+returns-then-is_empty-clause-routes g c = (way_end c.requires.plan c.loop.invariant.way (inr (c.is_empty.ensures.none c.if-is_empty.true))).routes
+
+pub returns-then-is_empty-clause-state : goal.returns-then-is_empty-clause-state
+returns-then-is_empty-clause-state g c = (way_end c.requires.plan c.loop.invariant.way (inr (c.is_empty.ensures.none c.if-is_empty.true))).state
+
+pub returns-then-is_empty-clause-called : goal.returns-then-is_empty-clause-called
+returns-then-is_empty-clause-called g c = (way_end c.requires.plan c.loop.invariant.way (inr (c.is_empty.ensures.none c.if-is_empty.true))).searches
+
+pub give_next-requires-clause-plan : goal.give_next-requires-clause-plan
+give_next-requires-clause-plan g c = subst (λ (a : Asked). IsPlan a.plan.plan) (sym c.loop.invariant.same) c.requires.plan
+
+pub give_next-requires-clause-tree : goal.give_next-requires-clause-tree
+give_next-requires-clause-tree g c =
+    let t = shape_of c.loop.self in
+    let way = c.loop.invariant.way in
+    subst (λ (a : Asked). IsTree a.plan.plan a.request t) (sym c.loop.invariant.same) (cut_tree c.args.searcher.now.asked (suc (suc (c.args.count - c.loop.counter))) way.state t way.shows)
+
+pub give_next-requires-clause-waiting : goal.give_next-requires-clause-waiting
+give_next-requires-clause-waiting g c = c.is_empty.ensures.some c.if-is_empty.false
+
+pub note_new-requires-clause-in_range : goal.note_new-requires-clause-in_range
+note_new-requires-clause-in_range g c = (step_within c.in_ok-step.ensures.ok).0
+
+pub note_new-requires-clause-within : goal.note_new-requires-clause-within
+note_new-requires-clause-within g c = (step_within c.in_ok-step.ensures.ok).1
+
+pub note_new-requires-clause-fit : goal.note_new-requires-clause-fit
+note_new-requires-clause-fit g c =
+    let a = c.args.searcher.now.asked in
+    let u = shape_of c.give_next.new.self in
+    let k = c.args.count - (c.loop.counter + 1) in
+    let left : c.args.count - c.loop.counter ≡ suc k = omega (arith, c.loop-test.true) in
+    let way = subst (λ n. IsCutWay a (shown (shape_of c.args.self.now)) c.args.count c.args.routes.now.items c.args.searcher.now.calls n (shape_of c.loop.self) c.loop.routes.items c.loop.searcher.calls c.loop.keys) left c.loop.invariant.way in
+    let turn = turn_is c.requires.plan k way c.bound.result c.bound.ensures (given_same c.bound.result c.loop.invariant.same c.in_ok-step.ensures.ok) in
+    carry_keys a.plan.plan a.request u c.requires.plan c.requires.limits (cut_tree a (suc (suc k)) turn.next.1 u turn.then)
+
+pub loop-preserved : goal.loop-preserved
+loop-preserved g c =
+    let a = c.args.searcher.now.asked in
+    let k = c.args.count - (c.loop.counter + 1) in
+    let left : c.args.count - c.loop.counter ≡ suc k = omega (arith, c.loop-test.true) in
+    let way = subst (λ n. IsCutWay a (shown (shape_of c.args.self.now)) c.args.count c.args.routes.now.items c.args.searcher.now.calls n (shape_of c.loop.self) c.loop.routes.items c.loop.searcher.calls c.loop.keys) left c.loop.invariant.way in
+    let taken = given_same c.bound.result c.loop.invariant.same c.in_ok-step.ensures.ok in
+    record {
+      way = way_on c.requires.plan k way c.bound.result c.bound.ensures taken c.give_next.new.searcher.calls c.in_ok-step.ensures.called c.note_new.new.keys c.in_ok-note_new.ensures;
+      room = c.give_next.ensures.room;
+      same = c.give_next.ensures.same ∙ c.loop.invariant.same;
+    }
+
+pub returns-clause-routes : goal.returns-clause-routes
+returns-clause-routes g c = (way_end c.requires.plan c.loop.invariant.way (inl (omega (arith, c.loop-test.false)))).routes
+
+pub returns-clause-state : goal.returns-clause-state
+returns-clause-state g c = (way_end c.requires.plan c.loop.invariant.way (inl (omega (arith, c.loop-test.false)))).state
+
+pub returns-clause-called : goal.returns-clause-called
+returns-clause-called g c = (way_end c.requires.plan c.loop.invariant.way (inl (omega (arith, c.loop-test.false)))).searches

@@ -1,0 +1,214 @@
+-- What a loader has gathered: nodes with their prefixes, leaves, and the prefixes that are expected.
+use Rattle.std.specs.Prelude.{◌≡◌, ℕ, ◌+◌, ◌<◌, ◌≤◌, Bool, true, false, ◌==◌, ◌&&◌, ◌⊎◌, not, List, [], ◌∷◌, ◌++◌, map, filter, flat_map, vec_len, vec_capacity, reverse, length, Option, Some, None, if◌then◌else◌}
+use Rattle.std.specs.Option.{option_map, option_map_or}
+use Rattle.std.specs.Ordering.{nat_cmp}
+use Rattle.sabr_frontier.specs.listing.Rising.{has}
+use Rattle.sabr_model.specs.Order.{same_numbers}
+use Rattle.sabr_model.specs.plan.Plan.{ContactPlan, TabledPlan, IsPlan}
+use Rattle.sabr_model.specs.routes.Arrival.{RouteRequest}
+use Rattle.sabr_model.specs.routes.Asking.{IsRequest}
+use Rattle.sabr_model.specs.routes.Route.{is_path, is_route}
+use Rattle.sabr_model.specs.routes.Record.{RouteRecord, record_of}
+use Rattle.sabr_frontier.specs.declared.tree.Node.{Node}
+use Rattle.sabr_frontier.specs.declared.loader.partial_tree.PartialTree.{PartialTree}
+use Rattle.sabr_frontier.specs.declared.loader.check.Checked.{Checked}
+use Rattle.sabr_frontier.specs.declared.loader.leading.ExpectedPrefix.{ExpectedPrefix}
+use Rattle.sabr_frontier.specs.listing.State.{PartState, pair_of, Member, leaves_of}
+use Rattle.sabr_frontier.specs.listing.Formed.{InOrder, Within}
+use Rattle.sabr_frontier.specs.listing.Expecting.{Prefixes, onward, IsGood, Expects}
+use Rattle.sabr_frontier.specs.tree.Shape.{Shape, given_at, numbers_of}
+use Rattle.sabr_frontier.specs.tree.Undo.{last_item, front}
+use Rattle.sabr_frontier.specs.tree.Giving.{ids_from}
+use Rattle.sabr_frontier.specs.tree.Searching.{Asked}
+use Rattle.sabr_frontier.specs.loading.Leading.{AreExpected, AreSteps, expected_prefix, step_of}
+use Rattle.sabr_frontier.specs.loading.Loading.{Loaded}
+
+-- a partial tree without its capacities; the least of the expected prefixes is the last
+pub record PartialShape (A : Type 0) : Type 0 where
+  pub prefixes : List (List ℕ)
+  pub last : List ℕ
+  pub nodes : List (Node A)
+  pub leaves : List RouteRecord
+  pub expected : List ExpectedPrefix
+  pub sound : Bool
+
+abbrev pub partial_shape_of : {A : Type 0} → PartialTree A → PartialShape A
+partial_shape_of h = record { prefixes = h.prefixes.items; last = h.last.items; nodes = h.nodes.items; leaves = h.leaves.items; expected = h.expected.items; sound = h.sound }
+
+-- nothing yet
+abbrev pub nothing_yet : {A : Type 0} → PartialShape A
+nothing_yet = record { prefixes = []; last = []; nodes = []; leaves = []; expected = []; sound = true }
+
+-- the part of a prefix and a node
+abbrev pub part_for : {A : Type 0} → List ℕ → Node A → PartState
+part_for q n = record { prefix = q; excluded = n.excluded; carried = option_map numbers_of n.route }
+
+-- the parts: each prefix with its node
+abbrev pub parts_of : {A : Type 0} → List (List ℕ) → List (Node A) → List PartState
+parts_of [] ns = []
+parts_of (q ∷ qs) [] = []
+parts_of (q ∷ qs) (n ∷ ns) = part_for q n ∷ parts_of qs ns
+
+abbrev pub parts_in : {A : Type 0} → PartialShape A → List PartState
+parts_in h = parts_of h.prefixes h.nodes
+
+abbrev pub pairs_in : {A : Type 0} → PartialShape A → List (List ℕ × List ℕ)
+pairs_in h = map pair_of (parts_in h)
+
+-- the prefixes that are kept, the least last
+abbrev pub expected_in : {A : Type 0} → PartialShape A → List (List ℕ)
+expected_in h = map (expected_prefix h.last) h.expected
+
+-- the last part's prefix, if there is a part
+abbrev pub last_prefix : {A : Type 0} → PartialShape A → Option (List ℕ)
+last_prefix h = if length h.nodes == 0 then None else Some h.last
+
+-- what is expected after these parts, the least first: the empty prefix before any
+abbrev pub expected_after : List PartState → List (List ℕ) → Prefixes
+expected_after [] expected = [] ∷ []
+expected_after (t ∷ ts) expected = reverse expected
+
+-- whether the prefix is the least that is expected: the empty one, before any part
+abbrev pub is_least : {A : Type 0} → PartialShape A → List ℕ → Bool
+is_least h q = option_map_or (same_numbers q) (last_item (expected_in h)) (length h.nodes == 0 && length q == 0)
+
+-- whether it is the least that is expected, after parts that all were
+abbrev pub is_expected : {A : Type 0} → PartialShape A → List ℕ → Bool
+is_expected h q = h.sound && is_least h q
+
+-- whether nothing is expected
+abbrev pub is_complete : {A : Type 0} → PartialShape A → Bool
+is_complete h = h.sound && (not (length h.nodes == 0) && (length h.expected == 0))
+
+-- ---- a part more
+
+-- each excluded number makes a path
+abbrev pub AllGoOn : ContactPlan → RouteRequest → List ℕ × List ℕ → Type 0
+AllGoOn p r e = (x : ℕ) → has nat_cmp x e.1 ≡ true → is_path p r (e.0 ++ x ∷ []) ≡ true
+
+-- the list alone if it is a route, and nothing if it is none
+abbrev pub routes_of : ContactPlan → RouteRequest → List ℕ → List (List ℕ)
+routes_of p r s = filter (is_route p r) (s ∷ [])
+
+abbrev pub onward_of : ContactPlan → RouteRequest → List ℕ → List (List ℕ)
+onward_of p r s = filter (λ q. not (is_route p r q)) (s ∷ [])
+
+-- the leaves, with the list if it is a route
+abbrev pub leaves_with : Asked → List RouteRecord → List ℕ → List RouteRecord
+leaves_with a leaves s = leaves ++ map (record_of a.plan.plan a.request) (routes_of a.plan.plan a.request s)
+
+-- the steps of a prefix, with one more number if that makes no route
+abbrev pub onward_with : Asked → List ℕ → List ExpectedPrefix → ℕ → List (List ℕ)
+onward_with a q os x = map (step_of q) os ++ onward_of a.plan.plan a.request (q ++ x ∷ [])
+
+-- where a pair's excluded numbers lead: the leaves and the prefixes that go on
+pub record IsChecked {A : Type 0} (p : ContactPlan) (r : RouteRequest) (e : List ℕ × List ℕ) (j : Checked A) : Type 0 where
+  pub leaves_are : j.leaves.items ≡ map (record_of p r) (leaves_of (is_route p r) e)
+  pub onward_are : map (step_of e.0) j.onward.items ≡ onward (is_route p r) (is_path p r) e
+  pub steps : AreSteps p r e.0 j.onward.items
+
+-- if the first are steps of the prefix, so are the second
+abbrev pub AreStepsStill : Asked → List ℕ → List ExpectedPrefix → List ExpectedPrefix → Type 0
+AreStepsStill a q old new = AreSteps a.plan.plan a.request q old → AreSteps a.plan.plan a.request q new
+
+-- each excluded number makes a path, and this is where they lead
+abbrev pub GoesOnTo : {A : Type 0} → Asked → List ℕ × List ℕ → Checked A → Type 0
+GoesOnTo a e j = AllGoOn a.plan.plan a.request e × IsChecked a.plan.plan a.request e j
+
+-- the pair answers what is expected and is good, and this is where it leads; or there is no verdict, since it doesn't
+-- or isn't
+abbrev pub IsVerdict : {A : Type 0} → ContactPlan → RouteRequest → PartialShape A → List ℕ × List ℕ → Option (Checked A) → Type 0
+IsVerdict p r h e (Some j) = (is_expected h e.0 ≡ true) × IsGood (is_route p r) (is_path p r) e × IsChecked p r e j
+IsVerdict p r h e None = is_expected h e.0 ≡ true → IsGood (is_route p r) (is_path p r) e → ⊥
+
+-- the node of a part: its leaf is the next one to come
+abbrev pub node_for : {A : Type 0} → PartialShape A → List ℕ → List ℕ → Option RouteRecord → Node A
+node_for h q X route = record { leaf = length h.leaves; length = length q; excluded = X; route = route }
+
+-- a partial tree with one more prefix and its node
+abbrev pub with_node : {A : Type 0} → PartialShape A → List ℕ → List ℕ → Option RouteRecord → PartialShape A
+with_node h q X route = record h { prefixes = h.prefixes ++ q ∷ []; last = q; nodes = h.nodes ++ node_for h q X route ∷ [] }
+
+-- a partial tree with what the part leads to in place of the least that was expected
+abbrev pub answered_by : {A : Type 0} → PartialShape A → Option (Checked A) → PartialShape A
+answered_by h None = record h { sound = false }
+answered_by h (Some j) = record h { leaves = h.leaves ++ j.leaves.items; expected = front h.expected ++ reverse j.onward.items }
+
+-- a partial tree with one more part
+abbrev pub partial_then : {A : Type 0} → PartialShape A → List ℕ → List ℕ → Option RouteRecord → Option (Checked A) → PartialShape A
+partial_then h q X route j = answered_by (with_node h q X route) j
+
+-- there is room for a part whose prefix has this number of numbers, with these numbers of leaves and of expected
+-- prefixes
+pub record HasPlaces {A : Type 0} (h : PartialTree A) (numbers leaves onward : ℕ) : Type 0 where
+  pub for_numbers : numbers ≤ vec_capacity h.last
+  pub one_node : vec_len h.nodes < vec_capacity h.nodes
+  pub for_leaves : vec_len h.leaves + leaves ≤ vec_capacity h.leaves
+  pub for_expected : vec_len h.expected + onward ≤ vec_capacity h.expected
+
+-- a partial tree with one more part, for the verdict on it
+abbrev pub IsTakenIn : {A : Type 0} → ContactPlan → RouteRequest → PartialShape A → List ℕ → List ℕ → Option RouteRecord → PartialShape A → Type 0
+IsTakenIn {A} p r h q X route new = (j : Option (Checked A)) × IsVerdict p r h (q, X) j × (new ≡ partial_then h q X route j)
+
+-- ---- what holds of it
+
+-- each node has the length of its prefix. Its leaf is the first of its own leaves and those of the nodes after it; the
+-- very first leaf is number c
+abbrev pub AreLent : {A : Type 0} → (List ℕ → Bool) → ℕ → List (List ℕ) → List (Node A) → Type 0
+AreLent route c [] [] = Unit {0}
+AreLent route c [] (n ∷ ns) = ⊥
+AreLent route c (q ∷ qs) [] = ⊥
+AreLent route c (q ∷ qs) (n ∷ ns) = (n.leaf ≡ c) × (n.length ≡ length q) × AreLent route (c + length (leaves_of route (q, n.excluded))) qs ns
+
+-- the parts answered what was expected: this is expected now, and these are the leaves
+pub record IsAnswered {A : Type 0} (p : ContactPlan) (r : RouteRequest) (h : PartialShape A) : Type 0 where
+  pub expects : Expects (is_route p r) (is_path p r) ([] ∷ []) (pairs_in h) (expected_after (parts_in h) (expected_in h))
+  pub leaves : h.leaves ≡ map (record_of p r) (flat_map (leaves_of (is_route p r)) (pairs_in h))
+  pub lent : AreLent (is_route p r) 0 h.prefixes h.nodes
+  pub expected : AreExpected p r h.last h.expected
+  pub first : parts_in h ≡ [] → expected_in h ≡ []
+
+pub record IsPartial {A : Type 0} (p : ContactPlan) (r : RouteRequest) (h : PartialShape A) : Type 0 where
+  pub paired : length h.prefixes ≡ length h.nodes
+  pub last : last_item h.prefixes ≡ last_prefix h
+  pub order : InOrder (pairs_in h)
+  pub carried : (t : PartState) (s : List ℕ) → Member t (parts_in h) → t.carried ≡ Some s → (is_route p r s ≡ true) × Within t.prefix t.excluded s
+  pub records : (n : Node A) (x : RouteRecord) → Member n h.nodes → n.route ≡ Some x → x ≡ record_of p r x.contacts
+  pub answered : h.sound ≡ true → IsAnswered p r h
+  pub broken : h.sound ≡ false → (os : Prefixes) → Expects (is_route p r) (is_path p r) ([] ∷ []) (pairs_in h) os → ⊥
+
+-- ---- the tree
+
+-- the tree of a complete one, with the last route's place
+abbrev pub loaded_tree : {A : Type 0} → PartialShape A → Option ℕ → Shape A
+loaded_tree h last = record {
+  nodes = h.nodes;
+  index = ids_from 0 (length h.nodes);
+  leaves = h.leaves;
+  last = last;
+  journal = [];
+  is_searched = false;
+}
+
+-- the last is empty and there is no leaf, or it is one of them
+abbrev pub IsGiven : List RouteRecord → List ℕ → Type 0
+IsGiven leaves last = ((last ≡ []) × (leaves ≡ [])) ⊎ ((x : RouteRecord) × Member x leaves × (x.contacts ≡ last))
+
+-- the leaves are counted, and the last route is at this place of them
+pub record IsLastPlace (leaves : List RouteRecord) (emitted : ℕ) (last : List ℕ) (place : Option ℕ) : Type 0 where
+  pub count : emitted ≡ length leaves
+  pub is : given_at leaves place ≡ last
+  pub right : IsGiven leaves last
+
+abbrev pub IsWrongLast : List RouteRecord → ℕ → List ℕ → Type 0
+IsWrongLast leaves emitted last = emitted ≡ length leaves → IsGiven leaves last → ⊥
+
+-- ---- the loader
+
+abbrev pub loaded : {A : Type 0} → TabledPlan → RouteRequest → PartialTree A → ℕ → Loaded
+loaded plan request partial calls = record { plan = plan; request = request; parts = parts_in (partial_shape_of partial); calls = calls }
+
+pub record IsLoader {A : Type 0} (plan : TabledPlan) (request : RouteRequest) (h : PartialTree A) : Type 0 where
+  pub rules : IsPlan plan.plan
+  pub limits : IsRequest request
+  pub partial : IsPartial plan.plan request (partial_shape_of h)

@@ -1,0 +1,105 @@
+//! Giving the best route that the tree carries.
+
+ghost use Rattle.std.specs.Prelude.{◌≡◌, ◌+◌, ◌≤◌, Some, IsSome, IsTrue, IsFalse, IfOk, OnErr};
+ghost use Rattle.sabr_model.specs.plan.Plan.{IsPlan};
+ghost use Rattle.sabr_frontier.specs.listing.Listing.{searches_in};
+ghost use Rattle.sabr_frontier.specs.tree.Searching.{best_for};
+ghost use Rattle.sabr_frontier.specs.tree.Shape.{shape_of, route_at, shown};
+ghost use Rattle.sabr_frontier.specs.tree.Undo.{IsRoomy};
+ghost use Rattle.sabr_frontier.specs.tree.Giving.{IsNextGiven};
+ghost use Rattle.sabr_frontier.specs.tree.Sound.{IsTree};
+ghost use Rattle.sabr_frontier.specs.tree.Winners.{CarriesSome};
+
+use crate::giving::divide::{Given, copied, divide, numbers};
+use crate::giving::searcher::Searcher;
+use crate::tree::places::carried;
+use crate::tree::{NodeId, Tree};
+use sabr_model::{NoMemory, Route};
+use sabr_search::{BestOf, Bound};
+use std::alloc::Allocator;
+
+/// What giving a route changed.
+#[derive(Clone, Copy)]
+pub struct Step {
+    /// The node that carried the route.
+    pub node: NodeId,
+    /// The first of the nodes that it made.
+    pub first: usize,
+    /// The searches that it took.
+    pub searches: u64,
+}
+
+impl<A: Allocator + Copy> Tree<A> {
+    /// Returns a second before which no route of the part that carries `route` delivers. If a search found `route`, it
+    /// is the best of that part, and the second is its delivery. Otherwise no such second is known, and 0 is returned.
+    pub fn floor_of(&self, route: &Route<A>) -> u64
+        ensures yes { IsTrue self.now.is_searched → result ≡ route.now.delivery }
+        ensures no { IsFalse self.now.is_searched → result ≡ 0 }
+    {
+        if self.is_searched {
+            return route.delivery;
+        }
+        0
+    }
+
+    /// Copies the route that a node carries.
+    pub fn copy_carried(&self, alloc: A, node: NodeId) -> Result<Route<A>, NoMemory>
+        requires { IsSome (route_at self.now.nodes.items node) }
+        ensures { IfOk result (λ x. route_at self.now.nodes.items node ≡ Some x) }
+    {
+        let Some(route) = carried(self.nodes.as_slice(), node) else {
+            unreachable!()
+        };
+        copied(alloc, route)
+    }
+
+    /// Gives the best route that a node carries. Room for all is reserved first. Then come the searches, and one that
+    /// fails leaves the parts as they were. The new parts carry no route above the bound, where there is one.
+    pub fn give_next<B: BestOf<A>>(
+        &mut self,
+        searcher: &mut Searcher<'_, B, A>,
+        given: &mut Vec<Route<A>, A>,
+        bound: Option<Bound>,
+    ) -> Result<Step, NoMemory>
+        requires plan { IsPlan searcher.old.asked.plan.plan }
+        requires tree { IsTree searcher.old.asked.plan.plan searcher.old.asked.request (shape_of self.old) }
+        requires waiting { CarriesSome self.old.nodes.items }
+        requires room { IsRoomy self.old }
+
+        // The route is given by this step.
+        ensures ok { IfOk result (IsNextGiven (best_for searcher.old.asked bound) (shape_of self.old) (shape_of self.new) given.old.items given.new.items) }
+        ensures called { IfOk result (λ step. searcher.new.calls ≡ searcher.old.calls + step.searches) }
+
+        // If an allocation failed, it took no more searches, and the tree is as it was.
+        ensures no_fewer { OnErr result (searcher.old.calls ≤ searcher.new.calls) }
+        ensures at_most { OnErr result (searcher.new.calls ≤ searcher.old.calls + searches_in searcher.old.asked.plan.plan searcher.old.asked.request 1 (shown (shape_of self.old))) }
+        ensures err { OnErr result (shape_of self.new ≡ shape_of self.old) }
+
+        // The index and the question stay, and there is room for what comes.
+        ensures index { self.new.index.items ≡ self.old.index.items }
+        ensures same { searcher.new.asked ≡ searcher.old.asked }
+        ensures room { IsRoomy self.new }
+    {
+        let Some(node) = self.least() else {
+            unreachable!()
+        };
+        let route = self.copy_carried(searcher.alloc(), node)?;
+        given.reserve(1)?;
+        self.reserve(numbers(&route).len())?;
+        let first = self.nodes.len();
+        let given_leaf = Given {
+            leaf: self.leaves.len(),
+            floor: self.floor_of(&route),
+            bound,
+        };
+        let found = divide(searcher, &mut self.nodes, node, numbers(&route), given_leaf)?;
+        let searches = (self.nodes.len() - first) as u64 + 1;
+        given.push_reserved(route);
+        self.change(node, found);
+        Ok(Step {
+            node,
+            first,
+            searches,
+        })
+    }
+}

@@ -1,0 +1,235 @@
+//! Finding the best routes of parts, with a finder and its cache.
+
+ghost use Rattle.std.specs.Prelude.{◌≡◌, ◌+◌, ◌-◌, ◌*◌, ◌<◌, ◌≤◌, min, IfOk, IsTrue};
+ghost use Rattle.std.specs.List.Sorted.{IsStrictlyIncreasing};
+ghost use Rattle.sabr_model.specs.routes.Route.{is_prefix};
+ghost use Rattle.sabr_index.specs.Looks.{many_looks};
+ghost use Rattle.sabr_search.specs.answers.SearchCache.{IsSearchCache};
+ghost use Rattle.sabr_search.specs.questions.Bounded.{IsFloor};
+ghost use Rattle.sabr_frontier.specs.tree.Searching.{IsAtRest, searching_first, best_for, call_looks};
+ghost use Rattle.sabr_frontier.specs.tree.Best.{bound_in, found_by};
+
+use crate::plan_request::PlanRequest;
+use sabr_index::Index;
+use sabr_model::{GhostCount, NoMemory, Plan, Request, Route};
+use sabr_search::{BestOf, Bound, BoundedPart, Excluded, SearchCache, Sought};
+use std::alloc::{Allocator, Global};
+use std::marker::Model;
+
+/// The bound of a search.
+fn bound_in(bound: Option<Bound>) -> Bound
+    ensures { result ≡ bound_in bound }
+{
+    match bound {
+        Some(most) => most,
+        None => Bound::none(),
+    }
+}
+
+/// The route that was found, if it is up to the bound, where there is one.
+fn up_to<A: Allocator + Copy>(sought: Sought<A>, bound: Option<Bound>) -> Option<Route<A>>
+    ensures { result ≡ found_by sought bound }
+{
+    let Sought::Route(route) = sought else {
+        return None;
+    };
+    let Some(most) = bound else {
+        return Some(route);
+    };
+    if most.holds(route.delivery, route.contacts.as_slice().len()) {
+        return Some(route);
+    }
+    None
+}
+
+/// A finder with what it is asked for, and the cache of its searches. Contracts see the plan, the request, how often
+/// the finder was called, and the looks that it took.
+#[derive(Drop)]
+pub struct Searcher<'p, B: BestOf<A>, A: Allocator + Copy = Global> {
+    /// The index of the plan.
+    index: Index<'p, A>,
+    /// What stays while it is paused.
+    rest: PausedSearcher<B, A>,
+    /// The looks of the calls that are summed, `u64::MAX` if they are more.
+    looks: u64,
+    /// How many calls are summed.
+    summed: GhostCount,
+}
+
+/// A searcher without the index of its plan, which it doesn't borrow.
+#[derive(Drop)]
+pub struct PausedSearcher<B: BestOf<A>, A: Allocator + Copy = Global> {
+    /// The allocator of all that is made.
+    alloc: A,
+    /// The request.
+    request: Request,
+    /// The finder of a part's best route.
+    finder: B,
+    /// The cache of its searches.
+    cache: SearchCache<A>,
+}
+
+impl<'p, B: BestOf<A>, A: Allocator + Copy> Model for Searcher<'p, B, A> {
+    ghost use Rattle.std.specs.Prelude.{◌*◌, ◌≤◌};
+    ghost use Rattle.sabr_search.specs.answers.SearchCache.{IsSearchCache};
+    ghost use Rattle.sabr_frontier.specs.tree.Searching.{Searching, searching_over, call_looks};
+
+    ghost Value = { Searching };
+
+    ghost view = { λ a. searching_over B.calls_of B.looks_of a.index a.rest a.summed.count a.looks };
+
+    ghost invariant = { λ a. IsSearchCache a.index a.rest.request a.rest.cache × (a.looks ≤ a.summed.count * call_looks a.index.plan) };
+}
+
+impl<'p, B: BestOf<A>, A: Allocator + Copy> Searcher<'p, B, A> {
+    /// Makes the plan's index, and a searcher with an empty cache.
+    ///
+    /// # Errors
+    ///
+    /// [`NoMemory`] if an allocation failed. The finder is dropped.
+    pub fn new(question: PlanRequest<'p, A>, finder: B) -> Result<Searcher<'p, B, A>, NoMemory>
+        ensures { IfOk result (λ searcher. searcher ≡ searching_first question.entry.plan.now question.entry.request (B.calls_of finder) (B.looks_of finder)) }
+    {
+        let alloc = question.alloc();
+        let index = Index::new(alloc, question.plan)?;
+        Ok(Searcher::over(alloc, index, question.request, finder))
+    }
+
+    /// Makes a searcher over an index, with an empty cache.
+    pub fn over(alloc: A, index: Index<'p, A>, request: Request, finder: B) -> Searcher<'p, B, A>
+        ensures { result ≡ searching_first index.entry request (B.calls_of finder) (B.looks_of finder) }
+    {
+        let rest = PausedSearcher {
+            alloc,
+            request,
+            finder,
+            cache: SearchCache::new(alloc),
+        };
+        rest.resume(index)
+    }
+
+    /// Returns the searcher without its plan's index, and the index.
+    pub fn pause(self) -> (PausedSearcher<B, A>, Index<'p, A>)
+        ensures request { result.0.request ≡ self.entry.asked.request }
+        ensures calls { B.calls_of result.0.finder ≡ self.entry.calls }
+        ensures cache { IsSearchCache self.entry.asked.plan result.0.request result.0.cache }
+        ensures index { result.1 ≡ self.entry.asked.plan }
+    {
+        let Searcher {
+            index,
+            rest,
+            looks: _,
+            summed: _,
+        } = self;
+        (rest, index)
+    }
+
+    /// Returns the sum of the looks that the finder's calls took, `u64::MAX` if they are more, and begins it anew.
+    pub fn take_sum(&mut self) -> u64
+        ensures sum { result ≡ self.old.looks }
+        ensures most { 0 < self.old.asked.since → result ≤ (self.old.calls + 1 - self.old.asked.since) * call_looks self.old.asked.plan.plan }
+        ensures begun { self.new.asked ≡ record self.old.asked { since = self.old.calls + 1 } }
+        ensures rest { IsAtRest self.new }
+        ensures calls { self.new.calls ≡ self.old.calls }
+    {
+        let sum = self.looks;
+        self.looks = 0;
+        self.summed = GhostCount::new();
+        sum
+    }
+
+    /// The allocator of what is made.
+    pub fn alloc(&self) -> A {
+        self.rest.alloc
+    }
+
+    /// The plan.
+    pub fn plan(&self) -> &'p Plan<A>
+        ensures { result.now ≡ self.now.asked.plan }
+    {
+        self.index.plan()
+    }
+
+    /// The index of the plan.
+    pub fn index(&self) -> &Index<'p, A>
+        ensures { result.now ≡ self.now.asked.plan }
+    {
+        &self.index
+    }
+
+    /// The request.
+    pub fn request(&self) -> &Request
+        ensures { result.now ≡ self.now.asked.request }
+    {
+        &self.rest.request
+    }
+
+    /// Finds the best route of a part. The excluded numbers must rise, and no route of the part may deliver before the
+    /// second `floor`. Returns `None` if the part has no route, or if a bound is given and the best route is above that
+    /// bound. Only this function calls the finder. It adds the looks of each call to the sum, even of a call that
+    /// failed.
+    #[tactic(auto, unfolding(crate::specs::tree::Best::best_of))]
+    pub fn find_best<'x>(
+        &mut self,
+        prefix: &'x [u32],
+        excluded: &'x [u32],
+        floor: u64,
+        bound: Option<Bound>,
+    ) -> Result<Option<Route<A>>, NoMemory>
+        requires fits { IsTrue (is_prefix self.old.asked.plan.plan self.old.asked.request prefix.now) }
+        requires rising { IsStrictlyIncreasing excluded.now }
+        requires floor { IsFloor self.old.asked.plan.plan self.old.asked.request prefix.now excluded.now floor }
+        ensures best { IfOk result (λ found. found ≡ best_for self.old.asked bound prefix.now excluded.now) }
+        ensures called { self.new.calls ≡ self.old.calls + 1 }
+        ensures counted { self.new.looks ≡ min (self.old.looks + self.new.last_looks) many_looks }
+        ensures same { self.new.asked ≡ self.old.asked }
+    {
+        self.index.plan().rules_hold();
+        let excluded = Excluded {
+            numbers: excluded,
+            rising: true,
+        };
+        let part = BoundedPart {
+            prefix,
+            excluded,
+            bound: bound_in(bound),
+            floor,
+        };
+        let rest = &mut self.rest;
+        let found = rest
+            .finder
+            .best_up_to(&mut rest.cache, &self.index, &rest.request, part);
+        self.looks = self.looks.saturating_add(rest.finder.looks());
+        self.summed.add();
+        let sought = found?;
+        Ok(up_to(sought, bound))
+    }
+}
+
+impl<B: BestOf<A>, A: Allocator + Copy> PausedSearcher<B, A> {
+    /// Returns the searcher over an index of the plan that it was paused over.
+    pub fn resume<'p>(self, index: Index<'p, A>) -> Searcher<'p, B, A>
+        requires { IsSearchCache index self.request self.cache }
+        ensures { result ≡ searching_first index.entry self.request (B.calls_of self.finder) (B.looks_of self.finder) }
+    {
+        Searcher {
+            index,
+            rest: self,
+            looks: 0,
+            summed: GhostCount::new(),
+        }
+    }
+
+    /// Returns the finder alone.
+    pub fn into_finder(self) -> B
+        ensures { result ≡ self.finder }
+    {
+        let PausedSearcher {
+            alloc: _,
+            request: _,
+            finder,
+            cache: _,
+        } = self;
+        finder
+    }
+}

@@ -1,0 +1,274 @@
+//! What a loader has gathered, and the tree that it makes.
+
+ghost use Rattle.std.specs.Prelude.{◌≡◌, [], true, ◌&&◌, ◌<◌, ◌≤◌, is_some, length, Some, None, IfOk, IfSome, IfNone, IsTrue, OnOk, OnErr, vec_len, vec_capacity};
+ghost use Rattle.std.specs.Option.{option_map_or};
+ghost use Rattle.sabr_model.specs.Order.{numbers_before};
+ghost use Rattle.sabr_frontier.specs.tree.Shape.{shape_of};
+ghost use Rattle.sabr_frontier.specs.tree.Undo.{IsIndexed, IsRoomy, front, last_item};
+ghost use Rattle.sabr_frontier.specs.loading.Loading.{comes_after, rise_strictly};
+ghost use Rattle.sabr_frontier.specs.loading.Leading.{AreExpected, IsLead};
+ghost use Rattle.sabr_frontier.specs.loading.Partial.{HasPlaces, IsLastPlace, IsTakenIn, IsVerdict, IsWrongLast, partial_then, partial_shape_of, is_expected, is_complete, last_prefix, loaded_tree, nothing_yet, parts_in, with_node};
+
+use crate::loader::check::{Checked, check};
+use crate::loader::ghost_lists::GhostLists;
+use crate::loader::leading::{ExpectedPrefix, Lead};
+use crate::plan_request::PlanRequest;
+use crate::tree::excluded_numbers::{ExcludedNumbers, rise};
+use crate::tree::index::push_block;
+use crate::tree::winners::rebuild;
+use crate::tree::{Node, Tree};
+use sabr_model::{NoMemory, Route};
+use std::alloc::{Allocator, Global};
+use std::cmp::Ordering;
+use std::mem::replace;
+
+/// The parts so far, the leaves that they made, and the prefixes that are expected: those that must still come as
+/// parts. As soon as a part isn't the first that is expected, the parts alone are kept.
+#[derive(Drop)]
+pub struct PartialTree<A: Allocator + Copy = Global> {
+    /// The prefixes of the parts, rising.
+    pub prefixes: GhostLists,
+    /// The last of them.
+    pub last: Vec<u32, A>,
+    /// The node of each part.
+    pub nodes: Vec<Node<A>, A>,
+    /// The leaves that the parts made.
+    pub leaves: Vec<Route<A>, A>,
+    /// The prefixes that are expected, the first last, each with where it leads.
+    pub expected: Vec<ExpectedPrefix, A>,
+    /// Whether each part so far was the first that was expected.
+    pub sound: bool,
+    /// Room in which the next part is checked.
+    pub room: Checked<A>,
+}
+
+/// Returns the place of the last route among the leaves: `None` inside if there is no leaf, and `None` if the count or
+/// the last route is wrong.
+pub fn last_place<A: Allocator + Copy>(
+    leaves: &[Route<A>],
+    emitted: u128,
+    last: &[u32],
+) -> Option<Option<usize>>
+    ensures some { IfSome result (IsLastPlace leaves.now emitted last.now) }
+    ensures none { IfNone result (IsWrongLast leaves.now emitted last.now) }
+{
+    if leaves.len() as u128 != emitted {
+        return None;
+    }
+    if leaves.is_empty() && last.is_empty() {
+        return Some(None);
+    }
+    for (i, leaf) in leaves.iter().enumerate() {
+        if leaf.contacts.as_slice() == last {
+            return Some(Some(i));
+        }
+    }
+    None
+}
+
+impl<A: Allocator + Copy> PartialTree<A> {
+    /// Makes an empty value. It allocates nothing.
+    pub fn new(alloc: A) -> PartialTree<A>
+        ensures { partial_shape_of result ≡ nothing_yet }
+    {
+        PartialTree {
+            prefixes: GhostLists::new(),
+            last: Vec::new(alloc),
+            nodes: Vec::new(alloc),
+            leaves: Vec::new(alloc),
+            expected: Vec::new(alloc),
+            sound: true,
+            room: Checked::none(alloc),
+        }
+    }
+
+    /// Returns true if a prefix comes after the last.
+    fn comes_after(&self, prefix: &[u32]) -> bool
+        ensures { result ≡ option_map_or (λ q. numbers_before q prefix.now) (last_prefix (partial_shape_of self.now)) true }
+    {
+        self.nodes.is_empty() || self.last.as_slice().cmp(prefix) == Ordering::Less
+    }
+
+    /// Returns true if a part comes after the others: its excluded numbers rise, and its prefix is greater than the
+    /// last.
+    pub fn is_next(&self, prefix: &[u32], excluded: &[u32]) -> bool
+        requires paired { length self.now.prefixes.items ≡ length self.now.nodes.items }
+        requires last { last_item self.now.prefixes.items ≡ last_prefix (partial_shape_of self.now) }
+        ensures { result ≡ (rise_strictly excluded.now && comes_after (parts_in (partial_shape_of self.now)) prefix.now) }
+    {
+        if !rise(excluded) {
+            return false;
+        }
+        self.comes_after(prefix)
+    }
+
+    /// Returns where a prefix leads if it is the first that is expected, or none. That of the first part is empty.
+    pub fn expected_lead(&self, question: &PlanRequest<'_, A>, prefix: &[u32]) -> Option<Lead>
+        requires { IsTrue self.now.sound → AreExpected question.now.plan.now.plan question.now.request self.now.last.items self.now.expected.items }
+        ensures expected { is_some result ≡ is_expected (partial_shape_of self.now) prefix.now }
+        ensures lead { IfSome result (IsLead question.now.plan.now.plan question.now.request prefix.now) }
+    {
+        if !self.sound {
+            return None;
+        }
+        let Some(expected) = self.expected.last() else {
+            if self.nodes.is_empty() && prefix.is_empty() {
+                return Some(Lead::start(question.plan, &question.request));
+            }
+            return None;
+        };
+        if expected.is(self.last.as_slice(), prefix) {
+            return Some(expected.lead);
+        }
+        None
+    }
+
+    /// Returns what a part leads to, or none if it isn't the first that is expected, if one of its excluded numbers
+    /// makes no path, or if it excludes none and isn't the first.
+    fn check(
+        &mut self,
+        question: &PlanRequest<'_, A>,
+        prefix: &[u32],
+        excluded: &[u32],
+        lead: Option<Lead>,
+    ) -> Result<Option<Checked<A>>, NoMemory>
+        requires expected { is_some lead ≡ is_expected (partial_shape_of self.old) prefix.now }
+        requires lead { IfSome lead (IsLead question.now.plan.now.plan question.now.request prefix.now) }
+        ensures verdict { IfOk result (IsVerdict question.now.plan.now.plan question.now.request (partial_shape_of self.old) (prefix.now, excluded.now)) }
+        ensures same { partial_shape_of self.new ≡ partial_shape_of self.old }
+    {
+        let Some(lead) = lead else {
+            return Ok(None);
+        };
+        if !prefix.is_empty() && excluded.is_empty() {
+            return Ok(None);
+        }
+        let room = replace(&mut self.room, Checked::none(question.alloc));
+        check(question, prefix, excluded, lead, room)
+    }
+
+    /// Reserves room for a part whose prefix has `count` numbers, and for what it leads to.
+    fn reserve(&mut self, numbers: usize, leaves: usize, onward: usize) -> Result<(), NoMemory>
+        ensures same { partial_shape_of self.new ≡ partial_shape_of self.old }
+        ensures ok { OnOk result (HasPlaces self.new numbers leaves onward) }
+    {
+        self.last.reserve(numbers)?;
+        self.nodes.reserve(1)?;
+        self.leaves.reserve(leaves)?;
+        self.expected.reserve(onward)?;
+        Ok(())
+    }
+
+    /// Adds a part after the others, for which there is room.
+    fn push(&mut self, prefix: &[u32], excluded: ExcludedNumbers<A>, route: Option<Route<A>>)
+        requires numbers { length prefix.now ≤ vec_capacity self.old.last }
+        requires node { vec_len self.old.nodes < vec_capacity self.old.nodes }
+        ensures partial { partial_shape_of self.new ≡ with_node (partial_shape_of self.old) prefix.now excluded route }
+        ensures leaves { self.new.leaves ≡ self.old.leaves }
+        ensures expected { self.new.expected ≡ self.old.expected }
+    {
+        self.nodes.push_reserved(Node {
+            leaf: self.leaves.len(),
+            length: prefix.len(),
+            excluded,
+            route,
+        });
+        self.prefixes.push(prefix);
+        self.last.clear();
+        let kept = self.last.extend_from_slice(prefix);
+        let Ok(()) = kept else { unreachable!() };
+    }
+
+    /// Adds the part that was expected, and what it leads to. What may fail comes before the first change.
+    fn answer(
+        &mut self,
+        prefix: &[u32],
+        excluded: ExcludedNumbers<A>,
+        route: Option<Route<A>>,
+        mut checked: Checked<A>,
+    ) -> Result<(), NoMemory>
+        ensures ok { OnOk result (partial_shape_of self.new ≡ partial_then (partial_shape_of self.old) prefix.now excluded route (Some checked)) }
+        ensures err { OnErr result (partial_shape_of self.new ≡ partial_shape_of self.old) }
+    {
+        self.reserve(prefix.len(), checked.leaves.len(), checked.onward.len())?;
+        self.push(prefix, excluded, route);
+        self.expected.pop();
+        checked.onward.reverse();
+        let appended = self.expected.append(&mut checked.onward);
+        let Ok(()) = appended else { unreachable!() };
+        let appended = self.leaves.append(&mut checked.leaves);
+        let Ok(()) = appended else { unreachable!() };
+        self.room = checked;
+        Ok(())
+    }
+
+    /// Adds a part that wasn't expected, or isn't right: from now on the parts alone are kept.
+    fn add(
+        &mut self,
+        prefix: &[u32],
+        excluded: ExcludedNumbers<A>,
+        route: Option<Route<A>>,
+    ) -> Result<(), NoMemory>
+        ensures ok { OnOk result (partial_shape_of self.new ≡ partial_then (partial_shape_of self.old) prefix.now excluded route None) }
+        ensures err { OnErr result (partial_shape_of self.new ≡ partial_shape_of self.old) }
+    {
+        self.reserve(prefix.len(), 0, 0)?;
+        self.push(prefix, excluded, route);
+        self.sound = false;
+        Ok(())
+    }
+
+    /// Adds a part that comes after the others, with the record of the route that it carries. If its prefix is the
+    /// first that is expected, `lead` is where that leads.
+    pub fn take_in(
+        &mut self,
+        question: &PlanRequest<'_, A>,
+        prefix: &[u32],
+        excluded: &[u32],
+        lead: Option<Lead>,
+        route: Option<Route<A>>,
+    ) -> Result<(), NoMemory>
+        requires expected { is_some lead ≡ is_expected (partial_shape_of self.old) prefix.now }
+        requires lead { IfSome lead (IsLead question.now.plan.now.plan question.now.request prefix.now) }
+        ensures ok { OnOk result (IsTakenIn question.now.plan.now.plan question.now.request (partial_shape_of self.old) prefix.now excluded.now route (partial_shape_of self.new)) }
+        ensures err { OnErr result (partial_shape_of self.new ≡ partial_shape_of self.old) }
+    {
+        let checked = self.check(question, prefix, excluded, lead)?;
+        let excluded = ExcludedNumbers::of(question.alloc, excluded)?;
+        match checked {
+            Some(checked) => self.answer(prefix, excluded, route, checked),
+            None => self.add(prefix, excluded, route),
+        }
+    }
+
+    /// Returns true if there is a part, each part was the first that was expected, and none is expected any more.
+    pub fn is_complete(&self) -> bool
+        ensures { result ≡ is_complete (partial_shape_of self.now) }
+    {
+        self.sound && !self.nodes.is_empty() && self.expected.is_empty()
+    }
+
+    /// Makes the tree of the parts.
+    pub fn into_tree(self, alloc: A, last: Option<usize>) -> Result<Tree<A>, NoMemory>
+        requires { IsIndexed (loaded_tree (partial_shape_of self) last) }
+        ensures shape { IfOk result (λ t. shape_of t ≡ loaded_tree (partial_shape_of self) last) }
+        ensures index { IfOk result (λ t. t.index.items ≡ (shape_of t).index) }
+        ensures room { IfOk result IsRoomy }
+    {
+        let count = self.nodes.len();
+        let mut index = Vec::with_capacity(alloc, count)?;
+        let mut winners = Vec::with_capacity(alloc, count)?;
+        push_block(&mut index, 0, count);
+        rebuild(self.nodes.as_slice(), &mut winners);
+        Ok(Tree {
+            nodes: self.nodes,
+            index,
+            late: Vec::new(alloc),
+            winners,
+            leaves: self.leaves,
+            last,
+            journal: Vec::new(alloc),
+            is_searched: false,
+        })
+    }
+}

@@ -1,5 +1,0 @@
--- Layers of a level: how its chains stand, that they leave out no way of a part's question, and where they tell that there is none.
-pub mod Chained
-pub mod Leaves
-pub mod DeadEnds
-pub mod Walks

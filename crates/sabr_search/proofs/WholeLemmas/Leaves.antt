@@ -1,0 +1,144 @@
+-- Layers made for the whole graph leave out no way of a part's question.
+use Rattle.std.proofs.Common.{◌≡◌, inl, inr, ℕ, ◌+◌, ◌<◌, ◌≤◌, Bool, true, false, List, [], ◌∷◌, ◌++◌, length, slice_get, slice_index, slice_index_or, Some, refl, ap, sym, subst, ◌∙◌, arith, length-append}
+use Rattle.std.proofs.lemmas.Bool.{cases_eq, cases_lt, both_ways}
+use Rattle.std.proofs.lemmas.Bool.Decides.{nat_tests}
+use Rattle.std.proofs.lemmas.Option.{slice_get-get_or}
+use Rattle.std.proofs.lemmas.Grind.{common_steps}
+use Rattle.sabr_model.specs.plan.Plan.{TabledPlan, contact_named, has}
+use Rattle.sabr_model.specs.routes.Arrival.{RouteRequest, arrival}
+use Rattle.sabr_search.specs.declared.backward.deadlines.Deadlines.{Deadlines}
+use Rattle.sabr_search.specs.questions.Ways.{Leads}
+use Rattle.sabr_search.specs.questions.Task.{SearchTask, IsTask, IsAsked, Takes, is_closed}
+use Rattle.sabr_search.specs.questions.FirstSteps.{tabled_of}
+use Rattle.sabr_search.specs.layers.Deadlines.{HasDeadline, IsInTimeWithin}
+use Rattle.sabr_search.specs.layers.NodeBounds.{AreSoonFor}
+use Rattle.sabr_search.specs.layers.WholeDeadlines.{AreOfEach, AreWhole, AreWholeDeadlinesOf}
+use Rattle.sabr_search.proofs.WayLemmas.Ways.{Leads-append, Leads-later}
+use Rattle.sabr_search.proofs.WayLemmas.RoutesAndWays.{takes_timely}
+use Rattle.sabr_search.proofs.WayLemmas.Prefixes.{prefix_facts}
+use Rattle.sabr_search.proofs.AnswerLemmas.Around.{of_request}
+use Rattle.sabr_search.proofs.AnswerLemmas.Soonest.{stop_of, soon_after, receivers_open}
+
+-- the node at which a way of some hops ends is one that a step takes
+way_ends : (task : SearchTask) (Open : ℕ → Type 0) → ((n u t w b : ℕ) → Takes task n u t w b → Open w) → (ns : List ℕ) (u t v e : ℕ) → Leads (Takes task) u t ns v e → 0 < length ns → Open v
+way_ends task Open each [] u t v e way some = absurd (omega arith)
+way_ends task Open each (n ∷ []) u t v e way some = rw (← way.3.0) (each n u t way.0 way.1 way.2)
+way_ends task Open each (n ∷ m ∷ ns) u t v e way some = way_ends task Open each (m ∷ ns) way.0 way.1 v e way.3 (omega arith)
+
+-- a flag past the end is off
+past_end : (flags : List Bool) (k : ℕ) → length flags ≤ k → slice_index_or flags k false ≡ false
+past_end flags k le = grind (arith, common_steps)
+
+-- no way over the whole graph comes to where a question starts any sooner, unless it starts at the source
+start_soon : (task : SearchTask) (prefix : List ℕ) → IsAsked task prefix → (soon : List ℕ) → AreSoonFor (tabled_of task) task.request soon → is_closed task.plan task.request [] task.request.source ≡ true →
+    ((x : ℕ) → slice_get task.table task.start ≡ Some x → is_closed task.plan task.request [] x ≡ false) → slice_index soon task.start ≤ task.at
+start_soon task [] asked soon are source open' = absurd (both_ways (is_closed task.plan task.request [] task.request.source) (open' task.request.source (asked.behind.stands ∙ sym asked.behind.chained)) source)
+start_soon task (n ∷ prefix) asked soon are source open' =
+    let behind = asked.behind in
+    are (n ∷ prefix) task.start behind.last_node task.at (omega arith) behind.stands behind.chained behind.arrives (receivers_open task (n ∷ prefix) (prefix_facts task.plan task.request (n ∷ prefix) asked.fits))
+
+-- the source is closed
+source_closed : (task : SearchTask) → is_closed task.plan task.request [] task.request.source ≡ true
+source_closed task = grind (arith, nat_tests)
+
+-- a question after no contact that excludes nothing, and one after a prefix, of the same plan and request
+module _ (whole task : SearchTask) (prefix : List ℕ) (first : IsAsked whole []) (asked : IsAsked task prefix) (plan : tabled_of whole ≡ tabled_of task) (request : whole.request ≡ task.request) where
+  table_is : whole.table ≡ task.table
+  table_is = ap (λ (p : TabledPlan). p.table) plan
+
+  -- where the whole graph is forbidden
+  forbidden_there : (k x : ℕ) → slice_get task.table k ≡ Some x → slice_index_or whole.forbidden k false ≡ is_closed task.plan task.request [] x
+  forbidden_there k x at = first.behind.forbids k x (ap (λ t. slice_get t k) table_is ∙ at) ∙ ap (λ (p : TabledPlan). is_closed p.plan whole.request [] x) plan ∙ ap (λ r. is_closed task.plan r [] x) request
+
+  opens_there : (k : ℕ) → slice_index_or task.forbidden k false ≡ false → slice_index_or whole.forbidden k false ≡ false
+  opens_there k open' = elim (cases_lt k (length task.table)) [
+    | inl within ↦
+        (let at = slice_get-get_or task.table k 0 within in
+        forbidden_there k _ at ∙ (of_request task prefix asked.behind).closes k _ at open')
+    | inr past ↦ past_end whole.forbidden k (omega (arith, past, first.task_is.as_many, ap length table_is))
+  ]
+
+  goal_there : whole.goal ≡ task.goal
+  goal_there = asked.task_is.nodes.apart whole.goal task.goal task.request.destination (sym (ap (λ t. slice_get t whole.goal) table_is) ∙ first.behind.goal_is ∙ ap (λ (r : RouteRequest). Some r.destination) request) asked.behind.goal_is
+
+  soon_there : (since : List ℕ) → AreSoonFor (tabled_of whole) whole.request since → AreSoonFor (tabled_of task) task.request since
+  soon_there since are = subst (λ r. AreSoonFor (tabled_of task) r since) request (subst (λ p. AreSoonFor p whole.request since) plan are)
+
+  -- each step of the question is one of the whole graph
+  whole_step : whole.excluded ≡ [] → (n u t w b : ℕ) → Takes task n u t w b → Takes whole n u t w b
+  whole_step none n u t w b s = record {
+    contact = s.contact;
+    named = ap (λ (p : TabledPlan). contact_named p.plan n) plan ∙ s.named;
+    sender = ap (λ (p : TabledPlan). slice_get p.table u) plan ∙ s.sender;
+    receiver = ap (λ (p : TabledPlan). slice_get p.table w) plan ∙ s.receiver;
+    permitted = opens_there w s.permitted;
+    allowed = λ same. ap (has n) none;
+    arrives = ap (λ (p : TabledPlan). arrival p.plan whole.request t s.contact) plan ∙ ap (λ r. arrival task.plan r t s.contact) request ∙ s.arrives;
+  }
+
+-- layers made for the question after no contact are layers of each that is asked of the plan and the request
+pub of_each : {A : Type 0} (whole : SearchTask) (s : Deadlines A) (d : ℕ) → IsAsked whole [] → whole.excluded ≡ [] → (since : List ℕ) → AreSoonFor (tabled_of whole) whole.request since → ((most : ℕ) → AreWhole whole since d most s) → AreOfEach (tabled_of whole) whole.request s d
+of_each whole s d first none since soon layers task prefix asked is requested hops =
+    let same = sym is in
+    let requests = sym requested in
+    let are = soon_there whole task prefix first asked same requests since soon in
+    record {
+      most = hops;
+      within = omega arith;
+      whole = whole;
+      since = since;
+      layers = layers hops;
+      table = table_is whole task prefix first asked same requests;
+      goal = goal_there whole task prefix first asked same requests;
+      takes = whole_step whole task prefix first asked same requests none;
+      soonest = soon_after task prefix (of_request task prefix asked.behind) (prefix_facts task.plan task.request prefix asked.fits) (stop_of task prefix asked.behind) since are;
+      begins = λ open'. start_soon task prefix asked since are (source_closed task) (λ x at. sym (forbidden_there whole task prefix first asked same requests task.start x at) ∙ open');
+    }
+
+module _ {A : Type 0} (task : SearchTask) (is : IsTask task) (d hops : ℕ) (s : Deadlines A) (over : AreWholeDeadlinesOf task d hops s) where
+  -- as far as fewer hops
+  pub level_fewer : (fewer : ℕ) → fewer ≤ hops → AreWholeDeadlinesOf task d fewer s
+  level_fewer fewer le = record {
+    most = over.most;
+    within = omega (arith, le, over.within);
+    whole = over.whole;
+    since = over.since;
+    layers = over.layers;
+    table = over.table;
+    goal = over.goal;
+    takes = over.takes;
+    soonest = over.soonest;
+    begins = over.begins;
+  }
+
+  -- the goal's entry
+  pub goal_entry : HasDeadline s.ends.items s.entries.items 0 task.goal (d + 1)
+  goal_entry = (0, omega (arith, over.layers.first_end), omega (arith, over.layers.second_end), over.layers.goal_first ∙ ap (λ g. Some (record { node = g; before = d + 1 })) over.goal)
+
+  -- whoever a way leads on to the goal in time is in time for an entry, at the start if its question leaves it open
+  in_time : (ns ms : List ℕ) (u t e : ℕ) → length ns ≤ hops → slice_index_or over.whole.forbidden u false ≡ false → slice_index over.since u ≤ t → Leads (Takes task) task.start task.at ms u t → Leads (Takes task) u t ns task.goal e → e ≤ d →
+      IsInTimeWithin s.ends.items s.entries.items (length ns) u t
+  in_time [] ms u t e few permitted since there on by = (0, d + 1, omega arith, rw (on.0) goal_entry, omega (arith, on.1))
+  in_time (n ∷ ns) ms u t e few permitted since there on by =
+      let timely = takes_timely task is.nodes in
+      let step = over.takes n u t on.0 on.1 on.2 in
+      let next : Leads (Takes task) task.start task.at (ms ++ n ∷ []) on.0 on.1 = Leads-append (Takes task) timely ms (n ∷ []) task.start task.at u t on.0 on.1 there (on.0, on.1, on.2, (refl, refl)) in
+      let some : 0 < length (ms ++ n ∷ []) = omega (arith, length-append ms (n ∷ [])) in
+      let r = in_time ns (ms ++ n ∷ []) on.0 on.1 e (omega (arith, few)) step.permitted (over.soonest (ms ++ n ∷ []) on.0 on.1 some next) next on.3 by in
+      elim (cases_eq u task.goal) [
+        | inl same ↦ (0, d + 1, omega arith, rw same goal_entry, omega (arith, Leads-later (Takes task) timely (n ∷ ns) u t task.goal e on))
+        | inr other ↦
+            (let told = over.layers.taken r.0 on.0 r.1 n u t on.1 (omega (arith, r.2, few, over.within)) r.3 r.4 step permitted (λ same. other (same ∙ over.goal)) since in
+            (told.0, told.1, omega (arith, told.2, r.2), told.3, told.4))
+      ]
+
+  -- after the start it is open
+  pub leaves_out_none : (ms ns : List ℕ) (u t e : ℕ) → 0 < length ms → length ns ≤ hops → Leads (Takes task) task.start task.at ms u t → Leads (Takes task) u t ns task.goal e → e ≤ d →
+      IsInTimeWithin s.ends.items s.entries.items (length ns) u t
+  leaves_out_none ms ns u t e some few there on by =
+      let permitted = way_ends task (λ v. slice_index_or over.whole.forbidden v false ≡ false) (λ n v s w b step. (over.takes n v s w b step).permitted) ms task.start task.at u t there some in
+      in_time ns ms u t e few permitted (over.soonest ms u t some there) there on by
+
+  pub in_time_at_start : slice_index_or over.whole.forbidden task.start false ≡ false → (ns : List ℕ) (e : ℕ) → length ns ≤ hops → Leads (Takes task) task.start task.at ns task.goal e → e ≤ d →
+      IsInTimeWithin s.ends.items s.entries.items (length ns) task.start task.at
+  in_time_at_start permitted ns e few on by = in_time ns [] task.start task.at e few permitted (over.begins permitted) (refl, refl) on by

@@ -1,5 +1,0 @@
-use Rattle.sabr_search.proofs.AnswerLemmas.KeptAnswers.{IsOnWay}
-use Rattle.sabr_search.proofs.answers.Answer.leads.Given as goal
-
-abbrev pub invariant-loop-place : goal.invariant-loop-place
-invariant-loop-place g l = IsOnWay l.task l.self.lists.way l.place l.from.node l.from.at

@@ -1,0 +1,50 @@
+use Rattle.std.proofs.Common.{◌≡◌, ◌≢◌, ◌≤◌, ℕ, Bool, true, false, List, [], length, slice_index_or, slice_set, inl, inr, ap, sym, ◌∙◌, arith}
+use Rattle.std.proofs.lemmas.Bool.{cases_lt, both_ways}
+use Rattle.std.proofs.lemmas.Option.{slice_get-get_or}
+use Rattle.std.proofs.lemmas.Grind.{common_steps}
+use Rattle.sabr_search.specs.questions.Task.{SearchTask, IsTask, IsOfRequest, is_closed}
+use Rattle.sabr_search.specs.questions.PrefixPath.{AreForbidden}
+use Rattle.sabr_search.specs.answers.Answers.{narrowed}
+use Rattle.sabr_search.specs.questions.WideTasks.{ForbidsFewer}
+use Rattle.sabr_search.proofs.ForwardLemmas.Queues.{flag_here, flag_other, flag_many}
+use Rattle.sabr_search.proofs.early.widening.forbid_few.Goals as goal
+
+-- a flag past the end is off
+past_end : (flags : List Bool) (k : ℕ) → length flags ≤ k → slice_index_or flags k false ≡ false
+past_end flags k le = grind (arith, common_steps)
+
+module _ (task : SearchTask) (is : IsTask task) (request : IsOfRequest task) (forbidden : List Bool) (are : AreForbidden task.table forbidden (is_closed task.plan task.request [])) where
+  abbrev here : List Bool
+  here = slice_set forbidden task.start true
+
+  fewer_forbidden : ForbidsFewer task here
+  fewer_forbidden = record {
+    many = flag_many forbidden task.start ∙ are.many ∙ sym is.as_many;
+    start = flag_here forbidden task.start (omega (arith, are.many, is.start_in));
+    opens = λ k open'.
+        let other : k ≢ task.start = λ same. both_ways (slice_index_or task.forbidden task.start false) (sym (ap (λ j. slice_index_or task.forbidden j false) same) ∙ open') is.start_forbidden in
+        flag_other forbidden task.start k other ∙ elim (cases_lt k (length task.table)) [
+          | inl within ↦
+              (let at = slice_get-get_or task.table k 0 within in
+              are.flag k _ at ∙ request.closes k _ at open')
+          | inr past ↦ past_end forbidden k (omega (arith, past, are.many))
+        ];
+  }
+
+  of_request_still : IsOfRequest (narrowed task here task.at)
+  of_request_still = record {
+    goal_is = request.goal_is;
+    since = request.since;
+    closes = λ k x at open'.
+        let other : k ≢ task.start = λ same. both_ways (slice_index_or here task.start false) (sym (ap (λ j. slice_index_or here j false) same) ∙ open') (flag_here forbidden task.start (omega (arith, are.many, is.start_in))) in
+        sym (are.flag k x at) ∙ sym (flag_other forbidden task.start k other) ∙ open';
+  }
+
+pub open_all-requires : goal.open_all-requires
+open_all-requires g c = omega (arith, ap length c.forbidden.ensures, c.requires.task.as_many, c.requires.task.few)
+
+pub returns-clause-fewer : goal.returns-clause-fewer
+returns-clause-fewer g c = rw (c.in_ok-put.ensures, c.start.ensures) (fewer_forbidden c.args.task.now c.requires.task c.requires.request _ (rw (c.plan.ensures, c.request.ensures) at c.in_ok-forbid_closed.ensures))
+
+pub returns-clause-request : goal.returns-clause-request
+returns-clause-request g c = rw (c.in_ok-put.ensures, c.start.ensures) (of_request_still c.args.task.now c.requires.task c.requires.request _ (rw (c.plan.ensures, c.request.ensures) at c.in_ok-forbid_closed.ensures))

@@ -1,0 +1,10 @@
+use Rattle.sabr_search.specs.questions.Task.{IsOfRequest}
+use Rattle.sabr_search.specs.answers.Answers.{narrowed}
+use Rattle.sabr_search.specs.questions.WideTasks.{ForbidsFewer}
+use Rattle.sabr_search.proofs.early.widening.forbid_near.Given as goal
+
+abbrev pub invariant-loop-node : goal.invariant-loop-node
+invariant-loop-node g l = record {
+  fewer : ForbidsFewer l.task l.forbidden;
+  request : IsOfRequest (narrowed l.task l.forbidden l.task.at);
+}

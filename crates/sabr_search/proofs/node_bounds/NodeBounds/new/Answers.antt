@@ -1,0 +1,12 @@
+use Rattle.std.proofs.Common.{arith}
+use Rattle.sabr_search.proofs.BackwardLemmas.LastSeconds.{none_late, no_costs}
+use Rattle.sabr_search.proofs.AnswerLemmas.Soonest.{none_soon}
+use Rattle.sabr_search.proofs.node_bounds.NodeBounds.new.Goals as goal
+
+pub returns : goal.returns
+returns g c = λ p r. record {
+  late = none_late p r _ _ (omega arith) c.new.ensures.items;
+  late_until = none_late p r _ _ (omega arith) c.new-2.ensures.items;
+  costs = no_costs p r _ c.new-3.ensures.items;
+  soon = none_soon p r _ c.new-5.ensures.items;
+}

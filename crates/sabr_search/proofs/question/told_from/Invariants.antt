@@ -1,9 +1,0 @@
-use Rattle.std.proofs.Common.{◌≡◌, ◌+◌, take}
-use Rattle.sabr_model.specs.routes.Telling.{told_of}
-use Rattle.sabr_search.proofs.question.told_from.Given as goal
-
-abbrev pub invariant-loop-place : goal.invariant-loop-place
-invariant-loop-place g l = record {
-  counted : l.fn.looks.left ≡ l.looks.left + l.place;
-  told : l.told ≡ told_of l.plan.plan (take l.place l.numbers);
-}

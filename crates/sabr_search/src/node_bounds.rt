@@ -1,0 +1,128 @@
+//! What holds for the ways of every question of a session, over the whole graph.
+
+ghost use Rattle.std.specs.Prelude.{◌≡◌, []};
+ghost use Rattle.sabr_model.specs.plan.Plan.{TabledPlan};
+ghost use Rattle.sabr_model.specs.routes.Arrival.{RouteRequest};
+ghost use Rattle.sabr_search.specs.layers.NodeBounds.{AreLateFor, AreNodeBounds};
+ghost use Rattle.sabr_search.specs.questions.FirstSteps.{tabled_of};
+ghost use Rattle.sabr_search.specs.questions.Task.{IsAsked};
+
+use crate::backward::latest::latest_by;
+use crate::backward::nearest::costs_of;
+use crate::forward::soonest::soonest_of;
+use crate::task::Task;
+use crate::visit::{NEVER, UNDELIVERED};
+use sabr_index::Looks;
+use sabr_model::NoMemory;
+use std::alloc::Allocator;
+
+/// How many questions are asked before any of this is found. Finding it takes as long as several searches,
+/// and a list's first route, with the question whether another follows, takes two. With 1, runs for one route take 4
+/// percent more instructions, the mean of 24 questions; with 3, those for ten routes take 0.3 percent more. To vary it:
+/// `bench/figures.py --counts 1,10`, over all plans.
+const FIRST_QUESTIONS: u32 = 2;
+
+/// How many questions later last seconds are found for a bound, at the earliest; each time after it is twice as many.
+/// With 8 and four times as many, runs for ten routes take 1 percent more instructions, the mean of 24 questions; with
+/// 256, those for 100 routes over sparse-20000 take 29 percent more: in a copy of this design in plain Rust. To vary
+/// it: `bench/figures.py --counts 10,100`, over all plans.
+const FIRST_GAP: u32 = 128;
+
+/// What is known of the ways of every question of a request.
+#[derive(Drop)]
+pub struct NodeBounds<A: Allocator + Copy> {
+    /// For each node, a second from which on no way leads to the destination; none is known after the list's end.
+    late: Vec<u64, A>,
+    /// For each node, a second from which on no way delivers before `until`. The list is empty if none is known.
+    late_until: Vec<u64, A>,
+    /// The second for which `late_until` was last looked for. It is `UNDELIVERED` before the first time, and `NEVER`
+    /// before the other lists were found.
+    until: u64,
+    /// For each node, a number of seconds that each way to the destination takes at least; 0 after the list's end.
+    pub costs: Vec<u64, A>,
+    /// For each node, the hops of such a way, as far as the list goes.
+    pub hops: Vec<u64, A>,
+    /// For each node, a second before which no way from the source comes there; 0 after the list's end.
+    pub soon: Vec<u64, A>,
+    /// How many questions are still asked before more of this is looked for.
+    wait: u32,
+    /// The same, after the next time.
+    gap: u32,
+}
+
+impl<A: Allocator + Copy> NodeBounds<A> {
+    /// Knows nothing of any node. It doesn't allocate.
+    pub fn new(alloc: A) -> NodeBounds<A>
+        ensures { (p : TabledPlan) (r : RouteRequest) → AreNodeBounds p r result }
+    {
+        NodeBounds {
+            late: Vec::new(alloc),
+            late_until: Vec::new(alloc),
+            until: NEVER,
+            costs: Vec::new(alloc),
+            hops: Vec::new(alloc),
+            soon: Vec::new(alloc),
+            wait: FIRST_QUESTIONS,
+            gap: FIRST_GAP,
+        }
+    }
+
+    /// For each node, a second from which on no way delivers before `until`; none is known after the list's end.
+    pub fn late_for(&self, until: u64) -> &[u64]
+        ensures { (p : TabledPlan) (r : RouteRequest) → AreNodeBounds p r self.now → AreLateFor p r until result.now }
+    {
+        if until <= self.until && !self.late_until.is_empty() {
+            return &self.late_until;
+        }
+        &self.late
+    }
+
+    /// Counts a question for ways that deliver before `until`. Returns true if [`find`](NodeBounds::find) is to be
+    /// called: first for the lists that hold for every question, and later for last seconds, if `until` is earlier than
+    /// the last time. At least `FIRST_GAP` questions go by between the first two calls, and twice as many before each
+    /// later one.
+    pub fn is_due(&mut self, until: u64) -> bool
+        ensures { (p : TabledPlan) (r : RouteRequest) → AreNodeBounds p r self.old → AreNodeBounds p r self.new }
+    {
+        if self.wait > 0 {
+            self.wait -= 1;
+            return false;
+        }
+        if until >= self.until {
+            return false;
+        }
+        self.wait = self.gap;
+        self.gap = self.gap.saturating_mul(2);
+        true
+    }
+
+    /// Finds last seconds for `until`, or the first time what doesn't depend on it, from the question of the empty
+    /// prefix, which excludes nothing. What might need more looks than are left, or an allocation that failed, isn't
+    /// known.
+    pub fn find(
+        &mut self,
+        alloc: A,
+        task: &Task<'_, A>,
+        looks: &mut Looks,
+        until: u64,
+    ) -> Result<(), NoMemory>
+        requires asked { IsAsked task.now [] }
+        requires none { task.now.excluded ≡ [] }
+        requires node_bounds { AreNodeBounds (tabled_of task.now) task.now.request self.old }
+        ensures { AreNodeBounds (tabled_of task.now) task.now.request self.new }
+    {
+        if self.until < NEVER {
+            self.late_until = latest_by(alloc, task, looks, until)?;
+            self.until = until;
+            return Ok(());
+        }
+        let late = latest_by(alloc, task, looks, NEVER)?;
+        let costs = costs_of(alloc, task, &mut self.hops)?;
+        let soon = soonest_of(alloc, task, looks, &late)?;
+        self.late = late;
+        self.costs = costs;
+        self.soon = soon;
+        self.until = UNDELIVERED;
+        Ok(())
+    }
+}
