@@ -10,7 +10,7 @@ use Rattle.sabr_search.specs.declared.visit.Visit.{Visit}
 use Rattle.sabr_search.specs.declared.found.Best.{Best}
 use Rattle.sabr_search.specs.questions.Task.{SearchTask, Takes, IsTask, never, latest_arrival}
 use Rattle.sabr_search.specs.layers.Lists.{AreClosed, IsKnown}
-use Rattle.sabr_search.specs.layers.Settling.{IsBound, IsWaiting, AreSettledBy, AreBy, settled_count, IsWayTo, IsQueue, AreHops, IsFirst, AreSettling, IsFallen, AreSettledTaken}
+use Rattle.sabr_search.specs.layers.Settling.{IsBound, IsWaiting, AreSettledBy, AreBy, settled_count, IsWayTo, IsQueue, AreHops, AreSettling, IsFallen, AreSettledTaken}
 use Rattle.sabr_search.proofs.WayLemmas.Ways.{Leads-append}
 use Rattle.sabr_search.proofs.WayLemmas.RoutesAndWays.{takes_timely}
 use Rattle.sabr_search.proofs.ForwardLemmas.Forward.{known_lower}
@@ -300,7 +300,7 @@ module _ (task : SearchTask) (bounds costs : List ℕ) (settled : List Bool) (ar
 
     -- so its contacts can be taken
     pub settles : (until : ℕ) (hops : List ℕ) (best : Best) → IsBound task until bounds costs → length arrival ≡ length task.forbidden → length settled ≡ length task.forbidden → AreClosed task.forbidden arrival task.at → task.at ≤ slice_index arrival e.node → AreBy task bounds arrival → best.delivery ≤ latest_arrival + 1 →
-        best.delivery ≤ slice_index arrival task.goal → IsFirst task until settled best → AreHops task bounds settled arrival hops → AreSettling task until bounds costs (slice_set settled e.node true) e.node (slice_index arrival e.node) arrival hops queue' best
+        best.delivery ≤ slice_index arrival task.goal → IsFound task until (settled_count settled) best → AreHops task bounds settled arrival hops → AreSettling task until bounds costs (slice_set settled e.node true) e.node (slice_index arrival e.node) arrival hops queue' best
     settles until hops best bound flags many closed since lowered sooner goal_late found hops_are = record {
       on = flag_here settled e.node within;
       real = (hops_are.ways e.node head_inside head_open head_soon).1;

@@ -76,13 +76,6 @@ pub record AreHops (task : SearchTask) (late : List ℕ) (settled : List Bool) (
   pub many : length hops ≡ length task.forbidden
   pub ways : (k : ℕ) → k < length arrival → slice_index_or task.forbidden k false ≡ false → slice_index arrival k < slice_index_or late k never → (slice_index hops k ≤ settled_count settled) × IsWayTo task k (slice_index hops k) (slice_index arrival k)
 
--- no delivery is found before second `until`, or one that is sooner by a way of no more hops than there are settled
--- nodes
-abbrev pub IsFirst : SearchTask → ℕ → List Bool → Best → Type 0
-IsFirst task until settled best =
-    ((best.hops ≡ 0) × (best.delivery ≡ until))
-    ⊎ ((0 < best.hops) × (best.hops ≤ settled_count settled) × (best.delivery < until) × IsWayTo task task.goal best.hops best.delivery)
-
 -- no open node's arrival is later than what is too late there
 abbrev pub AreBy : SearchTask → List ℕ → List ℕ → Type 0
 AreBy task late arrival = (k : ℕ) → slice_index_or task.forbidden k false ≡ false → slice_index arrival k ≤ slice_index_or late k never
@@ -99,7 +92,7 @@ pub record AreSettling (task : SearchTask) (until : ℕ) (late costs : List ℕ)
   pub lowered : AreBy task late arrival
   pub queue_is : IsQueue task late costs settled arrival queue
   pub hops_are : AreHops task late settled arrival hops
-  pub found : IsFirst task until settled best
+  pub found : IsFound task until (settled_count settled) best
   pub sooner : best.delivery ≤ latest_arrival + 1
   pub goal_late : best.delivery ≤ slice_index arrival task.goal
 
@@ -133,7 +126,7 @@ pub record AreSettled (task : SearchTask) (until : ℕ) (late costs : List ℕ) 
   pub lowered : AreBy task late arrival
   pub queue_is : IsQueue task late costs settled arrival queue
   pub hops_are : AreHops task late settled arrival hops
-  pub found : IsFirst task until settled best
+  pub found : IsFound task until (settled_count settled) best
   pub sooner : best.delivery ≤ latest_arrival + 1
   pub goal_late : best.delivery ≤ slice_index arrival task.goal
   pub taken : AreSettledTaken task costs settled arrival best.delivery
