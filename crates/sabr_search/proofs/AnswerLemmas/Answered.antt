@@ -16,13 +16,18 @@ use Rattle.sabr_search.specs.questions.Ways.{Leads}
 use Rattle.sabr_search.specs.layers.Late.{IsNoneSooner}
 use Rattle.sabr_search.specs.layers.Picks.{IsLeastWay}
 use Rattle.sabr_index.specs.Looks.{looks_taken}
-use Rattle.sabr_search.specs.answers.Answers.{IsWayBeyond, IsAnswered}
+use Rattle.sabr_search.specs.answers.Answers.{IsWayBeyond, HasNoWayWithin}
 use Rattle.sabr_search.proofs.WayLemmas.Prefixes.{IsPrefix, prefix_facts}
 use Rattle.sabr_search.proofs.WayLemmas.Bounds.{above_before}
 use Rattle.sabr_search.proofs.WayLemmas.Least.{delivered}
 use Rattle.sabr_search.proofs.WayLemmas.PartWays.{IsPartWay, part_way, way_is_route}
-use Rattle.sabr_search.proofs.AnswerLemmas.Law.{contacts_few, prefix_few, found_is_least, none_is_least, behind_sizes}
+use Rattle.sabr_search.proofs.AnswerLemmas.Law.{IsTold, contacts_few, prefix_few, found_is_least, none_is_least, behind_sizes}
 use Rattle.sabr_search.proofs.WayLemmas.Shortness.{way_few}
+
+-- the answer after a prefix: the route goes on by the best way, or no way leads to the goal
+abbrev pub IsAnswered : SearchTask → List ℕ → Option RouteRecord → Type 0
+IsAnswered task prefix None = HasNoWayWithin task (left_of task prefix)
+IsAnswered task prefix (Some route) = (s : List ℕ) × (route.contacts ≡ prefix ++ s) × IsLeastWay task (left_of task prefix) (route.delivery + 1) s route.delivery × IsTold task.plan route
 
 -- the hops that are left, with a limit and without one
 left_cases : (task : SearchTask) (prefix : List ℕ) → ((task.request.max_hops ≡ most_hops) × (left_of task prefix ≡ length task.table - 1)) ⊎ ((task.request.max_hops ≢ most_hops) × (left_of task prefix ≡ min (length task.table - 1) (task.request.max_hops - length prefix)))

@@ -16,7 +16,6 @@ use Rattle.sabr_model.proofs.ListLemmas.Begins.{first_hop, receivers-cons}
 use Rattle.sabr_search.specs.layers.NumberOrder.{IsNotAfter}
 use Rattle.sabr_search.specs.questions.Part.{IsLeast}
 use Rattle.sabr_search.specs.layers.Picks.{IsLeastWay}
-use Rattle.sabr_search.specs.questions.RouteSummary.{IsTold}
 use Rattle.sabr_search.specs.questions.Ways.{Leads}
 use Rattle.sabr_search.specs.questions.Task.{SearchTask, Takes, HasNodes, IsTask, IsBehind, latest_arrival}
 use Rattle.sabr_search.proofs.WayLemmas.Least.{least_in_part, none_in_part}
@@ -25,6 +24,11 @@ use Rattle.sabr_search.proofs.WayLemmas.Prefixes.{IsPrefix}
 use Rattle.sabr_search.proofs.LinkLemmas.StepLists.{few_different}
 use Rattle.sabr_model.proofs.PlanLemmas.Tabled.{has_place}
 use Rattle.sabr_model.proofs.RouteLemmas.Paths.{value_of}
+
+-- termination time and entry node are those of the contacts
+pub record IsTold (p : ContactPlan) (route : RouteRecord) : Type 0 where
+  pub until_is : route.until ≡ until_of p route.contacts
+  pub entry_is : route.entry ≡ entry_of p route.contacts
 
 -- no way arrives late
 pub way_early : (task : SearchTask) → IsTask task → (ns : List ℕ) (u t v e : ℕ) → t ≤ latest_arrival → Leads (Takes task) u t ns v e → e ≤ latest_arrival

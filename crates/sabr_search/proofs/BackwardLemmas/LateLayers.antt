@@ -6,13 +6,14 @@ use Rattle.sabr_search.specs.declared.backward.deadlines.Deadlines.{Deadlines}
 use Rattle.sabr_search.specs.questions.Ways.{Leads}
 use Rattle.sabr_search.specs.questions.Task.{SearchTask, Takes, IsTask}
 use Rattle.sabr_search.specs.layers.Deadlines.{AreLinked, HasDeadline}
-use Rattle.sabr_search.specs.layers.Late.{AreArrivals, AreLateLayers, IsMet}
+use Rattle.sabr_search.specs.layers.Late.{AreArrivals}
 use Rattle.sabr_search.specs.layers.WholeDeadlines.{AreMet, AreSound, IsDeadEnd, AreWholeDeadlinesOf}
 use Rattle.sabr_search.proofs.WayLemmas.RoutesAndWays.{same_some}
 use Rattle.sabr_search.proofs.ForwardLemmas.FirstWays.{goal_other}
 use Rattle.sabr_search.proofs.BackwardLemmas.Whole.{up_to_last, whole_of}
 use Rattle.sabr_search.proofs.WholeLemmas.DeadEnds.{dead_at}
 use Rattle.sabr_search.proofs.WholeLemmas.Leaves.{leaves_out_none}
+use Rattle.sabr_search.proofs.BackwardLemmas.LateMade.{AreLateLayers, IsMet}
 
 module _ {A : Type 0} (task : SearchTask) (is : IsTask task) (since : List ℕ) (arrivals : AreArrivals task since) (d left : ℕ) (s : Deadlines A)
     (made : AreLateLayers task since d left s.ends.items s.late.items s.place.items s.entries.items) (linked : AreLinked s.entries.items s.fewer.items) where

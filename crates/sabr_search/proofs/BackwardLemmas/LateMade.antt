@@ -5,11 +5,39 @@ use Rattle.std.proofs.lemmas.Option.{slice_get_within}
 use Rattle.sabr_search.specs.declared.backward.deadlines.Deadline.{Deadline}
 use Rattle.sabr_search.specs.questions.Task.{SearchTask, Takes, IsTask}
 use Rattle.sabr_search.specs.layers.Deadlines.{AreLinked, HasDeadline}
-use Rattle.sabr_search.specs.layers.Late.{InTimeFor, AreLate, AreTold, IsToldBy, AreBackLayers, AreLateLayers, IsMet}
+use Rattle.sabr_search.specs.layers.Late.{InTimeFor, AreLate, AreTold, IsToldBy}
 use Rattle.sabr_search.proofs.ForwardLemmas.LayerEntries.{same_below}
 use Rattle.sabr_search.proofs.ForwardLemmas.Forward.{last_or_before}
 use Rattle.sabr_search.proofs.WayLemmas.RoutesAndWays.{same_some}
 use Rattle.sabr_search.proofs.ForwardLemmas.MadeLayers.{index_before, index_at, index_past, layer_of}
+
+-- the layers up to `left` hops from the goal
+pub record AreBackLayers (task : SearchTask) (since : List ℕ) (d left : ℕ) (ends late place : List ℕ) (entries : List Deadline) : Type 0 where
+  pub lists : AreLate task (slice_index ends left) (slice_index ends (left + 1)) late place entries
+  pub many : length ends ≡ left + 2
+  pub first_end : slice_index ends 0 ≡ 0
+  pub second_end : slice_index ends 1 ≡ 1
+  pub rising : (j : ℕ) → j ≤ left → slice_index ends j ≤ slice_index ends (j + 1)
+  pub last_end : slice_index ends (left + 1) ≡ length entries
+  pub goal_first : slice_get entries 0 ≡ Some (record { node = task.goal; before = d + 1 })
+  pub apart : (h p q : ℕ) (e f : Deadline) → h ≤ left → slice_index ends h ≤ p → slice_index ends h ≤ q → p < slice_index ends (h + 1) → q < slice_index ends (h + 1) → slice_get entries p ≡ Some e → slice_get entries q ≡ Some f → e.node ≡ f.node → p ≡ q
+  pub sound : (h v x t : ℕ) → h < left → HasDeadline ends entries (h + 1) v x → t < x → (n : ℕ) × (w : ℕ) × (b : ℕ) × (y : ℕ) × Takes task n v t w b × HasDeadline ends entries h w y × (b < y)
+  pub taken : (j w x n u t b : ℕ) → j < left → HasDeadline ends entries j w x → b < x → Takes task n u t w b → IsToldBy task since (HasDeadline ends entries) j u t
+
+-- so they are, and the start is in time for no entry of an earlier one than the last
+pub record AreLateLayers (task : SearchTask) (since : List ℕ) (d left : ℕ) (ends late place : List ℕ) (entries : List Deadline) : Type 0 where
+  pub layers : AreBackLayers task since d left ends late place entries
+  pub unmet : (j w x n b : ℕ) → j < left → HasDeadline ends entries j w x → b < x → Takes task n task.start task.at w b → ⊥
+
+-- the start is in time for an entry of the last layer
+pub record IsMet (task : SearchTask) (left : ℕ) (ends : List ℕ) (entries : List Deadline) : Type 0 where
+  pub n : ℕ
+  pub w : ℕ
+  pub b : ℕ
+  pub x : ℕ
+  pub step : Takes task n task.start task.at w b
+  pub entry : HasDeadline ends entries left w x
+  pub in_time : b < x
 
 -- an entry is the goal's, or one of another open node
 pub open_entry : (task : SearchTask) → IsTask task → (first begin : ℕ) (late place : List ℕ) (entries : List Deadline) → AreLate task first begin late place entries → (p : ℕ) (e : Deadline) → slice_get entries p ≡ Some e →

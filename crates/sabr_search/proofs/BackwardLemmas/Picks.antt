@@ -1,6 +1,6 @@
 use Rattle.std.proofs.Common.{◌≡◌, ℕ, ◌+◌, ◌<◌, ◌≤◌, List, ◌++◌, length, arith, length-append}
-use Rattle.sabr_search.specs.questions.Ways.{StepRelation, Leads, IsTimely}
-use Rattle.sabr_search.proofs.WayLemmas.Ways.{Leads-append, Leads-later, Leads-earlier}
+use Rattle.sabr_search.specs.questions.Ways.{StepRelation, Leads}
+use Rattle.sabr_search.proofs.WayLemmas.Ways.{IsTimely, Leads-append, Leads-later, Leads-earlier}
 
 -- if fewer hops come later, a way with which the goal is reached by d comes to no node twice
 pub no_return : (T : StepRelation) → IsTimely T → (start at goal r d : ℕ) → ((ns : List ℕ) (e : ℕ) → length ns < r → Leads T start at ns goal e → d < e) →

@@ -5,10 +5,9 @@ use Rattle.sabr_search.specs.declared.backward.deadlines.Deadline.{Deadline}
 use Rattle.sabr_search.specs.declared.backward.deadlines.Deadlines.{Deadlines}
 use Rattle.sabr_search.specs.questions.Task.{SearchTask, IsTask}
 use Rattle.sabr_search.specs.layers.Deadlines.{AreLinked, HasDeadline}
-use Rattle.sabr_search.specs.layers.Late.{AreBackLayers}
 use Rattle.sabr_search.specs.layers.WholeDeadlines.{AreWhole}
 use Rattle.sabr_search.proofs.ForwardLemmas.MadeLayers.{index_past}
-use Rattle.sabr_search.proofs.BackwardLemmas.LateMade.{open_entry}
+use Rattle.sabr_search.proofs.BackwardLemmas.LateMade.{AreBackLayers, open_entry}
 use Rattle.sabr_search.proofs.BackwardLemmas.LateNoted.{last_of}
 
 module _ {A : Type 0} (task : SearchTask) (is : IsTask task) (since : List ℕ) (d left : ℕ) (s : Deadlines A) (made : AreBackLayers task since d left s.ends.items s.late.items s.place.items s.entries.items) where

@@ -17,7 +17,7 @@ use Rattle.sabr_search.specs.questions.FirstSteps.{IsNoneBefore}
 use Rattle.sabr_search.specs.layers.Lists.{IsKnown, AreClosed}
 use Rattle.sabr_search.specs.questions.Steps.{senders, degree}
 use Rattle.sabr_search.specs.layers.Made.{AreOpened, IsOutcome}
-use Rattle.sabr_search.specs.layers.Settling.{IsBound, IsWaiting, AreBy, settled_count, AreArrivalsBy, sent_by_settled, IsQueue, AreSettling, IsFallen, AreSettledTaken, AreSettled, IsFirstWay, IsReached, IsWayTo}
+use Rattle.sabr_search.specs.layers.Settling.{IsBound, IsWaiting, AreBy, settled_count, AreArrivalsBy, IsQueue, AreSettling, IsFallen, AreSettledTaken, AreSettled, IsFirstWay, IsReached, IsWayTo}
 use Rattle.sabr_search.proofs.WayLemmas.Ways.{Leads-later}
 use Rattle.sabr_search.proofs.LinkLemmas.Counts.{settled_more}
 use Rattle.sabr_search.proofs.WayLemmas.RoutesAndWays.{takes_timely}
@@ -25,6 +25,10 @@ use Rattle.sabr_search.proofs.AnswerLemmas.Law.{way_early}
 use Rattle.sabr_search.proofs.LinkLemmas.StepLists.{senders_length}
 use Rattle.sabr_search.proofs.ForwardLemmas.MadeLayers.{index_past}
 use Rattle.sabr_search.proofs.ForwardLemmas.Queues.{flag_here, flag_other, flag_many, all_off, set_here, set_many, count_more, count_short, head_inside, head_open, head_other, head_soon, settles}
+
+-- the number of contacts that the settled nodes send
+abbrev pub sent_by_settled : SearchTask → List Bool → ℕ
+sent_by_settled task settled = count_by (λ k. slice_index_or settled k false) (senders task)
 
 -- the start is no goal
 pub goal_other : (task : SearchTask) → IsTask task → task.goal ≢ task.start

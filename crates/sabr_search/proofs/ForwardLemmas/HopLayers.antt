@@ -1,8 +1,17 @@
 -- Hop layers forward: what is reached along steps has an entry.
-use Rattle.std.proofs.Common.{◌⊎◌, inl, inr, ℕ, ◌+◌, ◌≤◌, List, [], ◌∷◌, length, arith}
-use Rattle.sabr_search.specs.questions.Ways.{StepRelation, Leads, IsTimely}
-use Rattle.sabr_search.specs.layers.Layers.{Entries, ReachedBy, IsTaken}
-use Rattle.sabr_search.proofs.WayLemmas.Ways.{Leads-later}
+use Rattle.std.proofs.Common.{◌⊎◌, inl, inr, ℕ, ◌+◌, ◌<◌, ◌≤◌, List, [], ◌∷◌, length, arith}
+use Rattle.sabr_search.specs.questions.Ways.{StepRelation, Leads}
+use Rattle.sabr_search.specs.layers.Layers.{Entries}
+use Rattle.sabr_search.proofs.WayLemmas.Ways.{IsTimely, Leads-later}
+
+-- an entry for node v by second t after at most h hops
+abbrev pub ReachedBy : Entries → ℕ → ℕ → ℕ → Type 0
+ReachedBy E h v t = (j : ℕ) × (a : ℕ) × (j ≤ h) × (a ≤ t) × E j v a
+
+-- every step from an entry of a layer below h was taken: it ends at or after `best`, or at an entry of the next layer
+-- or an earlier one
+abbrev pub IsTaken : StepRelation → Entries → ℕ → ℕ → Type 0
+IsTaken T E h best = (j v a n w b : ℕ) → j < h → E j v a → T n v a w b → (best ≤ b) ⊎ ReachedBy E (j + 1) w b
 
 module _ (T : StepRelation) (timely : IsTimely T) (E : Entries) where
   -- from an entry on, along any steps

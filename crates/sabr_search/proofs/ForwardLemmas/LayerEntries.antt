@@ -14,10 +14,29 @@ use Rattle.sabr_model.proofs.RouteLemmas.Listed.{in_from_has}
 use Rattle.sabr_search.specs.declared.visit.Visit.{Visit}
 use Rattle.sabr_search.specs.declared.backward.deadlines.Deadline.{Deadline}
 use Rattle.sabr_search.specs.questions.Task.{SearchTask}
-use Rattle.sabr_search.specs.questions.Steps.{place_in, senders, degree, sent_by_all, receivers, received, received_by_all}
-use Rattle.sabr_search.specs.layers.Lists.{nodes_from, nodes_between, AreSources}
-use Rattle.sabr_search.specs.layers.Deadlines.{IsApart, late_between}
+use Rattle.sabr_search.specs.questions.Steps.{place_in, senders, degree, receivers, received}
+use Rattle.sabr_search.specs.layers.Lists.{AreSources}
+use Rattle.sabr_search.specs.layers.Deadlines.{IsApart}
 use Rattle.sabr_search.proofs.LinkLemmas.StepLists.{senders_length}
+
+-- the nodes of the entries from place `first` to before `place`
+abbrev pub nodes_from : {X : Type 0} → (X → ℕ) → List X → ℕ → ℕ → List ℕ
+nodes_from node entries first place = map node (drop first (take place entries))
+
+abbrev pub nodes_between : List Visit → ℕ → ℕ → List ℕ
+nodes_between reached first place = nodes_from (λ e. e.node) reached first place
+
+-- the nodes of the entries from place `first` to before `place`
+abbrev pub late_between : List Deadline → ℕ → ℕ → List ℕ
+late_between entries first place = nodes_from (λ e. e.node) entries first place
+
+-- the number of standing contacts that the nodes of a list send
+abbrev pub sent_by_all : SearchTask → List ℕ → ℕ
+sent_by_all task nodes = count_by (λ k. has k nodes) (senders task)
+
+-- the number of standing contacts that the nodes of a list receive
+abbrev pub received_by_all : SearchTask → List ℕ → ℕ
+received_by_all task nodes = count_by (λ k. has k nodes) (receivers task)
 
 -- lists that begin alike have the same elements there
 pub same_below : {X : Type 0} (k : ℕ) (xs ys : List X) → take k xs ≡ take k ys → (p : ℕ) (x : X) → p < k → slice_get xs p ≡ Some x → slice_get ys p ≡ Some x

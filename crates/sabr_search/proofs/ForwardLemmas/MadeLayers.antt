@@ -10,18 +10,40 @@ use Rattle.sabr_search.specs.declared.found.Outcome.{Outcome}
 use Rattle.sabr_search.specs.declared.found.Outcome.TheVariants.{Found, None, GaveUp}
 use Rattle.sabr_index.specs.declared.looks.Looks.{Looks}
 use Rattle.sabr_search.specs.questions.Ways.{Leads}
-use Rattle.sabr_search.specs.layers.Layers.{Entries, ReachedBy, IsTaken}
+use Rattle.sabr_search.specs.layers.Layers.{Entries}
 use Rattle.sabr_search.specs.questions.Task.{SearchTask, Takes, IsTask, never}
 use Rattle.sabr_search.specs.layers.Lists.{AreLists, IsLowered, IsKnownFrom, GivenFrom, AreSources, IsBroughtTo}
-use Rattle.sabr_search.specs.layers.Made.{Entry, AreLayers, AreMade, IsFound, IsMade, IsOutcome}
+use Rattle.sabr_search.specs.layers.Made.{IsFound, IsMade, IsOutcome}
 use Rattle.sabr_search.specs.layers.Late.{IsNoneSooner}
 use Rattle.sabr_search.proofs.WayLemmas.Ways.{Leads-append, Leads-later}
-use Rattle.sabr_search.proofs.ForwardLemmas.HopLayers.{none_sooner}
+use Rattle.sabr_search.proofs.ForwardLemmas.HopLayers.{ReachedBy, IsTaken, none_sooner}
 use Rattle.sabr_search.proofs.ForwardLemmas.LayerEntries.{same_below}
 use Rattle.sabr_search.proofs.ForwardLemmas.Forward.{last_or_before}
 use Rattle.sabr_search.proofs.WayLemmas.RoutesAndWays.{same_some, takes_timely}
 use Rattle.sabr_search.proofs.LinkLemmas.PlanFacts.{takes_early}
 use Rattle.sabr_search.proofs.AnswerLemmas.Law.{way_early}
+
+-- layer h is made of the entries from its bound to before the next
+abbrev pub Entry : List ℕ → List Visit → Entries
+Entry bounds reached h v a = (p : ℕ) × (slice_index bounds h ≤ p) × (p < slice_index bounds (h + 1)) × (slice_get reached p ≡ Some (record { node = v; at = a }))
+
+-- layers up to `hop` are made, of what comes before second `until`
+pub record AreLayers (task : SearchTask) (until hop : ℕ) (bounds arrival place : List ℕ) (reached : List Visit) (best : Best) : Type 0 where
+  pub lists : AreLists task.forbidden task.goal task.at (slice_index bounds (hop + 1)) arrival place reached
+  pub many : length bounds ≡ hop + 2
+  pub first_bound : slice_index bounds 0 ≡ 0
+  pub second_bound : slice_index bounds 1 ≡ 1
+  pub rising : (j : ℕ) → j ≤ hop → slice_index bounds j ≤ slice_index bounds (j + 1)
+  pub last_bound : slice_index bounds (hop + 1) ≡ length reached
+  pub begins : slice_get reached 0 ≡ Some (record { node = task.start; at = task.at })
+  pub apart : (h p q : ℕ) (e f : Visit) → h ≤ hop → slice_index bounds h ≤ p → slice_index bounds h ≤ q → p < slice_index bounds (h + 1) → q < slice_index bounds (h + 1) → slice_get reached p ≡ Some e → slice_get reached q ≡ Some f → e.node ≡ f.node → p ≡ q
+  pub real : (h v a : ℕ) → Entry bounds reached h v a → (ns : List ℕ) × (length ns ≡ h) × Leads (Takes task) task.start task.at ns v a
+  pub taken : IsTaken (Takes task) (Entry bounds reached) hop best.delivery
+  pub found : IsFound task until hop best
+
+-- and the last of them begins at `first`
+abbrev pub AreMade : SearchTask → ℕ → ℕ → ℕ → List ℕ → List ℕ → List Visit → Best → Type 0
+AreMade task until hop first arrival place reached best = (bounds : List ℕ) × (slice_index bounds hop ≡ first) × AreLayers task until hop bounds arrival place reached best
 
 -- a way of some hops ends at an open node
 way_open : (task : SearchTask) (ns : List ℕ) (u t v e : ℕ) → 0 < length ns → Leads (Takes task) u t ns v e → slice_index_or task.forbidden v false ≡ false

@@ -1,5 +1,11 @@
 use Rattle.std.proofs.Common.{◌≡◌, ℕ, ◌≤◌, List, [], ◌∷◌, ◌++◌, refl, sym, ◌∙◌, arith}
-use Rattle.sabr_search.specs.questions.Ways.{StepRelation, Leads, IsTimely}
+use Rattle.sabr_search.specs.questions.Ways.{StepRelation, Leads}
+
+-- no step goes back in time, a bundle that comes earlier arrives, too, and no later, and a number names one step
+pub record IsTimely (T : StepRelation) : Type 0 where
+  pub later : (n u t w b : ℕ) → T n u t w b → t ≤ b
+  pub earlier : (n u t w b s : ℕ) → T n u t w b → s ≤ t → (a : ℕ) × (a ≤ b) × T n u s w a
+  pub one : (n u t w b x c : ℕ) → T n u t w b → T n u t x c → (w ≡ x) × (b ≡ c)
 
 module _ (T : StepRelation) (timely : IsTimely T) where
   pub Leads-append : (xs ys : List ℕ) (u t v e w f : ℕ) → Leads T u t xs v e → Leads T v e ys w f → Leads T u t (xs ++ ys) w f

@@ -1,13 +1,9 @@
 -- The law of kept answers: an answer to one question answers later ones, too.
-use Rattle.std.specs.Prelude.{◌≡◌, ℕ, ◌+◌, ◌≤◌, Bool, false, IsTrue, List, ◌++◌, length, slice_index_or}
-use Rattle.std.specs.declared.option.Option.{Option}
-use Rattle.std.specs.declared.option.Option.TheVariants.{Some, None}
-use Rattle.sabr_model.specs.routes.Record.{RouteRecord}
+use Rattle.std.specs.Prelude.{◌≡◌, ℕ, ◌≤◌, Bool, false, IsTrue, List, length, slice_index_or}
 use Rattle.sabr_search.specs.declared.bound.Bound.{Bound}
 use Rattle.sabr_search.specs.questions.Bounded.{is_up_to}
-use Rattle.sabr_search.specs.questions.RouteSummary.{IsTold}
 use Rattle.sabr_search.specs.questions.Ways.{Leads}
-use Rattle.sabr_search.specs.questions.Task.{SearchTask, HasNodes, Takes, left_of}
+use Rattle.sabr_search.specs.questions.Task.{SearchTask, HasNodes, Takes}
 use Rattle.sabr_search.specs.layers.Picks.{IsLeastWay}
 
 -- the same search, with these forbidden nodes and from this second on
@@ -38,8 +34,3 @@ pub record AnswersStay : Type 0 where
       → HasNoWayWithin task hops → HasNoWayWithin (narrowed task forbidden at) fewer
   pub beyond : (task : SearchTask) (forbidden : List Bool) (at hops fewer : ℕ) (b c : Bound) → HasNodes task.plan task.table → Narrows task forbidden at → fewer ≤ hops
       → IsTrue (is_up_to b c.delivery c.hops) → IsWayBeyond task hops b → IsWayBeyond (narrowed task forbidden at) fewer c
-
--- the answer after a prefix: the route goes on by the best way, or no way leads to the goal
-abbrev pub IsAnswered : SearchTask → List ℕ → Option RouteRecord → Type 0
-IsAnswered task prefix None = HasNoWayWithin task (left_of task prefix)
-IsAnswered task prefix (Some route) = (s : List ℕ) × (route.contacts ≡ prefix ++ s) × IsLeastWay task (left_of task prefix) (route.delivery + 1) s route.delivery × IsTold task.plan route

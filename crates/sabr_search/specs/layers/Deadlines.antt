@@ -4,7 +4,6 @@ use Rattle.std.specs.declared.option.Option.TheVariants.{Some}
 use Rattle.sabr_search.specs.declared.backward.deadlines.Deadline.{Deadline}
 use Rattle.sabr_search.specs.declared.backward.deadlines.Deadlines.{Deadlines}
 use Rattle.sabr_search.specs.layers.Layers.{Entries}
-use Rattle.sabr_search.specs.layers.Lists.{nodes_from}
 
 -- the layer of h hops has an entry for node v with deadline x
 abbrev pub HasDeadline : List ℕ → List Deadline → Entries
@@ -52,7 +51,3 @@ IsLatestWithin entries v end before = (p : ℕ) (e : Deadline) → p < end → s
 -- where the entries of at most that many hops end
 abbrev pub end_within : List ℕ → ℕ → ℕ
 end_within ends hops = slice_index ends (min (length ends - 1) (hops + 1))
-
--- the nodes of the entries from place `first` to before `place`
-abbrev pub late_between : List Deadline → ℕ → ℕ → List ℕ
-late_between entries first place = nodes_from (λ e. e.node) entries first place

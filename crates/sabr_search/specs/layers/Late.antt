@@ -11,7 +11,6 @@ use Rattle.sabr_search.specs.questions.Linked.{IsLinkWithin, HasNumber}
 use Rattle.sabr_index.specs.declared.link.Pass.{Pass}
 use Rattle.sabr_index.specs.declared.link.SenderHead.{SenderHead}
 use Rattle.sabr_index.specs.Incoming.{bounds_until}
-use Rattle.sabr_search.specs.layers.Deadlines.{HasDeadline}
 
 -- by node a second before which no way comes there; 0 after the list's end
 abbrev pub AreSince : SearchTask → List ℕ → Type 0
@@ -86,34 +85,6 @@ IsLayerTold task since ends left entries late = AreTold task since entries (slic
 -- the same by the layers up to the one after j
 abbrev pub IsToldBy : SearchTask → List ℕ → Entries → ℕ → ℕ → ℕ → Type 0
 IsToldBy task since E j u t = slice_index_or task.forbidden u false ≡ false → u ≢ task.goal → slice_index since u ≤ t → (i : ℕ) × (x : ℕ) × (i ≤ j + 1) × E i u x × (t < x)
-
--- the layers up to `left` hops from the goal
-pub record AreBackLayers (task : SearchTask) (since : List ℕ) (d left : ℕ) (ends late place : List ℕ) (entries : List Deadline) : Type 0 where
-  pub lists : AreLate task (slice_index ends left) (slice_index ends (left + 1)) late place entries
-  pub many : length ends ≡ left + 2
-  pub first_end : slice_index ends 0 ≡ 0
-  pub second_end : slice_index ends 1 ≡ 1
-  pub rising : (j : ℕ) → j ≤ left → slice_index ends j ≤ slice_index ends (j + 1)
-  pub last_end : slice_index ends (left + 1) ≡ length entries
-  pub goal_first : slice_get entries 0 ≡ Some (record { node = task.goal; before = d + 1 })
-  pub apart : (h p q : ℕ) (e f : Deadline) → h ≤ left → slice_index ends h ≤ p → slice_index ends h ≤ q → p < slice_index ends (h + 1) → q < slice_index ends (h + 1) → slice_get entries p ≡ Some e → slice_get entries q ≡ Some f → e.node ≡ f.node → p ≡ q
-  pub sound : (h v x t : ℕ) → h < left → HasDeadline ends entries (h + 1) v x → t < x → (n : ℕ) × (w : ℕ) × (b : ℕ) × (y : ℕ) × Takes task n v t w b × HasDeadline ends entries h w y × (b < y)
-  pub taken : (j w x n u t b : ℕ) → j < left → HasDeadline ends entries j w x → b < x → Takes task n u t w b → IsToldBy task since (HasDeadline ends entries) j u t
-
--- so they are, and the start is in time for no entry of an earlier one than the last
-pub record AreLateLayers (task : SearchTask) (since : List ℕ) (d left : ℕ) (ends late place : List ℕ) (entries : List Deadline) : Type 0 where
-  pub layers : AreBackLayers task since d left ends late place entries
-  pub unmet : (j w x n b : ℕ) → j < left → HasDeadline ends entries j w x → b < x → Takes task n task.start task.at w b → ⊥
-
--- the start is in time for an entry of the last layer
-pub record IsMet (task : SearchTask) (left : ℕ) (ends : List ℕ) (entries : List Deadline) : Type 0 where
-  pub n : ℕ
-  pub w : ℕ
-  pub b : ℕ
-  pub x : ℕ
-  pub step : Takes task n task.start task.at w b
-  pub entry : HasDeadline ends entries left w x
-  pub in_time : b < x
 
 -- no way of at most that many hops leads to the goal before second d
 abbrev pub IsNoneSooner : SearchTask → ℕ → ℕ → Type 0

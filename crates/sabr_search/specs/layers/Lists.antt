@@ -1,5 +1,5 @@
 -- The lists that keep hop layers: for each node the earliest arrival so far and the place of an entry, and the entries.
-use Rattle.std.specs.Prelude.{◌≡◌, ◌≢◌, ℕ, ◌≤◌, ◌<◌, ◌⊎◌, List, length, map, take, drop, Bool, true, false, slice_get, slice_index, slice_index_or}
+use Rattle.std.specs.Prelude.{◌≡◌, ◌≢◌, ℕ, ◌≤◌, ◌<◌, ◌⊎◌, List, length, take, Bool, true, false, slice_get, slice_index, slice_index_or}
 use Rattle.sabr_search.specs.declared.visit.Visit.{Visit}
 use Rattle.sabr_search.specs.declared.forward.layers.Layers.{Layers}
 use Rattle.std.specs.declared.option.Option.TheVariants.{Some}
@@ -71,13 +71,6 @@ AreLowered task begin Given old best0 new best = IsLowered task.forbidden task.g
 -- what arrives at node w at b is no news: it comes no earlier than the best delivery, or the node is reached by then
 abbrev pub IsKnown : ℕ → List ℕ → ℕ → ℕ → ℕ → Type 0
 IsKnown goal arrival best w b = (best ≤ b) ⊎ ((w ≢ goal) × (slice_index arrival w ≤ b))
-
--- the nodes of the entries from place `first` to before `place`
-abbrev pub nodes_from : {X : Type 0} → (X → ℕ) → List X → ℕ → ℕ → List ℕ
-nodes_from node entries first place = map node (drop first (take place entries))
-
-abbrev pub nodes_between : List Visit → ℕ → ℕ → List ℕ
-nodes_between reached first place = nodes_from (λ e. e.node) reached first place
 
 -- the entries from `first` to before `begin` are of different nodes, and none is reached before the search begins or
 -- after every arrival

@@ -1,5 +1,5 @@
 -- What a search by arrival keeps: the settled nodes, the waiting events, and the first delivery so far.
-use Rattle.std.specs.Prelude.{◌≡◌, ◌≢◌, ◌⊎◌, ℕ, ◌+◌, ◌-◌, ◌≤◌, ◌<◌, min, List, length, Bool, true, false, All, Contains, slice_get, slice_index, slice_index_or}
+use Rattle.std.specs.Prelude.{◌≡◌, ◌≢◌, ℕ, ◌+◌, ◌-◌, ◌≤◌, ◌<◌, min, List, length, Bool, true, false, All, Contains, slice_get, slice_index, slice_index_or}
 use Rattle.std.specs.List.{count_by}
 use Rattle.std.specs.declared.option.Option.TheVariants.{Some}
 use Rattle.sabr_search.specs.declared.visit.Visit.{Visit}
@@ -13,7 +13,7 @@ use Rattle.sabr_search.specs.questions.Linked.{HasNumber}
 use Rattle.sabr_search.specs.questions.Ways.{Leads}
 use Rattle.sabr_search.specs.questions.FirstSteps.{IsNoneBefore}
 use Rattle.sabr_search.specs.questions.Task.{SearchTask, Takes, never, latest_arrival}
-use Rattle.sabr_search.specs.questions.Steps.{senders}
+use Rattle.sabr_search.specs.layers.Made.{IsFound}
 use Rattle.sabr_search.specs.layers.Lists.{AreClosed, IsKnown}
 
 -- by node a second before which no way comes there, or from which on none delivers before d, if that is sooner; nothing
@@ -45,10 +45,6 @@ IsWaiting queue k t = (e : Visit) × Contains queue e × (e.node ≡ k) × (e.at
 -- the number of settled nodes
 abbrev pub settled_count : List Bool → ℕ
 settled_count settled = count_by (λ b. b) settled
-
--- the number of contacts that the settled nodes send
-abbrev pub sent_by_settled : SearchTask → List Bool → ℕ
-sent_by_settled task settled = count_by (λ k. slice_index_or settled k false) (senders task)
 
 -- some way of h hops leads from the start to node v at second t
 abbrev pub IsWayTo : SearchTask → ℕ → ℕ → ℕ → Type 0

@@ -3,7 +3,6 @@ use Rattle.std.specs.Prelude.{◌≡◌, ℕ, ◌+◌, ◌-◌, ◌*◌, ◌≤�
 use Rattle.std.specs.declared.option.Option.{Option}
 use Rattle.std.specs.declared.option.Option.TheVariants.{Some, None}
 use Rattle.sabr_model.specs.plan.Plan.{ContactPlan}
-use Rattle.sabr_model.specs.routes.Route.{until_of, entry_of}
 use Rattle.sabr_model.specs.routes.Record.{RouteRecord}
 use Rattle.sabr_model.specs.routes.Asking.{most_hops}
 
@@ -16,8 +15,3 @@ hops_told (Some route) = length route.contacts
 -- prefix, and three more
 abbrev pub IsCut : ContactPlan → ℕ → List ℕ → ℕ → Option RouteRecord → Type 0
 IsCut p max_hops prefix looks answer = max_hops ≡ most_hops → looks ≤ (3 * (hops_told answer - length prefix) + 3) * length p.contacts
-
--- termination time and entry node are those of the contacts
-pub record IsTold (p : ContactPlan) (route : RouteRecord) : Type 0 where
-  pub until_is : route.until ≡ until_of p route.contacts
-  pub entry_is : route.entry ≡ entry_of p route.contacts

@@ -4,7 +4,7 @@ use Rattle.std.specs.List.{count_by}
 use Rattle.std.specs.declared.option.Option.TheVariants.{Some}
 use Rattle.sabr_model.specs.declared.contact.Contact.{Contact}
 use Rattle.sabr_model.specs.declared.hop.Hop.{Hop}
-use Rattle.sabr_model.specs.plan.Plan.{contact_named, has}
+use Rattle.sabr_model.specs.plan.Plan.{contact_named}
 use Rattle.sabr_model.specs.plan.Tabled.{IsHopOf}
 use Rattle.sabr_search.specs.questions.Task.{SearchTask}
 
@@ -21,10 +21,6 @@ senders task = map (λ c. place_in task.table c.from) task.plan.contacts
 abbrev pub degree : SearchTask → ℕ → ℕ
 degree task u = count_by (λ k. k == u) (senders task)
 
--- the number of standing contacts that the nodes of a list send
-abbrev pub sent_by_all : SearchTask → List ℕ → ℕ
-sent_by_all task nodes = count_by (λ k. has k nodes) (senders task)
-
 -- for each contact of the plan, the place of its receiver in the table
 abbrev pub receivers : SearchTask → List ℕ
 receivers task = map (λ c. place_in task.table c.to) task.plan.contacts
@@ -32,10 +28,6 @@ receivers task = map (λ c. place_in task.table c.to) task.plan.contacts
 -- the number of standing contacts that the node at place w receives
 abbrev pub received : SearchTask → ℕ → ℕ
 received task w = count_by (λ k. k == w) (receivers task)
-
--- the number of standing contacts that the nodes of a list receive
-abbrev pub received_by_all : SearchTask → List ℕ → ℕ
-received_by_all task nodes = count_by (λ k. has k nodes) (receivers task)
 
 -- the hop is that of the standing contact of a number
 pub record IsHopAt (task : SearchTask) (n : ℕ) (h : Hop) : Type 0 where

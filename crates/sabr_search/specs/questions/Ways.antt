@@ -1,6 +1,6 @@
 -- Ways over contacts, for any relation of steps: `T n u t w b` says that contact n takes what is at node u at
 -- second t to node w at second b.
-use Rattle.std.specs.Prelude.{◌≡◌, ℕ, ◌≤◌, List, [], ◌∷◌}
+use Rattle.std.specs.Prelude.{◌≡◌, ℕ, List, [], ◌∷◌}
 
 -- a relation of steps
 abbrev pub StepRelation : Type 1
@@ -10,9 +10,3 @@ StepRelation = ℕ → ℕ → ℕ → ℕ → ℕ → Type 0
 abbrev pub Leads : StepRelation → ℕ → ℕ → List ℕ → ℕ → ℕ → Type 0
 Leads T u t [] v e = (u ≡ v) × (t ≡ e)
 Leads T u t (n ∷ ns) v e = (w : ℕ) × (b : ℕ) × T n u t w b × Leads T w b ns v e
-
--- no step goes back in time, a bundle that comes earlier arrives, too, and no later, and a number names one step
-pub record IsTimely (T : StepRelation) : Type 0 where
-  pub later : (n u t w b : ℕ) → T n u t w b → t ≤ b
-  pub earlier : (n u t w b s : ℕ) → T n u t w b → s ≤ t → (a : ℕ) × (a ≤ b) × T n u s w a
-  pub one : (n u t w b x c : ℕ) → T n u t w b → T n u t x c → (w ≡ x) × (b ≡ c)

@@ -1,6 +1,6 @@
 use Rattle.std.proofs.Common.{◌+◌, ◌*◌, ◌≤◌, length}
 use Rattle.sabr_search.specs.layers.Deadlines.{AreLinked}
-use Rattle.sabr_search.specs.layers.Late.{AreLateLayers}
+use Rattle.sabr_search.proofs.BackwardLemmas.LateMade.{AreLateLayers}
 use Rattle.sabr_search.proofs.backward.deadlines.Deadlines.make_back.Given as goal
 
 abbrev pub invariant-loop-left : goal.invariant-loop-left

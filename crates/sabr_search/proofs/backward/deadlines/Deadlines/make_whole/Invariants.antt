@@ -1,5 +1,5 @@
 use Rattle.sabr_search.specs.layers.Deadlines.{AreLinked}
-use Rattle.sabr_search.specs.layers.Late.{AreBackLayers}
+use Rattle.sabr_search.proofs.BackwardLemmas.LateMade.{AreBackLayers}
 use Rattle.sabr_search.proofs.backward.deadlines.Deadlines.make_whole.Given as goal
 
 abbrev pub invariant-loop-left : goal.invariant-loop-left

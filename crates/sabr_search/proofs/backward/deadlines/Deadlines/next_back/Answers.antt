@@ -1,8 +1,7 @@
 use Rattle.std.proofs.Common.{◌≡◌, ◌+◌, ◌<◌, ◌≤◌, ℕ, inl, inr, Some, length, slice_get, slice_index, slice_index_or, false, refl, sym, ap, ◌∙◌, arith}
-use Rattle.sabr_search.specs.questions.Steps.{received, received_by_all}
-use Rattle.sabr_search.specs.layers.Deadlines.{late_between}
+use Rattle.sabr_search.specs.questions.Steps.{received}
 use Rattle.sabr_search.specs.layers.Late.{InTimeFor}
-use Rattle.sabr_search.proofs.ForwardLemmas.LayerEntries.{entry_read, received_next, received_within, received_at_most, read_at}
+use Rattle.sabr_search.proofs.ForwardLemmas.LayerEntries.{late_between, received_by_all, entry_read, received_next, received_within, received_at_most, read_at}
 use Rattle.sabr_search.proofs.ForwardLemmas.Forward.{last_or_before}
 use Rattle.sabr_search.proofs.BackwardLemmas.LateLists.{in_time_kept, told_rises}
 use Rattle.sabr_search.proofs.BackwardLemmas.LateMade.{open_entry}

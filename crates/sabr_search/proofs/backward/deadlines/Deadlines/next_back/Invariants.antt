@@ -1,7 +1,7 @@
 use Rattle.std.proofs.Common.{◌≡◌, ◌+◌, ◌≤◌, take, slice_index}
-use Rattle.sabr_search.specs.questions.Steps.{received_by_all}
-use Rattle.sabr_search.specs.layers.Deadlines.{AreLinked, late_between}
+use Rattle.sabr_search.specs.layers.Deadlines.{AreLinked}
 use Rattle.sabr_search.specs.layers.Late.{AreLate, AreTold}
+use Rattle.sabr_search.proofs.ForwardLemmas.LayerEntries.{late_between, received_by_all}
 use Rattle.sabr_search.proofs.backward.deadlines.Deadlines.next_back.Given as goal
 
 abbrev pub invariant-loop-place : goal.invariant-loop-place

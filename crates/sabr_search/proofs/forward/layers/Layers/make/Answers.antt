@@ -1,6 +1,5 @@
 use Rattle.std.proofs.Common.{◌+◌, [], ◌∷◌, inl, inr, refl, arith}
-use Rattle.sabr_search.specs.layers.Made.{AreMade}
-use Rattle.sabr_search.proofs.ForwardLemmas.MadeLayers.{layers_first, best_within, least_within, made_lists, made_sources, made_next, made_last, made_all, spent_more, spent_fewer, none_more}
+use Rattle.sabr_search.proofs.ForwardLemmas.MadeLayers.{AreMade, layers_first, best_within, least_within, made_lists, made_sources, made_next, made_last, made_all, spent_more, spent_fewer, none_more}
 use Rattle.sabr_search.proofs.forward.layers.Layers.make.Given.{Over}
 use Rattle.sabr_search.proofs.forward.layers.Layers.make.Goals.{After-len-end, then-delivery-best, else-delivery-best, then-delivery-best-2, else-delivery-best-2}
 use Rattle.sabr_search.proofs.forward.layers.Layers.make.Goals as goal

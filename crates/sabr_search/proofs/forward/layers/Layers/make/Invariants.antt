@@ -1,5 +1,5 @@
 use Rattle.std.proofs.Common.{◌+◌, ◌*◌, ◌≤◌, length}
-use Rattle.sabr_search.specs.layers.Made.{AreMade}
+use Rattle.sabr_search.proofs.ForwardLemmas.MadeLayers.{AreMade}
 use Rattle.sabr_search.proofs.forward.layers.Layers.make.Given as goal
 
 abbrev pub invariant-loop-hop : goal.invariant-loop-hop

@@ -1,9 +1,9 @@
 use Rattle.std.proofs.Common.{◌≡◌, ◌+◌, ◌≤◌, ℕ, inl, inr, Some, length, slice_get, sym, ap, ◌∙◌, arith}
 use Rattle.sabr_search.specs.questions.Task.{Takes}
-use Rattle.sabr_search.specs.questions.Steps.{degree, sent_by_all}
-use Rattle.sabr_search.specs.layers.Lists.{GivenFrom, nodes_between}
+use Rattle.sabr_search.specs.questions.Steps.{degree}
+use Rattle.sabr_search.specs.layers.Lists.{GivenFrom}
 use Rattle.sabr_search.proofs.ForwardLemmas.Forward.{lowered_more, known_lower, last_or_before}
-use Rattle.sabr_search.proofs.ForwardLemmas.LayerEntries.{entry_read, sent_next, sent_at_most}
+use Rattle.sabr_search.proofs.ForwardLemmas.LayerEntries.{nodes_between, sent_by_all, entry_read, sent_next, sent_at_most}
 use Rattle.sabr_search.proofs.forward.layers.Layers.next_layer.Given.{Over}
 use Rattle.sabr_search.proofs.forward.layers.Layers.next_layer.Goals.{After-index-from}
 use Rattle.sabr_search.proofs.forward.layers.Layers.next_layer.Goals as goal

@@ -1,6 +1,6 @@
 use Rattle.std.proofs.Common.{◌+◌, ◌≤◌}
-use Rattle.sabr_search.specs.questions.Steps.{sent_by_all}
-use Rattle.sabr_search.specs.layers.Lists.{IsLowered, GivenFrom, IsKnownFrom, nodes_between}
+use Rattle.sabr_search.specs.layers.Lists.{IsLowered, GivenFrom, IsKnownFrom}
+use Rattle.sabr_search.proofs.ForwardLemmas.LayerEntries.{nodes_between, sent_by_all}
 use Rattle.sabr_search.proofs.forward.layers.Layers.next_layer.Given as goal
 
 abbrev pub invariant-loop-place : goal.invariant-loop-place

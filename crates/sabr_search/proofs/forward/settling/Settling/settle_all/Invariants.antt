@@ -1,6 +1,7 @@
 use Rattle.std.proofs.Common.{◌+◌, ◌≤◌, length}
 use Rattle.sabr_search.specs.questions.Steps.{degree}
-use Rattle.sabr_search.specs.layers.Settling.{AreSettled, sent_by_settled}
+use Rattle.sabr_search.specs.layers.Settling.{AreSettled}
+use Rattle.sabr_search.proofs.ForwardLemmas.FirstWays.{sent_by_settled}
 use Rattle.sabr_search.proofs.forward.settling.Settling.settle_all.Given as goal
 
 abbrev pub invariant-loop-event : goal.invariant-loop-event
