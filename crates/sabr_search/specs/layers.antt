@@ -1,5 +1,4 @@
 -- Layers by hops, forward and backward, arrivals in order, and the last seconds.
-pub mod Layers
 pub mod NumberOrder
 pub mod Lists
 pub mod Made

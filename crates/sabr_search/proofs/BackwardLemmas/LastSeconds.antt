@@ -13,7 +13,7 @@ use Rattle.sabr_search.specs.declared.visit.Visit.{Visit}
 use Rattle.sabr_search.specs.questions.Task.{SearchTask, IsTask, IsBehind, Takes, never}
 use Rattle.sabr_search.specs.questions.FirstSteps.{tabled_of}
 use Rattle.sabr_search.specs.layers.NodeBounds.{Goes, IsBetween, AreLateFor, AreCostsFor}
-use Rattle.sabr_search.specs.layers.Latest.{IsWhole, IsBegun, IsLeftBy, IsTakenBy, IsNear, IsNearBy, AreRising, AreTaken}
+use Rattle.sabr_search.specs.layers.Latest.{IsWhole, IsBegun, IsTakenBy, IsNear, IsNearBy, AreRising, AreTaken}
 use Rattle.sabr_search.proofs.LinkLemmas.Arrivals.{arrives_later}
 use Rattle.sabr_index.specs.declared.link.Pass.{Pass}
 use Rattle.sabr_index.specs.declared.link.LinkBounds.{LinkBounds}
@@ -86,8 +86,8 @@ module _ (P : List ℕ → ℕ → Type 0) (task : SearchTask) (late : List ℕ)
 
 -- what was taken for a node stays so when another may be left later
 pub still_taken : (task : SearchTask) (late : List ℕ) (u last : ℕ) → ((k : ℕ) → slice_index late k ≤ slice_index (slice_set late u last) k) → (w : ℕ) → w ≢ u → IsTakenBy task late w → IsTakenBy task (slice_set late u last) w
-still_taken task late u last rises w differ taken n v t b step soon open' elsewhere =
-    omega (arith, rises v, taken n v t b step (omega (arith, soon, set_other late u last w differ)) open' elsewhere)
+still_taken task late u last rises w differ taken n v t b step soon open' elsewhere since =
+    omega (arith, rises v, taken n v t b step (omega (arith, soon, set_other late u last w differ)) open' elsewhere since)
 
 -- the same of how near nodes are
 pub still_near : (task : SearchTask) (near : List ℕ) (u last : ℕ) → ((k : ℕ) → slice_index near k ≤ slice_index (slice_set near u last) k) → (w : ℕ) → w ≢ u → IsNearBy task near w → IsNearBy task (slice_set near u last) w
@@ -120,10 +120,6 @@ each_until P xs place x here so_far own j y less at = elim (last_or_before j pla
   | inl before ↦ so_far j y before at
   | inr same ↦ subst P (same_some (sym here ∙ ap (slice_get xs) (sym same) ∙ at)) own
 ]
-
--- who is in time stays so
-pub left_later : (task : SearchTask) (late late' : List ℕ) → ((k : ℕ) → slice_index late k ≤ slice_index late' k) → (u t : ℕ) → IsLeftBy task late u t → IsLeftBy task late' u t
-left_later task late late' rises u t left open' other = omega (arith, rises u, left open' other)
 
 -- a node that waits is taken out
 module _ (P : List ℕ → ℕ → Type 0) (task : SearchTask) (late : List ℕ) (taken : List Bool) (queue queue' : List Visit) (e : Visit) (was : AreRising P task late taken queue (length task.table)) (moved : IsPermutation queue (e ∷ queue')) where
@@ -236,7 +232,7 @@ late_for task whole until late goal are = record {
       elim (cases_lt b (slice_index late w)) [
         | inr le ↦ omega (arith, le, read_or late w (omega (arith, are.many, w_in)))
         | inl less ↦
-            absurd (omega (arith, late_there, read_or late u (omega (arith, are.many, u_in)), are.over w w_in (omega (arith, less)) n u t b step less (whole.forbids u between.node between.stands ∙ between.permitted) other))
+            absurd (omega (arith, late_there, read_or late u (omega (arith, are.many, u_in)), are.over w w_in (omega (arith, less)) n u t b step less (whole.forbids u between.node between.stands ∙ between.permitted) other (omega arith)))
       ]);
 }
 

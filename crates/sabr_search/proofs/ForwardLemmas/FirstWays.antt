@@ -16,8 +16,8 @@ use Rattle.sabr_search.specs.questions.Task.{SearchTask, Takes, IsTask, never, l
 use Rattle.sabr_search.specs.questions.FirstSteps.{IsNoneBefore}
 use Rattle.sabr_search.specs.layers.Lists.{IsKnown, AreClosed}
 use Rattle.sabr_search.specs.questions.Steps.{senders, degree}
-use Rattle.sabr_search.specs.layers.Made.{AreOpened, IsOutcome}
-use Rattle.sabr_search.specs.layers.Settling.{IsBound, IsWaiting, AreBy, settled_count, AreArrivalsBy, IsQueue, AreSettling, IsFallen, AreSettledTaken, AreSettled, IsFirstWay, IsReached, IsWayTo}
+use Rattle.sabr_search.specs.layers.Made.{IsWayTo, AreOpened, IsOutcome}
+use Rattle.sabr_search.specs.layers.Settling.{IsBound, IsWaiting, AreBy, settled_count, AreArrivalsBy, IsQueue, AreSettling, IsFallen, AreSettledTaken, AreSettled, IsFirstWay, IsReached}
 use Rattle.sabr_search.proofs.WayLemmas.Ways.{Leads-later}
 use Rattle.sabr_search.proofs.LinkLemmas.Counts.{settled_more}
 use Rattle.sabr_search.proofs.WayLemmas.RoutesAndWays.{takes_timely}

@@ -1,7 +1,7 @@
 -- Hop layers forward: what is reached along steps has an entry.
 use Rattle.std.proofs.Common.{◌⊎◌, inl, inr, ℕ, ◌+◌, ◌<◌, ◌≤◌, List, [], ◌∷◌, length, arith}
+use Rattle.sabr_search.specs.layers.Deadlines.{Entries}
 use Rattle.sabr_search.specs.questions.Ways.{StepRelation, Leads}
-use Rattle.sabr_search.specs.layers.Layers.{Entries}
 use Rattle.sabr_search.proofs.WayLemmas.Ways.{IsTimely, Leads-later}
 
 -- an entry for node v by second t after at most h hops

@@ -9,11 +9,11 @@ use Rattle.sabr_search.specs.declared.found.Best.{Best}
 use Rattle.sabr_search.specs.declared.found.Outcome.{Outcome}
 use Rattle.sabr_search.specs.declared.found.Outcome.TheVariants.{Found, None, GaveUp}
 use Rattle.sabr_index.specs.declared.looks.Looks.{Looks}
+use Rattle.sabr_search.specs.layers.Deadlines.{Entries}
 use Rattle.sabr_search.specs.questions.Ways.{Leads}
-use Rattle.sabr_search.specs.layers.Layers.{Entries}
 use Rattle.sabr_search.specs.questions.Task.{SearchTask, Takes, IsTask, never}
 use Rattle.sabr_search.specs.layers.Lists.{AreLists, IsLowered, IsKnownFrom, GivenFrom, AreSources, IsBroughtTo}
-use Rattle.sabr_search.specs.layers.Made.{IsFound, IsMade, IsOutcome}
+use Rattle.sabr_search.specs.layers.Made.{IsWayTo, IsFound, IsMade, IsOutcome}
 use Rattle.sabr_search.specs.layers.Late.{IsNoneSooner}
 use Rattle.sabr_search.proofs.WayLemmas.Ways.{Leads-append, Leads-later}
 use Rattle.sabr_search.proofs.ForwardLemmas.HopLayers.{ReachedBy, IsTaken, none_sooner}
@@ -37,7 +37,7 @@ pub record AreLayers (task : SearchTask) (until hop : ℕ) (bounds arrival place
   pub last_bound : slice_index bounds (hop + 1) ≡ length reached
   pub begins : slice_get reached 0 ≡ Some (record { node = task.start; at = task.at })
   pub apart : (h p q : ℕ) (e f : Visit) → h ≤ hop → slice_index bounds h ≤ p → slice_index bounds h ≤ q → p < slice_index bounds (h + 1) → q < slice_index bounds (h + 1) → slice_get reached p ≡ Some e → slice_get reached q ≡ Some f → e.node ≡ f.node → p ≡ q
-  pub real : (h v a : ℕ) → Entry bounds reached h v a → (ns : List ℕ) × (length ns ≡ h) × Leads (Takes task) task.start task.at ns v a
+  pub real : (h v a : ℕ) → Entry bounds reached h v a → IsWayTo task v h a
   pub taken : IsTaken (Takes task) (Entry bounds reached) hop best.delivery
   pub found : IsFound task until hop best
 

@@ -3,7 +3,10 @@ use Rattle.std.specs.Prelude.{◌≡◌, ℕ, ◌+◌, ◌-◌, ◌≤◌, ◌<�
 use Rattle.std.specs.declared.option.Option.TheVariants.{Some}
 use Rattle.sabr_search.specs.declared.backward.deadlines.Deadline.{Deadline}
 use Rattle.sabr_search.specs.declared.backward.deadlines.Deadlines.{Deadlines}
-use Rattle.sabr_search.specs.layers.Layers.{Entries}
+
+-- layer h has an entry for node v with second a
+abbrev pub Entries : Type 1
+Entries = ℕ → ℕ → ℕ → Type 0
 
 -- the layer of h hops has an entry for node v with deadline x
 abbrev pub HasDeadline : List ℕ → List Deadline → Entries

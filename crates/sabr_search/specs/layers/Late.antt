@@ -4,8 +4,8 @@ use Rattle.std.specs.Prelude.{◌≡◌, ◌≢◌, ◌⊎◌, ℕ, ◌+◌, ◌
 use Rattle.std.specs.declared.option.Option.TheVariants.{Some}
 use Rattle.sabr_search.specs.declared.backward.deadlines.Deadline.{Deadline}
 use Rattle.sabr_search.specs.declared.backward.deadlines.Deadlines.{Deadlines}
+use Rattle.sabr_search.specs.layers.Deadlines.{Entries}
 use Rattle.sabr_search.specs.questions.Ways.{Leads}
-use Rattle.sabr_search.specs.layers.Layers.{Entries}
 use Rattle.sabr_search.specs.questions.Task.{SearchTask, Takes}
 use Rattle.sabr_search.specs.questions.Linked.{IsLinkWithin, HasNumber}
 use Rattle.sabr_index.specs.declared.link.Pass.{Pass}
@@ -77,10 +77,6 @@ IsToldTo task since late to = (n u t b : ℕ) → Takes task n u t to.node b →
 -- that holds for each step to an entry at the places from `first` to before `begin`
 abbrev pub AreTold : SearchTask → List ℕ → List Deadline → ℕ → ℕ → List ℕ → Type 0
 AreTold task since entries first begin late = (p : ℕ) (e : Deadline) (n u t b : ℕ) → first ≤ p → p < begin → slice_get entries p ≡ Some e → Takes task n u t e.node b → b < e.before → IsToldLate task since late u t
-
--- that holds for each step to an entry of layer `left`
-abbrev pub IsLayerTold : SearchTask → List ℕ → List ℕ → ℕ → List Deadline → List ℕ → Type 0
-IsLayerTold task since ends left entries late = AreTold task since entries (slice_index ends left) (slice_index ends (left + 1)) late
 
 -- the same by the layers up to the one after j
 abbrev pub IsToldBy : SearchTask → List ℕ → Entries → ℕ → ℕ → ℕ → Type 0

@@ -5,6 +5,7 @@ use Rattle.std.specs.declared.option.Option.TheVariants.{Some}
 use Rattle.sabr_search.specs.declared.visit.Visit.{Visit}
 use Rattle.sabr_index.specs.declared.link.Pass.{Pass}
 use Rattle.sabr_search.specs.questions.Linked.{HasNumber}
+use Rattle.sabr_search.specs.layers.Late.{IsToldTo}
 use Rattle.sabr_search.specs.questions.Task.{SearchTask, IsTask, Takes, is_closed}
 
 -- the whole graph: no node is forbidden but the source and those to avoid, and no number is excluded
@@ -14,17 +15,9 @@ pub record IsWhole (task : SearchTask) : Type 0 where
   pub forbids : (k x : ℕ) → slice_get task.table k ≡ Some x → slice_index_or task.forbidden k false ≡ is_closed task.plan task.request [] x
   pub free : task.excluded ≡ []
 
--- who is at node u at t is not too late, if it is an open node and not the goal
-abbrev pub IsLeftBy : SearchTask → List ℕ → ℕ → ℕ → Type 0
-IsLeftBy task late u t = slice_index_or task.forbidden u false ≡ false → u ≢ task.goal → t < slice_index late u
-
--- so it is for each step over these passes from node u to node w before a second
-abbrev pub IsLeftOver : SearchTask → List ℕ → ℕ → List Pass → ℕ → ℕ → Type 0
-IsLeftOver task late u passes w before = (n t b : ℕ) → HasNumber passes n → Takes task n u t w b → b < before → IsLeftBy task late u t
-
--- so it is for each step that leads to node w in time
+-- what each step that leads to node w in time leaves is not too late
 abbrev pub IsTakenBy : SearchTask → List ℕ → ℕ → Type 0
-IsTakenBy task late w = (n u t b : ℕ) → Takes task n u t w b → b < slice_index late w → IsLeftBy task late u t
+IsTakenBy task late w = IsToldTo task [] late (record { node = w; before = slice_index late w })
 
 -- who goes on from node u at t, no earlier than the request begins, and is at node w at b is no nearer to the goal
 -- there than the seconds on the way make it, if u is an open node and not the goal

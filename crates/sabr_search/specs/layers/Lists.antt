@@ -25,11 +25,6 @@ pub record IsLayer (begin : ℕ) (place : List ℕ) (reached : List Visit) : Typ
   pub begins : begin ≤ length reached
   pub once : (p : ℕ) (d : Visit) → begin ≤ p → p < length reached → slice_index place (slice_index_or reached p d).node ≡ p
 
--- each entry of ys is the one of xs at its place, or one for node k at t
-abbrev pub AddsOnly : List Visit → List Visit → ℕ → ℕ → Type 0
-AddsOnly xs ys k t = (p : ℕ) (d : Visit) → p < length ys →
-    ((p < length xs) × (slice_index_or ys p d ≡ slice_index_or xs p d)) ⊎ (((slice_index_or ys p d).node ≡ k) × ((slice_index_or ys p d).at ≡ t))
-
 -- nothing that arrives at t or later improves a forbidden node
 abbrev pub AreClosed : List Bool → List ℕ → ℕ → Type 0
 AreClosed forbidden arrival t = (k : ℕ) → slice_index_or forbidden k false ≡ true → slice_index arrival k ≤ t

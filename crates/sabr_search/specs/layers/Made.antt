@@ -28,9 +28,13 @@ UnlessGaveUp is (Found found) = is
 UnlessGaveUp is None = is
 UnlessGaveUp is GaveUp = ⊤
 
+-- some way of h hops leads from the start to node v at second t
+abbrev pub IsWayTo : SearchTask → ℕ → ℕ → ℕ → Type 0
+IsWayTo task v h t = (ns : List ℕ) × (length ns ≡ h) × Leads (Takes task) task.start task.at ns v t
+
 -- a delivery before second `until` is found within that many hops
 abbrev pub IsFoundWithin : SearchTask → ℕ → ℕ → Best → Type 0
-IsFoundWithin task until hop best = (0 < best.hops) × (best.hops ≤ hop) × (best.delivery < until) × ((ns : List ℕ) × (length ns ≡ best.hops) × Leads (Takes task) task.start task.at ns task.goal best.delivery)
+IsFoundWithin task until hop best = (0 < best.hops) × (best.hops ≤ hop) × (best.delivery < until) × IsWayTo task task.goal best.hops best.delivery
 
 -- no delivery is found before second `until`, or one within that many hops
 abbrev pub IsFound : SearchTask → ℕ → ℕ → Best → Type 0

@@ -13,7 +13,7 @@ use Rattle.sabr_search.specs.questions.Linked.{HasNumber}
 use Rattle.sabr_search.specs.questions.Ways.{Leads}
 use Rattle.sabr_search.specs.questions.FirstSteps.{IsNoneBefore}
 use Rattle.sabr_search.specs.questions.Task.{SearchTask, Takes, never, latest_arrival}
-use Rattle.sabr_search.specs.layers.Made.{IsFound}
+use Rattle.sabr_search.specs.layers.Made.{IsWayTo, IsFound}
 use Rattle.sabr_search.specs.layers.Lists.{AreClosed, IsKnown}
 
 -- by node a second before which no way comes there, or from which on none delivers before d, if that is sooner; nothing
@@ -45,10 +45,6 @@ IsWaiting queue k t = (e : Visit) × Contains queue e × (e.node ≡ k) × (e.at
 -- the number of settled nodes
 abbrev pub settled_count : List Bool → ℕ
 settled_count settled = count_by (λ b. b) settled
-
--- some way of h hops leads from the start to node v at second t
-abbrev pub IsWayTo : SearchTask → ℕ → ℕ → ℕ → Type 0
-IsWayTo task v h t = (ns : List ℕ) × (length ns ≡ h) × Leads (Takes task) task.start task.at ns v t
 
 -- what the queue holds between two steps: an event's second is the arrival at its node and what the goal costs from
 -- there

@@ -8,7 +8,7 @@ ghost use Rattle.sabr_search.specs.questions.Linked.{IsLinkWithin};
 ghost use Rattle.sabr_search.specs.layers.Deadlines.{AreLinked, IsApart, head_of};
 ghost use Rattle.sabr_search.specs.questions.FirstSteps.{AreFirstSteps};
 ghost use Rattle.sabr_search.specs.layers.Settling.{AreReal};
-ghost use Rattle.sabr_search.specs.layers.Late.{InTimeFor, AreLateAfter, IsNotedLate, IsToldTo, IsToldOver, IsToldByHead, IsLayerTold, AreArrivals};
+ghost use Rattle.sabr_search.specs.layers.Late.{InTimeFor, AreLateAfter, IsNotedLate, IsToldTo, IsToldOver, IsToldByHead, AreTold, AreArrivals};
 ghost use Rattle.sabr_search.specs.layers.WholeDeadlines.{AreWhole, IsMadeBack};
 
 use crate::backward::deadlines::{Deadline, Deadlines};
@@ -201,7 +201,7 @@ impl<A: Allocator + Copy> Deadlines<A> {
         ensures lists { OnOk result (AreLateAfter aim.now.task.now self.old.ends.items left self.new.late.items self.new.place.items self.new.entries.items) }
         ensures linked { OnOk result (AreLinked self.new.entries.items self.new.fewer.items) }
         ensures kept { OnOk result (take (slice_index self.old.ends.items (left + 1)) self.new.entries.items ≡ take (slice_index self.old.ends.items (left + 1)) self.old.entries.items) }
-        ensures told { IfOk result (λ whole. IsTrue whole → IsLayerTold aim.now.task.now aim.now.since.now self.old.ends.items left self.old.entries.items self.new.late.items) }
+        ensures told { IfOk result (λ whole. IsTrue whole → AreTold aim.now.task.now aim.now.since.now self.old.entries.items (slice_index self.old.ends.items left) (slice_index self.old.ends.items (left + 1)) self.new.late.items) }
     {
         let first = self.ends[left];
         let begin = self.ends[left + 1];

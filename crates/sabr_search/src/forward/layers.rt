@@ -4,7 +4,7 @@ ghost use Rattle.std.specs.Prelude.{◌≡◌, ◌≢◌, ◌⊎◌, IsTrue, min
 ghost use Rattle.sabr_search.specs.questions.Task.{IsTask, Takes, never, latest_arrival};
 ghost use Rattle.sabr_search.specs.questions.Steps.{degree};
 ghost use Rattle.sabr_search.specs.questions.Linked.{IsLinkWithin, HasNumber};
-ghost use Rattle.sabr_search.specs.layers.Lists.{IsPlaced, StayLinked, IsLayer, AddsOnly, AreLists, AreLowered, IsKnown, AreSources, GivenAt, GivenFrom, IsKnownFrom, IsBroughtTo};
+ghost use Rattle.sabr_search.specs.layers.Lists.{IsPlaced, StayLinked, IsLayer, AddsGiven, AreLists, AreLowered, IsKnown, AreSources, GivenAt, GivenFrom, IsKnownFrom, IsBroughtTo};
 ghost use Rattle.sabr_search.specs.questions.FirstSteps.{IsNoneBefore};
 ghost use Rattle.sabr_search.specs.layers.Made.{AreOpened, IsMade};
 
@@ -58,7 +58,7 @@ impl<A: Allocator + Copy> Layers<A> {
         ensures linked { OnOk result (StayLinked self.old self.new) }
         ensures layer { OnOk result (IsLayer begin self.new.place.items self.new.reached.items) }
         ensures before { OnOk result (take begin self.new.reached.items ≡ take begin self.old.reached.items) }
-        ensures entries { OnOk result (AddsOnly self.old.reached.items self.new.reached.items node arrival) }
+        ensures entries { OnOk result (AddsGiven self.old.reached.items self.new.reached.items (λ w b. (w ≡ node) × (b ≡ arrival))) }
     {
         let at = self.place[node];
         if at >= begin {

@@ -1,13 +1,14 @@
-use Rattle.std.proofs.Common.{◌≡◌, inl, inr, slice_index, sym, ap, ◌∙◌, arith}
+use Rattle.std.proofs.Common.{[], ◌≡◌, inl, inr, slice_index, sym, ap, ◌∙◌, arith}
 use Rattle.std.proofs.lemmas.Bool.{cases_lt}
 use Rattle.sabr_index.specs.Links.{SentLink}
 use Rattle.sabr_index.specs.Incoming.{bounds_until}
-use Rattle.sabr_search.specs.layers.Latest.{IsLeftOver}
+use Rattle.sabr_search.specs.layers.Late.{IsToldOver}
 use Rattle.sabr_search.proofs.LinkLemmas.OverLinks.{ruled_out}
 use Rattle.std.proofs.lemmas.Option.{slice_get_within}
 use Rattle.sabr_search.proofs.ForwardLemmas.LayerEntries.{read_at}
 use Rattle.sabr_search.proofs.WayLemmas.RoutesAndWays.{same_some}
-use Rattle.sabr_search.proofs.BackwardLemmas.LastSeconds.{left_later, left_before, each_until}
+use Rattle.sabr_search.proofs.BackwardLemmas.LastSeconds.{left_before, each_until}
+use Rattle.sabr_search.proofs.BackwardLemmas.LateLists.{told_rises}
 use Rattle.sabr_search.proofs.backward.latest.Latest.take_senders.Goals as goal
 
 pub loop-place-init : goal.loop-place-init
@@ -33,11 +34,11 @@ loop-place-preserved-then-is_soonest g c =
       rising = so_far.rising;
       rises = so_far.rises;
       same = so_far.same;
-      told = each_until (λ (s : SentLink). IsLeftOver task c.loop-place.self.late.items s.sender s.passes c.args.to c.index-before.result.now) c.senders-senders.result c.loop-place.place _ here.1 so_far.told
-          (λ n t b has s by open' other. elim (cases_lt t (slice_index c.loop-place.self.late.items u)) [
+      told = each_until (λ (s : SentLink). IsToldOver task [] c.loop-place.self.late.items s.sender s.passes c.index-before.result.now) c.senders-senders.result c.loop-place.place _ here.1 so_far.told
+          (λ n t w b has s by open' other since. elim (cases_lt t (slice_index c.loop-place.self.late.items u)) [
             | inl early ↦ early
             | inr late_there ↦
-                absurd (omega (arith, by, late, ruled_out task c.requires.task u c.args.to here.0 link (bounds_until here.2 c.head-head.result) here.3 c.index-latest.result.now c.index-before.result.now (inr (c.is_soonest.ensures.late c.if-is_soonest.true)) n t c.args.to b has (omega (arith, late, late_there)) s))
+                absurd (omega (arith, by, late, ruled_out task c.requires.task u c.args.to here.0 link (bounds_until here.2 c.head-head.result) here.3 c.index-latest.result.now c.index-before.result.now (inr (c.is_soonest.ensures.late c.if-is_soonest.true)) n t w b has (omega (arith, late, late_there)) s))
           ]);
     }
 
@@ -54,8 +55,8 @@ loop-place-preserved-then-from-latest g c =
       rising = so_far.rising;
       rises = so_far.rises;
       same = so_far.same;
-      told = each_until (λ (s : SentLink). IsLeftOver task c.loop-place.self.late.items s.sender s.passes c.args.to c.index-before.result.now) c.senders-senders.result c.loop-place.place _ here.link so_far.told
-          (λ n t b has s by open' other. omega (arith, late, left_before task c.requires.task from.node c.args.to from.passes.now from.bounds (link, here.bounds) c.index-latest.result.now c.if-from-latest.true n t c.args.to b has s));
+      told = each_until (λ (s : SentLink). IsToldOver task [] c.loop-place.self.late.items s.sender s.passes c.index-before.result.now) c.senders-senders.result c.loop-place.place _ here.link so_far.told
+          (λ n t w b has s by open' other since. omega (arith, late, left_before task c.requires.task from.node c.args.to from.passes.now from.bounds (link, here.bounds) c.index-latest.result.now c.if-from-latest.true n t w b has s));
     }
 
 pub take_sender-requires-clause-link : goal.take_sender-requires-clause-link
@@ -73,8 +74,8 @@ loop-place-preserved g c =
       rising = one.rising;
       rises = λ k. omega (arith, so_far.rises k, one.rises k);
       same = one.same;
-      told = each_until (λ (s : SentLink). IsLeftOver task c.take_sender.new.self.late.items s.sender s.passes c.args.to c.index-before.result.now) c.senders-senders.result c.loop-place.place _ c.at-from.ensures.link
-          (λ j s less at n t b has step by. left_later task _ _ one.rises s.sender t (so_far.told j s less at n t b has step by))
+      told = each_until (λ (s : SentLink). IsToldOver task [] c.take_sender.new.self.late.items s.sender s.passes c.index-before.result.now) c.senders-senders.result c.loop-place.place _ c.at-from.ensures.link
+          (λ j s less at n t w b has step by. told_rises task [] _ _ s.sender t one.rises (so_far.told j s less at n t w b has step by))
           one.told;
     }
 
@@ -82,4 +83,4 @@ pub returns-clause-taken : goal.returns-clause-taken
 returns-clause-taken g c = λ yes' n u t b step less.
     let so_far = c.loop-place.invariant in
     let on = c.senders-senders.ensures.whole n u t b step in
-    rw (← on.3) (so_far.told on.0 on.1 (omega (arith, slice_get_within c.senders-senders.result on.0 on.1 on.2, c.loop-place-test.false, c.len-place-end.ensures)) on.2 n t b on.4 (rw (← on.3) at step) (omega (arith, less, so_far.same)))
+    rw (← on.3) (so_far.told on.0 on.1 (omega (arith, slice_get_within c.senders-senders.result on.0 on.1 on.2, c.loop-place-test.false, c.len-place-end.ensures)) on.2 n t c.args.to b on.4 (rw (← on.3) at step) (omega (arith, less, so_far.same)))
