@@ -58,13 +58,10 @@ known_later goal arrival best w x y le (inl late) = inl (omega (arith, late))
 known_later goal arrival best w x y le (inr reached) = inr (reached.0, omega (arith, reached.1))
 
 -- what comes no earlier than what is news is known
-pub known_old : (goal : ℕ) (arrival : List ℕ) (best w before x : ℕ) → (w ≡ goal → before ≡ best) → (w ≢ goal → before ≡ min best (slice_index arrival w)) → before ≤ x → IsKnown goal arrival best w x
-known_old goal arrival best w before x at_goal elsewhere le = elim (cases_eq w goal) [
-  | inl same ↦ inl (omega (arith, at_goal same))
-  | inr other ↦ elim (cases_lt (slice_index arrival w) best) [
-    | inl less ↦ inr (other, omega (arith, elsewhere other))
-    | inr more ↦ inl (omega (arith, elsewhere other))
-  ]
+pub known_old : (goal : ℕ) (arrival : List ℕ) (best w x : ℕ) → best ≤ slice_index arrival goal → min best (slice_index arrival w) ≤ x → IsKnown goal arrival best w x
+known_old goal arrival best w x late le = elim (cases_lt x best) [
+  | inr behind ↦ inl behind
+  | inl before ↦ inr (λ same. absurd (omega (arith, before, le, late, ap (slice_index arrival) same)), omega (arith, before, le))
 ]
 
 -- what a step over the contact of a hop is

@@ -24,7 +24,7 @@ use Rattle.sabr_search.specs.questions.Steps.{IsHopAt}
 use Rattle.sabr_search.specs.questions.Linked.{IsPassAt, IsLinkAt, AreInOrder, HasNumber, passes_of, AreLinksAt, IsLinkHere, IsRuledOut}
 use Rattle.sabr_search.proofs.LinkLemmas.Arrivals.{arrival_parts}
 use Rattle.sabr_search.proofs.LinkLemmas.PlanFacts.{hop_small}
-use Rattle.sabr_search.proofs.ForwardLemmas.Forward.{hop_takes}
+use Rattle.sabr_search.proofs.ForwardLemmas.Forward.{known_old, hop_takes}
 use Rattle.sabr_search.proofs.WayLemmas.RoutesAndWays.{same_some}
 
 -- the default after the end of a list of passes
@@ -204,7 +204,4 @@ pub known_skipped : (task : SearchTask) → IsTask task → (u t : ℕ) (links :
 known_skipped task is u t links passes are arrival best goal_late j l at out n w b has s =
     let to = link_receiver task is u links passes are j l at n t w b has s in
     let by : slice_index arrival w ≤ b = rw to (ruled_out task is u l.receiver (passes_of passes l) (are.each j l at) l.bounds (are.bounds j l at) t (slice_index arrival l.receiver) out n t w b has (omega arith) s) in
-    elim (cases_eq w task.goal) [
-      | inl same ↦ inl (omega (arith, goal_late, by, ap (slice_index arrival) same))
-      | inr other ↦ inr (other, by)
-    ]
+    known_old task.goal arrival best w b goal_late (omega (arith, by))

@@ -9,9 +9,9 @@ ghost use Rattle.sabr_search.specs.questions.FirstSteps.{IsNoneBefore};
 ghost use Rattle.sabr_search.specs.layers.Made.{AreOpened, IsMade};
 
 use crate::forward::arrivals::open_nodes;
-use crate::forward::news::{brings_none, news_before};
+use crate::forward::news::news_before;
 use crate::found::{Best, Outcome};
-use crate::links::over_link::{WalkedLink, is_soonest};
+use crate::links::over_link::{WalkedLink, is_soonest, rules_out};
 use crate::task::Task;
 use crate::visit::{NEVER, Visit};
 use sabr_index::Looks;
@@ -93,7 +93,7 @@ impl<A: Allocator + Copy> Layers<A> {
         ensures known { IfOk result (λ b. (n w x : ℕ) → HasNumber link.entry.passes.now n → Takes task.now n link.entry.from at w x → IsKnown task.now.goal self.new.arrival.items b w x) }
     {
         let to = link.to;
-        let before = news_before(&self.arrival, task, to, layer.best);
+        let before = news_before(&self.arrival, &[], to, layer.best);
         let arrival = task.arrive_over(looks, link, at, before);
         if arrival >= before {
             return Ok(layer.best);
@@ -128,7 +128,8 @@ impl<A: Allocator + Copy> Layers<A> {
         let links = task.links(from.node);
         let mut least = best;
         for place in 0..links.links.len() {
-            if brings_none(&self.arrival, &links.links[place], from.at) {
+            let link = &links.links[place];
+            if rules_out(link.bounds, from.at, self.arrival[link.receiver as usize]) {
                 continue;
             }
             let link = task.link(links, from.node, place);

@@ -10,9 +10,9 @@ ghost use Rattle.sabr_search.specs.questions.FirstSteps.{AreFirstSteps};
 ghost use Rattle.sabr_search.specs.layers.Settling.{IsBound, AreReal, IsReached, StaySettling, StaySettled, IsKnownOver, IsFallen, AreSettledTaken};
 
 use crate::forward::arrivals::open_nodes;
-use crate::forward::news::brings_none;
+use crate::forward::news::news_before;
 use crate::found::{Best, Outcome};
-use crate::links::over_link::WalkedLink;
+use crate::links::over_link::{WalkedLink, rules_out};
 use crate::queue::Queue;
 use crate::task::Task;
 use crate::visit::{Visit, seconds_of};
@@ -48,19 +48,6 @@ impl<'t, 'a, 'b, A: Allocator + Copy> Forward<'t, 'a, 'b, A> {
     #[inline(always)]
     fn rank(&self, node: usize) -> u64 {
         seconds_of(self.hops, node)
-    }
-
-    /// Returns the second that an arrival at node `to` has to beat to be news. From that second on, an arrival is no
-    /// sooner than a known one, or no way from it delivers before `delivery`. At the goal only `delivery` counts.
-    #[inline(always)]
-    fn news(&self, arrival: &[u64], to: usize, delivery: u64) -> u64
-        requires node { to < length arrival.now }
-        requires late { delivery ≤ slice_index arrival.now self.now.task.now.goal }
-        ensures sooner { result ≤ delivery - slice_index self.now.costs.now to }
-        ensures goal { to ≡ self.now.task.now.goal → result ≡ delivery - slice_index self.now.costs.now to }
-        ensures other { to ≢ self.now.task.now.goal → result ≡ min (delivery - slice_index self.now.costs.now to) (slice_index arrival.now to) }
-    {
-        delivery.saturating_sub(self.cost(to)).min(arrival[to])
     }
 }
 
@@ -168,7 +155,7 @@ impl<A: Allocator + Copy> Settling<A> {
     {
         let task = forward.task;
         let to = link.to;
-        let before = forward.news(&self.arrival, to, best.delivery);
+        let before = news_before(&self.arrival, forward.costs, to, best.delivery);
         let at = task.arrive_over(looks, link, event.at, before);
         if at >= before {
             return Ok(best);
@@ -205,7 +192,8 @@ impl<A: Allocator + Copy> Settling<A> {
         self.settled[event.node] = true;
         let mut least = best;
         for place in 0..links.links.len() {
-            if brings_none(&self.arrival, &links.links[place], event.at) {
+            let link = &links.links[place];
+            if rules_out(link.bounds, event.at, self.arrival[link.receiver as usize]) {
                 continue;
             }
             let link = forward.task.link(links, event.node, place);
@@ -245,7 +233,8 @@ impl<A: Allocator + Copy> Settling<A> {
         };
         for place in 0..first.len() {
             let step = first[place];
-            if step.at < forward.news(&self.arrival, step.node, best.delivery) {
+            let before = news_before(&self.arrival, forward.costs, step.node, best.delivery);
+            if step.at < before {
                 best = self.reach(forward, event, step, best)?;
             }
         }

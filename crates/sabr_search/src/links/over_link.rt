@@ -25,15 +25,17 @@ pub struct WalkedLink<'a> {
 
 /// Returns true if two bounds of a whole link, `soonest` and `least_light`, show that nothing that is at its sender at
 /// `at` or later arrives before `before`.
+#[inline(always)]
 pub fn is_soonest(soonest: u64, least_light: u32, at: u64, before: u64) -> bool
     ensures late { IsTrue result → (before ≤ soonest) ⊎ (before ≤ at + least_light) }
     ensures early { result ≡ false → at < before }
 {
-    before <= soonest || before.saturating_sub(at) <= least_light as u64
+    before <= soonest.max(at.saturating_add(least_light as u64))
 }
 
 /// Returns true if, by the bounds of the whole link, nothing that is at its sender at `at` or later arrives before
-/// `before`.
+/// `before`. Whether the link has ended is seen first.
+#[inline(always)]
 pub fn rules_out(bounds: LinkBounds, at: u64, before: u64) -> bool
     ensures late { IsTrue result → IsRuledOut bounds at before }
     ensures early { result ≡ false → at < before }

@@ -2,21 +2,23 @@ use Rattle.std.proofs.Common.{ℕ, inl, inr, ap, sym, ◌∙◌, slice_get, arit
 use Rattle.std.proofs.lemmas.Option.{slice_get_within, slice_get-get_or}
 use Rattle.sabr_search.specs.questions.Task.{Takes}
 use Rattle.sabr_search.proofs.ForwardLemmas.MadeLayers.{goal_unreached}
+use Rattle.sabr_search.proofs.ForwardLemmas.LayerEntries.{read_at}
 use Rattle.sabr_search.proofs.ForwardLemmas.Forward.{lowered_more, known_lower, last_or_before}
 use Rattle.sabr_search.proofs.WayLemmas.RoutesAndWays.{same_some}
 use Rattle.sabr_search.proofs.LinkLemmas.OverLinks.{known_skipped, no_link, in_place}
 use Rattle.sabr_search.proofs.forward.layers.Layers.take_all.Goals as goal
 
-pub brings_none-requires-clause-receiver : goal.brings_none-requires-clause-receiver
-brings_none-requires-clause-receiver g c =
+pub index-requires : goal.index-requires
+index-requires g c =
     let so_far = c.loop-place.invariant in
     omega (arith, so_far.links.receivers c.loop-place.place _ (slice_get-get_or c.links-links.result.links.now c.loop-place.place no_link c.loop-place-test.true), so_far.lowered.lists.flags, c.requires.task.as_many)
 
-pub loop-place-preserved-then-brings_none : goal.loop-place-preserved-then-brings_none
-loop-place-preserved-then-brings_none g c =
+pub loop-place-preserved-then-rules_out : goal.loop-place-preserved-then-rules_out
+loop-place-preserved-then-rules_out g c =
     let task = c.args.task.now in
     let so_far = c.loop-place.invariant in
     let here = slice_get-get_or c.links-links.result.links.now c.loop-place.place no_link c.loop-place-test.true in
+    let known = read_at c.loop-place.self.arrival.items _ c.index.result.now (omega (arith, so_far.links.receivers c.loop-place.place _ here, so_far.lowered.lists.flags, c.requires.task.as_many)) c.index.ensures in
     let goal_late = goal_unreached task c.requires.task c.args.begin _ _ _ so_far.lowered.lists in
     record {
       links = so_far.links;
@@ -28,7 +30,7 @@ loop-place-preserved-then-brings_none g c =
         | inr same ↦
             (let is = same_some (sym at ∙ ap (slice_get c.links-links.result.links.now) same ∙ here) in
             known_skipped task c.requires.task c.args.from.node c.args.from.at _ _ so_far.links c.loop-place.self.arrival.items c.loop-place.least
-            (omega (arith, goal_late)) j x at (rw is (rw c.deref.ensures.value at (c.brings_none.ensures c.if-brings_none.true))) n w b has s)
+            (omega (arith, goal_late)) j x at (rw is (rw known at (c.rules_out.ensures.late c.if-rules_out.true))) n w b has s)
       ];
     }
 

@@ -1,6 +1,7 @@
 use Rattle.std.proofs.Common.{◌≡◌, ◌≢◌, ℕ, ◌<◌, inl, inr, length, false, slice_index, slice_index_or, refl, ap, sym, ◌∙◌, arith}
 use Rattle.std.proofs.lemmas.Bool.{false_from_ne_true}
 use Rattle.sabr_search.specs.questions.Task.{Takes}
+use Rattle.sabr_search.proofs.ForwardLemmas.MadeLayers.{goal_unreached}
 use Rattle.sabr_search.proofs.ForwardLemmas.Forward.{known_old, lowered_none}
 use Rattle.sabr_search.proofs.ForwardLemmas.Queues.{set_here, set_falls, set_many}
 use Rattle.sabr_search.proofs.LinkLemmas.OverLinks.{over_pass, step_over}
@@ -15,7 +16,7 @@ returns-then-arrival-before-clause-known g c = λ n w x has s.
     let u = c.args.link.from in
     let t = c.args.at in
     let over = over_pass task c.requires.task u c.args.link.to t has.1 w x (c.requires.link.0.each has.0 has.1 has.2) (step_over task c.args.link.passes.now n u t w x has s) in
-    rw over.receiver (known_old task.goal c.args.self.now.arrival.items c.args.layer.best c.args.link.to c.news_before-before.result x c.news_before-before.ensures.goal (rw c.deref.ensures.value at c.news_before-before.ensures.other) (omega (arith, c.if-arrival-before.true, c.arrive_over-arrival.ensures.full n w x has s)))
+    rw over.receiver (known_old task.goal c.args.self.now.arrival.items c.args.layer.best c.args.link.to x (omega (arith, goal_unreached task c.requires.task c.args.layer.begin _ _ _ c.requires.lists)) (omega (arith, rw c.deref.ensures.value at c.news_before-before.ensures, c.if-arrival-before.true, c.arrive_over-arrival.ensures.full n w x has s)))
 
 pub returns-then-to-goal-clause-lowered : goal.returns-then-to-goal-clause-lowered
 returns-then-to-goal-clause-lowered g c =
@@ -24,7 +25,7 @@ returns-then-to-goal-clause-lowered g c =
     let step = c.arrive_over-arrival.ensures.sound c.if-arrival-before.false (ap (λ k. slice_index_or task.forbidden k false) same ∙ c.requires.task.goal_open) in
     record {
       lists = c.requires.lists;
-      lower = omega (arith, c.if-arrival-before.false, c.news_before-before.ensures.goal same);
+      lower = omega (arith, c.if-arrival-before.false, c.news_before-before.ensures);
       lowered = λ k. omega arith;
       before = refl;
       adds = λ p d within. inl (within, refl);
@@ -43,7 +44,7 @@ returns-clause-lowered g c =
     let was = c.requires.lists in
     let other : w ≢ task.goal = λ same. c.if-to-goal.false (same ∙ sym c.goal.ensures) in
     let within : w < length own.arrival.items = omega (arith, was.flags, c.requires.task.as_many, c.requires.receiver) in
-    let less : b < slice_index own.arrival.items w = omega (arith, c.if-arrival-before.false, rw c.deref.ensures.value at c.news_before-before.ensures.other other) in
+    let less : b < slice_index own.arrival.items w = omega (arith, c.if-arrival-before.false, rw c.deref.ensures.value at c.news_before-before.ensures) in
     let open' : slice_index_or task.forbidden w false ≡ false = false_from_ne_true (slice_index_or task.forbidden w false) (λ on. omega (arith, was.closed w on, less, c.arrive_over-arrival.ensures.later c.if-arrival-before.false, c.requires.since)) in
     let step : (n : ℕ) × Takes task n c.args.link.from c.args.at w b = c.arrive_over-arrival.ensures.sound c.if-arrival-before.false open' in
     let noted = c.in_ok-note.ensures in

@@ -1,28 +1,23 @@
 use Rattle.std.proofs.Common.{inl, inr, ap, sym, ◌∙◌, ◌-◌, slice_index, slice_get, arith}
 use Rattle.std.proofs.lemmas.Option.{slice_get_within, slice_get-get_or}
+use Rattle.sabr_search.proofs.ForwardLemmas.LayerEntries.{read_at}
 use Rattle.sabr_search.proofs.ForwardLemmas.Forward.{known_lower, last_or_before}
 use Rattle.sabr_search.proofs.WayLemmas.RoutesAndWays.{same_some}
-use Rattle.sabr_search.proofs.AnswerLemmas.Law.{way_early}
 use Rattle.sabr_search.proofs.LinkLemmas.OverLinks.{known_skipped, no_link, in_place}
 use Rattle.sabr_search.proofs.ForwardLemmas.Queues.{fallen_more, taken_settled}
 use Rattle.sabr_search.proofs.forward.settling.Settling.settle.Goals as goal
 
-pub brings_none-requires-clause-receiver : goal.brings_none-requires-clause-receiver
-brings_none-requires-clause-receiver g c =
+pub index-requires : goal.index-requires
+index-requires g c =
     let so_far = c.loop-place.invariant in
     omega (arith, so_far.links.receivers c.loop-place.place _ (slice_get-get_or c.args.links.links.now c.loop-place.place no_link c.loop-place-test.true), so_far.state.flags, c.requires.task.as_many)
 
-pub brings_none-requires-clause-early : goal.brings_none-requires-clause-early
-brings_none-requires-clause-early g c =
-    let task = c.args.forward.now.task.now in
-    let way = c.requires.state.real in
-    way_early task c.requires.task way.0 task.start task.at c.args.event.node c.args.event.at c.requires.task.time way.2
-
-pub loop-place-preserved-then-brings_none : goal.loop-place-preserved-then-brings_none
-loop-place-preserved-then-brings_none g c =
+pub loop-place-preserved-then-rules_out : goal.loop-place-preserved-then-rules_out
+loop-place-preserved-then-rules_out g c =
     let task = c.args.forward.now.task.now in
     let so_far = c.loop-place.invariant in
     let here = slice_get-get_or c.args.links.links.now c.loop-place.place no_link c.loop-place-test.true in
+    let known = read_at c.loop-place.self.arrival.items _ c.index.result.now (omega (arith, so_far.links.receivers c.loop-place.place _ here, so_far.state.flags, c.requires.task.as_many)) c.index.ensures in
     record {
       links = so_far.links;
       settled = so_far.settled;
@@ -35,7 +30,7 @@ loop-place-preserved-then-brings_none g c =
         | inr same ↦
             (let is = same_some (sym at ∙ ap (slice_get c.args.links.links.now) same ∙ here) in
             known_skipped task c.requires.task c.args.event.node c.args.event.at _ _ so_far.links c.loop-place.self.arrival.items (c.loop-place.least.delivery - slice_index c.args.forward.now.costs.now w)
-            (omega (arith, so_far.state.goal_late)) j x at (rw is (rw c.deref.ensures.value at (c.brings_none.ensures c.if-brings_none.true))) n w b has s)
+            (omega (arith, so_far.state.goal_late)) j x at (rw is (rw known at (c.rules_out.ensures.late c.if-rules_out.true))) n w b has s)
       ];
       pushes = so_far.pushes;
     }

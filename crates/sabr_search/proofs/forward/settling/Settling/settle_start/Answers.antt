@@ -6,7 +6,7 @@ use Rattle.sabr_search.proofs.ForwardLemmas.Forward.{known_lower, known_old, kno
 use Rattle.sabr_search.proofs.ForwardLemmas.FirstWays.{start_settled, start_state}
 use Rattle.sabr_search.proofs.ForwardLemmas.Queues.{fallen_more}
 use Rattle.sabr_search.proofs.forward.settling.Settling.settle_start.Goals as goal
-use Rattle.sabr_search.proofs.forward.settling.Settling.settle_start.Goals.{then-step-news+in_ok-best, else-step-news}
+use Rattle.sabr_search.proofs.forward.settling.Settling.settle_start.Goals.{then-step-before+in_ok-best, else-step-before}
 
 pub loop-place-init : goal.loop-place-init
 loop-place-init g c =
@@ -18,8 +18,8 @@ loop-place-init g c =
       known = λ k s less. absurd (omega (arith, less));
     }
 
-pub news-requires-clause-node : goal.news-requires-clause-node
-news-requires-clause-node g c =
+pub news_before-before-requires : goal.news_before-before-requires
+news_before-before-requires g c =
     let none : Visit = record { node = 0; at = 0 } in
     let at = slice_get-get_or c.args.first.now c.loop-place.place none c.loop-place-test.true in
     omega (arith, c.requires.inside c.loop-place.place _ at, c.loop-place.invariant.state.flags, c.requires.task.as_many, ap length c.deref.ensures.value)
@@ -51,8 +51,8 @@ loop-place-preserved g c =
     let step : Visit = slice_index_or first i none in
     let here : slice_get first i ≡ Some step = slice_get-get_or first i none c.loop-place-test.true in
     let so_far = c.loop-place.invariant in
-    elim c.if-step-news.branch [
-      | then-step-news+in_ok-best w ↦ rw (w.self-is, w.best-is)
+    elim c.if-step-before.branch [
+      | then-step-before+in_ok-best w ↦ rw (w.self-is, w.best-is)
           (let gained = rw so_far.settled at w.in_ok-best.ensures.fallen in
           record {
             settled = ap (λ v. v.items) w.reach.ensures.settled ∙ so_far.settled;
@@ -63,7 +63,7 @@ loop-place-preserved g c =
               | inr same ↦ rw (same_some (sym at ∙ ap (slice_get first) same ∙ here)) w.in_ok-best.ensures.known
             ];
           })
-      | else-step-news w ↦ rw (w.self-is, w.best-is)
+      | else-step-before w ↦ rw (w.self-is, w.best-is)
           (record {
             settled = so_far.settled;
             state = so_far.state;
@@ -72,7 +72,7 @@ loop-place-preserved g c =
               | inl before ↦ so_far.known k s before at
               | inr same ↦
                   rw (same_some (sym at ∙ ap (slice_get first) same ∙ here))
-                  (known_old task.goal c.loop-place.self.arrival.items _ step.node c.news.result step.at c.news.ensures.goal (rw c.deref.ensures.value at c.news.ensures.other) (omega (arith, w.if-step-news.false)))
+                  (known_old task.goal c.loop-place.self.arrival.items _ step.node step.at (omega (arith, so_far.state.goal_late)) (omega (arith, rw c.deref.ensures.value at c.news_before-before.ensures, w.if-step-before.false)))
             ];
           })
     ]
