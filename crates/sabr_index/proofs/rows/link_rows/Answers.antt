@@ -1,4 +1,4 @@
-use Rattle.std.proofs.Common.{◌≡◌, ◌<◌, ◌-◌, ◌+◌, ◌++◌, ◌∷◌, [], ℕ, List, length, get_or, take, drop, refl, sym, ap, subst, ◌∙◌, arith, length-append, append_assoc, map}
+use Rattle.std.proofs.Common.{◌≡◌, ◌<◌, ◌-◌, ◌+◌, ◌++◌, ◌∷◌, [], ℕ, List, length, get_or, take, drop, refl, sym, ap, subst, ◌∙◌, arith, length-append, append_assoc, map, All}
 use Rattle.std.specs.Prelude.{IsPermutation}
 use borrow.Rule.Slice.PartMut.{put_mid}
 use Rattle.std.proofs.lemmas.List.{get_or_default, length-map, map-append, take-append-drop}
@@ -8,8 +8,8 @@ use Rattle.std.proofs.lemmas.List.Sorted.{IsPermutation-append_left, IsPermutati
 use Rattle.std.proofs.lemmas.Slice.{between-put_mid}
 use Rattle.sabr_index.specs.declared.link.Link.{Link}
 use Rattle.sabr_index.specs.declared.link.Pass.{Pass}
-use Rattle.sabr_index.specs.Links.{passes_over}
-use Rattle.sabr_index.specs.Linking.{IsBounded, contact_of, AreOfLink}
+use Rattle.sabr_index.specs.Links.{AreInOrder, AreInRows, AreWithin, IsRow, passes_over}
+use Rattle.sabr_index.specs.Linking.{IsBounded, contact_of}
 use Rattle.sabr_index.proofs.LinkLemmas.{all_moved, rows_kept, rows_more}
 use Rattle.sabr_index.proofs.rows.link_rows.Goals as goal
 
@@ -47,7 +47,14 @@ loop-first-preserved g c =
     ap (λ (z : Pass). z.receiver) (get_or-between xs first end k d within)
     ∙ c.end_of_row-end.ensures.alike (first + k) d (omega arith) within
     ∙ ap (λ (z : Pass). z.receiver) (get_or_default xs first d none c.loop-first-test.true)) in
-    let link = subst (AreOfLink l) (sym over) (record { alike = alike; kept = is.kept; in_rows = is.in_rows; within = is.within }) in
+    let link : IsRow ys l = record {
+      filled = c.end_of_row-end.ensures.filled;
+      ends = omega (arith, many, c.end_of_row-end.ensures.within);
+      alike = subst (All (λ x. x.receiver ≡ l.receiver)) (sym over) alike;
+      kept = subst AreInOrder (sym over) is.kept;
+      in_rows = subst AreInRows (sym over) is.in_rows;
+      within = subst (AreWithin l.bounds) (sym over) is.within;
+    } in
     record {
       within = omega (arith, many, c.end_of_row-end.ensures.within);
       bounded = All-append IsBounded (take first xs) (row ++ drop n (drop first xs)) (All-take IsBounded first xs h.bounded) (All-append IsBounded row (drop n (drop first xs)) is.bounded (All-drop IsBounded n (drop first xs) (All-drop IsBounded first xs h.bounded)));
@@ -55,7 +62,7 @@ loop-first-preserved g c =
       rows = (
         h.rows.0 ++ l ∷ [],
         (c.in_ok-push.ensures {u = tt}).items ∙ ap (λ (ls : List Link). ls ++ l ∷ []) h.rows.1 ∙ append_assoc _ h.rows.0 (l ∷ []),
-        rows_more ys h.rows.0 l first (rows_kept xs row h.rows.0 first n h.within many h.rows.2) refl (record { filled = c.end_of_row-end.ensures.filled; ends = omega (arith, many, c.end_of_row-end.ensures.within); row = link }),
+        rows_more ys h.rows.0 l first (rows_kept xs row h.rows.0 first n h.within many h.rows.2) refl link,
         (let few = h.rows.3 in omega (arith, few, length-append h.rows.0 (l ∷ []), c.end_of_row-end.ensures.filled)),
       );
     }
