@@ -19,7 +19,7 @@ use Rattle.sabr_model.specs.plan.Plan.{TabledPlan, contact_named, has, are_diffe
 use Rattle.sabr_model.specs.plan.Tabled.{IsTabled}
 use Rattle.sabr_index.specs.Links.{NodeLinks, IsPassOf, IsLinkOf, AreLinksOf, numbers_of, passes_over, received_by, SentLink, IsLinkTo, AreLinksTo}
 use Rattle.sabr_index.specs.Linking.{AreLinked}
-use Rattle.sabr_index.specs.Incoming.{passes_at, passes_named, links_named, LieThere, HasLink, HaveReceivers, AreIncoming}
+use Rattle.sabr_index.specs.Incoming.{passes_named, links_named, LieThere, HasLink, HaveReceivers, AreIncoming}
 use Rattle.sabr_model.proofs.ListLemmas.Different.{different_append, part_at, part_has}
 use Rattle.sabr_index.proofs.PassNumbers.{pass_of_number, number_once, numbers_part}
 use Rattle.sabr_model.proofs.RouteLemmas.Listed.{distinct_from_different}
@@ -139,7 +139,7 @@ module _ (p : TabledPlan) (linked : List NodeLinks) (are : AreLinked p linked) (
               receiver = has.receiver;
               links = links;
               is = links.each e.place has.link has.there;
-              passes = ap (λ (o : Option NodeLinks). option_map_or (λ s. passes_at s e.place) o []) has.at ∙ ap (λ (o : Option Link). option_map_or (passes_over has.node.passes) o []) has.there;
+              passes = ap (λ (o : Option NodeLinks). option_map_or (λ s. option_map_or (passes_over s.passes) (slice_get s.links e.place) []) o []) has.at ∙ ap (λ (o : Option Link). option_map_or (passes_over has.node.passes) o []) has.there;
             }
         | inr past ↦ absurd (let behind = past.0 in let within = slice_get_within linked e.sender has.node has.at in omega (arith, behind, within, many))
       ]
@@ -281,7 +281,7 @@ module _ (p : TabledPlan) (linked : List NodeLinks) (are : AreLinked p linked) (
                   let node_at : slice_get linked e.sender ≡ Some w.0 = ap (slice_get linked) found.3 ∙ w.2 in
                   let link_at : slice_get w.0.links e.place ≡ Some l = ap (slice_get w.0.links) found.4 ∙ f.4 in
                   let passes : passes_named linked e ≡ passes_over w.0.passes l =
-                  ap (λ (o : Option NodeLinks). option_map_or (λ s. passes_at s e.place) o []) node_at ∙ ap (λ (o : Option Link). option_map_or (passes_over w.0.passes) o []) link_at in (
+                  ap (λ (o : Option NodeLinks). option_map_or (λ s. option_map_or (passes_over s.passes) (slice_get s.links e.place) []) o []) node_at ∙ ap (λ (o : Option Link). option_map_or (passes_over w.0.passes) o []) link_at in (
                     found.0,
                     f.1 - l.first,
                     record { sender = e.sender; passes = passes_named linked e },
