@@ -47,7 +47,7 @@ AreWithin b passes = (k : ℕ) (x : Pass) → slice_get passes k ≡ Some x → 
 abbrev pub AreInOrder : List Pass → Type 0
 AreInOrder passes = (i k : ℕ) (x y : Pass) → i ≤ k → slice_get passes i ≡ Some x → slice_get passes k ≡ Some y → IsBefore x y
 
--- each pass counts numbers that stand after it, one by one
+-- those that a pass counts behind it have the numbers after its own, one by one
 abbrev pub AreInRows : List Pass → Type 0
 AreInRows passes = (i j : ℕ) (x y : Pass) → slice_get passes i ≡ Some x → slice_get passes (i + j) ≡ Some y → IsInRow x j y
 
@@ -64,7 +64,7 @@ pub record IsRow (passes : List Pass) (l : Link) : Type 0 where
   pub in_rows : AreInRows (passes_over passes l)
   pub within : AreWithin l.bounds (passes_over passes l)
 
--- the link lies over passes from the node to its receiver
+-- the link lies over a row of passes from the node to the link's receiver
 pub record IsLinkOf (p : TabledPlan) (node : ℕ) (passes : List Pass) (l : Link) : Type 0 where
   pub to : ℕ
   pub receiver : slice_get p.table l.receiver ≡ Some to
