@@ -19,7 +19,7 @@ use Rattle.sabr_model.specs.plan.Plan.{TabledPlan, contact_named, has, are_diffe
 use Rattle.sabr_model.specs.plan.Tabled.{IsTabled}
 use Rattle.sabr_index.specs.Links.{NodeLinks, IsPassOf, IsLinkOf, AreLinksOf, numbers_of, passes_over, received_by, SentLink, IsLinkTo, AreLinksTo}
 use Rattle.sabr_index.specs.Linking.{AreLinked}
-use Rattle.sabr_index.specs.Incoming.{passes_at, passes_named, links_named, LieThere, HasLink, HaveReceivers, AreIncoming}
+use Rattle.sabr_index.specs.Incoming.{passes_named, links_named, LieThere, HasLink, HaveReceivers, AreIncoming}
 use Rattle.sabr_model.proofs.ListLemmas.Different.{different_append, part_at, part_has}
 use Rattle.sabr_index.proofs.PassNumbers.{pass_of_number, number_once, numbers_part}
 use Rattle.sabr_model.proofs.RouteLemmas.Listed.{distinct_from_different}
@@ -76,21 +76,8 @@ lie_there p linked are many to incoming are_in k e at =
     let h = w.0 in
     elim ((slice_get_cases p.table e.sender).1) [
       | inl v ↦
-          let l = h.link in
-          let link = (are e.sender v.0 h.node h.at v.2).each e.place l h.there in (
-            h.node,
-            l,
-            h.at,
-            h.there,
-            w.1,
-            (
-              link.ordered,
-              link.within,
-              λ m x here.
-                  let p = part_at h.node.passes l.first (l.end - l.first) m x here in
-                  link.bounds (l.first + m) x (omega arith) (omega (arith, p.0)) p.1,
-            ),
-          )
+          let link = (are e.sender v.0 h.node h.at v.2).each e.place h.link h.there in
+          (h.node, h.link, h.at, h.there, w.1, link.row)
       | inr past ↦ absurd (let behind = past.0 in let within = slice_get_within linked e.sender h.node h.at in omega (arith, behind, within, many))
     ]
 
@@ -152,7 +139,7 @@ module _ (p : TabledPlan) (linked : List NodeLinks) (are : AreLinked p linked) (
               receiver = has.receiver;
               links = links;
               is = links.each e.place has.link has.there;
-              passes = ap (λ (o : Option NodeLinks). option_map_or (λ s. passes_at s e.place) o []) has.at ∙ ap (λ (o : Option Link). option_map_or (passes_over has.node.passes) o []) has.there;
+              passes = ap (λ (o : Option NodeLinks). option_map_or (λ s. option_map_or (passes_over s.passes) (slice_get s.links e.place) []) o []) has.at ∙ ap (λ (o : Option Link). option_map_or (passes_over has.node.passes) o []) has.there;
             }
         | inr past ↦ absurd (let behind = past.0 in let within = slice_get_within linked e.sender has.node has.at in omega (arith, behind, within, many))
       ]
@@ -163,24 +150,13 @@ module _ (p : TabledPlan) (linked : List NodeLinks) (are : AreLinked p linked) (
 
   is_to : (e : Incoming) → IsHere p linked to e → IsLinkTo p node (record { sender = e.sender; passes = passes_named linked e })
   is_to e h =
-      let l = h.link in
-      let xs = h.node_links.passes in
       subst (λ (ps : List Pass). IsLinkTo p node (record { sender = e.sender; passes = ps })) (sym h.passes)
       (record {
         from = h.from;
         at = h.sender;
-        each = λ k x there.
-            let w = part_at xs l.first (l.end - l.first) k x there in
-            subst (λ n. IsPassOf p h.from n x) (to_node e h) (h.is.each (l.first + k) x (omega arith) (let lt = w.0 in omega (arith, lt)) w.1);
-        kept = λ i k x y le at_i at_k.
-            let a = part_at xs l.first (l.end - l.first) i x at_i in
-            let b = part_at xs l.first (l.end - l.first) k y at_k in
-            h.is.kept (l.first + i) (l.first + k) x y (omega arith) (omega (arith, le)) (let lt = b.0 in omega (arith, lt)) a.1 b.1;
-        in_rows = λ i j x y at_i at_j.
-            let a = part_at xs l.first (l.end - l.first) i x at_i in
-            let b = part_at xs l.first (l.end - l.first) (i + j) y at_j in
-            let there : l.first + (i + j) ≡ l.first + i + j = omega arith in
-            h.is.in_rows (l.first + i) j x y (omega arith) (let lt = b.0 in omega (arith, lt)) a.1 (ap (slice_get xs) (sym there) ∙ b.1);
+        each = λ k x there. subst (λ n. IsPassOf p h.from n x) (to_node e h) (h.is.each k x there);
+        kept = h.is.row.kept;
+        in_rows = h.is.row.in_rows;
       })
 
   -- ---- no number stands twice
@@ -216,7 +192,7 @@ module _ (p : TabledPlan) (linked : List NodeLinks) (are : AreLinked p linked) (
       let there : slice_get a.h.node_links.passes b.place ≡ Some b.x = ap (λ (s : NodeLinks). slice_get s.passes b.place) nodes ∙ b.there in
       let link_there : slice_get ls f.place ≡ Some b.h.link = ap (λ (s : NodeLinks). slice_get s.links f.place) nodes ∙ b.h.link_at in
       let place : a.place ≡ b.place = number_once a.h.node_links.passes a.place b.place a.x b.x links.once a.there there (a.number ∙ sym b.number) in
-      let ordered = λ (j : ℕ) (l : Link) (e : slice_get ls j ≡ Some l). (links.each j l e).ordered in (
+      let ordered : (j : ℕ) (l : Link) → slice_get ls j ≡ Some l → l.first ≤ l.end = λ j l e. (let row = (links.each j l e).row in omega (arith, row.filled)) in (
         senders,
         elim (cases_eq e.place f.place) [
           | inl same ↦ same
@@ -294,7 +270,8 @@ module _ (p : TabledPlan) (linked : List NodeLinks) (are : AreLinked p linked) (
                   let f = links.whole n t c named refl light in
                   let l = f.2 in
                   let is = links.each f.0 l f.4 in
-                  let pass = is.each f.1 f.3 f.5 f.6 f.7 in
+                  let there = part_has w.0.passes l.first l.end f.1 f.3 f.5 f.6 is.row.ends f.7 in
+                  let pass = is.each (f.1 - l.first) f.3 there in
                   let one : pass.contact ≡ c = same_Some pass.contact c (sym pass.named ∙ ap (contact_named p.plan) f.8 ∙ named) in
                   let to_is : is.to ≡ node = sym pass.receiver ∙ ap (λ (d : Contact). d.to) one ∙ receiver in
                   let index : l.receiver ≡ to = place_one p.table l.receiver to node tabled.once (is.receiver ∙ ap Some to_is) at in
@@ -304,13 +281,13 @@ module _ (p : TabledPlan) (linked : List NodeLinks) (are : AreLinked p linked) (
                   let node_at : slice_get linked e.sender ≡ Some w.0 = ap (slice_get linked) found.3 ∙ w.2 in
                   let link_at : slice_get w.0.links e.place ≡ Some l = ap (slice_get w.0.links) found.4 ∙ f.4 in
                   let passes : passes_named linked e ≡ passes_over w.0.passes l =
-                  ap (λ (o : Option NodeLinks). option_map_or (λ s. passes_at s e.place) o []) node_at ∙ ap (λ (o : Option Link). option_map_or (passes_over w.0.passes) o []) link_at in (
+                  ap (λ (o : Option NodeLinks). option_map_or (λ s. option_map_or (passes_over s.passes) (slice_get s.links e.place) []) o []) node_at ∙ ap (λ (o : Option Link). option_map_or (passes_over w.0.passes) o []) link_at in (
                     found.0,
                     f.1 - l.first,
                     record { sender = e.sender; passes = passes_named linked e },
                     f.3,
                     slice_get-map (λ (g : Incoming). record { sender = g.sender; passes = passes_named linked g }) es found.0 ∙ ap (option_map (λ (g : Incoming). record { sender = g.sender; passes = passes_named linked g })) found.2,
-                    ap (λ (ps : List Pass). slice_get ps (f.1 - l.first)) passes ∙ part_has w.0.passes l.first l.end f.1 f.3 f.5 f.6 is.within f.7,
+                    ap (λ (ps : List Pass). slice_get ps (f.1 - l.first)) passes ∙ there,
                     f.8,
                   )
               | inr past ↦ absurd (let behind = past.0 in let within = slice_get_within p.table i c.from sender_at in omega (arith, behind, within, many))

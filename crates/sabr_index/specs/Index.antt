@@ -1,5 +1,5 @@
 -- What an index keeps of a plan.
-use Rattle.std.specs.Prelude.{◌≡◌, ℕ, ◌+◌, List, length}
+use Rattle.std.specs.Prelude.{◌≡◌, ℕ, List, length}
 use Rattle.sabr_model.specs.plan.Plan.{TabledPlan}
 use Rattle.sabr_model.specs.plan.Tabled.{IsTabled}
 use Rattle.sabr_index.specs.declared.senders.Incoming.{Incoming}
@@ -12,5 +12,4 @@ pub record IsIndex (p : TabledPlan) (linked : List NodeLinks) (starts : List ℕ
   pub tabled : IsTabled p
   pub as_many : length linked ≡ length p.table
   pub links : AreLinked p linked
-  pub begins : length starts ≡ length p.table + 1
   pub grouped : AreGrouped linked starts named

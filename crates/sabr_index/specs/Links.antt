@@ -1,5 +1,5 @@
 -- A node's links: its standing contacts with a light time by receiver, and by start on each link.
-use Rattle.std.specs.Prelude.{IsTrue, ◌≡◌, ℕ, ◌+◌, ◌-◌, ◌<◌, ◌≤◌, ◌==◌, List, length, map, take, drop, slice_get}
+use Rattle.std.specs.Prelude.{IsTrue, ◌≡◌, ℕ, ◌+◌, ◌-◌, ◌<◌, ◌≤◌, ◌==◌, List, All, length, map, take, drop, slice_get}
 use Rattle.std.specs.List.{sum_by, flat_map, filter}
 use Rattle.std.specs.declared.option.Option.TheVariants.{Some}
 use Rattle.sabr_model.specs.declared.contact.Contact.{Contact}
@@ -43,20 +43,33 @@ pub record IsWithin (b : LinkBounds) (x : Pass) : Type 0 where
 abbrev pub AreWithin : LinkBounds → List Pass → Type 0
 AreWithin b passes = (k : ℕ) (x : Pass) → slice_get passes k ≡ Some x → IsWithin b x
 
--- the places of the link hold passes from the node to the link's receiver, by start, each within the link's bounds
-pub record IsLinkOf (p : TabledPlan) (node : ℕ) (passes : List Pass) (l : Link) : Type 0 where
-  pub to : ℕ
-  pub receiver : slice_get p.table l.receiver ≡ Some to
-  pub ordered : l.first ≤ l.end
-  pub within : l.end ≤ length passes
-  pub each : (k : ℕ) (x : Pass) → l.first ≤ k → k < l.end → slice_get passes k ≡ Some x → IsPassOf p node to x
-  pub kept : (i k : ℕ) (x y : Pass) → l.first ≤ i → i ≤ k → k < l.end → slice_get passes i ≡ Some x → slice_get passes k ≡ Some y → IsBefore x y
-  pub in_rows : (i j : ℕ) (x y : Pass) → l.first ≤ i → i + j < l.end → slice_get passes i ≡ Some x → slice_get passes (i + j) ≡ Some y → IsInRow x j y
-  pub bounds : (k : ℕ) (x : Pass) → l.first ≤ k → k < l.end → slice_get passes k ≡ Some x → IsWithin l.bounds x
+-- no pass starts later than those after it, and each keeps within the bounds beside the others
+abbrev pub AreInOrder : List Pass → Type 0
+AreInOrder passes = (i k : ℕ) (x y : Pass) → i ≤ k → slice_get passes i ≡ Some x → slice_get passes k ≡ Some y → IsBefore x y
+
+-- those that a pass counts behind it have the numbers after its own, one by one
+abbrev pub AreInRows : List Pass → Type 0
+AreInRows passes = (i j : ℕ) (x y : Pass) → slice_get passes i ≡ Some x → slice_get passes (i + j) ≡ Some y → IsInRow x j y
 
 -- the passes over which a link lies
 abbrev pub passes_over : List Pass → Link → List Pass
 passes_over passes l = take (l.end - l.first) (drop l.first passes)
+
+-- the link lies over some passes, in order, all to its receiver and within its bounds
+pub record IsRow (passes : List Pass) (l : Link) : Type 0 where
+  pub filled : l.first < l.end
+  pub ends : l.end ≤ length passes
+  pub alike : All (λ x. x.receiver ≡ l.receiver) (passes_over passes l)
+  pub kept : AreInOrder (passes_over passes l)
+  pub in_rows : AreInRows (passes_over passes l)
+  pub within : AreWithin l.bounds (passes_over passes l)
+
+-- the link lies over a row of passes from the node to the link's receiver
+pub record IsLinkOf (p : TabledPlan) (node : ℕ) (passes : List Pass) (l : Link) : Type 0 where
+  pub to : ℕ
+  pub receiver : slice_get p.table l.receiver ≡ Some to
+  pub row : IsRow passes l
+  pub each : (k : ℕ) (x : Pass) → slice_get (passes_over passes l) k ≡ Some x → IsPassOf p node to x
 
 -- the numbers of passes
 abbrev pub numbers_of : List Pass → List ℕ
@@ -95,8 +108,8 @@ pub record IsLinkTo (p : TabledPlan) (node : ℕ) (s : SentLink) : Type 0 where
   pub from : ℕ
   pub at : slice_get p.table s.sender ≡ Some from
   pub each : (k : ℕ) (x : Pass) → slice_get s.passes k ≡ Some x → IsPassOf p from node x
-  pub kept : (i k : ℕ) (x y : Pass) → i ≤ k → slice_get s.passes i ≡ Some x → slice_get s.passes k ≡ Some y → IsBefore x y
-  pub in_rows : (i j : ℕ) (x y : Pass) → slice_get s.passes i ≡ Some x → slice_get s.passes (i + j) ≡ Some y → IsInRow x j y
+  pub kept : AreInOrder s.passes
+  pub in_rows : AreInRows s.passes
 
 -- The links are those to the node: each standing contact to it that has a light time is a pass of one of them, no
 -- contact stands there twice, and together they have no more passes than the node receives contacts.

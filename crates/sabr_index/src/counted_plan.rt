@@ -1,6 +1,6 @@
 //! A plan as searches hold it: a contact's record is read for a look.
 
-ghost use Rattle.std.specs.Prelude.{◌≡◌, ◌<◌, ◌≤◌, ◌+◌, ◌^◌, ◌++◌, ◌∷◌, [], ℕ, Some, None, MatchOption, IfSome, IsFalse, length, slice_get};
+ghost use Rattle.std.specs.Prelude.{◌≡◌, ◌<◌, ◌≤◌, ◌+◌, ◌^◌, ◌++◌, ◌∷◌, [], ℕ, Some, None, MatchOption, IsFalse, length, slice_get};
 ghost use Rattle.sabr_model.specs.plan.Plan.{IsPlan, contact_named, has};
 ghost use Rattle.sabr_model.specs.plan.Table.{node_count};
 ghost use Rattle.sabr_model.specs.plan.Tabled.{IsTabled, IsHopNamed};

@@ -1,8 +1,9 @@
 //! The links over the passes of a node, which are side by side where they have one receiver.
 
-ghost use Rattle.std.specs.Prelude.{◌≡◌, ◌^◌, ◌<◌, ◌≤◌, ℕ, OnOk, IsPermutation, length, slice_index_or};
+ghost use Rattle.std.specs.Prelude.{◌≡◌, ◌^◌, ◌<◌, ◌≤◌, ◌++◌, ℕ, List, All, OnOk, IsPermutation, length, map, slice_index_or};
+ghost use Rattle.sabr_index.specs.declared.link.Link.{Link};
 ghost use Rattle.sabr_index.specs.declared.link.Pass.{Pass};
-ghost use Rattle.sabr_index.specs.Linking.{AreBounded, contacts_of, AreRowsMore};
+ghost use Rattle.sabr_index.specs.Linking.{IsBounded, contact_of, AreRows};
 
 use crate::bounds::order_row;
 use crate::link::{Link, Pass};
@@ -14,9 +15,9 @@ pub fn link_rows<A: Allocator + Copy>(
     links: &mut Vec<Link, A>,
 ) -> Result<(), AllocError>
     requires few { length passes.old < 2 ^ 16 }
-    requires bounded { AreBounded passes.old }
-    ensures moved { OnOk result (IsPermutation (contacts_of passes.old) (contacts_of passes.new)) }
-    ensures rows { OnOk result (AreRowsMore links.old.items links.new.items passes.new) }
+    requires bounded { All IsBounded passes.old }
+    ensures moved { OnOk result (IsPermutation (map contact_of passes.old) (map contact_of passes.new)) }
+    ensures rows { OnOk result ((rows : List Link) × (links.new.items ≡ links.old.items ++ rows) × AreRows passes.new rows (length passes.new) × (length rows ≤ length passes.new)) }
 {
     let mut first = 0;
     while first < passes.len() {

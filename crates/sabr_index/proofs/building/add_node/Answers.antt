@@ -1,4 +1,4 @@
-use Rattle.std.proofs.Common.{◌≡◌, ◌-◌, ◌++◌, [], ℕ, List, length, take, drop, sym, ap, subst, ◌∙◌, arith, length-append, length-drop, append-nil}
+use Rattle.std.proofs.Common.{◌≡◌, ◌-◌, ◌++◌, [], ℕ, List, length, take, drop, sym, ap, subst, ◌∙◌, arith, length-append, length-drop, append-nil, map}
 use Rattle.std.specs.Prelude.{IsPermutation}
 use borrow.Rule.Slice.PartMut.{put_mid}
 use Rattle.std.proofs.lemmas.List.{take_at, drop_at, drop_all, length-map}
@@ -6,13 +6,13 @@ use Rattle.std.proofs.lemmas.List.Sorted.{length_permutation}
 use Rattle.std.proofs.lemmas.Slice.{between_to_end}
 use Rattle.sabr_index.specs.declared.link.Pass.{Pass}
 use Rattle.sabr_index.specs.Order.{numbers_at}
-use Rattle.sabr_index.specs.Linking.{contact_of, contacts_of}
+use Rattle.sabr_index.specs.Linking.{contact_of}
 use Rattle.sabr_index.proofs.LinkLemmas.{are_links}
 use Rattle.sabr_index.proofs.building.add_node.Goals as goal
 
 -- the passes that were added, and then put in order at the end of the list
-ordered : (old made lent ready all : List Pass) (first count : ℕ) → all ≡ old ++ made → lent ≡ all → first ≡ length old → count ≡ length all → IsPermutation (contacts_of (take (length lent - first) (drop first lent))) (contacts_of ready)
-    → IsPermutation (contacts_of made) (contacts_of ready) × (length ready ≡ length made) × (take count (put_mid first (length lent - first) lent ready ++ drop (length (put_mid first (length lent - first) lent ready)) all) ≡ old ++ ready)
+ordered : (old made lent ready all : List Pass) (first count : ℕ) → all ≡ old ++ made → lent ≡ all → first ≡ length old → count ≡ length all → IsPermutation (map contact_of (take (length lent - first) (drop first lent))) (map contact_of ready)
+    → IsPermutation (map contact_of made) (map contact_of ready) × (length ready ≡ length made) × (take count (put_mid first (length lent - first) lent ready ++ drop (length (put_mid first (length lent - first) lent ready)) all) ≡ old ++ ready)
 ordered old made lent ready all first count all_are same first_is count_is moved =
     let lent_is : lent ≡ old ++ made = same ∙ all_are in
     let front : take first lent ≡ old = ap (take first) lent_is ∙ take_at old made first (sym first_is) in
@@ -20,8 +20,8 @@ ordered old made lent ready all first count all_are same first_is count_is moved
     let rest : drop (length lent - first) (drop first lent) ≡ [] = drop_all (length lent - first) (drop first lent) (omega (arith, length-drop first lent)) in
     let whole : put_mid first (length lent - first) lent ready ≡ old ++ ready =
     ap (λ (xs : List Pass). xs ++ (ready ++ drop (length lent - first) (drop first lent))) front ∙ ap (λ (xs : List Pass). old ++ (ready ++ xs)) rest ∙ ap (λ (xs : List Pass). old ++ xs) (append-nil ready) in
-    let made_moved : IsPermutation (contacts_of made) (contacts_of ready) = subst (λ (xs : List Pass). IsPermutation (contacts_of xs) (contacts_of ready)) part moved in
-    let many : length ready ≡ length made = (let as_many = length_permutation (contacts_of made) (contacts_of ready) made_moved in omega (arith, as_many, length-map made contact_of, length-map ready contact_of)) in (
+    let made_moved : IsPermutation (map contact_of made) (map contact_of ready) = subst (λ (xs : List Pass). IsPermutation (map contact_of xs) (map contact_of ready)) part moved in
+    let many : length ready ≡ length made = (let as_many = length_permutation (map contact_of made) (map contact_of ready) made_moved in omega (arith, as_many, length-map made contact_of, length-map ready contact_of)) in (
       made_moved,
       many,
       take_at (put_mid first (length lent - first) lent ready) (drop (length (put_mid first (length lent - first) lent ready)) all) count

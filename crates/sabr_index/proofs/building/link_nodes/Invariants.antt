@@ -1,5 +1,4 @@
-use Rattle.std.proofs.Common.{◌≡◌, ◌≤◌, ℕ, Some, length}
-use Rattle.std.specs.Prelude.{slice_get}
+use Rattle.std.proofs.Common.{◌≡◌, ◌≤◌, length, get_or}
 use Rattle.sabr_index.specs.Links.{links_in}
 use Rattle.sabr_index.specs.Linking.{AreLinked}
 use Rattle.sabr_index.specs.Table.{parts_of, AreParts}
@@ -10,5 +9,6 @@ invariant-loop-index g l = record {
   as_many : length l.nodes.items ≡ l.index;
   parts : AreParts l.nodes.items l.links.items l.passes.items;
   linked : AreLinked l.plan (parts_of l.nodes.items l.links.items l.passes.items);
-  few : (a : ℕ) → slice_get l.order.starts.items l.index ≡ Some a → links_in (parts_of l.nodes.items l.links.items l.passes.items) ≤ a;
+  few : links_in (parts_of l.nodes.items l.links.items l.passes.items) ≤ get_or l.order.starts.items l.index 0;
+  low : links_in (parts_of l.nodes.items l.links.items l.passes.items) ≤ length l.order.places.items;
 }

@@ -1,4 +1,4 @@
-use Rattle.std.proofs.Common.{◌+◌, ap, ◌∙◌, arith}
+use Rattle.std.proofs.Common.{arith}
 use Rattle.sabr_index.proofs.SenderLemmas.{have_receivers}
 use Rattle.sabr_index.proofs.index.Index.with_ends.Goals as goal
 
@@ -14,11 +14,9 @@ incoming_links-requires g c =
 pub over-requires : goal.over-requires
 over-requires g c =
     let made = c.in_ok-linked.ensures {u = tt} in
-    let is = c.in_ok-incoming.ensures {u = tt} in
     record {
       tabled = c.requires.tabled;
       as_many = made.as_many;
       links = made.linked;
-      begins = is.starts ∙ ap (λ n. n + 1) made.as_many;
-      grouped = is.grouped;
+      grouped = c.in_ok-incoming.ensures {u = tt};
     }

@@ -6,7 +6,7 @@ use Rattle.std.proofs.lemmas.Option.{slice_get-map, slice_get-get_or}
 use Rattle.sabr_index.specs.declared.link.Link.{Link}
 use Rattle.sabr_index.specs.declared.senders.Incoming.{Incoming}
 use Rattle.sabr_index.specs.Links.{NodeLinks, SentLink, passes_over}
-use Rattle.sabr_index.specs.Incoming.{passes_at, passes_named, LiesOver}
+use Rattle.sabr_index.specs.Incoming.{passes_named}
 use Rattle.sabr_index.proofs.senders.Senders.head.Goals as goal
 
 pub returns : goal.returns
@@ -20,11 +20,10 @@ returns g c =
     let e = get_or incoming place none in
     let at : slice_get incoming place ≡ Some e = slice_get-get_or incoming place none lt in
     let w = c.self.invariant place e at in
-    let lies : LiesOver w.0.passes w.1 = w.5 in
     let passes : passes_named linked e ≡ passes_over w.0.passes w.1 =
-    ap (λ (o : Option NodeLinks). option_map_or (λ s. passes_at s e.place) o []) w.2 ∙ ap (λ (o : Option Link). option_map_or (passes_over w.0.passes) o []) w.3 in (
+    ap (λ (o : Option NodeLinks). option_map_or (λ s. option_map_or (passes_over s.passes) (slice_get s.links e.place) []) o []) w.2 ∙ ap (λ (o : Option Link). option_map_or (passes_over w.0.passes) o []) w.3 in (
       passes_named linked e,
       subst (λ (ss : List SentLink). slice_get ss place ≡ Some (sent e)) c.self.view_is (slice_get-map sent incoming place ∙ ap (option_map sent) at),
       w.1.bounds.latest_end,
-      rw (passes, ← w.4.0, ← w.4.1) lies.2,
+      rw (passes, ← w.4.0, ← w.4.1) w.5.within,
     )
