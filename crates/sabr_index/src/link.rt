@@ -59,13 +59,12 @@ pub struct Links<'a> {
     pub passes: &'a [Pass],
 }
 
-/// What is compared before a link to a node is read: the index of its sender in the table of nodes, and two of the
-/// bounds for all of its passes.
+/// What is compared before a link to a node is read: the index of its sender in the table of nodes, and the bounds for
+/// all of its passes.
 #[derive(Clone, Copy)]
 pub struct SenderHead {
     pub node: usize,
-    pub soonest: u64,
-    pub least_light: u32,
+    pub bounds: LinkBounds,
 }
 
 /// A link as its receiver sees it: the index of its sender in the table of nodes, its passes by start, and bounds for

@@ -4,15 +4,16 @@ ghost use Rattle.std.specs.Prelude.{◌≡◌, ◌<◌, Some, length, slice_get}
 ghost use Rattle.sabr_index.specs.Links.{AreWithin};
 ghost use Rattle.sabr_index.specs.Incoming.{links_named, LieThere, IsHeadAt};
 
-use crate::link::{Sender, SenderHead};
+use crate::link::{LinkBounds, Sender, SenderHead};
 use crate::table::LinkTable;
 use std::alloc::{Allocator, Global};
 use std::marker::Model;
 
-/// A link by the index of its sender in the table of nodes and its place among the sender's links, with those of its
-/// bounds that are compared before it is read. All stand side by side, without a gap.
+/// A link by the index of its sender in the table of nodes and its place among the sender's links, with its bounds,
+/// which are compared before it is read. All stand side by side, without a gap.
 #[derive(Clone, Copy)]
 pub struct Incoming {
+    pub latest_end: u64,
     pub soonest: u64,
     pub least_light: u32,
     pub sender: u16,
@@ -64,8 +65,11 @@ impl<'a, A: Allocator + Copy> Senders<'a, A> {
         let top = incoming[place];
         SenderHead {
             node: top.sender as usize,
-            soonest: top.soonest,
-            least_light: top.least_light,
+            bounds: LinkBounds {
+                latest_end: top.latest_end,
+                least_light: top.least_light,
+                soonest: top.soonest,
+            },
         }
     }
 

@@ -11,13 +11,13 @@ use Rattle.sabr_index.specs.declared.link.Pass.{Pass}
 use Rattle.sabr_index.specs.declared.link.Link.{Link}
 use Rattle.sabr_model.specs.routes.Arrival.{cost}
 use Rattle.sabr_model.specs.plan.Plan.{contact_named}
-use Rattle.sabr_index.specs.Links.{AreLinksOf, IsLinkOf, IsPassOf, SentLink, AreLinksTo}
+use Rattle.sabr_index.specs.Links.{AreLinksOf, IsLinkOf, IsPassOf, SentLink, AreLinksTo, passes_over}
 use Rattle.sabr_search.specs.questions.Task.{SearchTask, IsTask}
 use Rattle.sabr_search.specs.questions.Steps.{place_in, received}
-use Rattle.sabr_search.specs.questions.Linked.{IsPassAt, IsLinkAt, passes_of, AreLinksAt, AreSendersAt}
+use Rattle.sabr_search.specs.questions.Linked.{IsPassAt, IsLinkAt, AreLinksAt, AreSendersAt}
 use Rattle.sabr_search.proofs.LinkLemmas.Arrivals.{arrival_parts}
 use Rattle.sabr_search.proofs.LinkLemmas.StepLists.{place_is, sum_taken, sum_taken_le}
-use Rattle.sabr_model.proofs.ListLemmas.Different.{part_has, part_at}
+use Rattle.sabr_model.proofs.ListLemmas.Different.{part_has}
 use Rattle.sabr_search.proofs.WayLemmas.RoutesAndWays.{same_some}
 
 -- a node's contacts, by their senders or by their receivers, are as many as those of its place
@@ -46,32 +46,21 @@ module _ (task : SearchTask) (is : IsTask task) (u node : ℕ) (at : slice_get t
     light = p.light;
   }
 
-  link_at : (passes : List Pass) (l : Link) → IsLinkOf (record { plan = task.plan; table = task.table }) node passes l → IsLinkAt task u l.receiver (passes_of passes l)
+  link_at : (passes : List Pass) (l : Link) → IsLinkOf (record { plan = task.plan; table = task.table }) node passes l → IsLinkAt task u l.receiver (passes_over passes l)
   link_at passes l link = record {
-    each = λ k x h.
-        (let p = part_at passes l.first (l.end - l.first) k x h in
-        pass_at link.to l.receiver x link.receiver (link.each (l.first + k) x (omega arith) (omega (arith, p.0)) p.1));
-    kept = λ i k x y le at_i at_k.
-        (let p = part_at passes l.first (l.end - l.first) i x at_i in
-        let q = part_at passes l.first (l.end - l.first) k y at_k in
-        link.kept (l.first + i) (l.first + k) x y (omega arith) (omega (arith, le)) (omega (arith, q.0)) p.1 q.1);
-    in_rows = λ i j x y at_i at_j.
-        (let p = part_at passes l.first (l.end - l.first) i x at_i in
-        let q = part_at passes l.first (l.end - l.first) (i + j) y at_j in
-        let there : l.first + i + j ≡ l.first + (i + j) = omega arith in
-        link.in_rows (l.first + i) j x y (omega arith) (omega (arith, q.0)) p.1 (ap (slice_get passes) there ∙ q.1));
+    each = λ k x h. pass_at link.to l.receiver x link.receiver (link.each k x h);
+    kept = link.row.kept;
+    in_rows = link.row.in_rows;
   }
 
   -- what a plan says of a node's links, of a search
   pub links_at : (links : List Link) (passes : List Pass) → AreLinksOf (record { plan = task.plan; table = task.table }) node links passes → AreLinksAt task u links passes
   links_at links passes of = record {
     receivers = λ j l h. slice_get_within task.table l.receiver (of.each j l h).to (of.each j l h).receiver;
-    ordered = λ j l h. (of.each j l h).ordered;
-    within = λ j l h. (of.each j l h).within;
+    ordered = λ j l h. (let row = (of.each j l h).row in omega (arith, row.filled));
+    within = λ j l h. (of.each j l h).row.ends;
     each = λ j l h. link_at passes l (of.each j l h);
-    bounds = λ j l h k x here.
-        (let p = part_at passes l.first (l.end - l.first) k x here in
-        (of.each j l h).bounds (l.first + k) x (omega arith) (omega (arith, p.0)) p.1);
+    bounds = λ j l h. (of.each j l h).row.within;
     in_row = of.in_row;
     whole = λ n t w b s.
         (let a = arrival_parts task.plan task.request t s.contact b s.arrives in
@@ -81,7 +70,7 @@ module _ (task : SearchTask) (is : IsTask task) (u node : ℕ) (at : slice_get t
         let k = p.1 in
         let l = p.2 in
         let x = p.3 in
-        (j, l, p.4, (k - l.first, x, part_has passes l.first l.end k x p.5 p.6 (of.each j l p.4).within p.7, p.8)));
+        (j, l, p.4, (k - l.first, x, part_has passes l.first l.end k x p.5 p.6 (of.each j l p.4).row.ends p.7, p.8)));
     few = omega (arith, of.few, ends_few (λ (c : Contact). c.from) task.table u node (place_is task.plan task.table is.nodes u node at) task.plan.contacts);
   }
 

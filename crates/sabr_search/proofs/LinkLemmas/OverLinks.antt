@@ -6,13 +6,13 @@ use Rattle.std.specs.declared.option.Option.TheVariants.{None}
 use Rattle.sabr_search.specs.declared.visit.Step.{Step}
 use Rattle.sabr_search.specs.layers.Picks.{IsAtMost}
 use Rattle.std.proofs.lemmas.Option.{slice_get-get_or, slice_get_within}
-use Rattle.std.proofs.lemmas.Bool.{both_ways, cases_eq}
+use Rattle.std.proofs.lemmas.Bool.{both_ways}
 use Rattle.sabr_model.specs.declared.contact.Contact.{Contact}
 use Rattle.sabr_model.specs.declared.hop.Hop.{Hop}
 use Rattle.sabr_index.specs.declared.link.Pass.{Pass}
 use Rattle.sabr_index.specs.declared.link.Link.{Link}
 use Rattle.sabr_index.specs.declared.link.LinkBounds.{LinkBounds}
-use Rattle.sabr_index.specs.Links.{AreWithin}
+use Rattle.sabr_index.specs.Links.{AreInOrder, AreWithin, passes_over}
 use Rattle.std.proofs.lemmas.List.{length-take, length-drop}
 use Rattle.sabr_model.specs.routes.Arrival.{cost}
 use Rattle.sabr_model.specs.plan.Light.{light_of}
@@ -21,7 +21,7 @@ use Rattle.sabr_search.specs.questions.Task.{SearchTask, IsTask, Takes}
 use Rattle.sabr_search.specs.layers.Lists.{IsKnown}
 use Rattle.sabr_model.specs.routes.Hops.{hop_arrival, IsSmall}
 use Rattle.sabr_search.specs.questions.Steps.{IsHopAt}
-use Rattle.sabr_search.specs.questions.Linked.{IsPassAt, IsLinkAt, AreInOrder, HasNumber, passes_of, AreLinksAt, IsLinkHere, IsRuledOut}
+use Rattle.sabr_search.specs.questions.Linked.{IsPassAt, IsLinkAt, HasNumber, AreLinksAt, IsLinkHere, IsRuledOut}
 use Rattle.sabr_search.proofs.LinkLemmas.Arrivals.{arrival_parts}
 use Rattle.sabr_search.proofs.LinkLemmas.PlanFacts.{hop_small}
 use Rattle.sabr_search.proofs.ForwardLemmas.Forward.{known_old, hop_takes}
@@ -34,7 +34,7 @@ no_pass = record { number = 0; receiver = 0; light = 0; start = 0; end = 0; late
 abbrev pub no_link : Link
 no_link = record { receiver = 0; first = 0; end = 0; bounds = record { latest_end = 0; least_light = 0; soonest = 0 } }
 
-pub passes_length : (passes : List Pass) (l : Link) → l.end ≤ length passes → length (passes_of passes l) ≡ l.end - l.first
+pub passes_length : (passes : List Pass) (l : Link) → l.end ≤ length passes → length (passes_over passes l) ≡ l.end - l.first
 passes_length passes l within = omega (arith, length-take (l.end - l.first) (drop l.first passes), length-drop l.first passes)
 
 -- the hop of a pass
@@ -152,9 +152,9 @@ module _ (task : SearchTask) (is : IsTask task) (u to : ℕ) (passes : List Pass
 
 -- a step over a link of a node leads to the link's receiver
 pub link_receiver : (task : SearchTask) → IsTask task → (u : ℕ) (links : List Link) (passes : List Pass) → AreLinksAt task u links passes → (i : ℕ) (l : Link) → slice_get links i ≡ Some l →
-    (n t w b : ℕ) → HasNumber (passes_of passes l) n → Takes task n u t w b → w ≡ l.receiver
+    (n t w b : ℕ) → HasNumber (passes_over passes l) n → Takes task n u t w b → w ≡ l.receiver
 link_receiver task is u links passes are i l at n t w b has s =
-    (over_pass task is u l.receiver t has.1 w b ((are.each i l at).each has.0 has.1 has.2) (step_over task (passes_of passes l) n u t w b has s)).receiver
+    (over_pass task is u l.receiver t has.1 w b ((are.each i l at).each has.0 has.1 has.2) (step_over task (passes_over passes l) n u t w b has s)).receiver
 
 -- the links of a node lie one after another
 links_in_row : (task : SearchTask) (u : ℕ) (links : List Link) (passes : List Pass) → AreLinksAt task u links passes → (i d : ℕ) (l m : Link) → slice_get links i ≡ Some l → slice_get links (i + 1 + d) ≡ Some m → l.end ≤ m.first
@@ -171,7 +171,7 @@ links_in_row task u links passes are i (suc d) l m at_l at_m =
 pub record IsInPlace (task : SearchTask) (u : ℕ) (links : List Link) (passes : List Pass) (i to : ℕ) (over : List Pass) (l : Link) : Type 0 where
   pub few : l.first + length over ≤ length passes
   pub later : (j : ℕ) (m : Link) → i < j → slice_get links j ≡ Some m → l.first + length over ≤ m.first
-  pub own : (j : ℕ) (x : Link) (n : ℕ) → slice_get links j ≡ Some x → j ≡ i → HasNumber (passes_of passes x) n → HasNumber over n
+  pub own : (j : ℕ) (x : Link) (n : ℕ) → slice_get links j ≡ Some x → j ≡ i → HasNumber (passes_over passes x) n → HasNumber over n
   pub leads : IsTask task → (n t w b : ℕ) → HasNumber over n → Takes task n u t w b → w ≡ to
 
 pub in_place : (task : SearchTask) (u : ℕ) (links : List Link) (passes : List Pass) → AreLinksAt task u links passes → (i to : ℕ) (over : List Pass) (is : IsLinkHere links passes i to over) → IsInPlace task u links passes i to over is.link
@@ -185,7 +185,7 @@ in_place task u links passes are i to over is =
           omega (arith, many, are.ordered i l is.here, links_in_row task u links passes are i (j - (i + 1)) l m is.here (ap (slice_get links) there ∙ at)));
       own = λ j x n at same has.
           (let one : x ≡ l = same_some (sym at ∙ ap (slice_get links) same ∙ is.here) in
-          rw is.lies (subst (λ (y : Link). HasNumber (passes_of passes y) n) one has));
+          rw is.lies (subst (λ (y : Link). HasNumber (passes_over passes y) n) one has));
       leads = λ task_is n t w b has s. link_receiver task task_is u links passes are i l is.here n t w b (rw is.lies at has) s ∙ sym is.receiver;
     }
 
@@ -200,8 +200,8 @@ same_number passes i k x y at_i at_k same = ap (λ (p : Pass). p.number) (same_s
 -- what comes over a link of a node that is ruled out by what is known of its receiver is known, if the goal's own arrival is
 -- no sooner than the best delivery
 pub known_skipped : (task : SearchTask) → IsTask task → (u t : ℕ) (links : List Link) (passes : List Pass) → AreLinksAt task u links passes → (arrival : List ℕ) (best : ℕ) → best ≤ slice_index arrival task.goal →
-    (j : ℕ) (l : Link) → slice_get links j ≡ Some l → IsRuledOut l.bounds t (slice_index arrival l.receiver) → (n w b : ℕ) → HasNumber (passes_of passes l) n → Takes task n u t w b → IsKnown task.goal arrival best w b
+    (j : ℕ) (l : Link) → slice_get links j ≡ Some l → IsRuledOut l.bounds t (slice_index arrival l.receiver) → (n w b : ℕ) → HasNumber (passes_over passes l) n → Takes task n u t w b → IsKnown task.goal arrival best w b
 known_skipped task is u t links passes are arrival best goal_late j l at out n w b has s =
     let to = link_receiver task is u links passes are j l at n t w b has s in
-    let by : slice_index arrival w ≤ b = rw to (ruled_out task is u l.receiver (passes_of passes l) (are.each j l at) l.bounds (are.bounds j l at) t (slice_index arrival l.receiver) out n t w b has (omega arith) s) in
+    let by : slice_index arrival w ≤ b = rw to (ruled_out task is u l.receiver (passes_over passes l) (are.each j l at) l.bounds (are.bounds j l at) t (slice_index arrival l.receiver) out n t w b has (omega arith) s) in
     known_old task.goal arrival best w b goal_late (omega (arith, by))

@@ -10,7 +10,6 @@ use Rattle.sabr_search.specs.questions.Task.{SearchTask, Takes}
 use Rattle.sabr_search.specs.questions.Linked.{IsLinkWithin, HasNumber}
 use Rattle.sabr_index.specs.declared.link.Pass.{Pass}
 use Rattle.sabr_index.specs.declared.link.SenderHead.{SenderHead}
-use Rattle.sabr_index.specs.Incoming.{bounds_until}
 
 -- by node a second before which no way comes there; 0 after the list's end
 abbrev pub AreSince : SearchTask → List ℕ → Type 0
@@ -68,7 +67,7 @@ IsToldOver task since late u passes before = (n t w b : ℕ) → HasNumber passe
 -- so it is for each step over a link with this head that arrives before a second
 abbrev pub IsToldByHead : SearchTask → List ℕ → List ℕ → SenderHead → ℕ → Type 0
 IsToldByHead task since late head before =
-    (to end : ℕ) (passes : List Pass) → IsLinkWithin task head.node to passes (bounds_until end head) → IsToldOver task since late head.node passes before
+    (to : ℕ) (passes : List Pass) → IsLinkWithin task head.node to passes head.bounds → IsToldOver task since late head.node passes before
 
 -- so it is for each step that comes to a node before its deadline
 abbrev pub IsToldTo : SearchTask → List ℕ → List ℕ → Deadline → Type 0

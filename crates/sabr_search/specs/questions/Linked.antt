@@ -1,5 +1,5 @@
 -- The links that a search walks at one node: the contacts that it sends, by receiver, as passes.
-use Rattle.std.specs.Prelude.{◌≡◌, ◌⊎◌, ℕ, ◌+◌, ◌-◌, ◌<◌, ◌≤◌, List, length, take, drop, false, slice_get, slice_index_or}
+use Rattle.std.specs.Prelude.{◌≡◌, ◌⊎◌, ℕ, ◌+◌, ◌<◌, ◌≤◌, List, length, false, slice_get, slice_index_or}
 use Rattle.std.specs.List.{sum_by}
 use Rattle.std.specs.declared.option.Option.TheVariants.{Some}
 use Rattle.sabr_model.specs.declared.contact.Contact.{Contact}
@@ -8,7 +8,7 @@ use Rattle.sabr_index.specs.declared.link.Link.{Link}
 use Rattle.sabr_index.specs.declared.link.LinkBounds.{LinkBounds}
 use Rattle.sabr_model.specs.plan.Plan.{contact_named}
 use Rattle.sabr_model.specs.plan.Light.{light_of}
-use Rattle.sabr_index.specs.Links.{IsBefore, IsInRow, AreWithin, SentLink}
+use Rattle.sabr_index.specs.Links.{AreInOrder, AreInRows, AreWithin, SentLink, passes_over}
 use Rattle.sabr_search.specs.questions.Task.{SearchTask, Takes}
 use Rattle.sabr_search.specs.questions.Steps.{degree, received}
 
@@ -22,15 +22,11 @@ pub record IsPassAt (task : SearchTask) (u w : ℕ) (x : Pass) : Type 0 where
   pub end : x.end ≡ contact.end
   pub light : light_of task.plan contact ≡ Some x.light
 
--- passes sorted by start, each within the bounds that are kept beside the others
-abbrev pub AreInOrder : List Pass → Type 0
-AreInOrder passes = (i k : ℕ) (x y : Pass) → i ≤ k → slice_get passes i ≡ Some x → slice_get passes k ≡ Some y → IsBefore x y
-
 -- passes from the node at place u to the node at place w, in order; each keeps how many consecutive numbers follow it
 pub record IsLinkAt (task : SearchTask) (u w : ℕ) (passes : List Pass) : Type 0 where
   pub each : (k : ℕ) (x : Pass) → slice_get passes k ≡ Some x → IsPassAt task u w x
   pub kept : AreInOrder passes
-  pub in_rows : (i j : ℕ) (x y : Pass) → slice_get passes i ≡ Some x → slice_get passes (i + j) ≡ Some y → IsInRow x j y
+  pub in_rows : AreInRows passes
 
 -- the same, and within the bounds of the link
 abbrev pub IsLinkWithin : SearchTask → ℕ → ℕ → List Pass → LinkBounds → Type 0
@@ -44,16 +40,12 @@ HasNumber passes n = (k : ℕ) × (x : Pass) × (slice_get passes k ≡ Some x) 
 abbrev pub IsLeftBefore : SearchTask → ℕ → ℕ → ℕ → ℕ → Type 0
 IsLeftBefore task u w before t = (b : ℕ) × (b < before) × (slice_index_or task.forbidden w false ≡ false → (n : ℕ) × Takes task n u t w b)
 
--- the passes at the places of the link
-abbrev pub passes_of : List Pass → Link → List Pass
-passes_of passes l = take (l.end - l.first) (drop l.first passes)
-
 -- the link at place i of these leads to the node at place w, over these passes
 pub record IsLinkHere (links : List Link) (passes : List Pass) (i w : ℕ) (over : List Pass) : Type 0 where
   pub link : Link
   pub here : slice_get links i ≡ Some link
   pub receiver : w ≡ link.receiver
-  pub lies : over ≡ passes_of passes link
+  pub lies : over ≡ passes_over passes link
 
 -- by the bounds of a link, what is at its sender at t or later doesn't arrive before a second
 abbrev pub IsRuledOut : LinkBounds → ℕ → ℕ → Type 0
@@ -65,10 +57,10 @@ pub record AreLinksAt (task : SearchTask) (u : ℕ) (links : List Link) (passes 
   pub receivers : (j : ℕ) (l : Link) → slice_get links j ≡ Some l → l.receiver < length task.table
   pub ordered : (j : ℕ) (l : Link) → slice_get links j ≡ Some l → l.first ≤ l.end
   pub within : (j : ℕ) (l : Link) → slice_get links j ≡ Some l → l.end ≤ length passes
-  pub each : (j : ℕ) (l : Link) → slice_get links j ≡ Some l → IsLinkAt task u l.receiver (passes_of passes l)
-  pub bounds : (j : ℕ) (l : Link) → slice_get links j ≡ Some l → AreWithin l.bounds (passes_of passes l)
+  pub each : (j : ℕ) (l : Link) → slice_get links j ≡ Some l → IsLinkAt task u l.receiver (passes_over passes l)
+  pub bounds : (j : ℕ) (l : Link) → slice_get links j ≡ Some l → AreWithin l.bounds (passes_over passes l)
   pub in_row : (j : ℕ) (l m : Link) → slice_get links j ≡ Some l → slice_get links (j + 1) ≡ Some m → l.end ≤ m.first
-  pub whole : (n t w b : ℕ) → Takes task n u t w b → (j : ℕ) × (l : Link) × (slice_get links j ≡ Some l) × HasNumber (passes_of passes l) n
+  pub whole : (n t w b : ℕ) → Takes task n u t w b → (j : ℕ) × (l : Link) × (slice_get links j ≡ Some l) × HasNumber (passes_over passes l) n
   pub few : length passes ≤ degree task u
 
 -- the links to the node at place w: each goes from its sender to there, every step to there is over a pass of one of

@@ -14,7 +14,7 @@ ghost use Rattle.sabr_search.specs.layers.WholeDeadlines.{AreWhole, IsMadeBack};
 use crate::backward::deadlines::{Deadline, Deadlines};
 use crate::backward::since::Since;
 use crate::found::Outcome;
-use crate::links::over_link::{WalkedLink, is_soonest};
+use crate::links::over_link::{WalkedLink, rules_out};
 use crate::task::Task;
 use crate::visit::Visit;
 use sabr_index::{Looks, Sender, SenderHead};
@@ -74,11 +74,11 @@ impl<A: Allocator + Copy> Deadlines<A> {
     {
         let node = head.node;
         let late = self.late[node];
-        if is_soonest(head.soonest, head.least_light, late, before) {
+        if rules_out(head.bounds, late, before) {
             return true;
         }
         let since = aim.since.at(node);
-        if is_soonest(head.soonest, head.least_light, since, before) {
+        if rules_out(head.bounds, since, before) {
             return true;
         }
         node == aim.task.goal() || aim.task.forbidden()[node]
@@ -113,10 +113,6 @@ impl<A: Allocator + Copy> Deadlines<A> {
         ensures rises { OnOk result ((k : ℕ) → slice_index self.old.late.items k ≤ slice_index self.new.late.items k) }
         ensures told { OnOk result (IsToldOver aim.now.task.now aim.now.since.now self.new.late.items from.entry.node from.entry.passes.now to.before) }
     {
-        let since = aim.since.at(from.node);
-        if from.bounds.latest_end <= since {
-            return Ok(());
-        }
         let latest = self.late[from.node];
         let link = WalkedLink {
             from: from.node,
@@ -125,7 +121,7 @@ impl<A: Allocator + Copy> Deadlines<A> {
             bounds: from.bounds,
         };
         let last = aim.task.leave_over(looks, link, to.before, latest);
-        if last <= latest || last <= since {
+        if last <= latest.max(aim.since.at(from.node)) {
             return Ok(());
         }
         let entry = Deadline {
@@ -170,9 +166,6 @@ impl<A: Allocator + Copy> Deadlines<A> {
                 continue;
             }
             let from = senders.at(place);
-            if from.bounds.latest_end <= self.late[from.node] {
-                continue;
-            }
             if from.passes.len() as u64 > looks.left() {
                 return Ok(false);
             }

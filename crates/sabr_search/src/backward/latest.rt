@@ -9,7 +9,7 @@ ghost use Rattle.sabr_search.specs.layers.NodeBounds.{AreLateFor};
 ghost use Rattle.sabr_search.specs.layers.Late.{IsToldOver};
 ghost use Rattle.sabr_search.specs.layers.Latest.{IsWhole, IsBegun, AreRising, AreTaken, IsTakenBy};
 
-use crate::links::over_link::{WalkedLink, is_soonest};
+use crate::links::over_link::{WalkedLink, rules_out};
 use crate::queue::{LAST_AT, Queue};
 use crate::task::Task;
 use crate::visit::Visit;
@@ -120,13 +120,10 @@ impl<A: Allocator + Copy> Latest<A> {
         for place in 0..senders.len() {
             let head = senders.head(place);
             let latest = self.late[head.node];
-            if is_soonest(head.soonest, head.least_light, latest, before) {
+            if rules_out(head.bounds, latest, before) {
                 continue;
             }
             let from = senders.at(place);
-            if from.bounds.latest_end <= latest {
-                continue;
-            }
             if from.passes.len() as u64 > looks.left() {
                 return Ok(false);
             }

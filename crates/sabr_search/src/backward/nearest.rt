@@ -28,8 +28,7 @@ fn note_hops<A: Allocator + Copy>(hops: &mut Vec<u64, A>, node: usize, next: usi
 }
 
 impl<A: Allocator + Copy> Latest<A> {
-    /// Takes the bounds of the link at a place among those to a node, unless it has ended when the request begins. Its
-    /// end is read only if it makes the sender nearer.
+    /// Takes the bounds of the link at a place among those to a node, unless it has ended when the request begins.
     fn near_sender(
         &mut self,
         task: &Task<'_, A>,
@@ -59,14 +58,13 @@ impl<A: Allocator + Copy> Latest<A> {
         if task.forbidden()[node] {
             return Ok(());
         }
-        let cost = task.cost(head.least_light.min(MAX_LIGHT));
+        let cost = task.cost(head.bounds.least_light.min(MAX_LIGHT));
         let latest = self.late[node];
         let last = self.late[to].saturating_sub(cost);
         if last <= latest {
             return Ok(());
         }
-        let from = senders.at(place);
-        if from.bounds.latest_end <= task.request().at() {
+        if head.bounds.latest_end <= task.request().at() {
             return Ok(());
         }
         let rank = note_hops(hops, node, to);

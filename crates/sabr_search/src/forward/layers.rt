@@ -11,7 +11,7 @@ ghost use Rattle.sabr_search.specs.layers.Made.{AreOpened, IsMade};
 use crate::forward::arrivals::open_nodes;
 use crate::forward::news::news_before;
 use crate::found::{Best, Outcome};
-use crate::links::over_link::{WalkedLink, is_soonest, rules_out};
+use crate::links::over_link::{WalkedLink, rules_out};
 use crate::task::Task;
 use crate::visit::{NEVER, Visit};
 use sabr_index::Looks;
@@ -184,7 +184,7 @@ impl<A: Allocator + Copy> Layers<A> {
         for place in 0..senders.len() {
             let head = senders.head(place);
             let at = self.arrival[head.node];
-            if is_soonest(head.soonest, head.least_light, at, least) {
+            if rules_out(head.bounds, at, least) {
                 continue;
             }
             if task.forbidden()[head.node] {

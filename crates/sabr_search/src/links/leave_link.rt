@@ -3,7 +3,8 @@
 ghost use Rattle.std.specs.Prelude.{◌≡◌, ◌≢◌, ◌⊎◌, ℕ, ◌+◌, ◌^◌, ◌≤◌, ◌<◌, max, IsTrue, false, Some, length, slice_get, slice_index_or};
 ghost use Rattle.sabr_index.specs.declared.link.Pass.{Pass};
 ghost use Rattle.sabr_search.specs.questions.Task.{IsTask, Takes};
-ghost use Rattle.sabr_search.specs.questions.Linked.{IsLinkWithin, IsLeftBefore, AreInOrder, HasNumber};
+ghost use Rattle.sabr_index.specs.Links.{AreInOrder};
+ghost use Rattle.sabr_search.specs.questions.Linked.{IsLinkWithin, IsLeftBefore, HasNumber};
 
 use crate::links::over_link::WalkedLink;
 use crate::task::Task;

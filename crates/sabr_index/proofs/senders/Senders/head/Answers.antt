@@ -16,7 +16,7 @@ returns g c =
     let place = c.args.place in
     let sent : Incoming → SentLink = λ e. record { sender = e.sender; passes = passes_named linked e } in
     let lt : place < length incoming = omega (arith, c.requires, ap (λ (ss : List SentLink). length ss) c.self.view_is, length-map incoming sent) in
-    let none : Incoming = record { sender = 0; place = 0; least_light = 0; soonest = 0 } in
+    let none : Incoming = record { sender = 0; place = 0; least_light = 0; soonest = 0; latest_end = 0 } in
     let e = get_or incoming place none in
     let at : slice_get incoming place ≡ Some e = slice_get-get_or incoming place none lt in
     let w = c.self.invariant place e at in
@@ -24,6 +24,5 @@ returns g c =
     ap (λ (o : Option NodeLinks). option_map_or (λ s. option_map_or (passes_over s.passes) (slice_get s.links e.place) []) o []) w.2 ∙ ap (λ (o : Option Link). option_map_or (passes_over w.0.passes) o []) w.3 in (
       passes_named linked e,
       subst (λ (ss : List SentLink). slice_get ss place ≡ Some (sent e)) c.self.view_is (slice_get-map sent incoming place ∙ ap (option_map sent) at),
-      w.1.bounds.latest_end,
-      rw (passes, ← w.4.0, ← w.4.1) w.5.within,
+      rw (passes, ← w.4) w.5.within,
     )

@@ -1,19 +1,18 @@
 use Rattle.std.proofs.Common.{inl, inr, slice_index, arith}
 use Rattle.std.proofs.lemmas.Bool.{cases_lt}
-use Rattle.sabr_index.specs.Incoming.{bounds_until}
 use Rattle.sabr_search.proofs.LinkLemmas.OverLinks.{ruled_out}
 use Rattle.sabr_search.proofs.ForwardLemmas.LayerEntries.{read_at}
 use Rattle.sabr_search.proofs.backward.deadlines.Deadlines.brings_nothing.Goals as goal
 
-pub returns-then-is_soonest-clause-told : goal.returns-then-is_soonest-clause-told
-returns-then-is_soonest-clause-told g c = λ told to end passes link n t w b has s less permitted other soon.
+pub returns-then-rules_out-clause-told : goal.returns-then-rules_out-clause-told
+returns-then-rules_out-clause-told g c = λ told to passes link n t w b has s less permitted other soon.
     let late = read_at c.args.self.now.late.items c.args.head.node c.index-late.result.now (omega (arith, c.requires.many, c.requires.node)) c.index-late.ensures in
     elim (cases_lt t (slice_index c.args.self.now.late.items c.args.head.node)) [
       | inl before ↦ before
       | inr behind ↦
-          absurd (omega (arith, less, ruled_out c.args.aim.now.task.now c.requires.task c.args.head.node to passes link.0 (bounds_until end c.args.head) link.1 c.index-late.result.now c.args.before (inr (c.is_soonest.ensures.late c.if-is_soonest.true)) n t w b has (omega (arith, behind, late)) s))
+          absurd (omega (arith, less, ruled_out c.args.aim.now.task.now c.requires.task c.args.head.node to passes link.0 c.args.head.bounds link.1 c.index-late.result.now c.args.before (c.rules_out.ensures.late c.if-rules_out.true) n t w b has (omega (arith, behind, late)) s))
     ]
 
-pub returns-then-is_soonest-2-clause-told : goal.returns-then-is_soonest-2-clause-told
-returns-then-is_soonest-2-clause-told g c = λ told to end passes link n t w b has s less permitted other soon.
-    absurd (omega (arith, less, ruled_out c.args.aim.now.task.now c.requires.task c.args.head.node to passes link.0 (bounds_until end c.args.head) link.1 c.at-since.result c.args.before (inr (c.is_soonest-2.ensures.late c.if-is_soonest-2.true)) n t w b has (omega (arith, soon, c.at-since.ensures)) s))
+pub returns-then-rules_out-2-clause-told : goal.returns-then-rules_out-2-clause-told
+returns-then-rules_out-2-clause-told g c = λ told to passes link n t w b has s less permitted other soon.
+    absurd (omega (arith, less, ruled_out c.args.aim.now.task.now c.requires.task c.args.head.node to passes link.0 c.args.head.bounds link.1 c.at-since.result c.args.before (c.rules_out-2.ensures.late c.if-rules_out-2.true) n t w b has (omega (arith, soon, c.at-since.ensures)) s))

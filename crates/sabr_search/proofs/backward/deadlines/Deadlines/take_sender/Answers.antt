@@ -1,4 +1,4 @@
-use Rattle.std.proofs.Common.{◌≡◌, ◌<◌, ◌+◌, slice_index, arith}
+use Rattle.std.proofs.Common.{◌≡◌, ◌+◌, slice_index, arith}
 use Rattle.sabr_search.proofs.ForwardLemmas.LayerEntries.{read_at}
 use Rattle.sabr_search.proofs.BackwardLemmas.LateLists.{sound_back}
 use Rattle.sabr_search.proofs.BackwardLemmas.LateNoted.{AreNoted, head_within, late_noted}
@@ -7,23 +7,13 @@ use Rattle.sabr_search.specs.layers.Deadlines.{head_of}
 use Rattle.sabr_search.specs.layers.Late.{IsNotedLate}
 use Rattle.sabr_search.proofs.backward.deadlines.Deadlines.take_sender.Given.{Over}
 use Rattle.sabr_search.proofs.backward.deadlines.Deadlines.take_sender.Goals.{After-index-begin}
-use Rattle.sabr_search.proofs.BackwardLemmas.LastSeconds.{left_before}
 use Rattle.sabr_search.proofs.backward.deadlines.Deadlines.take_sender.Goals as goal
-use Rattle.sabr_search.proofs.backward.deadlines.Deadlines.take_sender.Goals.{then-last-latest-via-then-last-latest, then-last-latest-via-else-last-latest+then-last-since}
 use Rattle.sabr_search.proofs.ForwardLemmas.Queues.{set_here}
 
-pub returns-then-from-since-clause-told : goal.returns-then-from-since-clause-told
-returns-then-from-since-clause-told g c = λ n t w b has s less permitted other soon.
-    absurd (omega (arith, soon, left_before c.args.aim.now.task.now c.requires.task c.args.from.node c.args.to.node c.args.from.passes.now c.args.from.bounds c.requires.link c.at-since.result c.if-from-since.true n t w b has s, c.at-since.ensures))
-
-pub returns-then-last-latest-clause-told : goal.returns-then-last-latest-clause-told
-returns-then-last-latest-clause-told g c = λ n t w b has s less permitted other soon.
+pub returns-then-last-max-clause-told : goal.returns-then-last-max-clause-told
+returns-then-last-max-clause-told g c = λ n t w b has s less permitted other soon.
     let latest = read_at c.args.self.now.late.items c.args.from.node c.index-latest.result.now (omega (arith, c.requires.node, c.requires.lists.many)) c.index-latest.ensures in
-    let sooner : t < c.leave_over-last.result = c.leave_over-last.ensures.full n t w b has s less in
-    elim c.then-last-latest.branch [
-      | then-last-latest-via-then-last-latest z ↦ omega (arith, sooner, latest, z.if-last-latest.true)
-      | then-last-latest-via-else-last-latest+then-last-since z ↦ absurd (omega (arith, sooner, soon, z.if-last-since.true))
-    ]
+    omega (arith, c.leave_over-last.ensures.full n t w b has s less, latest, soon, c.at.ensures, c.max.ensures, c.if-last-max.true)
 
 pub note_late-requires-clause-placed : goal.note_late-requires-clause-placed
 note_late-requires-clause-placed g c = head_within c.args.aim.now.task.now _ _ c.args.self.now.late.items c.args.self.now.place.items c.args.self.now.entries.items c.requires.lists c.args.from.node c.requires.node
@@ -37,8 +27,8 @@ noted g c new how =
     let own = c.args.self.now in
     let latest = read_at own.late.items c.args.from.node c.index-latest.result.now (omega (arith, c.requires.node, c.requires.lists.many)) c.index-latest.ensures in
     let begin : c.index-begin.result.now ≡ slice_index own.ends.items (c.args.left + 1) = read_at own.ends.items (c.args.left + 1) c.index-begin.result.now c.requires.bounded c.index-begin.ensures in
-    late_noted task _ _ own new c.requires.lists c.requires.linked c.args.from.node c.leave_over-last.result c.requires.node c.requires.permitted c.requires.other (omega (arith, latest, c.if-last-latest.false))
-    (sound_back task c.requires.task c.args.from.node c.args.to.node c.index-latest.result.now c.leave_over-last.result c.args.to.before _ _ own.entries.items (λ t from less. c.leave_over-last.ensures.sound t from less) c.if-last-latest.false c.requires.receiver c.requires.given)
+    late_noted task _ _ own new c.requires.lists c.requires.linked c.args.from.node c.leave_over-last.result c.requires.node c.requires.permitted c.requires.other (omega (arith, latest, c.max.ensures, c.if-last-max.false))
+    (sound_back task c.requires.task c.args.from.node c.args.to.node c.index-latest.result.now c.leave_over-last.result c.args.to.before _ _ own.entries.items (λ t from less. c.leave_over-last.ensures.sound t from less) (omega (arith, c.max.ensures, c.if-last-max.false)) c.requires.receiver c.requires.given)
     (rw begin at how)
 
 pub returns-clause-lists : goal.returns-clause-lists

@@ -2,9 +2,8 @@ use Rattle.std.proofs.Common.{◌≡◌, ◌+◌, length, slice_index, sym, ap, 
 use Rattle.sabr_index.specs.Links.{SentLink}
 use Rattle.std.proofs.lemmas.Option.{slice_get_within}
 use Rattle.sabr_search.specs.layers.Late.{IsToldOver}
-use Rattle.sabr_search.proofs.BackwardLemmas.LastSeconds.{left_before, each_until}
+use Rattle.sabr_search.proofs.BackwardLemmas.LastSeconds.{each_until}
 use Rattle.sabr_search.proofs.BackwardLemmas.LateLists.{in_time_kept, told_rises}
-use Rattle.sabr_search.proofs.ForwardLemmas.LayerEntries.{read_at}
 use Rattle.sabr_search.proofs.LinkLemmas.Linking.{passes_within}
 use Rattle.sabr_search.proofs.LinkLemmas.StepLists.{sum_taken_le}
 use Rattle.sabr_search.proofs.backward.deadlines.Deadlines.take_senders.Given.{Over}
@@ -51,25 +50,7 @@ loop-place-preserved-then-brings_nothing g c =
       kept = so_far.kept;
       rises = so_far.rises;
       told = each_until (λ (s : SentLink). IsToldOver c.args.aim.now.task.now c.args.aim.now.since.now c.loop-place.self.late.items s.sender s.passes c.args.to.before) c.senders-senders.result c.loop-place.place _ here.1 so_far.told
-          (c.brings_nothing.ensures.told c.if-brings_nothing.true c.args.to.node here.2 here.0 (link, here.3));
-    }
-
-pub loop-place-preserved-then-from-index : goal.loop-place-preserved-then-from-index
-loop-place-preserved-then-from-index g c =
-    let task = c.args.aim.now.task.now in
-    let so_far = c.loop-place.invariant in
-    let here = c.at-from.ensures in
-    let from = c.at-from.result in
-    let link = c.senders-senders.ensures.each c.loop-place.place (record { sender = from.node; passes = from.passes.now }) here.link in
-    record {
-      ends = so_far.ends;
-      counted = omega (arith, so_far.counted, (passes_within task c.args.to.node c.senders-senders.result c.senders-senders.ensures c.loop-place.place _ here.link).0);
-      lists = so_far.lists;
-      linked = so_far.linked;
-      kept = so_far.kept;
-      rises = so_far.rises;
-      told = each_until (λ (s : SentLink). IsToldOver task c.args.aim.now.since.now c.loop-place.self.late.items s.sender s.passes c.args.to.before) c.senders-senders.result c.loop-place.place _ here.link so_far.told
-          (λ n t w b has s by open' other soon. left_before task c.requires.task from.node c.args.to.node from.passes.now from.bounds (link, here.bounds) (slice_index c.loop-place.self.late.items from.node) (omega (arith, c.if-from-index.true, read_at c.loop-place.self.late.items from.node c.index.result.now (omega (arith, c.senders-senders.ensures.senders c.loop-place.place _ here.link, so_far.lists.many)) c.index.ensures)) n t w b has s);
+          (c.brings_nothing.ensures.told c.if-brings_nothing.true c.args.to.node here.0 (link, here.2));
     }
 
 pub loop-place-preserved : goal.loop-place-preserved

@@ -1,7 +1,6 @@
 use Rattle.std.proofs.Common.{◌≡◌, ◌+◌, ◌≤◌, ℕ, Some, min, true, false, slice_get, slice_index, slice_index_or, slice_set, ap, sym, subst, ◌∙◌, arith}
 use Rattle.std.proofs.lemmas.Bool.{both_ways}
 use Rattle.sabr_index.specs.Links.{SentLink}
-use Rattle.sabr_index.specs.Incoming.{bounds_until}
 use Rattle.sabr_model.specs.routes.Arrival.{RouteRequest, cost}
 use Rattle.sabr_search.specs.questions.Task.{Takes}
 use Rattle.sabr_search.specs.questions.Linked.{HasNumber}
@@ -38,9 +37,9 @@ over g c s at n t b has step =
     let here = c.head-head.ensures in
     let sent : SentLink = record { sender = c.head-head.result.node; passes = here.0 } in
     let is : s ≡ sent = same_some (sym at ∙ here.1) in
-    let costs : c.cost-cost.result ≡ cost c.args.task.now.request.margin (min c.head-head.result.least_light 1000000) = c.cost-cost.ensures ∙ ap (cost c.args.task.now.request.margin) c.min.ensures in
+    let costs : c.cost-cost.result ≡ cost c.args.task.now.request.margin (min c.head-head.result.bounds.least_light 1000000) = c.cost-cost.ensures ∙ ap (cost c.args.task.now.request.margin) c.min.ensures in
     let link = c.requires.senders.each c.args.place sent here.1 in
-    rw costs (over_bounds c.args.task.now c.requires.task c.head-head.result.node c.args.to here.0 (bounds_until here.2 c.head-head.result) (link, here.3) n t b (rw is at has) (rw is at step))
+    rw costs (over_bounds c.args.task.now c.requires.task c.head-head.result.node c.args.to here.0 c.head-head.result.bounds (link, here.2) n t b (rw is at has) (rw is at step))
 
 pub returns-then-last-latest-clause-told : goal.returns-then-last-latest-clause-told
 returns-then-last-latest-clause-told g c = λ s at n t b has step open' other since.
@@ -51,15 +50,15 @@ returns-then-last-latest-clause-told g c = λ s at n t b has step open' other si
     let same = ap (slice_index c.args.self.now.late.items) (sender_is g here.After-head-head s at) in
     omega (arith, over g here.After-saturating_sub-last s at n t b has step, c.if-last-latest.true, near, latest, same)
 
-pub returns-then-from-at-clause-told : goal.returns-then-from-at-clause-told
-returns-then-from-at-clause-told g c = λ s at n t b has step open' other since.
-    let from = c.at-from.result in
-    let sent : SentLink = record { sender = from.node; passes = from.passes.now } in
-    let is : s ≡ sent = same_some (sym at ∙ c.at-from.ensures.link) in
-    let link = c.requires.senders.each c.args.place sent c.at-from.ensures.link in
+pub returns-then-head-at-clause-told : goal.returns-then-head-at-clause-told
+returns-then-head-at-clause-told g c = λ s at n t b has step open' other since.
+    let here = c.head-head.ensures in
+    let head = c.head-head.result in
+    let is : s ≡ record { sender = head.node; passes = here.0 } = same_some (sym at ∙ here.1) in
+    let link = c.requires.senders.each c.args.place _ here.1 in
     let begins = ap (λ (r : RouteRequest). r.at) c.request.ensures in
-    let ended : from.bounds.latest_end ≤ c.args.task.now.request.at = omega (arith, c.at.ensures.value, begins, c.if-from-at.true) in
-    absurd (omega (arith, since, left_before c.args.task.now c.requires.task from.node c.args.to from.passes.now from.bounds (link, c.at-from.ensures.bounds) c.args.task.now.request.at ended n t c.args.to b (rw is at has) (rw is at step)))
+    let ended : head.bounds.latest_end ≤ c.args.task.now.request.at = omega (arith, c.at.ensures.value, begins, c.if-head-at.true) in
+    absurd (omega (arith, since, left_before c.args.task.now c.requires.task head.node c.args.to here.0 head.bounds (link, here.2) c.args.task.now.request.at ended n t c.args.to b (rw is at has) (rw is at step)))
 
 pub returns-clause-rising : goal.returns-clause-rising
 returns-clause-rising g c =

@@ -1,13 +1,11 @@
-use Rattle.std.proofs.Common.{[], ◌≡◌, inl, inr, slice_index, sym, ap, ◌∙◌, arith}
+use Rattle.std.proofs.Common.{[], inl, inr, slice_index, sym, arith}
 use Rattle.std.proofs.lemmas.Bool.{cases_lt}
 use Rattle.sabr_index.specs.Links.{SentLink}
-use Rattle.sabr_index.specs.Incoming.{bounds_until}
 use Rattle.sabr_search.specs.layers.Late.{IsToldOver}
 use Rattle.sabr_search.proofs.LinkLemmas.OverLinks.{ruled_out}
 use Rattle.std.proofs.lemmas.Option.{slice_get_within}
 use Rattle.sabr_search.proofs.ForwardLemmas.LayerEntries.{read_at}
-use Rattle.sabr_search.proofs.WayLemmas.RoutesAndWays.{same_some}
-use Rattle.sabr_search.proofs.BackwardLemmas.LastSeconds.{left_before, each_until}
+use Rattle.sabr_search.proofs.BackwardLemmas.LastSeconds.{each_until}
 use Rattle.sabr_search.proofs.BackwardLemmas.LateLists.{told_rises}
 use Rattle.sabr_search.proofs.backward.latest.Latest.take_senders.Goals as goal
 
@@ -22,8 +20,8 @@ loop-place-init g c = record {
 pub index-latest-requires : goal.index-latest-requires
 index-latest-requires g c = omega (arith, c.senders-senders.ensures.senders c.loop-place.place (record { sender = c.head-head.result.node; passes = c.head-head.ensures.0 }) c.head-head.ensures.1, c.loop-place.invariant.rising.many)
 
-pub loop-place-preserved-then-is_soonest : goal.loop-place-preserved-then-is_soonest
-loop-place-preserved-then-is_soonest g c =
+pub loop-place-preserved-then-rules_out : goal.loop-place-preserved-then-rules_out
+loop-place-preserved-then-rules_out g c =
     let task = c.args.task.now in
     let so_far = c.loop-place.invariant in
     let here = c.head-head.ensures in
@@ -38,25 +36,8 @@ loop-place-preserved-then-is_soonest g c =
           (λ n t w b has s by open' other since. elim (cases_lt t (slice_index c.loop-place.self.late.items u)) [
             | inl early ↦ early
             | inr late_there ↦
-                absurd (omega (arith, by, late, ruled_out task c.requires.task u c.args.to here.0 link (bounds_until here.2 c.head-head.result) here.3 c.index-latest.result.now c.index-before.result.now (inr (c.is_soonest.ensures.late c.if-is_soonest.true)) n t w b has (omega (arith, late, late_there)) s))
+                absurd (omega (arith, by, late, ruled_out task c.requires.task u c.args.to here.0 link c.head-head.result.bounds here.2 c.index-latest.result.now c.index-before.result.now (c.rules_out.ensures.late c.if-rules_out.true) n t w b has (omega (arith, late, late_there)) s))
           ]);
-    }
-
-pub loop-place-preserved-then-from-latest : goal.loop-place-preserved-then-from-latest
-loop-place-preserved-then-from-latest g c =
-    let task = c.args.task.now in
-    let so_far = c.loop-place.invariant in
-    let here = c.at-from.ensures in
-    let from = c.at-from.result in
-    let link = c.senders-senders.ensures.each c.loop-place.place (record { sender = from.node; passes = from.passes.now }) here.link in
-    let node : from.node ≡ c.head-head.result.node = ap (λ (s : SentLink). s.sender) (same_some (sym here.link ∙ c.head-head.ensures.1)) in
-    let late = read_at c.loop-place.self.late.items from.node c.index-latest.result.now (omega (arith, c.senders-senders.ensures.senders c.loop-place.place _ here.link, so_far.rising.many)) (rw node c.index-latest.ensures) in
-    record {
-      rising = so_far.rising;
-      rises = so_far.rises;
-      same = so_far.same;
-      told = each_until (λ (s : SentLink). IsToldOver task [] c.loop-place.self.late.items s.sender s.passes c.index-before.result.now) c.senders-senders.result c.loop-place.place _ here.link so_far.told
-          (λ n t w b has s by open' other since. omega (arith, late, left_before task c.requires.task from.node c.args.to from.passes.now from.bounds (link, here.bounds) c.index-latest.result.now c.if-from-latest.true n t w b has s));
     }
 
 pub take_sender-requires-clause-link : goal.take_sender-requires-clause-link

@@ -1,8 +1,9 @@
 use Rattle.std.proofs.Common.{◌≡◌, ◌⊎◌, ℕ, ◌+◌, ◌<◌, ◌≤◌, Some, length, slice_get}
 use Rattle.std.specs.Prelude.{IfSome}
 use Rattle.sabr_index.specs.declared.link.Link.{Link}
+use Rattle.sabr_index.specs.Links.{passes_over}
 use Rattle.sabr_search.specs.questions.Task.{Takes}
-use Rattle.sabr_search.specs.questions.Linked.{HasNumber, AreLinksAt, passes_of}
+use Rattle.sabr_search.specs.questions.Linked.{HasNumber, AreLinksAt}
 use Rattle.sabr_search.specs.layers.Deadlines.{IsInTimeWithin}
 use Rattle.sabr_search.specs.layers.WholeDeadlines.{IsDeadEnd}
 use Rattle.sabr_search.specs.layers.Picks.{IsAtMost}
@@ -15,5 +16,5 @@ invariant-loop-place g l = record {
   looked : l.looks.left ≤ l.fn.looks.left;
   placed : (k : ℕ) (x : Link) → l.place ≤ k → slice_get l.links.links.now k ≡ Some x → l.fn.looks.left ≤ l.looks.left + x.first;
   chosen : IfSome l.least (λ s. Takes l.task s.number l.from.node l.from.at s.node s.at × IsInTimeWithin l.layers.ends.items l.layers.entries.items l.hops s.node s.at);
-  least : (j : ℕ) (x : Link) (n w b : ℕ) → j < l.place → slice_get l.links.links.now j ≡ Some x → HasNumber (passes_of l.links.passes.now x) n → Takes l.task n l.from.node l.from.at w b → IsDeadEnd l.task l.self.delivery w b l.hops ⊎ IsAtMost l.least n;
+  least : (j : ℕ) (x : Link) (n w b : ℕ) → j < l.place → slice_get l.links.links.now j ≡ Some x → HasNumber (passes_over l.links.passes.now x) n → Takes l.task n l.from.node l.from.at w b → IsDeadEnd l.task l.self.delivery w b l.hops ⊎ IsAtMost l.least n;
 }

@@ -2,7 +2,6 @@ use Rattle.std.proofs.Common.{◌≡◌, ◌≤◌, inl, inr, ℕ, List, true, f
 use Rattle.std.proofs.lemmas.Bool.{both_ways, cases_lt}
 use Rattle.std.proofs.lemmas.Option.{slice_get_within}
 use Rattle.sabr_index.specs.Links.{SentLink}
-use Rattle.sabr_index.specs.Incoming.{bounds_until}
 use Rattle.sabr_search.specs.questions.Task.{SearchTask, Takes}
 use Rattle.sabr_search.specs.questions.Linked.{HasNumber}
 use Rattle.sabr_search.proofs.BackwardLemmas.LastSeconds.{each_until}
@@ -16,8 +15,8 @@ use Rattle.sabr_search.proofs.forward.layers.Layers.last_layer.Goals as goal
 abbrev IsKnownOf : SearchTask → ℕ → List ℕ → ℕ → SentLink → Type 0
 IsKnownOf task to arrival least s = (n b : ℕ) → HasNumber s.passes n → Takes task n s.sender (slice_index arrival s.sender) to b → slice_index_or task.forbidden s.sender false ≡ false → least ≤ b
 
-pub loop-place-preserved-then-is_soonest : goal.loop-place-preserved-then-is_soonest
-loop-place-preserved-then-is_soonest g c =
+pub loop-place-preserved-then-rules_out : goal.loop-place-preserved-then-rules_out
+loop-place-preserved-then-rules_out g c =
     let task = c.args.task.now in
     let to = c.goal-goal.result in
     let arrival = c.args.self.now.arrival.items in
@@ -30,7 +29,7 @@ loop-place-preserved-then-is_soonest g c =
       counted = omega (arith, so_far.counted, (passes_within task to c.senders-senders.result c.senders-senders.ensures c.loop-place.place _ here.1).0);
       lower = so_far.lower;
       known = each_until (IsKnownOf task to arrival c.loop-place.least) c.senders-senders.result c.loop-place.place _ here.1 so_far.known
-          (λ n b has s open'. ruled_out task c.requires.task u to here.0 link (bounds_until here.2 c.head-head.result) here.3 c.index-at.result.now c.loop-place.least (inr (c.is_soonest.ensures.late c.if-is_soonest.true)) n (slice_index arrival u) to b has (omega (arith, at)) s);
+          (λ n b has s open'. ruled_out task c.requires.task u to here.0 link c.head-head.result.bounds here.2 c.index-at.result.now c.loop-place.least (c.rules_out.ensures.late c.if-rules_out.true) n (slice_index arrival u) to b has (omega (arith, at)) s);
       found = so_far.found;
     }
 
