@@ -1,12 +1,12 @@
 //! The law of finders: the best route of a part.
 
 ghost use Rattle.std.specs.Prelude.{◌≡◌, ℕ, ◌+◌, ◌*◌, ◌≤◌, IfOk, IsTrue, length};
-ghost use Rattle.sabr_search.specs.questions.Part.{IsLeast};
-ghost use Rattle.sabr_search.specs.questions.Bounded.{IsSought, IsFloor, IsWhole, hops_sought};
+ghost use Rattle.sabr_search.specs.questions.Part.{IsBestOf};
+ghost use Rattle.sabr_search.specs.questions.Bounded.{IsSought, IsFloor, IsWhole, sought_hops};
 ghost use Rattle.sabr_search.specs.answers.SearchCache.{IsSearchCache};
 ghost use Rattle.sabr_model.specs.routes.Route.{is_prefix};
 ghost use Rattle.sabr_model.specs.plan.Table.{node_count};
-ghost use Rattle.sabr_search.specs.questions.RouteSummary.{hops_told};
+ghost use Rattle.sabr_search.specs.questions.RouteSummary.{answer_hops};
 
 use crate::bound::{BoundedPart, Sought};
 use crate::part::{Excluded, Part};
@@ -38,9 +38,9 @@ pub trait BestOf<A: Allocator + Copy>: Drop {
         part: Part<'_>,
     ) -> Result<Option<Route<A>>, NoMemory>
         requires fits { IsTrue (is_prefix plan.now.plan request.now part.prefix.now) }
-        ensures least { IfOk result (IsLeast plan.now.plan request.now part.entry.prefix.now part.entry.excluded.now) }
+        ensures least { IfOk result (IsBestOf plan.now.plan request.now part.entry.prefix.now part.entry.excluded.now) }
         ensures bound { looks_of self.new ≤ (3 * node_count plan.now.plan.contacts + 1) * length plan.now.plan.contacts }
-        ensures counted { IfOk result (λ answer. hops_told answer ≤ looks_of self.new) }
+        ensures counted { IfOk result (λ answer. answer_hops answer ≤ looks_of self.new) }
         ensures called { calls_of self.new ≡ calls_of self.old + 1 };
 
     /// Does the same with an index of the plan, and with the cache of the searches of this plan and request.
@@ -60,9 +60,9 @@ pub trait BestOf<A: Allocator + Copy>: Drop {
     ) -> Result<Option<Route<A>>, NoMemory>
         requires fits { IsTrue (is_prefix index.now.plan request.now prefix.now) }
         requires cache { IsSearchCache index.now request.now cache.old }
-        ensures least { IfOk result (IsLeast index.now.plan request.now prefix.now excluded.entry.numbers.now) }
+        ensures least { IfOk result (IsBestOf index.now.plan request.now prefix.now excluded.entry.numbers.now) }
         ensures bound { looks_of self.new ≤ (3 * node_count index.now.plan.contacts + 1) * length index.now.plan.contacts }
-        ensures counted { IfOk result (λ answer. hops_told answer ≤ looks_of self.new) }
+        ensures counted { IfOk result (λ answer. answer_hops answer ≤ looks_of self.new) }
         ensures called { calls_of self.new ≡ calls_of self.old + 1 }
         ensures cache { IsSearchCache index.now request.now cache.new }
     {
@@ -94,7 +94,7 @@ pub trait BestOf<A: Allocator + Copy>: Drop {
         ensures sought { IfOk result (IsSought index.now.plan request.now part.entry.prefix.now part.entry.excluded.numbers.now part.entry.bound) }
         ensures whole { IfOk result (IsWhole part.entry.bound) }
         ensures bound { looks_of self.new ≤ (3 * node_count index.now.plan.contacts + 1) * length index.now.plan.contacts }
-        ensures counted { IfOk result (λ answer. hops_sought answer ≤ looks_of self.new) }
+        ensures counted { IfOk result (λ answer. sought_hops answer ≤ looks_of self.new) }
         ensures called { calls_of self.new ≡ calls_of self.old + 1 }
         ensures cache { IsSearchCache index.now request.now cache.new }
     {

@@ -4,11 +4,11 @@ ghost use Rattle.std.specs.Prelude.{◌≡◌, ◌+◌, ◌*◌, ◌≤◌, IfOk
 ghost use Rattle.sabr_model.specs.routes.Route.{is_prefix};
 ghost use Rattle.sabr_model.specs.routes.Telling.{summary_of};
 ghost use Rattle.sabr_model.specs.plan.Table.{node_count};
-ghost use Rattle.sabr_search.specs.questions.Part.{IsLeast};
+ghost use Rattle.sabr_search.specs.questions.Part.{IsBestOf};
 ghost use Rattle.sabr_search.specs.questions.Task.{IsAsked};
 ghost use Rattle.sabr_search.specs.layers.Late.{AreArrivals};
 ghost use Rattle.sabr_index.specs.Looks.{looks_taken};
-ghost use Rattle.sabr_search.specs.questions.RouteSummary.{hops_told};
+ghost use Rattle.sabr_search.specs.questions.RouteSummary.{answer_hops};
 
 use crate::backward::from_goal::Aim;
 use crate::backward::since::Since;
@@ -77,9 +77,9 @@ impl<A: Allocator + Copy> Layered<A> {
         requires summary { summary ≡ summary_of task.now.plan prefix.now }
         requires few { looks_taken self.old.looks ≤ 2 * length task.now.plan.contacts }
         requires arrivals { AreArrivals task.now self.old.since.items }
-        ensures least { IfOk result (IsLeast task.now.plan task.now.request prefix.now task.now.excluded) }
+        ensures least { IfOk result (IsBestOf task.now.plan task.now.request prefix.now task.now.excluded) }
         ensures bound { looks_taken self.new.looks ≤ (3 * length task.now.table + 1) * length task.now.plan.contacts }
-        ensures counted { IfOk result (λ answer. hops_told answer ≤ looks_taken self.new.looks) }
+        ensures counted { IfOk result (λ answer. answer_hops answer ≤ looks_taken self.new.looks) }
         ensures calls { self.new.calls ≡ self.old.calls }
     {
         let asked = Question {
@@ -124,9 +124,9 @@ impl<A: Allocator + Copy> Layered<A> {
     ) -> Result<Option<Route<A>>, NoMemory>
         requires fits { IsTrue (is_prefix index.now.plan request.now prefix.now) }
         requires few { looks_taken self.old.looks ≤ length index.now.plan.contacts }
-        ensures least { IfOk result (IsLeast index.now.plan request.now prefix.now excluded.entry.numbers.now) }
+        ensures least { IfOk result (IsBestOf index.now.plan request.now prefix.now excluded.entry.numbers.now) }
         ensures bound { looks_taken self.new.looks ≤ (3 * node_count index.now.plan.contacts + 1) * length index.now.plan.contacts }
-        ensures counted { IfOk result (λ answer. hops_told answer ≤ looks_taken self.new.looks) }
+        ensures counted { IfOk result (λ answer. answer_hops answer ≤ looks_taken self.new.looks) }
         ensures calls { self.new.calls ≡ self.old.calls }
     {
         let opened = PrefixPath::open(self.alloc, index, request)?;

@@ -3,12 +3,12 @@
 ghost use Rattle.std.specs.Prelude.{◌≡◌, ℕ, ◌++◌, ◌+◌, ◌-◌, ◌*◌, ◌^◌, ◌≤◌, IfOk, IsTrue, length, take};
 ghost use Rattle.sabr_model.specs.routes.Telling.{summary_of};
 ghost use Rattle.sabr_search.specs.questions.Task.{IsAsked};
-ghost use Rattle.sabr_search.specs.layers.Picks.{IsLeastWay};
+ghost use Rattle.sabr_search.specs.layers.Picks.{IsBestWay};
 ghost use Rattle.sabr_search.specs.answers.Answers.{IsWayBeyond};
 ghost use Rattle.sabr_search.specs.answers.Asked.{bound_left, hops_left};
 ghost use Rattle.sabr_search.specs.answers.Cut.{IsCutBefore, IsCutAfter};
 ghost use Rattle.sabr_search.specs.answers.Found.{IsEnough, IsFound, found_hops, hops_above};
-ghost use Rattle.sabr_search.specs.questions.Bounded.{IsSought, IsWhole, hops_sought, is_up_to};
+ghost use Rattle.sabr_search.specs.questions.Bounded.{IsSought, IsWhole, sought_hops, is_up_to};
 ghost use Rattle.sabr_index.specs.Looks.{looks_taken};
 
 use crate::bound::{Bound, BoundedPart, Sought};
@@ -126,11 +126,11 @@ impl<'t, 'a, 'p, A: Allocator + Copy> Question<'t, 'a, 'p, A> {
         requires asked { IsAsked self.now.task.now self.now.prefix.now }
         requires summary { self.now.summary ≡ summary_of self.now.task.now.plan self.now.prefix.now }
         requires few { looks_taken looks.old ≤ 3 * length self.now.task.now.table * length self.now.task.now.plan.contacts }
-        requires least { IsLeastWay self.now.task.now (hops_left self.now) (delivery + 1) way.now delivery }
+        requires least { IsBestWay self.now.task.now (hops_left self.now) (delivery + 1) way.now delivery }
         ensures sought { IfOk result (IsSought self.now.task.now.plan self.now.task.now.request self.now.prefix.now self.now.task.now.excluded self.now.bound) }
         ensures whole { IfOk result (IsWhole self.now.bound) }
         ensures bound { looks_taken looks.new ≤ (3 * length self.now.task.now.table + 1) * length self.now.task.now.plan.contacts }
-        ensures counted { IfOk result (λ answer. hops_sought answer ≤ looks_taken looks.new) }
+        ensures counted { IfOk result (λ answer. sought_hops answer ≤ looks_taken looks.new) }
         ensures cut { IsCutBefore self.now (length way.now) (looks_taken looks.old) → IfOk result (IsCutAfter self.now (looks_taken looks.new)) }
     {
         let contacts = joined(alloc, self.prefix, way)?;
@@ -146,7 +146,7 @@ impl<'t, 'a, 'p, A: Allocator + Copy> Question<'t, 'a, 'p, A> {
         requires enough { IsTrue (is_up_to bound self.now.bound.delivery (self.now.bound.hops - length self.now.prefix.now)) }
         ensures sought { IsSought self.now.task.now.plan self.now.task.now.request self.now.prefix.now self.now.task.now.excluded self.now.bound result }
         ensures whole { IsWhole self.now.bound result }
-        ensures none { hops_sought result ≡ 0 }
+        ensures none { sought_hops result ≡ 0 }
         ensures cut { (looks : ℕ) → IsCutBefore self.now (hops_above (bound_left self.now) bound) looks → IsCutAfter self.now looks result }
     {
         if bound.is_none() {
@@ -171,7 +171,7 @@ impl<'t, 'a, 'p, A: Allocator + Copy> Question<'t, 'a, 'p, A> {
         ensures sought { IfOk result (IsSought self.now.task.now.plan self.now.task.now.request self.now.prefix.now self.now.task.now.excluded self.now.bound) }
         ensures whole { IfOk result (IsWhole self.now.bound) }
         ensures bound { looks_taken looks.new ≤ (3 * length self.now.task.now.table + 1) * length self.now.task.now.plan.contacts }
-        ensures counted { IfOk result (λ answer. hops_sought answer ≤ looks_taken looks.new) }
+        ensures counted { IfOk result (λ answer. sought_hops answer ≤ looks_taken looks.new) }
         ensures cut { IsCutBefore self.now (found_hops (bound_left self.now) found.now) (looks_taken looks.old) → IfOk result (IsCutAfter self.now (looks_taken looks.new)) }
     {
         match found {

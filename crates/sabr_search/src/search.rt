@@ -10,7 +10,7 @@ ghost use Rattle.sabr_search.specs.answers.Found.{IsEnoughUnless, IsFound, found
 ghost use Rattle.sabr_search.specs.answers.SearchCache.{IsMemory};
 ghost use Rattle.sabr_search.specs.layers.Late.{AreSince, IsNoneSooner};
 ghost use Rattle.sabr_search.specs.layers.NodeBounds.{AreNodeBounds};
-ghost use Rattle.sabr_search.specs.questions.Bounded.{IsSought, IsCutUpTo, IsWhole, hops_sought};
+ghost use Rattle.sabr_search.specs.questions.Bounded.{IsSought, IsCutUpTo, IsWhole, sought_hops};
 ghost use Rattle.sabr_search.specs.questions.FirstSteps.{tabled_of};
 ghost use Rattle.sabr_search.specs.questions.Task.{IsAsked, IsOfRequest, IsTask, most_nodes};
 ghost use Rattle.sabr_search.specs.questions.WideTasks.{ForbidsFewer};
@@ -194,7 +194,7 @@ impl<A: Allocator + Copy> Search<A> {
             memory.count(breadth, spent);
             return Ok(None);
         };
-        let kept = memory.answers.keep(&wide, hops, &found, breadth);
+        let kept = memory.answers.cache(&wide, hops, &found, breadth);
         memory.count(breadth, spent);
         let Some(place) = kept else {
             return Ok(None);
@@ -258,7 +258,7 @@ impl<A: Allocator + Copy> Search<A> {
         ensures sought { IfOk result (IsSought asked.now.task.now.plan asked.now.task.now.request asked.now.prefix.now asked.now.task.now.excluded asked.now.bound) }
         ensures whole { IfOk result (IsWhole asked.now.bound) }
         ensures bound { looks_taken looks.new ≤ (3 * length asked.now.task.now.table + 1) * length asked.now.task.now.plan.contacts }
-        ensures counted { IfOk result (λ answer. hops_sought answer ≤ looks_taken looks.new) }
+        ensures counted { IfOk result (λ answer. sought_hops answer ≤ looks_taken looks.new) }
         ensures cut { IfOk result (IsCutUpTo asked.now.task.now.plan asked.now.task.now.request.max_hops asked.now.bound asked.now.prefix.now (looks_taken looks.new)) }
     {
         let aside = looks.set_aside(asked.task.two_scans());

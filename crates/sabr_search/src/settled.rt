@@ -3,10 +3,10 @@
 ghost use Rattle.std.specs.Prelude.{◌≡◌, ◌≤◌, ◌+◌, ◌*◌, IfOk, IsTrue, length};
 ghost use Rattle.sabr_model.specs.routes.Route.{is_prefix};
 ghost use Rattle.sabr_model.specs.plan.Table.{node_count};
-ghost use Rattle.sabr_search.specs.questions.Part.{IsLeast};
-ghost use Rattle.sabr_search.specs.questions.Bounded.{IsSought, IsCutUpTo, IsFloor, IsWhole, hops_sought};
+ghost use Rattle.sabr_search.specs.questions.Part.{IsBestOf};
+ghost use Rattle.sabr_search.specs.questions.Bounded.{IsSought, IsCutUpTo, IsFloor, IsWhole, sought_hops};
 ghost use Rattle.sabr_index.specs.Looks.{looks_taken};
-ghost use Rattle.sabr_search.specs.questions.RouteSummary.{hops_told, IsCut};
+ghost use Rattle.sabr_search.specs.questions.RouteSummary.{answer_hops, IsCut};
 ghost use Rattle.sabr_search.specs.answers.SearchCache.{IsSearchCache};
 
 use crate::best::BestOf;
@@ -75,7 +75,7 @@ impl<A: Allocator + Copy> Settled<A> {
         ensures sought { IfOk result (IsSought index.now.plan request.now part.entry.prefix.now part.entry.excluded.numbers.now part.entry.bound) }
         ensures whole { IfOk result (IsWhole part.entry.bound) }
         ensures bound { looks_taken self.new.looks ≤ (3 * node_count index.now.plan.contacts + 1) * length index.now.plan.contacts }
-        ensures counted { IfOk result (λ answer. hops_sought answer ≤ looks_taken self.new.looks) }
+        ensures counted { IfOk result (λ answer. sought_hops answer ≤ looks_taken self.new.looks) }
         ensures calls { self.new.calls ≡ self.old.calls }
         ensures cache { IsSearchCache index.now request.now cache.new }
         ensures cut { IfOk result (IsCutUpTo index.now.plan request.now.max_hops part.entry.bound part.entry.prefix.now (looks_taken self.new.looks)) }
@@ -110,9 +110,9 @@ impl<A: Allocator + Copy> Settled<A> {
         requires fits { IsTrue (is_prefix index.now.plan request.now prefix.now) }
         requires few { looks_taken self.old.looks ≤ length index.now.plan.contacts }
         requires cache { IsSearchCache index.now request.now cache.old }
-        ensures least { IfOk result (IsLeast index.now.plan request.now prefix.now excluded.entry.numbers.now) }
+        ensures least { IfOk result (IsBestOf index.now.plan request.now prefix.now excluded.entry.numbers.now) }
         ensures bound { looks_taken self.new.looks ≤ (3 * node_count index.now.plan.contacts + 1) * length index.now.plan.contacts }
-        ensures counted { IfOk result (λ answer. hops_told answer ≤ looks_taken self.new.looks) }
+        ensures counted { IfOk result (λ answer. answer_hops answer ≤ looks_taken self.new.looks) }
         ensures calls { self.new.calls ≡ self.old.calls }
         ensures cache { IsSearchCache index.now request.now cache.new }
         ensures cut { IfOk result (IsCut index.now.plan request.now.max_hops prefix.now (looks_taken self.new.looks)) }
@@ -143,9 +143,9 @@ impl<A: Allocator + Copy> BestOf<A> for Settled<A> {
         part: Part<'_>,
     ) -> Result<Option<Route<A>>, NoMemory>
         requires fits { IsTrue (is_prefix plan.now.plan request.now part.prefix.now) }
-        ensures least { IfOk result (IsLeast plan.now.plan request.now part.entry.prefix.now part.entry.excluded.now) }
+        ensures least { IfOk result (IsBestOf plan.now.plan request.now part.entry.prefix.now part.entry.excluded.now) }
         ensures bound { looks_taken self.new.looks ≤ (3 * node_count plan.now.plan.contacts + 1) * length plan.now.plan.contacts }
-        ensures counted { IfOk result (λ answer. hops_told answer ≤ looks_taken self.new.looks) }
+        ensures counted { IfOk result (λ answer. answer_hops answer ≤ looks_taken self.new.looks) }
         ensures called { self.new.calls.count ≡ self.old.calls.count + 1 }
         ensures cut { IfOk result (IsCut plan.now.plan request.now.max_hops part.entry.prefix.now (looks_taken self.new.looks)) }
     {
@@ -168,9 +168,9 @@ impl<A: Allocator + Copy> BestOf<A> for Settled<A> {
     ) -> Result<Option<Route<A>>, NoMemory>
         requires fits { IsTrue (is_prefix index.now.plan request.now prefix.now) }
         requires cache { IsSearchCache index.now request.now cache.old }
-        ensures least { IfOk result (IsLeast index.now.plan request.now prefix.now excluded.entry.numbers.now) }
+        ensures least { IfOk result (IsBestOf index.now.plan request.now prefix.now excluded.entry.numbers.now) }
         ensures bound { looks_taken self.new.looks ≤ (3 * node_count index.now.plan.contacts + 1) * length index.now.plan.contacts }
-        ensures counted { IfOk result (λ answer. hops_told answer ≤ looks_taken self.new.looks) }
+        ensures counted { IfOk result (λ answer. answer_hops answer ≤ looks_taken self.new.looks) }
         ensures called { self.new.calls.count ≡ self.old.calls.count + 1 }
         ensures cache { IsSearchCache index.now request.now cache.new }
         ensures cut { IfOk result (IsCut index.now.plan request.now.max_hops prefix.now (looks_taken self.new.looks)) }
@@ -192,7 +192,7 @@ impl<A: Allocator + Copy> BestOf<A> for Settled<A> {
         ensures sought { IfOk result (IsSought index.now.plan request.now part.entry.prefix.now part.entry.excluded.numbers.now part.entry.bound) }
         ensures whole { IfOk result (IsWhole part.entry.bound) }
         ensures bound { looks_taken self.new.looks ≤ (3 * node_count index.now.plan.contacts + 1) * length index.now.plan.contacts }
-        ensures counted { IfOk result (λ answer. hops_sought answer ≤ looks_taken self.new.looks) }
+        ensures counted { IfOk result (λ answer. sought_hops answer ≤ looks_taken self.new.looks) }
         ensures called { self.new.calls.count ≡ self.old.calls.count + 1 }
         ensures cache { IsSearchCache index.now request.now cache.new }
         ensures cut { IfOk result (IsCutUpTo index.now.plan request.now.max_hops part.entry.bound part.entry.prefix.now (looks_taken self.new.looks)) }

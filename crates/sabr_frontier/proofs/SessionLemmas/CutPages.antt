@@ -21,7 +21,7 @@ use Rattle.sabr_frontier.specs.tree.Left.{others_carry, part_goes_on, some_carry
 use Rattle.sabr_frontier.specs.tree.Shape.{Shape, shown}
 use Rattle.sabr_frontier.specs.tree.Sound.{IsTree}
 use Rattle.sabr_frontier.specs.tree.Giving.{IsNextGiven, divided, divided_with}
-use Rattle.sabr_frontier.specs.tree.Winners.{CarriesNone, IsFirst, IsLeast}
+use Rattle.sabr_frontier.specs.tree.Winners.{CarriesNone, IsFirst, IsBestOf}
 use Rattle.sabr_frontier.proofs.TreeLemmas.CarryingNodes.{route_there, searches_are}
 use Rattle.sabr_frontier.proofs.TreeLemmas.CutDivided.{answer_cut, cut_self, cut_sound, divided_cut, stands_in, still_before}
 use Rattle.sabr_frontier.proofs.TreeLemmas.CutTrees.{at_most_one, cut_weaken, least_same, none_same}
@@ -52,8 +52,8 @@ cut_ended a k s t good h none = ap (one_step a.plan.plan a.request) h.1 ∙ noth
 
 -- the node that carries the least route carries it in the whole tree, too
 module _ {A : Type 0} (p : ContactPlan) (r : RouteRequest) (k : ℕ) (u t : Shape A) (h : IsCutTree p r (suc k) u t) (node : NodeId) (n : Node A) (x : RouteRecord)
-    (stands : slice_get t.nodes node.0 ≡ Some n) (carries : n.route ≡ Some x) (least : IsLeast t.nodes x) where
-  least_whole : IsLeast u.nodes x
+    (stands : slice_get t.nodes node.0 ≡ Some n) (carries : n.route ≡ Some x) (least : IsBestOf t.nodes x) where
+  least_whole : IsBestOf u.nodes x
   least_whole = (least_same k u.nodes t.nodes h.nodes node x (record { carries = route_there t.nodes node n x stands carries; least = least })).least
 
   stands_whole : slice_get u.nodes node.0 ≡ Some n

@@ -10,7 +10,7 @@ use Rattle.sabr_frontier.specs.listing.State.{State}
 use Rattle.sabr_frontier.specs.tree.Left.{others_carry, part_goes_on, longer_go_on, some_carry}
 use Rattle.sabr_frontier.specs.tree.Shape.{Shape, numbers_of, shown, part_at, part_of, route_of}
 use Rattle.sabr_frontier.specs.tree.Sound.{IsTree}
-use Rattle.sabr_frontier.specs.tree.Winners.{CarriesNone, IsLeast}
+use Rattle.sabr_frontier.specs.tree.Winners.{CarriesNone, IsBestOf}
 use Rattle.sabr_frontier.proofs.SessionLemmas.Pages.{steps_go, steps_none, nothing_carried, IsGiven, given_by}
 use Rattle.std.proofs.lemmas.List.Folds.{list_any-append}
 use Rattle.std.proofs.Math.Bool.{or_assoc, or_comm}
@@ -77,7 +77,7 @@ module _ {A : Type 0} (p : ContactPlan) (r : RouteRequest) (good : IsPlan p) (t 
   ] refl
 
 module _ {A : Type 0} (p : ContactPlan) (r : RouteRequest) (good : IsPlan p) (t : Shape A) (is : IsTree p r t) (id : NodeId) (n : Node A) (x : RouteRecord)
-    (stands : slice_get t.nodes id.0 ≡ Some n) (carries : n.route ≡ Some x) (least : IsLeast t.nodes x) where
+    (stands : slice_get t.nodes id.0 ≡ Some n) (carries : n.route ≡ Some x) (least : IsBestOf t.nodes x) where
   abbrev then : Shape A
   then = divided p r t id n x
 

@@ -16,7 +16,7 @@ use Rattle.sabr_frontier.specs.tree.Undo.{CanUndoTimes, undone, undone_times, Ca
 use Rattle.sabr_frontier.specs.tree.Searching.{Asked, best_for}
 use Rattle.sabr_frontier.specs.tree.Best.{best_of}
 use Rattle.sabr_frontier.specs.tree.Giving.{divided, IsNextGiven, fresh_nodes}
-use Rattle.sabr_frontier.specs.tree.Winners.{CarriesNone, CarriesSome, IsLeast, IsNext}
+use Rattle.sabr_frontier.specs.tree.Winners.{CarriesNone, CarriesSome, IsBestOf, IsNext}
 use Rattle.sabr_frontier.specs.tree.Sound.{IsTree}
 use Rattle.sabr_frontier.specs.session.Session.{IsSoundFor, IsSound, tree_before, former_of}
 use Rattle.sabr_frontier.proofs.TreeLemmas.CarryingNodes.{IsKnown, searches_are, carried_at, inside, next_is, record_is}
@@ -56,7 +56,7 @@ pub record IsGiven {A : Type 0} (p : ContactPlan) (r : RouteRequest) (t u : Shap
   pub can : CanUndo u
 
 module _ {A : Type 0} (p : ContactPlan) (r : RouteRequest) (good : IsPlan p) (t : Shape A) (is : IsTree p r t) where
-  module _ (node : NodeId) (n : Node A) (x : RouteRecord) (stands : slice_get t.nodes node.0 ≡ Some n) (carries : n.route ≡ Some x) (least : IsLeast t.nodes x) where
+  module _ (node : NodeId) (n : Node A) (x : RouteRecord) (stands : slice_get t.nodes node.0 ≡ Some n) (carries : n.route ≡ Some x) (least : IsBestOf t.nodes x) where
     abbrev pub given_by : IsGiven p r t (divided p r t node n x)
     given_by = record {
       route = x;
@@ -296,7 +296,7 @@ counts_first p r s (suc k) l = elim (one_step p r s) as (λ o. elim o [ None ↦
 ]
 
 -- the step that gives what a node carries takes one search for each hop after the node's prefix
-pub counts_one : {A : Type 0} (p : ContactPlan) (r : RouteRequest) (good : IsPlan p) (t : Shape A) (is : IsTree p r t) (id : NodeId) (n : Node A) (x : RouteRecord) → slice_get t.nodes id.0 ≡ Some n → n.route ≡ Some x → IsLeast t.nodes x
+pub counts_one : {A : Type 0} (p : ContactPlan) (r : RouteRequest) (good : IsPlan p) (t : Shape A) (is : IsTree p r t) (id : NodeId) (n : Node A) (x : RouteRecord) → slice_get t.nodes id.0 ≡ Some n → n.route ≡ Some x → IsBestOf t.nodes x
     → searches_in p r 1 (shown t) ≡ length x.contacts - n.length
 counts_one p r good t is id n x stands carries least =
     let u = divided p r t id n x in

@@ -22,7 +22,7 @@ use Rattle.sabr_frontier.specs.listing.Formed.{Within}
 use Rattle.sabr_frontier.specs.listing.Listing.{next_route, carries_it, hops_past, searches_for}
 use Rattle.sabr_frontier.specs.tree.Shape.{Shape, shown, part_at, part_of, prefix_of, numbers_of, route_at, route_of, front_of}
 use Rattle.sabr_frontier.specs.tree.Undo.{modify}
-use Rattle.sabr_frontier.specs.tree.Winners.{IsFirst, IsLeast}
+use Rattle.sabr_frontier.specs.tree.Winners.{IsFirst, IsBestOf}
 use Rattle.sabr_frontier.specs.tree.Queue.{InPairs, IsBefore}
 use Rattle.sabr_frontier.specs.tree.Giving.{nodes_then, widened}
 use Rattle.sabr_frontier.specs.tree.Sound.{IsTree, CanExclude, IsLent}
@@ -153,7 +153,7 @@ module _ {A : Type 0} (p : ContactPlan) (r : RouteRequest) (t : Shape A) (is : I
     record_is = is.records n x (get_Member t.nodes node.0 n stands) carries
 
     -- no part carries a lesser route
-    least_here : IsLeast t.nodes x → (u : PartState) (s : List ℕ) → Member u parts → u.carried ≡ Some s → is_lt (by_key p r s x.contacts) ≡ false
+    least_here : IsBestOf t.nodes x → (u : PartState) (s : List ℕ) → Member u parts → u.carried ≡ Some s → is_lt (by_key p r s x.contacts) ≡ false
     least_here least u s m e =
         let w = Member-map_cases (part_at t.leaves t.nodes) u t.index m in
         let id = w.0 in
@@ -163,7 +163,7 @@ module _ {A : Type 0} (p : ContactPlan) (r : RouteRequest) (t : Shape A) (is : I
         sym (ap is_lt (record_order p r s x.contacts)) ∙ sym (λ i. is_lt (by_record (told i) (record_is i))) ∙ least id v.0 v.1
 
     -- the tree's least route is the least that a part carries
-    pub next_is : IsLeast t.nodes x → next_route p r (shown t) ≡ Some x.contacts
+    pub next_is : IsBestOf t.nodes x → next_route p r (shown t) ≡ Some x.contacts
     next_is least = least_carried_is (key_total p r) (by_key_exact p r) parts here x.contacts here_in refl (least_here least)
 
     -- a part that carries the same route has the same prefix
@@ -204,7 +204,7 @@ pub record IsKnown {A : Type 0} (a : Asked) (t : Shape A) (id : NodeId) (copy : 
   pub route : RouteRecord
   pub stands : slice_get t.nodes id.0 ≡ Some part
   pub carries : part.route ≡ Some route
-  pub least : IsLeast t.nodes route
+  pub least : IsBestOf t.nodes route
   pub copied : copy ≡ route
   pub can : CanExclude part route.contacts
 

@@ -12,7 +12,7 @@ use Rattle.sabr_model.specs.routes.Record.{RouteRecord, by_record, by_record_tot
 use Rattle.sabr_frontier.specs.declared.tree.NodeId.{NodeId}
 use Rattle.sabr_frontier.specs.declared.tree.Node.{Node}
 use Rattle.sabr_frontier.specs.tree.Shape.{route_at}
-use Rattle.sabr_frontier.specs.tree.Winners.{route_of, winner_at, is_lesser, IsUpTo, IsNoGreater, IsLeast, IsFirst, CarriesNone, IsLesser, IsWinner, IsWon, AreWinners, low, high, IsAbove, AreOthersWinners, IsSettled, IsRising, IsBeside}
+use Rattle.sabr_frontier.specs.tree.Winners.{route_of, winner_at, is_lesser, IsUpTo, IsNoGreater, IsBestOf, IsFirst, CarriesNone, IsLesser, IsWinner, IsWon, AreWinners, low, high, IsAbove, AreOthersWinners, IsSettled, IsRising, IsBeside}
 use Rattle.sabr_frontier.proofs.ListingLemmas.Rising.{turned}
 use Rattle.sabr_frontier.proofs.TreeLemmas.IndexOrder.{less_from_test}
 
@@ -211,7 +211,7 @@ module _ {A : Type 0} (nodes : List (Node A)) where
 
     -- a node carries the least route where some node carries one
     module _ (all : length nodes ≤ length ids) where
-      least_of : (o : Option RouteRecord) → ((id : NodeId) → id.0 < length nodes → IsNoGreater o (route_at nodes id)) → (x : RouteRecord) → o ≡ Some x → IsLeast nodes x
+      least_of : (o : Option RouteRecord) → ((id : NodeId) → id.0 < length nodes → IsNoGreater o (route_at nodes id)) → (x : RouteRecord) → o ≡ Some x → IsBestOf nodes x
       least_of o below x e id y f = subst (λ o. IsUpTo o y) e (subst (IsNoGreater o) f (below id (let w = standing_at nodes id y f in slice_get_within nodes id.0 w.0 w.1)))
 
       below_first : (id : NodeId) → id.0 < length nodes → IsNoGreater (route_at nodes (winner_at ids 0)) (route_at nodes id)

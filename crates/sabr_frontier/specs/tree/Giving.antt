@@ -11,7 +11,7 @@ use Rattle.sabr_frontier.specs.declared.giving.give_next.Step.{Step}
 use Rattle.sabr_frontier.specs.tree.Shape.{Shape}
 pub use Rattle.sabr_frontier.specs.tree.Shape.{ids_from, stands_before}
 use Rattle.sabr_frontier.specs.tree.Undo.{modify}
-use Rattle.sabr_frontier.specs.tree.Winners.{IsLeast}
+use Rattle.sabr_frontier.specs.tree.Winners.{IsBestOf}
 use Rattle.sabr_frontier.specs.tree.Best.{best_of}
 
 -- ---- places in lists
@@ -95,7 +95,7 @@ pub record IsNextGiven {A : Type 0} (best : List ℕ → List ℕ → Option Rou
   pub stands : slice_get t.nodes step.node.0 ≡ Some part
   pub former : step.first ≡ length t.nodes
   pub carries : part.route ≡ Some route
-  pub least : IsLeast t.nodes route
+  pub least : IsBestOf t.nodes route
   pub shape : u ≡ divided_with best t step.node part route
   pub given : after ≡ before ++ route ∷ []
   pub counted : step.searches ≡ length route.contacts - part.length

@@ -15,13 +15,13 @@ abbrev pub route_at : {A : Type 0} → List (Node A) → NodeId → Option Route
 route_at nodes id = option_and_then route_of (slice_get nodes id.0)
 
 -- no node carries a lesser route
-abbrev pub IsLeast : {A : Type 0} → List (Node A) → RouteRecord → Type 0
-IsLeast nodes x = (id : NodeId) (y : RouteRecord) → route_at nodes id ≡ Some y → is_lt (by_record y x) ≡ false
+abbrev pub IsBestOf : {A : Type 0} → List (Node A) → RouteRecord → Type 0
+IsBestOf nodes x = (id : NodeId) (y : RouteRecord) → route_at nodes id ≡ Some y → is_lt (by_record y x) ≡ false
 
 -- the node carries this route, the least
 pub record IsFirst {A : Type 0} (nodes : List (Node A)) (id : NodeId) (x : RouteRecord) : Type 0 where
   pub carries : route_at nodes id ≡ Some x
-  pub least : IsLeast nodes x
+  pub least : IsBestOf nodes x
 
 -- some node carries a route, and this is the least
 abbrev pub IsNext : {A : Type 0} → List (Node A) → RouteRecord → Type 0

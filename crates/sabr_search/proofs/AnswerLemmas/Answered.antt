@@ -10,24 +10,24 @@ use Rattle.sabr_model.specs.routes.Route.{is_route}
 use Rattle.sabr_search.specs.declared.bound.Bound.{Bound}
 use Rattle.sabr_index.specs.declared.looks.Looks.{Looks}
 use Rattle.sabr_search.specs.questions.Bounded.{IsBeyond, IsFloor, bound_after, is_up_to}
-use Rattle.sabr_search.specs.questions.Part.{IsLeast}
+use Rattle.sabr_search.specs.questions.Part.{IsBestOf}
 use Rattle.sabr_search.specs.questions.Task.{SearchTask, IsAsked, Takes, left_of}
 use Rattle.sabr_search.specs.questions.Ways.{Leads}
 use Rattle.sabr_search.specs.layers.Late.{IsNoneSooner}
-use Rattle.sabr_search.specs.layers.Picks.{IsLeastWay}
+use Rattle.sabr_search.specs.layers.Picks.{IsBestWay}
 use Rattle.sabr_index.specs.Looks.{looks_taken}
 use Rattle.sabr_search.specs.answers.Answers.{IsWayBeyond, HasNoWayWithin}
 use Rattle.sabr_search.proofs.WayLemmas.Prefixes.{IsPrefix, prefix_facts}
 use Rattle.sabr_search.proofs.WayLemmas.Bounds.{above_before}
 use Rattle.sabr_search.proofs.WayLemmas.Least.{delivered}
 use Rattle.sabr_search.proofs.WayLemmas.PartWays.{IsPartWay, part_way, way_is_route}
-use Rattle.sabr_search.proofs.AnswerLemmas.Law.{IsTold, contacts_few, prefix_few, found_is_least, none_is_least, behind_sizes}
+use Rattle.sabr_search.proofs.AnswerLemmas.Law.{IsSummarized, contacts_few, prefix_few, found_is_least, none_is_least, behind_sizes}
 use Rattle.sabr_search.proofs.WayLemmas.Shortness.{way_few}
 
 -- the answer after a prefix: the route goes on by the best way, or no way leads to the goal
 abbrev pub IsAnswered : SearchTask → List ℕ → Option RouteRecord → Type 0
 IsAnswered task prefix None = HasNoWayWithin task (left_of task prefix)
-IsAnswered task prefix (Some route) = (s : List ℕ) × (route.contacts ≡ prefix ++ s) × IsLeastWay task (left_of task prefix) (route.delivery + 1) s route.delivery × IsTold task.plan route
+IsAnswered task prefix (Some route) = (s : List ℕ) × (route.contacts ≡ prefix ++ s) × IsBestWay task (left_of task prefix) (route.delivery + 1) s route.delivery × IsSummarized task.plan route
 
 -- the hops that are left, with a limit and without one
 left_cases : (task : SearchTask) (prefix : List ℕ) → ((task.request.max_hops ≡ most_hops) × (left_of task prefix ≡ length task.table - 1)) ⊎ ((task.request.max_hops ≢ most_hops) × (left_of task prefix ≡ min (length task.table - 1) (task.request.max_hops - length prefix)))
@@ -64,7 +64,7 @@ module _ (task : SearchTask) (prefix : List ℕ) (asked : IsAsked task prefix) w
     | inr limited ↦ omega (arith, limited.1, within, facts.within)
   ]
 
-  left_fits : (ceiling : ℕ) (s : List ℕ) (d : ℕ) → IsLeastWay task (left_of task prefix) ceiling s d → length prefix + length s ≤ task.request.max_hops
+  left_fits : (ceiling : ℕ) (s : List ℕ) (d : ℕ) → IsBestWay task (left_of task prefix) ceiling s d → length prefix + length s ≤ task.request.max_hops
   left_fits ceiling s d least = ways_fit s d least.within least.way least.fewest
 
   -- no way within what is left delivers before a second that no route of the part does
@@ -87,14 +87,14 @@ module _ (task : SearchTask) (prefix : List ℕ) (asked : IsAsked task prefix) w
   pub floor_of_ways : (d : ℕ) → IsFloor task.plan task.request prefix task.excluded d → IsNoneSooner task (left_of task prefix) d
   floor_of_ways d floor ns e within way = floor_below d floor (suc (length ns)) ns e (omega arith) within way
 
-  pub answered_is_least : (o : Option RouteRecord) → IsAnswered task prefix o → IsLeast task.plan task.request prefix task.excluded o
+  pub answered_is_least : (o : Option RouteRecord) → IsAnswered task prefix o → IsBestOf task.plan task.request prefix task.excluded o
   answered_is_least None none = none_is_least task asked.task_is prefix asked.behind (λ ns e route way. none ns e (left_all ns route) way)
   answered_is_least (Some route) summary =
       found_is_least task asked.task_is prefix asked.behind facts (left_of task prefix) (route.delivery + 1) summary.0 route summary.1 summary.2 summary.3 (left_fits (route.delivery + 1) summary.0 route.delivery summary.2)
       (λ ns e listed way. summary.2.least ns e (left_all ns listed) way)
 
   -- the route of the least way is no longer than the plan
-  pub route_few : (s : List ℕ) (d : ℕ) → IsLeastWay task (left_of task prefix) (d + 1) s d → length prefix + length s ≤ length task.plan.contacts
+  pub route_few : (s : List ℕ) (d : ℕ) → IsBestWay task (left_of task prefix) (d + 1) s d → length prefix + length s ≤ length task.plan.contacts
   route_few s d least = way_few task prefix asked.behind facts s d least.way least.fewest
 
   -- so much is within the bound of a finder

@@ -16,7 +16,7 @@ use Rattle.sabr_search.specs.declared.question.Question.{Question}
 use Rattle.sabr_search.specs.declared.visit.Visit.{Visit}
 use Rattle.sabr_search.specs.questions.Ways.{Leads}
 use Rattle.sabr_search.specs.questions.Task.{SearchTask, Takes, IsTask, IsAsked}
-use Rattle.sabr_search.specs.layers.Picks.{IsLeastWay}
+use Rattle.sabr_search.specs.layers.Picks.{IsBestWay}
 use Rattle.sabr_search.specs.questions.FirstSteps.{tabled_of}
 use Rattle.sabr_search.specs.answers.Answers.{narrowed, Narrows, IsWayBeyond}
 use Rattle.sabr_search.specs.answers.CachedAnswers.{asked, AreListed, IsAnswer, Covers, HoldsFor, IsAnswerTo, IsPut, Arrives}
@@ -122,7 +122,7 @@ module _ {A : Type 0} (task : SearchTask) (is : IsTask task) (goal_is : slice_ge
       let same = narrowed_is task a covers.node covers.same answer.flags answer.goal goals in
       let taken : Leads (Takes (narrowed was task.forbidden task.at)) a.from.node task.at a.lists.way answer.goal d =
       subst (λ (t : SearchTask). Leads (Takes t) t.start t.at a.lists.way t.goal d) (sym same) way.1 in
-      subst (λ t. IsLeastWay t hops (d + 1) a.lists.way d) same
+      subst (λ t. IsBestWay t hops (d + 1) a.lists.way d) same
       (answers_stay.least was task.forbidden task.at a.hops hops (d + 1) a.lists.way d is.nodes (narrows hops covers) covers.fewer least way.0 taken)
   stays hops b covers (Beyond own) beyond up_to =
       subst (λ t. IsWayBeyond t hops own) (narrowed_is task a covers.node covers.same answer.flags answer.goal goals)
@@ -131,7 +131,7 @@ module _ {A : Type 0} (task : SearchTask) (is : IsTask task) (goal_is : slice_ge
   -- the way stands at the start
   pub on_way_first : a.from.node ≡ task.start → a.lists.excluded ≡ task.excluded → (d : ℕ) → a.found ≡ Way d → IsOnWay task a.lists.way 0 task.start task.at
   on_way_first node same d way =
-      let least : IsLeastWay (asked (tabled_of task) task.request a answer.flags answer.goal) a.hops (d + 1) a.lists.way d = subst (IsFoundWith (asked (tabled_of task) task.request a answer.flags answer.goal) a.hops a.lists.way) way answer.found in
+      let least : IsBestWay (asked (tabled_of task) task.request a answer.flags answer.goal) a.hops (d + 1) a.lists.way d = subst (IsFoundWith (asked (tabled_of task) task.request a answer.flags answer.goal) a.hops a.lists.way) way answer.found in
       record {
         gone = (refl, refl);
         before = a.from.at;

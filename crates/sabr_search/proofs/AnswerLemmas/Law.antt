@@ -14,8 +14,8 @@ use Rattle.sabr_model.proofs.RouteLemmas.Listed.{has_from_in}
 use Rattle.sabr_model.proofs.RouteLemmas.Routes.{route_facts}
 use Rattle.sabr_model.proofs.ListLemmas.Begins.{first_hop, receivers-cons}
 use Rattle.sabr_search.specs.layers.NumberOrder.{IsNotAfter}
-use Rattle.sabr_search.specs.questions.Part.{IsLeast}
-use Rattle.sabr_search.specs.layers.Picks.{IsLeastWay}
+use Rattle.sabr_search.specs.questions.Part.{IsBestOf}
+use Rattle.sabr_search.specs.layers.Picks.{IsBestWay}
 use Rattle.sabr_search.specs.questions.Ways.{Leads}
 use Rattle.sabr_search.specs.questions.Task.{SearchTask, Takes, HasNodes, IsTask, IsBehind, latest_arrival}
 use Rattle.sabr_search.proofs.WayLemmas.Least.{least_in_part, none_in_part}
@@ -26,7 +26,7 @@ use Rattle.sabr_model.proofs.PlanLemmas.Tabled.{has_place}
 use Rattle.sabr_model.proofs.RouteLemmas.Paths.{value_of}
 
 -- termination time and entry node are those of the contacts
-pub record IsTold (p : ContactPlan) (route : RouteRecord) : Type 0 where
+pub record IsSummarized (p : ContactPlan) (route : RouteRecord) : Type 0 where
   pub until_is : route.until ≡ until_of p route.contacts
   pub entry_is : route.entry ≡ entry_of p route.contacts
 
@@ -98,7 +98,7 @@ contacts_few p good = omega (arith, rising_few 0 p.largest p.contacts good.numbe
 
 -- ---- the law
 
-key_order : (task : SearchTask) (hops ceiling : ℕ) (s : List ℕ) (d : ℕ) → IsLeastWay task hops ceiling s d → (ns : List ℕ) (e : ℕ) → Leads (Takes task) task.start task.at ns task.goal e → d ≤ e → IsNotAfter (d ∷ length s ∷ s) (e ∷ length ns ∷ ns)
+key_order : (task : SearchTask) (hops ceiling : ℕ) (s : List ℕ) (d : ℕ) → IsBestWay task hops ceiling s d → (ns : List ℕ) (e : ℕ) → Leads (Takes task) task.start task.at ns task.goal e → d ≤ e → IsNotAfter (d ∷ length s ∷ s) (e ∷ length ns ∷ ns)
 key_order task hops ceiling s d least ns e way le =
     elim (cases_order d e) [
       | inr (inl less) ↦ inl less
@@ -114,10 +114,10 @@ key_order task hops ceiling s d least ns e way le =
     ]
 
 -- the least way that no route of the part is sooner than is the least of the part
-pub found_is_least : (task : SearchTask) → IsTask task → (prefix : List ℕ) → IsBehind task prefix → IsPrefix task.plan task.request prefix → (hops ceiling : ℕ) (s : List ℕ) (route : RouteRecord) → route.contacts ≡ prefix ++ s → IsLeastWay task hops ceiling s route.delivery → IsTold task.plan route →
+pub found_is_least : (task : SearchTask) → IsTask task → (prefix : List ℕ) → IsBehind task prefix → IsPrefix task.plan task.request prefix → (hops ceiling : ℕ) (s : List ℕ) (route : RouteRecord) → route.contacts ≡ prefix ++ s → IsBestWay task hops ceiling s route.delivery → IsSummarized task.plan route →
     length prefix + length s ≤ task.request.max_hops →
     ((ns : List ℕ) (e : ℕ) → IsTrue (is_route task.plan task.request (prefix ++ ns)) → Leads (Takes task) task.start task.at ns task.goal e → route.delivery ≤ e) →
-    IsLeast task.plan task.request prefix task.excluded (Some route)
+    IsBestOf task.plan task.request prefix task.excluded (Some route)
 found_is_least task is prefix behind facts hops ceiling s route contacts least summary short soonest =
     let p = task.plan in
     let r = task.request in
@@ -130,7 +130,7 @@ found_is_least task is prefix behind facts hops ceiling s route contacts least s
 
 -- if the part has no way, it has no route
 pub none_is_least : (task : SearchTask) → IsTask task → (prefix : List ℕ) → IsBehind task prefix →
-    ((ns : List ℕ) (e : ℕ) → IsTrue (is_route task.plan task.request (prefix ++ ns)) → Leads (Takes task) task.start task.at ns task.goal e → ⊥) → IsLeast task.plan task.request prefix task.excluded None
+    ((ns : List ℕ) (e : ℕ) → IsTrue (is_route task.plan task.request (prefix ++ ns)) → Leads (Takes task) task.start task.at ns task.goal e → ⊥) → IsBestOf task.plan task.request prefix task.excluded None
 none_is_least task is prefix behind none = sym (ap (option_map (record_of task.plan task.request)) (none_in_part task prefix behind is.plan none))
 
 -- what a route of the part has after the prefix

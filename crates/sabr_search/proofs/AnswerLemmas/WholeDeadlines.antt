@@ -3,7 +3,7 @@ use Rattle.std.proofs.Common.{ℕ, ◌+◌, ◌-◌, ◌<◌, ◌≤◌, List, l
 use Rattle.sabr_search.specs.questions.Task.{SearchTask}
 use Rattle.sabr_search.specs.layers.Late.{IsNoneSooner}
 use Rattle.sabr_search.specs.layers.WholeDeadlines.{IsDeadEnd}
-use Rattle.sabr_search.specs.layers.Picks.{IsLeastWay, IsPicked}
+use Rattle.sabr_search.specs.layers.Picks.{IsBestWay, IsPicked}
 use Rattle.sabr_search.specs.answers.Answers.{IsWayBeyond}
 use Rattle.sabr_search.proofs.AnswerLemmas.BoundedWays.{above_later}
 
@@ -16,7 +16,7 @@ pub dead_fewer : (task : SearchTask) (d u t hops most : ℕ) → most ≤ hops �
 dead_fewer task d u t hops most le dead ns s e later few way = dead ns s e later (omega (arith, few, le)) way
 
 -- what is picked of the fewest hops is the least way
-pub picked_is : (task : SearchTask) (d hops count : ℕ) (s : List ℕ) → IsNoneSooner task hops d → 0 < count → count ≤ hops → IsDeadEnd task d task.start task.at (count - 1) → IsPicked task count d s → IsLeastWay task hops (d + 1) s d
+pub picked_is : (task : SearchTask) (d hops count : ℕ) (s : List ℕ) → IsNoneSooner task hops d → 0 < count → count ≤ hops → IsDeadEnd task d task.start task.at (count - 1) → IsPicked task count d s → IsBestWay task hops (d + 1) s d
 picked_is task d hops count s floor some within dead picked = record {
   some = omega (arith, picked.many, some);
   within = omega (arith, picked.many, within);

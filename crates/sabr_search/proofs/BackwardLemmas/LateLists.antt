@@ -5,7 +5,7 @@ use Rattle.std.proofs.lemmas.Grind.{common_steps}
 use Rattle.std.proofs.lemmas.Option.{slice_get_within}
 use Rattle.sabr_search.specs.declared.backward.deadlines.Deadline.{Deadline}
 use Rattle.sabr_search.specs.questions.Task.{SearchTask, Takes, IsTask}
-use Rattle.sabr_search.specs.layers.Late.{InTimeFor, IsLateEntry, AreLate, IsToldLate}
+use Rattle.sabr_search.specs.layers.Late.{InTimeFor, IsLateEntry, AreLate, IsLeftInTime}
 use Rattle.sabr_search.proofs.BackwardLemmas.Backward.{get_set_here, get_set_other, set_other}
 use Rattle.sabr_search.proofs.ForwardLemmas.LayerEntries.{same_below}
 use Rattle.sabr_search.proofs.WayLemmas.RoutesAndWays.{takes_timely, same_some}
@@ -215,5 +215,5 @@ pub in_time_kept : (first begin : ℕ) (entries reached0 : List Deadline) → ta
 in_time_kept first begin entries reached0 kept w b t = (t.0, t.1, t.2, t.3, same_below begin reached0 entries (sym kept) t.0 t.1 t.3 t.4, t.5, t.6)
 
 -- what the layers say of a step stays true
-pub told_rises : (task : SearchTask) (since late late1 : List ℕ) (u t : ℕ) → ((k : ℕ) → slice_index late k ≤ slice_index late1 k) → IsToldLate task since late u t → IsToldLate task since late1 u t
-told_rises task since late late1 u t rises told = λ permitted other soon. omega (arith, told permitted other soon, rises u)
+pub left_rises : (task : SearchTask) (since late late1 : List ℕ) (u t : ℕ) → ((k : ℕ) → slice_index late k ≤ slice_index late1 k) → IsLeftInTime task since late u t → IsLeftInTime task since late1 u t
+left_rises task since late late1 u t rises in_time = λ permitted other soon. omega (arith, in_time permitted other soon, rises u)

@@ -5,7 +5,7 @@ use Rattle.std.proofs.lemmas.Option.{slice_get_within}
 use Rattle.sabr_search.specs.declared.backward.deadlines.Deadline.{Deadline}
 use Rattle.sabr_search.specs.questions.Task.{SearchTask, Takes, IsTask}
 use Rattle.sabr_search.specs.layers.Deadlines.{AreLinked, HasDeadline}
-use Rattle.sabr_search.specs.layers.Late.{InTimeFor, AreLate, AreTold, IsToldBy}
+use Rattle.sabr_search.specs.layers.Late.{InTimeFor, AreLate, AreLeftInTimeFrom, IsLeftInTimeBy}
 use Rattle.sabr_search.proofs.ForwardLemmas.LayerEntries.{same_below}
 use Rattle.sabr_search.proofs.ForwardLemmas.Forward.{last_or_before}
 use Rattle.sabr_search.proofs.WayLemmas.RoutesAndWays.{same_some}
@@ -22,7 +22,7 @@ pub record AreBackLayers (task : SearchTask) (since : List ℕ) (d left : ℕ) (
   pub goal_first : slice_get entries 0 ≡ Some (record { node = task.goal; before = d + 1 })
   pub apart : (h p q : ℕ) (e f : Deadline) → h ≤ left → slice_index ends h ≤ p → slice_index ends h ≤ q → p < slice_index ends (h + 1) → q < slice_index ends (h + 1) → slice_get entries p ≡ Some e → slice_get entries q ≡ Some f → e.node ≡ f.node → p ≡ q
   pub sound : (h v x t : ℕ) → h < left → HasDeadline ends entries (h + 1) v x → t < x → (n : ℕ) × (w : ℕ) × (b : ℕ) × (y : ℕ) × Takes task n v t w b × HasDeadline ends entries h w y × (b < y)
-  pub taken : (j w x n u t b : ℕ) → j < left → HasDeadline ends entries j w x → b < x → Takes task n u t w b → IsToldBy task since (HasDeadline ends entries) j u t
+  pub taken : (j w x n u t b : ℕ) → j < left → HasDeadline ends entries j w x → b < x → Takes task n u t w b → IsLeftInTimeBy task since (HasDeadline ends entries) j u t
 
 -- so they are, and the start is in time for no entry of an earlier one than the last
 pub record AreLateLayers (task : SearchTask) (since : List ℕ) (d left : ℕ) (ends late place : List ℕ) (entries : List Deadline) : Type 0 where
@@ -67,7 +67,7 @@ module _ (task : SearchTask) (is : IsTask task) (since : List ℕ) (d left : ℕ
     (ends' late' place' : List ℕ) (entries' : List Deadline)
     (after : AreLate task (slice_index ends left) (slice_index ends (left + 1)) late' place' entries')
     (kept_all : take (slice_index ends (left + 1)) entries' ≡ take (slice_index ends (left + 1)) entries)
-    (told : AreTold task since entries (slice_index ends left) (slice_index ends (left + 1)) late')
+    (in_time : AreLeftInTimeFrom task since entries (slice_index ends left) (slice_index ends (left + 1)) late')
     (ends_is : ends' ≡ ends ++ length entries' ∷ []) where
   end_before : (j : ℕ) → j ≤ left + 1 → slice_index ends' j ≡ slice_index ends j
   end_before j le = ap (λ xs. slice_index xs j) ends_is ∙ index_before ends (length entries') j (omega (arith, made.many))
@@ -158,14 +158,14 @@ module _ (task : SearchTask) (is : IsTask task) (since : List ℕ) (d left : ℕ
       let layer = layer_of ends' p (left + 1 + 1) (end_before 0 (omega arith) ∙ made.first_end) (omega (arith, last')) in
       (layer.0, slice_index late' v, omega (arith, layer.1), (p, layer.2, layer.3, on), by)
 
-  taken' : (j w x n u t b : ℕ) → j < left + 1 → HasDeadline ends' entries' j w x → b < x → Takes task n u t w b → IsToldBy task since (HasDeadline ends' entries') j u t
+  taken' : (j w x n u t b : ℕ) → j < left + 1 → HasDeadline ends' entries' j w x → b < x → Takes task n u t w b → IsLeftInTimeBy task since (HasDeadline ends' entries') j u t
   taken' j w x n u t b less e by step = elim (last_or_before j left less) [
     | inl before ↦ λ permitted other soon.
         (let r = made.taken j w x n u t b before (entry_was j w x (omega arith) e) by step permitted other soon in
         (r.0, r.1, r.2, entry_kept r.0 u r.1 r.3, r.4))
     | inr same ↦ λ permitted other soon.
         (let old : HasDeadline ends entries left w x = entry_was left w x (omega arith) (rw same at e) in
-        let now = told old.0 (record { node = w; before = x }) n u t b old.1 old.2 old.3 step by permitted other soon in
+        let now = in_time old.0 (record { node = w; before = x }) n u t b old.1 old.2 old.3 step by permitted other soon in
         let r = newest u t (slice_get_within task.table u step.contact.from step.sender) now in
         (r.0, r.1, omega (arith, r.2), r.3, r.4))
   ]

@@ -5,7 +5,7 @@ use Rattle.sabr_search.specs.declared.bound.Bound.{Bound}
 use Rattle.sabr_search.specs.questions.Bounded.{is_up_to}
 use Rattle.sabr_search.specs.questions.Ways.{Leads}
 use Rattle.sabr_search.specs.questions.Task.{SearchTask, HasNodes, Takes}
-use Rattle.sabr_search.specs.layers.Picks.{IsLeastWay}
+use Rattle.sabr_search.specs.layers.Picks.{IsBestWay}
 use Rattle.sabr_search.specs.answers.Answers.{narrowed, Narrows, HasNoWayWithin, IsWayBeyond, AnswersStay}
 use Rattle.sabr_search.proofs.WayLemmas.Bounds.{still_above}
 use Rattle.sabr_search.proofs.WayLemmas.Ways.{Leads-earlier}
@@ -24,8 +24,8 @@ module _ (task : SearchTask) (forbidden : List Bool) (at : ℕ) (nodes : HasNode
   no_later : (ns : List ℕ) (e : ℕ) → Leads (Takes (narrowed task forbidden at)) task.start at ns task.goal e → (d : ℕ) × (d ≤ e) × Leads (Takes task) task.start task.at ns task.goal d
   no_later ns e way = Leads-earlier (Takes task) (takes_timely task nodes) ns task.start at task.goal e task.at (allowed ns task.start at task.goal e way) narrows.later
 
-  least_stays : (hops fewer ceiling : ℕ) (s : List ℕ) (d : ℕ) → fewer ≤ hops → IsLeastWay task hops ceiling s d → length s ≤ fewer
-      → Leads (Takes (narrowed task forbidden at)) task.start at s task.goal d → IsLeastWay (narrowed task forbidden at) fewer ceiling s d
+  least_stays : (hops fewer ceiling : ℕ) (s : List ℕ) (d : ℕ) → fewer ≤ hops → IsBestWay task hops ceiling s d → length s ≤ fewer
+      → Leads (Takes (narrowed task forbidden at)) task.start at s task.goal d → IsBestWay (narrowed task forbidden at) fewer ceiling s d
   least_stays hops fewer ceiling s d less least short way = record {
     some = least.some;
     within = short;

@@ -128,8 +128,8 @@ module _ {A : Type 0} (task : SearchTask) (is : IsTask task) (d hops : ℕ) (s :
       elim (cases_eq u task.goal) [
         | inl same ↦ (0, d + 1, omega arith, rw same goal_entry, omega (arith, Leads-later (Takes task) timely (n ∷ ns) u t task.goal e on))
         | inr other ↦
-            (let told = over.layers.taken r.0 on.0 r.1 n u t on.1 (omega (arith, r.2, few, over.within)) r.3 r.4 step permitted (λ same. other (same ∙ over.goal)) since in
-            (told.0, told.1, omega (arith, told.2, r.2), told.3, told.4))
+            (let in_time = over.layers.taken r.0 on.0 r.1 n u t on.1 (omega (arith, r.2, few, over.within)) r.3 r.4 step permitted (λ same. other (same ∙ over.goal)) since in
+            (in_time.0, in_time.1, omega (arith, in_time.2, r.2), in_time.3, in_time.4))
       ]
 
   -- after the start it is open

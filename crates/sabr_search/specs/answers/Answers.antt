@@ -4,7 +4,7 @@ use Rattle.sabr_search.specs.declared.bound.Bound.{Bound}
 use Rattle.sabr_search.specs.questions.Bounded.{is_up_to}
 use Rattle.sabr_search.specs.questions.Ways.{Leads}
 use Rattle.sabr_search.specs.questions.Task.{SearchTask, HasNodes, Takes}
-use Rattle.sabr_search.specs.layers.Picks.{IsLeastWay}
+use Rattle.sabr_search.specs.layers.Picks.{IsBestWay}
 
 -- the same search, with these forbidden nodes and from this second on
 abbrev pub narrowed : SearchTask → List Bool → ℕ → SearchTask
@@ -28,8 +28,8 @@ IsWayBeyond task hops b = (ns : List ℕ) (e : ℕ) → length ns ≤ hops → L
 -- each way was above a bound, each is above whatever is up to that.
 pub record AnswersStay : Type 0 where
   pub least : (task : SearchTask) (forbidden : List Bool) (at hops fewer ceiling : ℕ) (s : List ℕ) (d : ℕ) → HasNodes task.plan task.table → Narrows task forbidden at → fewer ≤ hops
-      → IsLeastWay task hops ceiling s d → length s ≤ fewer → Leads (Takes (narrowed task forbidden at)) task.start at s task.goal d
-      → IsLeastWay (narrowed task forbidden at) fewer ceiling s d
+      → IsBestWay task hops ceiling s d → length s ≤ fewer → Leads (Takes (narrowed task forbidden at)) task.start at s task.goal d
+      → IsBestWay (narrowed task forbidden at) fewer ceiling s d
   pub none : (task : SearchTask) (forbidden : List Bool) (at hops fewer : ℕ) → HasNodes task.plan task.table → Narrows task forbidden at → fewer ≤ hops
       → HasNoWayWithin task hops → HasNoWayWithin (narrowed task forbidden at) fewer
   pub beyond : (task : SearchTask) (forbidden : List Bool) (at hops fewer : ℕ) (b c : Bound) → HasNodes task.plan task.table → Narrows task forbidden at → fewer ≤ hops

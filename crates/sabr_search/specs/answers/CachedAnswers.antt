@@ -50,8 +50,8 @@ AreAnswers p r answers = All (IsAnswer p r) answers × (length answers ≤ most_
 
 -- the answer after a prefix is kept if that has some contacts, since no other prefix ends at the source, and not too
 -- many, and if not too many numbers are excluded
-abbrev pub is_kept_after : List ℕ → List ℕ → Bool
-is_kept_after prefix excluded = nat_lt 0 (length prefix) && (nat_le (length prefix) 128 && nat_le (length excluded) 64)
+abbrev pub is_cached_after : List ℕ → List ℕ → Bool
+is_cached_after prefix excluded = nat_lt 0 (length prefix) && (nat_le (length prefix) 128 && nat_le (length excluded) 64)
 
 -- the search starts at the same node and no earlier, excludes the same numbers, forbids these nodes, too, and leaves no
 -- more hops

@@ -7,18 +7,18 @@ use Rattle.sabr_search.specs.declared.found.Found.{Found}
 use Rattle.sabr_search.specs.declared.found.FoundWay.{FoundWay}
 use Rattle.sabr_search.specs.declared.found.Found.TheVariants.{Way, Beyond}
 use Rattle.sabr_search.specs.answers.Answers.{IsWayBeyond}
-use Rattle.sabr_search.specs.layers.Picks.{IsLeastWay}
+use Rattle.sabr_search.specs.layers.Picks.{IsBestWay}
 use Rattle.sabr_search.specs.questions.Bounded.{is_none, is_up_to}
 use Rattle.sabr_search.specs.questions.Task.{SearchTask}
 
 -- it is the best way of at most `hops` hops, or each is above the bound
 abbrev pub IsFound : {A : Type 0} → SearchTask → ℕ → Found (FoundWay A) → Type 0
-IsFound task hops (Way way) = IsLeastWay task hops (way.delivery + 1) way.numbers.items way.delivery
+IsFound task hops (Way way) = IsBestWay task hops (way.delivery + 1) way.numbers.items way.delivery
 IsFound task hops (Beyond b) = IsWayBeyond task hops b
 
 -- the same where the numbers of the way are these
 abbrev pub IsFoundWith : SearchTask → ℕ → List ℕ → Found ℕ → Type 0
-IsFoundWith task hops numbers (Way delivery) = IsLeastWay task hops (delivery + 1) numbers delivery
+IsFoundWith task hops numbers (Way delivery) = IsBestWay task hops (delivery + 1) numbers delivery
 IsFoundWith task hops numbers (Beyond b) = IsWayBeyond task hops b
 
 -- it is a way, or all that is up to the bound asked for is up to what each way is above

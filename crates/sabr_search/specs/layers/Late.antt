@@ -57,29 +57,29 @@ IsNotedLate head begin u x s t =
     ⊎ ((head ≤ begin) × (t.place.items ≡ slice_set s.place.items u (length s.entries.items)) × (t.entries.items ≡ s.entries.items ++ record { node = u; before = x } ∷ []) × (t.fewer.items ≡ s.fewer.items ++ head ∷ []))
 
 -- what a step from node u at t leaves, if it leads to where there still is time: u is not too late
-abbrev pub IsToldLate : SearchTask → List ℕ → List ℕ → ℕ → ℕ → Type 0
-IsToldLate task since late u t = slice_index_or task.forbidden u false ≡ false → u ≢ task.goal → slice_index since u ≤ t → t < slice_index late u
+abbrev pub IsLeftInTime : SearchTask → List ℕ → List ℕ → ℕ → ℕ → Type 0
+IsLeftInTime task since late u t = slice_index_or task.forbidden u false ≡ false → u ≢ task.goal → slice_index since u ≤ t → t < slice_index late u
 
 -- so it is for each step over these passes from node u that arrives before a second
-abbrev pub IsToldOver : SearchTask → List ℕ → List ℕ → ℕ → List Pass → ℕ → Type 0
-IsToldOver task since late u passes before = (n t w b : ℕ) → HasNumber passes n → Takes task n u t w b → b < before → IsToldLate task since late u t
+abbrev pub AreLeftInTimeOver : SearchTask → List ℕ → List ℕ → ℕ → List Pass → ℕ → Type 0
+AreLeftInTimeOver task since late u passes before = (n t w b : ℕ) → HasNumber passes n → Takes task n u t w b → b < before → IsLeftInTime task since late u t
 
 -- so it is for each step over a link with this head that arrives before a second
-abbrev pub IsToldByHead : SearchTask → List ℕ → List ℕ → SenderHead → ℕ → Type 0
-IsToldByHead task since late head before =
-    (to : ℕ) (passes : List Pass) → IsLinkWithin task head.node to passes head.bounds → IsToldOver task since late head.node passes before
+abbrev pub AreLeftInTimeByHead : SearchTask → List ℕ → List ℕ → SenderHead → ℕ → Type 0
+AreLeftInTimeByHead task since late head before =
+    (to : ℕ) (passes : List Pass) → IsLinkWithin task head.node to passes head.bounds → AreLeftInTimeOver task since late head.node passes before
 
 -- so it is for each step that comes to a node before its deadline
-abbrev pub IsToldTo : SearchTask → List ℕ → List ℕ → Deadline → Type 0
-IsToldTo task since late to = (n u t b : ℕ) → Takes task n u t to.node b → b < to.before → IsToldLate task since late u t
+abbrev pub AreLeftInTimeTo : SearchTask → List ℕ → List ℕ → Deadline → Type 0
+AreLeftInTimeTo task since late to = (n u t b : ℕ) → Takes task n u t to.node b → b < to.before → IsLeftInTime task since late u t
 
 -- that holds for each step to an entry at the places from `first` to before `begin`
-abbrev pub AreTold : SearchTask → List ℕ → List Deadline → ℕ → ℕ → List ℕ → Type 0
-AreTold task since entries first begin late = (p : ℕ) (e : Deadline) (n u t b : ℕ) → first ≤ p → p < begin → slice_get entries p ≡ Some e → Takes task n u t e.node b → b < e.before → IsToldLate task since late u t
+abbrev pub AreLeftInTimeFrom : SearchTask → List ℕ → List Deadline → ℕ → ℕ → List ℕ → Type 0
+AreLeftInTimeFrom task since entries first begin late = (p : ℕ) (e : Deadline) (n u t b : ℕ) → first ≤ p → p < begin → slice_get entries p ≡ Some e → Takes task n u t e.node b → b < e.before → IsLeftInTime task since late u t
 
 -- the same by the layers up to the one after j
-abbrev pub IsToldBy : SearchTask → List ℕ → Entries → ℕ → ℕ → ℕ → Type 0
-IsToldBy task since E j u t = slice_index_or task.forbidden u false ≡ false → u ≢ task.goal → slice_index since u ≤ t → (i : ℕ) × (x : ℕ) × (i ≤ j + 1) × E i u x × (t < x)
+abbrev pub IsLeftInTimeBy : SearchTask → List ℕ → Entries → ℕ → ℕ → ℕ → Type 0
+IsLeftInTimeBy task since E j u t = slice_index_or task.forbidden u false ≡ false → u ≢ task.goal → slice_index since u ≤ t → (i : ℕ) × (x : ℕ) × (i ≤ j + 1) × E i u x × (t < x)
 
 -- no way of at most that many hops leads to the goal before second d
 abbrev pub IsNoneSooner : SearchTask → ℕ → ℕ → Type 0

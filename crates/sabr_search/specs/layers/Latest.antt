@@ -5,7 +5,7 @@ use Rattle.std.specs.declared.option.Option.TheVariants.{Some}
 use Rattle.sabr_search.specs.declared.visit.Visit.{Visit}
 use Rattle.sabr_index.specs.declared.link.Pass.{Pass}
 use Rattle.sabr_search.specs.questions.Linked.{HasNumber}
-use Rattle.sabr_search.specs.layers.Late.{IsToldTo}
+use Rattle.sabr_search.specs.layers.Late.{AreLeftInTimeTo}
 use Rattle.sabr_search.specs.questions.Task.{SearchTask, IsTask, Takes, is_closed}
 
 -- the whole graph: no node is forbidden but the source and those to avoid, and no number is excluded
@@ -17,7 +17,7 @@ pub record IsWhole (task : SearchTask) : Type 0 where
 
 -- what each step that leads to node w in time leaves is not too late
 abbrev pub IsTakenBy : SearchTask → List ℕ → ℕ → Type 0
-IsTakenBy task late w = IsToldTo task [] late (record { node = w; before = slice_index late w })
+IsTakenBy task late w = AreLeftInTimeTo task [] late (record { node = w; before = slice_index late w })
 
 -- who goes on from node u at t, no earlier than the request begins, and is at node w at b is no nearer to the goal
 -- there than the seconds on the way make it, if u is an open node and not the goal

@@ -24,7 +24,7 @@ pub record IsPicked (task : SearchTask) (hops d : ℕ) (s : List ℕ) : Type 0 w
 
 -- the way of the earliest delivery, hops and numbers among those of at most `hops` hops, with a delivery before
 -- `ceiling`
-pub record IsLeastWay (task : SearchTask) (hops ceiling : ℕ) (s : List ℕ) (d : ℕ) : Type 0 where
+pub record IsBestWay (task : SearchTask) (hops ceiling : ℕ) (s : List ℕ) (d : ℕ) : Type 0 where
   pub some : 0 < length s
   pub within : length s ≤ hops
   pub below : d < ceiling

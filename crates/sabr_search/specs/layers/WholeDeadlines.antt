@@ -17,7 +17,7 @@ use Rattle.sabr_search.specs.questions.Ways.{Leads}
 use Rattle.sabr_search.specs.questions.Task.{SearchTask, IsAsked, Takes}
 use Rattle.sabr_search.specs.questions.FirstSteps.{tabled_of}
 use Rattle.sabr_search.specs.layers.Deadlines.{AreChained, HasDeadline, IsOf}
-use Rattle.sabr_search.specs.layers.Late.{AreSince, IsNoneWithin, IsToldBy}
+use Rattle.sabr_search.specs.layers.Late.{AreSince, IsNoneWithin, IsLeftInTimeBy}
 use Rattle.sabr_search.specs.layers.Picks.{IsPicked}
 
 -- from node u at second t or later no way of that many hops or fewer delivers by second d
@@ -34,7 +34,7 @@ pub record AreWhole {A : Type 0} (task : SearchTask) (since : List ℕ) (d most 
   pub rising : (j : ℕ) → j + 1 < length s.ends.items → slice_index s.ends.items j ≤ slice_index s.ends.items (j + 1)
   pub goal_first : slice_get s.entries.items 0 ≡ Some (record { node = task.goal; before = d + 1 })
   pub permitted : (p v : ℕ) → IsOf s.entries.items p v → slice_index_or task.forbidden v false ≡ false
-  pub taken : (j w x n u t b : ℕ) → j < most → HasDeadline s.ends.items s.entries.items j w x → b < x → Takes task n u t w b → IsToldBy task since (HasDeadline s.ends.items s.entries.items) j u t
+  pub taken : (j w x n u t b : ℕ) → j < most → HasDeadline s.ends.items s.entries.items j w x → b < x → Takes task n u t w b → IsLeftInTimeBy task since (HasDeadline s.ends.items s.entries.items) j u t
 
 -- the layers are, as far as that many hops, of a question that takes each step of this one to the same goal, and begin
 -- no node later than a way of this one may come there; nor its start, if they don't forbid that

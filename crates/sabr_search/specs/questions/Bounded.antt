@@ -11,7 +11,7 @@ use Rattle.sabr_model.specs.routes.Route.{delivery_of}
 use Rattle.sabr_search.specs.declared.bound.Bound.{Bound}
 use Rattle.sabr_search.specs.declared.bound.Sought.{Sought}
 use Rattle.sabr_search.specs.declared.bound.Sought.TheVariants.{Route, None as NoRoute, Beyond}
-use Rattle.sabr_search.specs.questions.Part.{IsLeast}
+use Rattle.sabr_search.specs.questions.Part.{IsBestOf}
 use Rattle.sabr_search.specs.questions.Task.{never, latest_arrival}
 
 -- every route is up to this one
@@ -44,8 +44,8 @@ IsFloor p r prefix excluded d = (s : List ℕ) → IsTrue (in_part p r prefix ex
 
 -- the answer is the best route of the part, that it has none, or that each is above the bound
 abbrev pub IsSought : {A : Type 0} → ContactPlan → RouteRequest → List ℕ → List ℕ → Bound → Sought A → Type 0
-IsSought p r prefix excluded b (Route route) = IsLeast p r prefix excluded (Some route)
-IsSought p r prefix excluded b NoRoute = IsLeast p r prefix excluded None
+IsSought p r prefix excluded b (Route route) = IsBestOf p r prefix excluded (Some route)
+IsSought p r prefix excluded b NoRoute = IsBestOf p r prefix excluded None
 IsSought p r prefix excluded b Beyond = IsBeyond p r prefix excluded b
 
 -- without a bound the answer isn't that each route is above it
@@ -60,10 +60,10 @@ sought_of None = NoRoute
 sought_of (Some route) = Route route
 
 -- the number of hops of an answer, 0 if it has no route
-abbrev pub hops_sought : {A : Type 0} → Sought A → ℕ
-hops_sought (Route route) = length route.contacts
-hops_sought NoRoute = 0
-hops_sought Beyond = 0
+abbrev pub sought_hops : {A : Type 0} → Sought A → ℕ
+sought_hops (Route route) = length route.contacts
+sought_hops NoRoute = 0
+sought_hops Beyond = 0
 
 -- without a limit on hops, the answer took no more looks than three passes over all contacts for each hop after the
 -- prefix, and three more; if each route is above the bound, the bound's hops count

@@ -8,5 +8,5 @@ use Rattle.sabr_model.specs.routes.Parts.{least_in}
 use Rattle.sabr_model.specs.routes.Record.{RouteRecord, record_of}
 
 -- the answer is the best route of the part, or none if the part has no route
-abbrev pub IsLeast : ContactPlan → RouteRequest → List ℕ → List ℕ → Option RouteRecord → Type 0
-IsLeast p r prefix excluded answer = answer ≡ option_map (record_of p r) (least_in p r prefix excluded)
+abbrev pub IsBestOf : ContactPlan → RouteRequest → List ℕ → List ℕ → Option RouteRecord → Type 0
+IsBestOf p r prefix excluded answer = answer ≡ option_map (record_of p r) (least_in p r prefix excluded)

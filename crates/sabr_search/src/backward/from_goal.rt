@@ -8,7 +8,7 @@ ghost use Rattle.sabr_search.specs.questions.Linked.{IsLinkWithin};
 ghost use Rattle.sabr_search.specs.layers.Deadlines.{AreLinked, IsApart, head_of};
 ghost use Rattle.sabr_search.specs.questions.FirstSteps.{AreFirstSteps};
 ghost use Rattle.sabr_search.specs.layers.Settling.{AreReal};
-ghost use Rattle.sabr_search.specs.layers.Late.{InTimeFor, AreLateAfter, IsNotedLate, IsToldTo, IsToldOver, IsToldByHead, AreTold, AreArrivals};
+ghost use Rattle.sabr_search.specs.layers.Late.{InTimeFor, AreLateAfter, IsNotedLate, AreLeftInTimeTo, AreLeftInTimeOver, AreLeftInTimeByHead, AreLeftInTimeFrom, AreArrivals};
 ghost use Rattle.sabr_search.specs.layers.WholeDeadlines.{AreWhole, IsMadeBack};
 
 use crate::backward::deadlines::{Deadline, Deadlines};
@@ -68,7 +68,7 @@ impl<A: Allocator + Copy> Deadlines<A> {
         requires many { length self.now.late.items ≡ length aim.now.task.now.table }
         requires arrivals { length aim.now.since.now ≡ length aim.now.task.now.table }
         requires node { head.node < length aim.now.task.now.table }
-        ensures told { IsTrue result → IsToldByHead aim.now.task.now aim.now.since.now self.now.late.items head before }
+        ensures in_time { IsTrue result → AreLeftInTimeByHead aim.now.task.now aim.now.since.now self.now.late.items head before }
         ensures permitted { result ≡ false → slice_index_or aim.now.task.now.forbidden head.node false ≡ false }
         ensures other { result ≡ false → head.node ≢ aim.now.task.now.goal }
     {
@@ -111,7 +111,7 @@ impl<A: Allocator + Copy> Deadlines<A> {
         ensures linked { OnOk result (AreLinked self.new.entries.items self.new.fewer.items) }
         ensures kept { OnOk result (take (slice_index self.old.ends.items (left + 1)) self.new.entries.items ≡ take (slice_index self.old.ends.items (left + 1)) self.old.entries.items) }
         ensures rises { OnOk result ((k : ℕ) → slice_index self.old.late.items k ≤ slice_index self.new.late.items k) }
-        ensures told { OnOk result (IsToldOver aim.now.task.now aim.now.since.now self.new.late.items from.entry.node from.entry.passes.now to.before) }
+        ensures in_time { OnOk result (AreLeftInTimeOver aim.now.task.now aim.now.since.now self.new.late.items from.entry.node from.entry.passes.now to.before) }
     {
         let latest = self.late[from.node];
         let link = WalkedLink {
@@ -157,7 +157,7 @@ impl<A: Allocator + Copy> Deadlines<A> {
         ensures linked { OnOk result (AreLinked self.new.entries.items self.new.fewer.items) }
         ensures kept { OnOk result (take (slice_index self.old.ends.items (left + 1)) self.new.entries.items ≡ take (slice_index self.old.ends.items (left + 1)) self.old.entries.items) }
         ensures rises { OnOk result ((k : ℕ) → slice_index self.old.late.items k ≤ slice_index self.new.late.items k) }
-        ensures told { IfOk result (λ whole. IsTrue whole → IsToldTo aim.now.task.now aim.now.since.now self.new.late.items to) }
+        ensures in_time { IfOk result (λ whole. IsTrue whole → AreLeftInTimeTo aim.now.task.now aim.now.since.now self.new.late.items to) }
     {
         let senders = aim.task.senders(to.node);
         for place in 0..senders.len() {
@@ -194,7 +194,7 @@ impl<A: Allocator + Copy> Deadlines<A> {
         ensures lists { OnOk result (AreLateAfter aim.now.task.now self.old.ends.items left self.new.late.items self.new.place.items self.new.entries.items) }
         ensures linked { OnOk result (AreLinked self.new.entries.items self.new.fewer.items) }
         ensures kept { OnOk result (take (slice_index self.old.ends.items (left + 1)) self.new.entries.items ≡ take (slice_index self.old.ends.items (left + 1)) self.old.entries.items) }
-        ensures told { IfOk result (λ whole. IsTrue whole → AreTold aim.now.task.now aim.now.since.now self.old.entries.items (slice_index self.old.ends.items left) (slice_index self.old.ends.items (left + 1)) self.new.late.items) }
+        ensures in_time { IfOk result (λ whole. IsTrue whole → AreLeftInTimeFrom aim.now.task.now aim.now.since.now self.old.entries.items (slice_index self.old.ends.items left) (slice_index self.old.ends.items (left + 1)) self.new.late.items) }
     {
         let first = self.ends[left];
         let begin = self.ends[left + 1];

@@ -6,7 +6,7 @@ ghost use Rattle.sabr_search.specs.questions.Task.{IsTask};
 ghost use Rattle.sabr_search.specs.questions.Linked.{IsLinkWithin};
 ghost use Rattle.sabr_search.specs.questions.FirstSteps.{tabled_of};
 ghost use Rattle.sabr_search.specs.layers.NodeBounds.{AreLateFor};
-ghost use Rattle.sabr_search.specs.layers.Late.{IsToldOver};
+ghost use Rattle.sabr_search.specs.layers.Late.{AreLeftInTimeOver};
 ghost use Rattle.sabr_search.specs.layers.Latest.{IsWhole, IsBegun, AreRising, AreTaken, IsTakenBy};
 
 use crate::links::over_link::{WalkedLink, rules_out};
@@ -68,7 +68,7 @@ impl<A: Allocator + Copy> Latest<A> {
         ensures rising { OnOk result (AreRising (IsTakenBy task.now) task.now self.new.late.items self.new.taken.items self.new.queue to) }
         ensures same { OnOk result (slice_index self.new.late.items to ≡ before) }
         ensures rises { OnOk result ((k : ℕ) → slice_index self.old.late.items k ≤ slice_index self.new.late.items k) }
-        ensures told { OnOk result (IsToldOver task.now [] self.new.late.items from.entry.node from.entry.passes.now before) }
+        ensures in_time { OnOk result (AreLeftInTimeOver task.now [] self.new.late.items from.entry.node from.entry.passes.now before) }
     {
         let node = from.node;
         if node == to {

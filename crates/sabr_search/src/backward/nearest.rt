@@ -45,7 +45,7 @@ impl<A: Allocator + Copy> Latest<A> {
         ensures rising { OnOk result (AreRising (IsNearBy task.now) task.now self.new.late.items self.new.taken.items self.new.queue to) }
         ensures same { OnOk result (slice_index self.new.late.items to ≡ slice_index self.old.late.items to) }
         ensures rises { OnOk result ((k : ℕ) → slice_index self.old.late.items k ≤ slice_index self.new.late.items k) }
-        ensures told { OnOk result ((s : SentLink) → slice_get senders.now place ≡ Some s → IsNearOver task.now self.new.late.items s.sender s.passes to) }
+        ensures in_time { OnOk result ((s : SentLink) → slice_get senders.now place ≡ Some s → IsNearOver task.now self.new.late.items s.sender s.passes to) }
     {
         let head = senders.head(place);
         let node = head.node;

@@ -13,7 +13,7 @@ ghost use Rattle.sabr_search.specs.questions.Task.{IsTask, IsAsked, Takes};
 ghost use Rattle.sabr_search.specs.questions.FirstSteps.{tabled_of};
 ghost use Rattle.sabr_search.specs.answers.Asked.{AnswersAt, hops_left};
 ghost use Rattle.sabr_search.specs.answers.Found.{IsFound};
-ghost use Rattle.sabr_search.specs.answers.CachedAnswers.{AllForbidden, Covers, IsAnswerTo, IsAnswer, IsPut, AreAnswers, is_kept_after, most_answers};
+ghost use Rattle.sabr_search.specs.answers.CachedAnswers.{AllForbidden, Covers, IsAnswerTo, IsAnswer, IsPut, AreAnswers, is_cached_after, most_answers};
 
 use crate::bound::Bound;
 use crate::early::answers::lists::Lists;
@@ -208,8 +208,8 @@ impl<A: Allocator + Copy> Answer<A> {
 
 /// Returns whether the answer to a question is cached: not if the prefix is empty, since no other one ends at the
 /// source, and not if too many numbers are excluded or the prefix is too long.
-fn is_kept<A: Allocator + Copy>(asked: &Question<'_, '_, '_, A>) -> bool
-    ensures { result ≡ is_kept_after asked.now.prefix.now asked.now.task.now.excluded }
+fn is_cached<A: Allocator + Copy>(asked: &Question<'_, '_, '_, A>) -> bool
+    ensures { result ≡ is_cached_after asked.now.prefix.now asked.now.task.now.excluded }
 {
     !asked.prefix.is_empty()
         && asked.prefix.len() <= MAX_PREFIX
@@ -254,9 +254,9 @@ impl<A: Allocator + Copy> Answers<A> {
 
     /// Returns whether a question may have its answer here: some answer is cached, and its own would be, too.
     pub fn serves(&self, asked: &Question<'_, '_, '_, A>) -> bool
-        ensures { IsTrue result → IsTrue (is_kept_after asked.now.prefix.now asked.now.task.now.excluded) }
+        ensures { IsTrue result → IsTrue (is_cached_after asked.now.prefix.now asked.now.task.now.excluded) }
     {
-        !self.slots.is_empty() && is_kept(asked)
+        !self.slots.is_empty() && is_cached(asked)
     }
 
     /// The place of the latest answer in a bucket; past the slots if there is none.
@@ -395,7 +395,7 @@ impl<A: Allocator + Copy> Answers<A> {
     }
 
     /// Keeps the answer to a question, and returns its place; or leaves it out, if an allocation failed.
-    pub fn keep(
+    pub fn cache(
         &mut self,
         task: &Task<'_, A>,
         hops: usize,
@@ -427,10 +427,10 @@ impl<A: Allocator + Copy> Answers<A> {
         requires kept { AreAnswers (tabled_of asked.now.task.now) asked.now.task.now.request self.old.slots.items }
         requires found { IsFound asked.now.task.now (hops_left asked.now) found.now }
         ensures kept { AreAnswers (tabled_of asked.now.task.now) asked.now.task.now.request self.new.slots.items }
-        ensures others { is_kept_after asked.now.prefix.now asked.now.task.now.excluded ≡ false → self.new.slots ≡ self.old.slots }
+        ensures others { is_cached_after asked.now.prefix.now asked.now.task.now.excluded ≡ false → self.new.slots ≡ self.old.slots }
     {
-        if is_kept(asked) {
-            self.keep(asked.task, asked.hops_left(), found, Breadth::Own);
+        if is_cached(asked) {
+            self.cache(asked.task, asked.hops_left(), found, Breadth::Own);
         }
     }
 }

@@ -20,10 +20,10 @@ pub returns-in_default-clause-memory : goal.returns-in_default-clause-memory
 returns-in_default-clause-memory g c = c.count.ensures _ _ c.requires.memory
 
 pub returns-in_default-kept-clause-memory : goal.returns-in_default-kept-clause-memory
-returns-in_default-kept-clause-memory g c = c.count-2.ensures _ _ (c.requires.memory.0, c.requires.memory.1, rw c.with_forbidden-wide.ensures at c.keep-kept.ensures)
+returns-in_default-kept-clause-memory g c = c.count-2.ensures _ _ (c.requires.memory.0, c.requires.memory.1, rw c.with_forbidden-wide.ensures at c.cache-kept.ensures)
 
 pub returns-clause-memory : goal.returns-clause-memory
-returns-clause-memory g c = c.count-2.ensures _ _ (c.requires.memory.0, c.requires.memory.1, rw c.with_forbidden-wide.ensures at c.keep-kept.ensures)
+returns-clause-memory g c = c.count-2.ensures _ _ (c.requires.memory.0, c.requires.memory.1, rw c.with_forbidden-wide.ensures at c.cache-kept.ensures)
 
 pub recall_at-requires-clause-kept : goal.recall_at-requires-clause-kept
-recall_at-requires-clause-kept g c = (c.count-2.ensures _ _ (c.requires.memory.0, c.requires.memory.1, rw c.with_forbidden-wide.ensures at c.keep-kept.ensures)).2.0
+recall_at-requires-clause-kept g c = (c.count-2.ensures _ _ (c.requires.memory.0, c.requires.memory.1, rw c.with_forbidden-wide.ensures at c.cache-kept.ensures)).2.0

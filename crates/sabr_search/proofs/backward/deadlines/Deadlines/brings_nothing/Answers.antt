@@ -4,8 +4,8 @@ use Rattle.sabr_search.proofs.LinkLemmas.OverLinks.{ruled_out}
 use Rattle.sabr_search.proofs.ForwardLemmas.LayerEntries.{read_at}
 use Rattle.sabr_search.proofs.backward.deadlines.Deadlines.brings_nothing.Goals as goal
 
-pub returns-then-rules_out-clause-told : goal.returns-then-rules_out-clause-told
-returns-then-rules_out-clause-told g c = λ told to passes link n t w b has s less permitted other soon.
+pub returns-then-rules_out-clause-in_time : goal.returns-then-rules_out-clause-in_time
+returns-then-rules_out-clause-in_time g c = λ in_time to passes link n t w b has s less permitted other soon.
     let late = read_at c.args.self.now.late.items c.args.head.node c.index-late.result.now (omega (arith, c.requires.many, c.requires.node)) c.index-late.ensures in
     elim (cases_lt t (slice_index c.args.self.now.late.items c.args.head.node)) [
       | inl before ↦ before
@@ -13,6 +13,6 @@ returns-then-rules_out-clause-told g c = λ told to passes link n t w b has s le
           absurd (omega (arith, less, ruled_out c.args.aim.now.task.now c.requires.task c.args.head.node to passes link.0 c.args.head.bounds link.1 c.index-late.result.now c.args.before (c.rules_out.ensures.late c.if-rules_out.true) n t w b has (omega (arith, behind, late)) s))
     ]
 
-pub returns-then-rules_out-2-clause-told : goal.returns-then-rules_out-2-clause-told
-returns-then-rules_out-2-clause-told g c = λ told to passes link n t w b has s less permitted other soon.
+pub returns-then-rules_out-2-clause-in_time : goal.returns-then-rules_out-2-clause-in_time
+returns-then-rules_out-2-clause-in_time g c = λ in_time to passes link n t w b has s less permitted other soon.
     absurd (omega (arith, less, ruled_out c.args.aim.now.task.now c.requires.task c.args.head.node to passes link.0 c.args.head.bounds link.1 c.at-since.result c.args.before (c.rules_out-2.ensures.late c.if-rules_out-2.true) n t w b has (omega (arith, soon, c.at-since.ensures)) s))

@@ -51,7 +51,7 @@ loop-left-preserved g c =
     record {
       counted = omega (arith, c.next_back.ensures.counted, c.loop-left.invariant.counted);
       made = late_next task c.requires.task c.args.aim.now.since.now c.args.aim.now.delivery left old.ends.items old.late.items old.place.items old.entries.items made.layers
-          c.push.new.self.items next.late.items next.place.items next.entries.items one.lists one.kept (one.told c.if-not-whole.false)
+          c.push.new.self.items next.late.items next.place.items next.entries.items one.lists one.kept (one.in_time c.if-not-whole.false)
           (c.in_ok-push.ensures.items ∙ ap (λ xs. xs ++ c.len-end.result ∷ []) same_ends ∙ ap (λ k. old.ends.items ++ k ∷ []) many)
           made.unmet
           (λ w x n b entry by step.

@@ -25,7 +25,7 @@ loop-left-preserved g c =
     let many : c.len-end.result ≡ length next.entries.items = omega (arith, c.len-end.ensures, next.entries.ok.0) in
     record {
       made = back_next c.args.aim.now.task.now c.requires.task c.args.aim.now.since.now c.args.aim.now.delivery left old.ends.items old.late.items old.place.items old.entries.items c.loop-left.invariant.made
-          c.push.new.self.items next.late.items next.place.items next.entries.items one.lists one.kept (one.told c.if-not-whole.false)
+          c.push.new.self.items next.late.items next.place.items next.entries.items one.lists one.kept (one.in_time c.if-not-whole.false)
           (c.in_ok-push.ensures.items ∙ ap (λ xs. xs ++ c.len-end.result ∷ []) same_ends ∙ ap (λ k. old.ends.items ++ k ∷ []) many);
       linked = one.linked;
     }

@@ -3,7 +3,7 @@ use Rattle.sabr_search.specs.questions.Steps.{received}
 use Rattle.sabr_search.specs.layers.Late.{InTimeFor}
 use Rattle.sabr_search.proofs.ForwardLemmas.LayerEntries.{late_between, received_by_all, entry_read, received_next, received_within, received_at_most, read_at}
 use Rattle.sabr_search.proofs.ForwardLemmas.Forward.{last_or_before}
-use Rattle.sabr_search.proofs.BackwardLemmas.LateLists.{in_time_kept, told_rises}
+use Rattle.sabr_search.proofs.BackwardLemmas.LateLists.{in_time_kept, left_rises}
 use Rattle.sabr_search.proofs.BackwardLemmas.LateMade.{open_entry}
 use Rattle.sabr_search.proofs.WayLemmas.RoutesAndWays.{same_some}
 use Rattle.sabr_search.proofs.backward.deadlines.Deadlines.next_back.Given.{Over}
@@ -70,11 +70,11 @@ loop-place-preserved g c =
       lists = rw so_far.ends at one.lists;
       linked = one.linked;
       kept = rw so_far.ends at one.kept ∙ so_far.kept;
-      told = λ p e n u t b above below here s less. elim (last_or_before p place below) [
-        | inl before ↦ told_rises task c.args.aim.now.since.now _ _ u t one.rises (so_far.told p e n u t b above before here s less)
+      in_time = λ p e n u t b above below here s less. elim (last_or_before p place below) [
+        | inl before ↦ left_rises task c.args.aim.now.since.now _ _ u t one.rises (so_far.in_time p e n u t b above before here s less)
         | inr same ↦
             (let entry : e ≡ to = same_some (sym here ∙ ap (slice_get old.entries.items) same ∙ read.2) in
-            one.told c.if-not-whole.false n u t b (rw entry at s) (rw entry at less))
+            one.in_time c.if-not-whole.false n u t b (rw entry at s) (rw entry at less))
       ];
     }
 
@@ -90,7 +90,7 @@ returns-then-not-whole-clause-none g c = omega (arith, c.in_ok-whole.ensures.non
 pub returns-clause-counted : goal.returns-clause-counted
 returns-clause-counted g c = omega (arith, c.loop-place.invariant.counted, received_at_most c.args.aim.now.task.now (late_between c.args.self.now.entries.items c.index-first.result.now c.loop-place.place))
 
-pub returns-clause-told : goal.returns-clause-told
-returns-clause-told g c = λ same p e n u t b above below here s less.
+pub returns-clause-in_time : goal.returns-clause-in_time
+returns-clause-in_time g c = λ same p e n u t b above below here s less.
     let begin = read_at c.args.self.now.ends.items (c.args.left + 1) c.index-begin.result.now c.requires.bounded c.index-begin.ensures in
-    c.loop-place.invariant.told p e n u t b above (omega (arith, begin, c.loop-place-test.false)) here s less
+    c.loop-place.invariant.in_time p e n u t b above (omega (arith, begin, c.loop-place-test.false)) here s less

@@ -10,8 +10,8 @@ use Rattle.sabr_search.proofs.backward.deadlines.Deadlines.take_sender.Goals.{Af
 use Rattle.sabr_search.proofs.backward.deadlines.Deadlines.take_sender.Goals as goal
 use Rattle.sabr_search.proofs.ForwardLemmas.Queues.{set_here}
 
-pub returns-then-last-max-clause-told : goal.returns-then-last-max-clause-told
-returns-then-last-max-clause-told g c = λ n t w b has s less permitted other soon.
+pub returns-then-last-max-clause-in_time : goal.returns-then-last-max-clause-in_time
+returns-then-last-max-clause-in_time g c = λ n t w b has s less permitted other soon.
     let latest = read_at c.args.self.now.late.items c.args.from.node c.index-latest.result.now (omega (arith, c.requires.node, c.requires.lists.many)) c.index-latest.ensures in
     omega (arith, c.leave_over-last.ensures.full n t w b has s less, latest, soon, c.at.ensures, c.max.ensures, c.if-last-max.true)
 
@@ -40,6 +40,6 @@ returns-clause-linked g c = (noted g (goal.at.returns-clause-linked g c).After-i
 pub returns-clause-kept : goal.returns-clause-kept
 returns-clause-kept g c = (noted g (goal.at.returns-clause-kept g c).After-index-begin c.note_late.new.self c.in_ok-note_late.ensures.noted).kept
 
-pub returns-clause-told : goal.returns-clause-told
-returns-clause-told g c = λ n t w b has s less permitted other soon.
+pub returns-clause-in_time : goal.returns-clause-in_time
+returns-clause-in_time g c = λ n t w b has s less permitted other soon.
     rw c.in_ok-note_late.ensures.late (omega (arith, set_here c.args.self.now.late.items c.args.from.node c.leave_over-last.result (omega (arith, c.requires.node, c.requires.lists.many)), c.leave_over-last.ensures.full n t w b has s less))

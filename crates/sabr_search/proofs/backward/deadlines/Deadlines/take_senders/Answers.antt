@@ -1,9 +1,9 @@
 use Rattle.std.proofs.Common.{◌≡◌, ◌+◌, length, slice_index, sym, ap, ◌∙◌, arith}
 use Rattle.sabr_index.specs.Links.{SentLink}
 use Rattle.std.proofs.lemmas.Option.{slice_get_within}
-use Rattle.sabr_search.specs.layers.Late.{IsToldOver}
+use Rattle.sabr_search.specs.layers.Late.{AreLeftInTimeOver}
 use Rattle.sabr_search.proofs.BackwardLemmas.LastSeconds.{each_until}
-use Rattle.sabr_search.proofs.BackwardLemmas.LateLists.{in_time_kept, told_rises}
+use Rattle.sabr_search.proofs.BackwardLemmas.LateLists.{in_time_kept, left_rises}
 use Rattle.sabr_search.proofs.LinkLemmas.Linking.{passes_within}
 use Rattle.sabr_search.proofs.LinkLemmas.StepLists.{sum_taken_le}
 use Rattle.sabr_search.proofs.backward.deadlines.Deadlines.take_senders.Given.{Over}
@@ -49,8 +49,8 @@ loop-place-preserved-then-brings_nothing g c =
       linked = so_far.linked;
       kept = so_far.kept;
       rises = so_far.rises;
-      told = each_until (λ (s : SentLink). IsToldOver c.args.aim.now.task.now c.args.aim.now.since.now c.loop-place.self.late.items s.sender s.passes c.args.to.before) c.senders-senders.result c.loop-place.place _ here.1 so_far.told
-          (c.brings_nothing.ensures.told c.if-brings_nothing.true c.args.to.node here.0 (link, here.2));
+      in_time = each_until (λ (s : SentLink). AreLeftInTimeOver c.args.aim.now.task.now c.args.aim.now.since.now c.loop-place.self.late.items s.sender s.passes c.args.to.before) c.senders-senders.result c.loop-place.place _ here.1 so_far.in_time
+          (c.brings_nothing.ensures.in_time c.if-brings_nothing.true c.args.to.node here.0 (link, here.2));
     }
 
 pub loop-place-preserved : goal.loop-place-preserved
@@ -65,9 +65,9 @@ loop-place-preserved g c =
       linked = one.linked;
       kept = rw so_far.ends at one.kept ∙ so_far.kept;
       rises = λ k. omega (arith, so_far.rises k, one.rises k);
-      told = each_until (λ (s : SentLink). IsToldOver task c.args.aim.now.since.now c.take_sender.new.self.late.items s.sender s.passes c.args.to.before) c.senders-senders.result c.loop-place.place _ c.at-from.ensures.link
-          (λ j s less at n t w b has step by. told_rises task c.args.aim.now.since.now _ _ s.sender t one.rises (so_far.told j s less at n t w b has step by))
-          one.told;
+      in_time = each_until (λ (s : SentLink). AreLeftInTimeOver task c.args.aim.now.since.now c.take_sender.new.self.late.items s.sender s.passes c.args.to.before) c.senders-senders.result c.loop-place.place _ c.at-from.ensures.link
+          (λ j s less at n t w b has step by. left_rises task c.args.aim.now.since.now _ _ s.sender t one.rises (so_far.in_time j s less at n t w b has step by))
+          one.in_time;
     }
 
 pub returns-then-from-left-clause-none : goal.returns-then-from-left-clause-none
@@ -86,7 +86,7 @@ pub returns-clause-counted : goal.returns-clause-counted
 returns-clause-counted g c =
     omega (arith, c.loop-place.invariant.counted, sum_taken_le (λ (x : SentLink). length x.passes) c.senders-senders.result c.loop-place.place, c.senders-senders.ensures.few)
 
-pub returns-clause-told : goal.returns-clause-told
-returns-clause-told g c = λ same n u t b step by.
+pub returns-clause-in_time : goal.returns-clause-in_time
+returns-clause-in_time g c = λ same n u t b step by.
     let on = c.senders-senders.ensures.whole n u t b step in
-    rw (← on.3) (c.loop-place.invariant.told on.0 on.1 (omega (arith, slice_get_within c.senders-senders.result on.0 on.1 on.2, c.loop-place-test.false, c.len-place-end.ensures)) on.2 n t c.args.to.node b on.4 (rw (← on.3) at step) by)
+    rw (← on.3) (c.loop-place.invariant.in_time on.0 on.1 (omega (arith, slice_get_within c.senders-senders.result on.0 on.1 on.2, c.loop-place-test.false, c.len-place-end.ensures)) on.2 n t c.args.to.node b on.4 (rw (← on.3) at step) by)

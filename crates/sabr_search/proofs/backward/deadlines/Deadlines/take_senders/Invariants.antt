@@ -2,7 +2,7 @@ use Rattle.std.proofs.Common.{◌≡◌, ℕ, ◌+◌, ◌<◌, ◌≤◌, Some,
 use Rattle.std.specs.List.{sum_by}
 use Rattle.sabr_index.specs.Links.{SentLink}
 use Rattle.sabr_search.specs.layers.Deadlines.{AreLinked}
-use Rattle.sabr_search.specs.layers.Late.{AreLate, IsToldOver}
+use Rattle.sabr_search.specs.layers.Late.{AreLate, AreLeftInTimeOver}
 use Rattle.sabr_search.proofs.backward.deadlines.Deadlines.take_senders.Given as goal
 
 abbrev pub invariant-loop-place : goal.invariant-loop-place
@@ -13,5 +13,5 @@ invariant-loop-place g l = record {
   linked : AreLinked l.self.entries.items l.self.fewer.items;
   kept : take (slice_index l.fn.self.ends.items (l.left + 1)) l.self.entries.items ≡ take (slice_index l.fn.self.ends.items (l.left + 1)) l.fn.self.entries.items;
   rises : (k : ℕ) → slice_index l.fn.self.late.items k ≤ slice_index l.self.late.items k;
-  told : (j : ℕ) (s : SentLink) → j < l.place → slice_get l.senders j ≡ Some s → IsToldOver l.aim.task.now l.aim.since.now l.self.late.items s.sender s.passes l.to.before;
+  in_time : (j : ℕ) (s : SentLink) → j < l.place → slice_get l.senders j ≡ Some s → AreLeftInTimeOver l.aim.task.now l.aim.since.now l.self.late.items s.sender s.passes l.to.before;
 }

@@ -16,19 +16,19 @@ use Rattle.sabr_search.proofs.backward.latest.Latest.near_sender.Goals as goal
 sender_is : (g : Over) (c : After-head-head g) (s : SentLink) → slice_get c.args.senders.now c.args.place ≡ Some s → s.sender ≡ c.head-head.result.node
 sender_is g c s at = ap (λ (x : SentLink). x.sender) (same_some (sym at ∙ c.head-head.ensures.1))
 
-pub returns-then-node-to-clause-told : goal.returns-then-node-to-clause-told
-returns-then-node-to-clause-told g c = λ s at n t b has step open' other since.
-    let same = sender_is g (goal.at.returns-then-node-to-clause-told g c).After-head-head s at ∙ c.if-node-to.true in
+pub returns-then-node-to-clause-in_time : goal.returns-then-node-to-clause-in_time
+returns-then-node-to-clause-in_time g c = λ s at n t b has step open' other since.
+    let same = sender_is g (goal.at.returns-then-node-to-clause-in_time g c).After-head-head s at ∙ c.if-node-to.true in
     omega (arith, (takes_timely c.args.task.now c.requires.task.nodes).later n s.sender t c.args.to b step, ap (slice_index c.args.self.now.late.items) same)
 
-pub returns-then-node-goal-clause-told : goal.returns-then-node-goal-clause-told
-returns-then-node-goal-clause-told g c = λ s at n t b has step open' other since.
-    absurd (other (sender_is g (goal.at.returns-then-node-goal-clause-told g c).After-head-head s at ∙ c.if-node-goal.true ∙ c.goal.ensures))
+pub returns-then-node-goal-clause-in_time : goal.returns-then-node-goal-clause-in_time
+returns-then-node-goal-clause-in_time g c = λ s at n t b has step open' other since.
+    absurd (other (sender_is g (goal.at.returns-then-node-goal-clause-in_time g c).After-head-head s at ∙ c.if-node-goal.true ∙ c.goal.ensures))
 
-pub returns-then-forbidden-node-clause-told : goal.returns-then-forbidden-node-clause-told
-returns-then-forbidden-node-clause-told g c = λ s at n t b has step open' other since.
+pub returns-then-forbidden-node-clause-in_time : goal.returns-then-forbidden-node-clause-in_time
+returns-then-forbidden-node-clause-in_time g c = λ s at n t b has step open' other since.
     let node = c.head-head.result.node in
-    let is = sender_is g (goal.at.returns-then-forbidden-node-clause-told g c).After-head-head s at in
+    let is = sender_is g (goal.at.returns-then-forbidden-node-clause-in_time g c).After-head-head s at in
     absurd (both_ways (slice_index_or c.args.task.now.forbidden node false) (rw is at open') (subst (λ xs. slice_index_or xs node false ≡ true) c.forbidden.ensures c.if-forbidden-node.true))
 
 -- over the link a step takes the cost of its least light time
@@ -41,17 +41,17 @@ over g c s at n t b has step =
     let link = c.requires.senders.each c.args.place sent here.1 in
     rw costs (over_bounds c.args.task.now c.requires.task c.head-head.result.node c.args.to here.0 c.head-head.result.bounds (link, here.2) n t b (rw is at has) (rw is at step))
 
-pub returns-then-last-latest-clause-told : goal.returns-then-last-latest-clause-told
-returns-then-last-latest-clause-told g c = λ s at n t b has step open' other since.
-    let here = goal.at.returns-then-last-latest-clause-told g c in
+pub returns-then-last-latest-clause-in_time : goal.returns-then-last-latest-clause-in_time
+returns-then-last-latest-clause-in_time g c = λ s at n t b has step open' other since.
+    let here = goal.at.returns-then-last-latest-clause-in_time g c in
     let near = read_at c.args.self.now.late.items c.args.to c.index.result.now (omega (arith, c.requires.node, c.requires.rising.many)) c.index.ensures in
     let inside = c.requires.senders.senders c.args.place _ c.head-head.ensures.1 in
     let latest = read_at c.args.self.now.late.items c.head-head.result.node c.index-latest.result.now (omega (arith, inside, c.requires.rising.many)) c.index-latest.ensures in
     let same = ap (slice_index c.args.self.now.late.items) (sender_is g here.After-head-head s at) in
     omega (arith, over g here.After-saturating_sub-last s at n t b has step, c.if-last-latest.true, near, latest, same)
 
-pub returns-then-head-at-clause-told : goal.returns-then-head-at-clause-told
-returns-then-head-at-clause-told g c = λ s at n t b has step open' other since.
+pub returns-then-head-at-clause-in_time : goal.returns-then-head-at-clause-in_time
+returns-then-head-at-clause-in_time g c = λ s at n t b has step open' other since.
     let here = c.head-head.ensures in
     let head = c.head-head.result in
     let is : s ≡ record { sender = head.node; passes = here.0 } = same_some (sym at ∙ here.1) in
@@ -82,9 +82,9 @@ returns-clause-rises g c =
     let latest = read_at late node c.index-latest.result.now (omega (arith, inside, c.requires.rising.many)) c.index-latest.ensures in
     late_rises late node c.saturating_sub-last.result (omega (arith, inside, c.requires.rising.many)) (omega (arith, latest, c.if-last-latest.false))
 
-pub returns-clause-told : goal.returns-clause-told
-returns-clause-told g c = λ s at n t b has step open' other since.
-    let here = goal.at.returns-clause-told g c in
+pub returns-clause-in_time : goal.returns-clause-in_time
+returns-clause-in_time g c = λ s at n t b has step open' other since.
+    let here = goal.at.returns-clause-in_time g c in
     let late = c.args.self.now.late.items in
     let node = c.head-head.result.node in
     let last = c.saturating_sub-last.result in

@@ -9,5 +9,5 @@ abbrev pub invariant-loop-place : goal.invariant-loop-place
 invariant-loop-place g l = record {
   rising : AreRising (IsNearBy l.task) l.task l.self.late.items l.self.taken.items l.self.queue l.to;
   rises : (k : ℕ) → slice_index l.fn.self.late.items k ≤ slice_index l.self.late.items k;
-  told : (j : ℕ) (s : SentLink) → j < l.place → slice_get l.senders j ≡ Some s → (n t b : ℕ) → HasNumber s.passes n → Takes l.task n s.sender t l.to b → IsNear l.task l.self.late.items s.sender t l.to b;
+  in_time : (j : ℕ) (s : SentLink) → j < l.place → slice_get l.senders j ≡ Some s → (n t b : ℕ) → HasNumber s.passes n → Takes l.task n s.sender t l.to b → IsNear l.task l.self.late.items s.sender t l.to b;
 }

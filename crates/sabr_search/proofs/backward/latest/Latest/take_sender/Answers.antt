@@ -7,22 +7,22 @@ use Rattle.sabr_search.proofs.BackwardLemmas.LastSeconds.{risen, late_rises, sti
 use Rattle.sabr_search.proofs.ForwardLemmas.Queues.{set_here, set_other}
 use Rattle.sabr_search.proofs.backward.latest.Latest.take_sender.Goals as goal
 
-pub returns-then-node-to-clause-told : goal.returns-then-node-to-clause-told
-returns-then-node-to-clause-told g c = λ n t w b has s less open' other since.
+pub returns-then-node-to-clause-in_time : goal.returns-then-node-to-clause-in_time
+returns-then-node-to-clause-in_time g c = λ n t w b has s less open' other since.
     omega (arith, less, (takes_timely c.args.task.now c.requires.task.nodes).later n c.args.from.node t w b s, c.requires.same, ap (slice_index c.args.self.now.late.items) c.if-node-to.true)
 
-pub returns-then-node-goal-clause-told : goal.returns-then-node-goal-clause-told
-returns-then-node-goal-clause-told g c = λ n t w b has s less open' other since. absurd (other (c.if-node-goal.true ∙ c.goal.ensures))
+pub returns-then-node-goal-clause-in_time : goal.returns-then-node-goal-clause-in_time
+returns-then-node-goal-clause-in_time g c = λ n t w b has s less open' other since. absurd (other (c.if-node-goal.true ∙ c.goal.ensures))
 
-pub returns-then-forbidden-node-clause-told : goal.returns-then-forbidden-node-clause-told
-returns-then-forbidden-node-clause-told g c = λ n t w b has s less open' other since.
+pub returns-then-forbidden-node-clause-in_time : goal.returns-then-forbidden-node-clause-in_time
+returns-then-forbidden-node-clause-in_time g c = λ n t w b has s less open' other since.
     absurd (both_ways (slice_index_or c.args.task.now.forbidden c.args.from.node false) open' (subst (λ xs. slice_index_or xs c.args.from.node false ≡ true) c.forbidden.ensures c.if-forbidden-node.true))
 
 pub leave_over-last-requires-clause-other : goal.leave_over-last-requires-clause-other
 leave_over-last-requires-clause-other g c = not_start c.args.task.now c.requires.task c.args.from.node (subst (λ xs. slice_index_or xs c.args.from.node false ≡ false) c.forbidden.ensures c.if-forbidden-node.false)
 
-pub returns-then-last-latest-clause-told : goal.returns-then-last-latest-clause-told
-returns-then-last-latest-clause-told g c = λ n t w b has s less open' other since.
+pub returns-then-last-latest-clause-in_time : goal.returns-then-last-latest-clause-in_time
+returns-then-last-latest-clause-in_time g c = λ n t w b has s less open' other since.
     let latest = read_at c.args.self.now.late.items c.args.from.node c.index-latest.result.now (omega (arith, c.requires.node, c.requires.rising.many)) c.index-latest.ensures in
     omega (arith, c.leave_over-last.ensures.full n t w b has s less, c.if-last-latest.true, latest)
 
@@ -46,6 +46,6 @@ returns-clause-rises g c =
     let latest = read_at late node c.index-latest.result.now (omega (arith, c.requires.node, c.requires.rising.many)) c.index-latest.ensures in
     late_rises late node c.leave_over-last.result (omega (arith, c.requires.node, c.requires.rising.many)) (omega (arith, latest, c.if-last-latest.false))
 
-pub returns-clause-told : goal.returns-clause-told
-returns-clause-told g c = λ n t w b has s less open' other since.
+pub returns-clause-in_time : goal.returns-clause-in_time
+returns-clause-in_time g c = λ n t w b has s less open' other since.
     omega (arith, set_here c.args.self.now.late.items c.args.from.node c.leave_over-last.result (omega (arith, c.requires.node, c.requires.rising.many)), c.leave_over-last.ensures.full n t w b has s less)

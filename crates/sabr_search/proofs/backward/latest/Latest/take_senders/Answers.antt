@@ -1,12 +1,12 @@
 use Rattle.std.proofs.Common.{[], inl, inr, slice_index, sym, arith}
 use Rattle.std.proofs.lemmas.Bool.{cases_lt}
 use Rattle.sabr_index.specs.Links.{SentLink}
-use Rattle.sabr_search.specs.layers.Late.{IsToldOver}
+use Rattle.sabr_search.specs.layers.Late.{AreLeftInTimeOver}
 use Rattle.sabr_search.proofs.LinkLemmas.OverLinks.{ruled_out}
 use Rattle.std.proofs.lemmas.Option.{slice_get_within}
 use Rattle.sabr_search.proofs.ForwardLemmas.LayerEntries.{read_at}
 use Rattle.sabr_search.proofs.BackwardLemmas.LastSeconds.{each_until}
-use Rattle.sabr_search.proofs.BackwardLemmas.LateLists.{told_rises}
+use Rattle.sabr_search.proofs.BackwardLemmas.LateLists.{left_rises}
 use Rattle.sabr_search.proofs.backward.latest.Latest.take_senders.Goals as goal
 
 pub loop-place-init : goal.loop-place-init
@@ -14,7 +14,7 @@ loop-place-init g c = record {
   rising = c.requires.rising;
   rises = λ k. omega arith;
   same = sym (read_at c.args.self.now.late.items c.args.to c.index-before.result.now (omega (arith, c.requires.node, c.requires.rising.many)) c.index-before.ensures);
-  told = λ j s less. absurd (omega (arith, less));
+  in_time = λ j s less. absurd (omega (arith, less));
 }
 
 pub index-latest-requires : goal.index-latest-requires
@@ -32,7 +32,7 @@ loop-place-preserved-then-rules_out g c =
       rising = so_far.rising;
       rises = so_far.rises;
       same = so_far.same;
-      told = each_until (λ (s : SentLink). IsToldOver task [] c.loop-place.self.late.items s.sender s.passes c.index-before.result.now) c.senders-senders.result c.loop-place.place _ here.1 so_far.told
+      in_time = each_until (λ (s : SentLink). AreLeftInTimeOver task [] c.loop-place.self.late.items s.sender s.passes c.index-before.result.now) c.senders-senders.result c.loop-place.place _ here.1 so_far.in_time
           (λ n t w b has s by open' other since. elim (cases_lt t (slice_index c.loop-place.self.late.items u)) [
             | inl early ↦ early
             | inr late_there ↦
@@ -55,13 +55,13 @@ loop-place-preserved g c =
       rising = one.rising;
       rises = λ k. omega (arith, so_far.rises k, one.rises k);
       same = one.same;
-      told = each_until (λ (s : SentLink). IsToldOver task [] c.take_sender.new.self.late.items s.sender s.passes c.index-before.result.now) c.senders-senders.result c.loop-place.place _ c.at-from.ensures.link
-          (λ j s less at n t w b has step by. told_rises task [] _ _ s.sender t one.rises (so_far.told j s less at n t w b has step by))
-          one.told;
+      in_time = each_until (λ (s : SentLink). AreLeftInTimeOver task [] c.take_sender.new.self.late.items s.sender s.passes c.index-before.result.now) c.senders-senders.result c.loop-place.place _ c.at-from.ensures.link
+          (λ j s less at n t w b has step by. left_rises task [] _ _ s.sender t one.rises (so_far.in_time j s less at n t w b has step by))
+          one.in_time;
     }
 
 pub returns-clause-taken : goal.returns-clause-taken
 returns-clause-taken g c = λ yes' n u t b step less.
     let so_far = c.loop-place.invariant in
     let on = c.senders-senders.ensures.whole n u t b step in
-    rw (← on.3) (so_far.told on.0 on.1 (omega (arith, slice_get_within c.senders-senders.result on.0 on.1 on.2, c.loop-place-test.false, c.len-place-end.ensures)) on.2 n t c.args.to b on.4 (rw (← on.3) at step) (omega (arith, less, so_far.same)))
+    rw (← on.3) (so_far.in_time on.0 on.1 (omega (arith, slice_get_within c.senders-senders.result on.0 on.1 on.2, c.loop-place-test.false, c.len-place-end.ensures)) on.2 n t c.args.to b on.4 (rw (← on.3) at step) (omega (arith, less, so_far.same)))

@@ -1,7 +1,7 @@
 use Rattle.sabr_search.specs.questions.FirstSteps.{tabled_of}
 use Rattle.sabr_search.specs.answers.CachedAnswers.{IsAnswer}
 use Rattle.sabr_search.proofs.AnswerLemmas.CachedAnswers.{put_all}
-use Rattle.sabr_search.proofs.early.answers.Answers.keep.Goals as goal
+use Rattle.sabr_search.proofs.early.answers.Answers.cache.Goals as goal
 
 pub returns : goal.returns
 returns g c =
