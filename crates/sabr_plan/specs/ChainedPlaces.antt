@@ -1,6 +1,5 @@
 -- Indexes in the chains of their buckets: each has the last index of its bucket before it.
-use Rattle.std.specs.Prelude.{◌≡◌, ◌≢◌, ℕ, ◌+◌, ◌<◌, ◌≤◌, List, length, slice_get, slice_index}
-use Rattle.std.specs.declared.option.Option.TheVariants.{Some}
+use Rattle.std.specs.Prelude.{◌≡◌, ◌≢◌, ℕ, ◌+◌, ◌<◌, ◌≤◌, List, length, slice_index}
 
 -- the number is one more than the last index of the bucket before a bound, and 0 if there is none
 pub record IsLastOf (buckets : List ℕ) (bucket below last : ℕ) : Type 0 where
@@ -13,7 +12,3 @@ pub record AreChained (buckets befores lasts : List ℕ) : Type 0 where
   pub within : length befores ≤ length buckets
   pub begins : (bucket : ℕ) → IsLastOf buckets bucket (length befores) (slice_index lasts bucket)
   pub followed : (k : ℕ) → k < length befores → IsLastOf buckets (slice_index buckets k) k (slice_index befores k)
-
--- and the next index is one of this bucket
-abbrev pub ComesNext : List ℕ → List ℕ → List ℕ → ℕ → Type 0
-ComesNext buckets befores lasts bucket = AreChained buckets befores lasts × (slice_get buckets (length befores) ≡ Some bucket)

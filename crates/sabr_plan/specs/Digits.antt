@@ -1,8 +1,6 @@
 -- Numbers as decimal digits.
-use Rattle.std.specs.Prelude.{◌≡◌, ℕ, ◌+◌, ◌-◌, ◌*◌, ◌<◌, ◌≤◌, ◌==◌, nat_lt, nat_le, ◌&&◌, Bool, IsTrue, List, length, slice_index, fold}
+use Rattle.std.specs.Prelude.{◌≡◌, ℕ, ◌+◌, ◌-◌, ◌*◌, ◌≤◌, ◌==◌, nat_lt, nat_le, ◌&&◌, Bool, IsTrue, List, length, slice_index, fold}
 use Rattle.std.specs.List.{list_all}
-use Rattle.core.specs.Float.Numeral.{digits_len}
-use Rattle.core.specs.Int.{w64, trailing_zeros}
 
 -- whether a byte is a digit
 abbrev pub is_digit : ℕ → Bool
@@ -21,10 +19,6 @@ pub record SpellsNumber (word : List ℕ) (value : ℕ) : Type 0 where
   pub few : length word ≤ 19
   pub digits : IsTrue (list_all is_digit word)
   pub stands : value ≡ digits_value word
-
--- fewer than eight digits are in front, and the word's lowest set bit is the highest of the byte after them
-abbrev pub MarksEnd : List ℕ → ℕ → Type 0
-MarksEnd text word = (digits_len text < 8) × (trailing_zeros w64 word ≡ 8 * digits_len text + 7)
 
 -- whether there is more than one digit, and the first is `0`
 abbrev pub leads_with_zero : List ℕ → Bool

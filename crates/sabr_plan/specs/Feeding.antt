@@ -3,8 +3,7 @@ use Rattle.std.specs.Prelude.{◌≡◌, ℕ, ◌+◌, ◌-◌, ◌*◌, Bool, L
 use Rattle.sabr_model.specs.plan.Plan.{ContactPlan, TabledPlan}
 use Rattle.sabr_plan.specs.Steps.{and_then}
 use Rattle.sabr_plan.specs.Words.{lines_of, is_one_line}
-use Rattle.sabr_plan.specs.Leaving.{Leaves}
-use Rattle.sabr_plan.specs.Reading.{Reading, most_lines, most_line_bytes, nothing_read, limited, read_lines, last_line}
+use Rattle.sabr_plan.specs.Reading.{Reading, most_lines, most_line_bytes, nothing_read, Leaves, limited, read_lines, last_line}
 use Rattle.sabr_plan.specs.declared.fault.PlanFault.{PlanFault}
 use Rattle.sabr_plan.specs.declared.fault.PlanKind.{PlanKind}
 use Rattle.sabr_plan.specs.declared.fault.PlanKind.TheVariants.{NoMemory}

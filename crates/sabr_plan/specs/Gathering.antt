@@ -29,10 +29,6 @@ standing contacts = filter stands contacts
 abbrev pub stands_at : Opening → Contact → Bool
 stands_at o c = opens o.from o.to o.start c && stands c
 
--- the rules of a plan, for these alone
-abbrev pub ContactsObey : List Contact → ℕ → Type 0
-ContactsObey contacts largest = IsPlan (plan_of_contacts contacts largest)
-
 -- an opening as one number: by start, then by sender and receiver
 abbrev pub opening_number : Opening → ℕ
 opening_number o = place_number o.start o.from o.to
@@ -62,10 +58,6 @@ IsFound o contacts None = list_any (stands_at o) contacts ≡ false
 abbrev pub plan_of_ranges : List Range → ContactPlan
 plan_of_ranges ranges = record { contacts = []; ranges = ranges; largest = 0 }
 
--- the rules of a plan, for these alone
-abbrev pub RangesObey : List Range → Type 0
-RangesObey ranges = IsPlan (plan_of_ranges ranges)
-
 -- ranges put into a list, the first before the others
 abbrev pub put_in_turn : List Range → List Range → List Range
 put_in_turn [] ys = ys
@@ -73,7 +65,7 @@ put_in_turn (x ∷ xs) ys = put_in_turn xs (put_in by_range_key x ys)
 
 -- put in one by one, the ranges obey the rules of a plan, and none of them is lost
 abbrev pub ObeyInTurn : List Range → Type 0
-ObeyInTurn ranges = RangesObey (put_in_turn ranges []) × IsPermutation ranges (put_in_turn ranges [])
+ObeyInTurn ranges = IsPlan (plan_of_ranges (put_in_turn ranges [])) × IsPermutation ranges (put_in_turn ranges [])
 
 -- the buckets of ranges by their ordered pairs, of 2048
 abbrev pub pair_bucket : ℕ → ℕ → ℕ
@@ -94,6 +86,6 @@ EndBy number ranges = list_any (ends_after number) ranges ≡ false
 -- after the last end
 pub record KnowsRanges (befores lasts : List ℕ) (rising : Bool) (last : ℕ × ℕ × ℕ) (placed : ℕ) (ranges : List Range) : Type 0 where
   pub within : placed ≤ length ranges
-  pub in_order : RangesObey (take placed ranges)
+  pub in_order : IsPlan (plan_of_ranges (take placed ranges))
   pub chained : AreChained (range_buckets (drop placed ranges)) befores lasts
   pub rises : rising ≡ true → EndBy (place_number last.0 last.1 last.2) ranges

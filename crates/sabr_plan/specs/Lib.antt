@@ -11,8 +11,6 @@ pub mod PlainWords
 pub mod Operands
 pub mod Commands
 pub mod Reading
-pub mod Leaving
 pub mod Feeding
 pub mod PlanRead
 pub mod Canonical
-pub mod Laws

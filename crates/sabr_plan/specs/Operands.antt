@@ -41,14 +41,9 @@ largest_value Range = most_light
 abbrev pub value_of : Target → List ℕ → Result ℕ PlanKind
 value_of target word = ok_or (number_within 0 (largest_value target) word) BadNumber
 
--- the refusal that comes first: BadTime before any other
-abbrev pub lesser_kind : PlanKind → PlanKind → PlanKind
-lesser_kind BadTime g = BadTime
-lesser_kind f g = g
-
--- both values, or the refusal that comes first
+-- both values, or the refusal that comes first: BadTime before any other
 abbrev pub both_of : Result ℕ PlanKind → Result ℕ PlanKind → Result (ℕ × ℕ) PlanKind
 both_of (Ok a) (Ok b) = Ok (a, b)
-both_of (Ok a) (Err g) = Err g
+both_of (Err BadTime) second = Err BadTime
 both_of (Err f) (Ok b) = Err f
-both_of (Err f) (Err g) = Err (lesser_kind f g)
+both_of first (Err g) = Err g

@@ -1,7 +1,7 @@
 //! A hash table with chaining over the indexes of a list: a search walks along the chain of one bucket.
 
-ghost use Rattle.std.specs.Prelude.{◌≡◌, ℕ, ◌+◌, ◌<◌, ◌≤◌, List, [], OnOk, OnErr, length, slice_index};
-ghost use Rattle.sabr_plan.specs.ChainedPlaces.{AreChained, ComesNext};
+ghost use Rattle.std.specs.Prelude.{◌≡◌, ℕ, ◌+◌, ◌<◌, ◌≤◌, List, [], OnOk, OnErr, Some, length, slice_get};
+ghost use Rattle.sabr_plan.specs.ChainedPlaces.{AreChained};
 
 use std::alloc::{AllocError, Allocator};
 
@@ -43,7 +43,7 @@ impl<A: Allocator + Copy> Chains<A> {
     /// Adds the next index to the chain of its bucket.
     pub fn push(&mut self, bucket: usize) -> Result<(), AllocError>
         requires { bucket < length self.old.lasts.items }
-        ensures ok { (of : List ℕ) → ComesNext of self.old.befores.items self.old.lasts.items bucket → OnOk result (AreChained of self.new.befores.items self.new.lasts.items) }
+        ensures ok { (of : List ℕ) → AreChained of self.old.befores.items self.old.lasts.items → slice_get of (length self.old.befores.items) ≡ Some bucket → OnOk result (AreChained of self.new.befores.items self.new.lasts.items) }
         ensures longer { OnOk result (length self.new.befores.items ≡ length self.old.befores.items + 1) }
         ensures sized { length self.new.lasts.items ≡ length self.old.lasts.items }
 

@@ -11,4 +11,4 @@ loop-chains-preserved g c =
     let cs = c.args.contacts.now in
     let at = c.len-in-loop-chains in
     let place = bucket_at (λ (d : Contact). opening_bucket (opening_of d)) cs _ at.result _ _ (omega (arith, at.ensures, s.chains.befores.ok)) (omega (arith, c.loop-chains-test.true, c.len.ensures, at.ensures)) c.bucket_of.ensures.value in
-    (omega (arith, s.invariant.0, c.push.ensures.sized), (c.in_ok-push.ensures {u = tt}).ok (contact_buckets cs) (s.invariant.1, place))
+    (omega (arith, s.invariant.0, c.push.ensures.sized), (c.in_ok-push.ensures {u = tt}).ok (contact_buckets cs) s.invariant.1 place)

@@ -10,4 +10,4 @@ loop-chains-preserved g c =
     let rs = c.args.ranges.now in
     let at = c.len-in-loop-chains in
     let place = bucket_at (λ (r : Range). pair_bucket r.one r.other) rs _ at.result _ _ (omega (arith, at.ensures, s.chains.befores.ok)) (omega (arith, c.loop-chains-test.true, c.len.ensures, at.ensures)) c.bucket_of.ensures.value in
-    (omega (arith, s.invariant.0, c.push.ensures.sized), (c.in_ok-push.ensures {u = tt}).ok (range_buckets rs) (s.invariant.1, place))
+    (omega (arith, s.invariant.0, c.push.ensures.sized), (c.in_ok-push.ensures {u = tt}).ok (range_buckets rs) s.invariant.1 place)
