@@ -6,7 +6,7 @@ use Rattle.std.specs.List.{list_any}
 use Rattle.std.proofs.lemmas.Bool.{cases_eq, cases_lt, false_from_ne_true}
 use Rattle.std.proofs.lemmas.List.{get_or_append_left, get_or-append_right, get_or-map, map-append}
 use Rattle.std.proofs.lemmas.List.Recursion.{or_from_places}
-use Rattle.sabr_plan.specs.ChainedPlaces.{IsLastOf, AreChained}
+use Rattle.sabr_plan.specs.Gathering.{IsLastOf, AreChained}
 
 -- the places before a bound alone matter
 last_same : (ks ls : List ℕ) (b below last : ℕ) → ((j : ℕ) → j < below → get_or ls j 0 ≡ get_or ks j 0) → IsLastOf ks b below last → IsLastOf ls b below last

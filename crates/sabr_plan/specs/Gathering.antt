@@ -1,6 +1,6 @@
 -- Contacts that are gathered with what no two of them share; and ranges that are gathered in any order, and sorted at
--- the end.
-use Rattle.std.specs.Prelude.{◌≡◌, ℕ, ◌+◌, ◌*◌, ◌/◌, ◌%◌, ◌^◌, ◌<◌, ◌≤◌, Bool, false, true, ◌&&◌, nat_lt, List, [], ◌∷◌, length, take, drop, map, slice_get, option_map, IsPermutation}
+-- the end. Indexes of both are in chains by buckets.
+use Rattle.std.specs.Prelude.{◌≡◌, ◌≢◌, ℕ, ◌+◌, ◌*◌, ◌/◌, ◌%◌, ◌^◌, ◌<◌, ◌≤◌, Bool, false, true, ◌&&◌, nat_lt, List, [], ◌∷◌, length, take, drop, map, slice_get, slice_index, option_map, IsPermutation}
 use Rattle.std.specs.List.{filter, list_any, AllByRecursion}
 use Rattle.std.specs.declared.option.Option.{Option}
 use Rattle.std.specs.declared.option.Option.TheVariants.{Some, None}
@@ -12,7 +12,22 @@ use Rattle.sabr_model.specs.plan.Plan.{ContactPlan, IsPlan, opens}
 use Rattle.sabr_model.specs.plan.Adding.{by_range_key}
 use Rattle.sabr_model.specs.plan.RangeOrder.{place_number}
 use Rattle.sabr_model.specs.plan.Openings.{opening_of}
-use Rattle.sabr_plan.specs.ChainedPlaces.{AreChained}
+
+-- ---- chains of indexes by buckets: each has the last index of its bucket before it
+
+-- the number is one more than the last index of the bucket before a bound, and 0 if there is none
+pub record IsLastOf (buckets : List ℕ) (bucket below last : ℕ) : Type 0 where
+  pub within : last ≤ below
+  pub is : (j : ℕ) → last ≡ j + 1 → slice_index buckets j ≡ bucket
+  pub none : (j : ℕ) → last ≤ j → j < below → slice_index buckets j ≢ bucket
+
+-- the first indexes are in the chains of their buckets, and each bucket has its last one of them
+pub record AreChained (buckets befores lasts : List ℕ) : Type 0 where
+  pub within : length befores ≤ length buckets
+  pub begins : (bucket : ℕ) → IsLastOf buckets bucket (length befores) (slice_index lasts bucket)
+  pub followed : (k : ℕ) → k < length befores → IsLastOf buckets (slice_index buckets k) k (slice_index befores k)
+
+-- ---- contacts
 
 -- contacts alone and the largest number assigned, as a plan without ranges
 abbrev pub plan_of_contacts : List Contact → ℕ → ContactPlan
@@ -54,6 +69,8 @@ abbrev pub IsFound : Opening → List Contact → Option ℕ → Type 0
 IsFound o contacts (Some k) = (k < length contacts) × (option_map (stands_at o) (slice_get contacts k) ≡ Some true)
 IsFound o contacts None = list_any (stands_at o) contacts ≡ false
 
+-- ---- ranges
+
 -- ranges alone, as a plan without contacts
 abbrev pub plan_of_ranges : List Range → ContactPlan
 plan_of_ranges ranges = record { contacts = []; ranges = ranges; largest = 0 }
@@ -74,13 +91,9 @@ pair_bucket one other = (one % 2048 * 509 + other % 2048) % 2048
 abbrev pub range_buckets : List Range → List ℕ
 range_buckets ranges = map (λ r. pair_bucket r.one r.other) ranges
 
--- the range ends after a pair and second, given as a number, in the order of ranges
-abbrev pub ends_after : ℕ → Range → Bool
-ends_after number r = nat_lt number (place_number r.one r.other r.end)
-
--- none of them does
+-- no range ends after a pair and second, given as a number, in the order of ranges
 abbrev pub EndBy : ℕ → List Range → Type 0
-EndBy number ranges = list_any (ends_after number) ranges ≡ false
+EndBy number ranges = AllByRecursion (λ r. place_number r.one r.other r.end ≤ number) ranges
 
 -- the first ranges are in order, the next ones are in chains, and if each begins after those before it end, none ends
 -- after the last end

@@ -1,4 +1,3 @@
-pub mod ChainedPlaces
 pub mod Gathering
 pub mod RangeKeys
 pub mod Steps

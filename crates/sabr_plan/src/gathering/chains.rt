@@ -1,7 +1,7 @@
 //! A hash table with chaining over the indexes of a list: a search walks along the chain of one bucket.
 
 ghost use Rattle.std.specs.Prelude.{◌≡◌, ℕ, ◌+◌, ◌<◌, ◌≤◌, List, [], OnOk, OnErr, Some, length, slice_get};
-ghost use Rattle.sabr_plan.specs.ChainedPlaces.{AreChained};
+ghost use Rattle.sabr_plan.specs.Gathering.{AreChained};
 
 use std::alloc::{AllocError, Allocator};
 

@@ -3,8 +3,7 @@
 
 ghost use Rattle.std.specs.Prelude.{◌≡◌, ◌<◌, ◌≤◌, ◌↔◌, [], IsTrue, OnOk, length};
 ghost use Rattle.std.specs.List.{list_any, position};
-ghost use Rattle.sabr_plan.specs.ChainedPlaces.{AreChained};
-ghost use Rattle.sabr_plan.specs.Gathering.{opening_number, opening_bucket, contact_buckets, stands_at, OpenBy, KnowsSome, IsFound};
+ghost use Rattle.sabr_plan.specs.Gathering.{AreChained, opening_number, opening_bucket, contact_buckets, stands_at, OpenBy, KnowsSome, IsFound};
 
 use crate::gathering::chains::Chains;
 use sabr_model::{Contact, Opening, comes_by};

@@ -5,8 +5,7 @@ ghost use Rattle.std.specs.Prelude.{◌≡◌, ◌<◌, ◌≤◌, [], IsTrue, O
 ghost use Rattle.std.specs.List.{list_any};
 ghost use Rattle.sabr_model.specs.plan.Plan.{overlap};
 ghost use Rattle.sabr_model.specs.plan.RangeOrder.{number_of_range};
-ghost use Rattle.sabr_plan.specs.ChainedPlaces.{AreChained};
-ghost use Rattle.sabr_plan.specs.Gathering.{EndBy, KnowsRanges, pair_bucket, range_buckets};
+ghost use Rattle.sabr_plan.specs.Gathering.{AreChained, EndBy, KnowsRanges, pair_bucket, range_buckets};
 
 use crate::gathering::chains::Chains;
 use sabr_model::{Range, comes_by};

@@ -1,6 +1,5 @@
 use Rattle.std.proofs.Common.{◌≤◌, ◌-◌, length}
-use Rattle.sabr_plan.specs.ChainedPlaces.{AreChained}
-use Rattle.sabr_plan.specs.Gathering.{contact_buckets}
+use Rattle.sabr_plan.specs.Gathering.{AreChained, contact_buckets}
 use Rattle.sabr_plan.proofs.gathering.known_openings.chain_all.Given as goal
 
 abbrev pub invariant-loop-chains : goal.invariant-loop-chains

@@ -1,6 +1,5 @@
 use Rattle.std.proofs.Common.{◌≤◌, ◌-◌, length}
-use Rattle.sabr_plan.specs.ChainedPlaces.{AreChained}
-use Rattle.sabr_plan.specs.Gathering.{range_buckets}
+use Rattle.sabr_plan.specs.Gathering.{AreChained, range_buckets}
 use Rattle.sabr_plan.proofs.gathering.known_ranges.chain_all.Given as goal
 
 abbrev pub invariant-loop-chains : goal.invariant-loop-chains

@@ -11,8 +11,7 @@ use Rattle.sabr_model.specs.plan.Plan.{ContactPlan, IsPlan, opens}
 use Rattle.sabr_model.specs.plan.Adding.{without_contact, number_of_opening}
 use Rattle.sabr_model.specs.plan.Openings.{opening_of}
 use Rattle.sabr_model.proofs.PlanLemmas.Deletions.{IsPlan-fewer_contacts}
-use Rattle.sabr_plan.specs.ChainedPlaces.{AreChained}
-use Rattle.sabr_plan.specs.Gathering.{plan_of_contacts, standing, opening_bucket, contact_buckets, KnowsSome, IsFound}
+use Rattle.sabr_plan.specs.Gathering.{AreChained, plan_of_contacts, standing, opening_bucket, contact_buckets, KnowsSome, IsFound}
 use Rattle.sabr_plan.proofs.GatheredOpenings.{ended, no_contact, deletes, none_found, open_by_set, there}
 use Rattle.sabr_plan.proofs.gathering.gathered_contacts.GatheredContacts.delete.Goals as goal
 
