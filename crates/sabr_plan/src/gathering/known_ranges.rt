@@ -1,7 +1,7 @@
 //! What tells whether a range overlaps one of those that came before it. A range that begins after all others end needs
 //! no search.
 
-ghost use Rattle.std.specs.Prelude.{◌≡◌, ◌<◌, ◌≤◌, [], IsTrue, OnOk, false, drop, length, is_some, not};
+ghost use Rattle.std.specs.Prelude.{◌≡◌, ◌<◌, ◌≤◌, [], IsTrue, false, drop, length, is_some, not};
 ghost use Rattle.std.specs.List.{list_any};
 ghost use Rattle.sabr_model.specs.plan.Plan.{overlap};
 ghost use Rattle.sabr_model.specs.plan.RangeOrder.{number_of_range};
@@ -9,7 +9,7 @@ ghost use Rattle.sabr_plan.specs.Gathering.{AreChained, EndBy, KnowsRanges, pair
 
 use crate::gathering::chains::Chains;
 use sabr_model::{Range, comes_by};
-use std::alloc::{AllocError, Allocator};
+use std::alloc::Allocator;
 
 /// The number of buckets. With 4096, a plan of 10000 ranges by start takes 0.8 percent fewer instructions for one
 /// route, and one of 100 ranges 0.9 percent more. To vary it: `bench/figures.py --counts 1 --only
@@ -70,7 +70,10 @@ impl<A: Allocator + Copy> KnownRanges<A> {
             return true;
         }
         let next = behind(ranges, self.placed);
-        let Ok(()) = chain_all(&mut self.chains, next) else {
+        let chained = self
+            .chains
+            .add_all(BUCKETS, next, |r| bucket_of(r.one, r.other));
+        let Ok(()) = chained else {
             return any_overlaps(next, range);
         };
         let Chains { lasts, befores } = &self.chains;
@@ -112,24 +115,6 @@ fn behind(ranges: &[Range], count: usize) -> &[Range]
     ensures { result.now ≡ drop count ranges.now }
 {
     &ranges[count..]
-}
-
-/// Adds the ranges that aren't in the hash table.
-fn chain_all<A: Allocator + Copy>(
-    chains: &mut Chains<A>,
-    ranges: &[Range],
-) -> Result<(), AllocError>
-    requires { AreChained (range_buckets ranges.now) chains.old.befores.items chains.old.lasts.items }
-    ensures sized { OnOk result (2048 ≤ length chains.new.lasts.items) }
-    ensures chained { AreChained (range_buckets ranges.now) chains.new.befores.items chains.new.lasts.items }
-    ensures all { OnOk result (length chains.new.befores.items ≡ length ranges.now) }
-{
-    chains.size(BUCKETS)?;
-    while chains.befores.len() < ranges.len() {
-        let Range { one, other, .. } = ranges[chains.befores.len()];
-        chains.push(bucket_of(one, other))?;
-    }
-    Ok(())
 }
 
 /// Returns the number of steps along a chain if none of the ranges, all of which are in the hash table, is of the same
