@@ -70,10 +70,7 @@ impl<A: Allocator + Copy> KnownRanges<A> {
             return true;
         }
         let next = behind(ranges, self.placed);
-        let chained = self
-            .chains
-            .add_all(BUCKETS, next, |r| bucket_of(r.one, r.other));
-        let Ok(()) = chained else {
+        let Ok(()) = self.chains.add_all(BUCKETS, next, bucket_of) else {
             return any_overlaps(next, range);
         };
         let Chains { lasts, befores } = &self.chains;
@@ -101,12 +98,12 @@ impl<A: Allocator + Copy> KnownRanges<A> {
     }
 }
 
-/// The bucket of an ordered pair.
-fn bucket_of(one: u64, other: u64) -> usize
-    ensures value { result ≡ pair_bucket one other }
+/// The bucket of a range, by its ordered pair.
+fn bucket_of(range: &Range) -> usize
+    ensures value { result ≡ pair_bucket range.now.one range.now.other }
     ensures limit { result < 2048 }
 {
-    ((one % 2048 * 509 + other % 2048) % 2048) as usize
+    ((range.one % 2048 * 509 + range.other % 2048) % 2048) as usize
 }
 
 /// Returns the ranges after the first `count`.
@@ -126,7 +123,7 @@ fn walk_chain(ranges: &[Range], befores: &[usize], lasts: &[usize], range: &Rang
     ensures { is_some result ≡ not (list_any (overlap range.now) ranges.now) }
 {
     let mut walked = 0usize;
-    let mut at = lasts[bucket_of(range.one, range.other)];
+    let mut at = lasts[bucket_of(range)];
     while at > 0 {
         if range.overlaps(&ranges[at - 1]) {
             return None;
