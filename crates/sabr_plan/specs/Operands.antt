@@ -1,9 +1,10 @@
 -- The operands of a plan line: times, nodes, rates and light times.
 use Rattle.std.specs.Prelude.{ℕ, ◌+◌, ◌==◌, nat_le, ◌&&◌, List, [], ◌∷◌, length, Result, Ok, Err, ok_or, if◌then◌else◌}
+use Rattle.std.specs.Str.Parse.{digits_value}
 use Rattle.std.specs.declared.option.Option.{Option}
 use Rattle.std.specs.declared.option.Option.TheVariants.{Some, None}
 use Rattle.sabr_model.specs.plan.Plan.{last_time, most_light}
-use Rattle.sabr_plan.specs.Digits.{are_digits, digits_value}
+use Rattle.sabr_plan.specs.Digits.{are_digits}
 use Rattle.sabr_plan.specs.Numbers.{number_within}
 use Rattle.sabr_plan.specs.Times.{time_of}
 use Rattle.sabr_plan.specs.declared.fault.PlanKind.{PlanKind}
@@ -14,7 +15,7 @@ use Rattle.sabr_plan.specs.declared.command.Target.TheVariants.{Contact, Range}
 -- the seconds of a relative time: `+` and one to twelve digits
 abbrev pub relative_of : List ℕ → Option ℕ
 relative_of [] = None
-relative_of (b ∷ digits) = if (b == 43) && are_digits digits && nat_le (length digits) 12 then Some (digits_value digits) else None
+relative_of (b ∷ digits) = if (b == 43) && are_digits digits && nat_le (length digits) 12 then Some (digits_value 10 digits) else None
 
 -- the time this many seconds after the reference
 abbrev pub after_reference : Option ℕ → ℕ → Result ℕ PlanKind

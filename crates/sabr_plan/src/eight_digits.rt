@@ -49,7 +49,6 @@ fn value_of_seven(word: u64) -> u64
 /// function of its own, since most numbers are shorter than eight digits, with more text after them.
 #[cold]
 #[inline(never)]
-#[tactic(auto, unfolding(crate::specs::Digits::digits_value))]
 fn count_any_digits(text: &[u8]) -> (usize, u64)
     ensures range { result.0 ≤ length text.now }
     ensures digits { SpellsNumber (take result.0 text.now) result.1 }
