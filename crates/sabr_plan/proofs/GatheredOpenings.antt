@@ -18,13 +18,13 @@ use Rattle.sabr_model.specs.declared.fault.AddFault.TheVariants.{DuplicateContac
 use Rattle.sabr_model.specs.plan.Plan.{ContactPlan, opens, same_opening, none_twice}
 use Rattle.sabr_model.specs.plan.Adding.{contact_refusal}
 use Rattle.sabr_model.specs.plan.Openings.{opening_of}
-use Rattle.sabr_plan.specs.Gathering.{stands, standing, stands_at, IsFound, opening_number, opening_bucket, OpenBy, KnowsSome}
+use Rattle.sabr_plan.specs.Gathering.{stands, standing, stands_at, IsFound, opening_number, opening_bucket, contact_bucket, OpenBy, KnowsSome}
 use Rattle.sabr_model.proofs.PlanLemmas.ContactLemmas.{all_push}
 use Rattle.sabr_model.proofs.PlanLemmas.Deletions.{opens_parts}
 use Rattle.sabr_plan.proofs.ChainedPlaces.{chained_push}
 
 -- what opens alike is of one bucket
-pub same_bucket : (o : Opening) (c : Contact) → stands_at o c ≡ true → opening_bucket (opening_of c) ≡ opening_bucket o
+pub same_bucket : (o : Opening) (c : Contact) → stands_at o c ≡ true → contact_bucket c ≡ opening_bucket o
 same_bucket o c passes =
     let e = opens_parts o.from o.to o.start c (and_parts (opens o.from o.to o.start c) (stands c) passes).0 in
     sym (rw (e.0, e.1, e.2) refl)
@@ -48,7 +48,7 @@ later_opening o last cs all lt = all_weaker (λ d. opening_number (opening_of d)
 -- one more contact, whose opening is the last one
 pub knows_push : (befores lasts : List ℕ) (rising : Bool) (last o : Opening) (cs : List Contact) → KnowsSome befores lasts rising last cs → (rising ≡ true → OpenBy o cs) → (c : Contact) → opening_of c ≡ o → KnowsSome befores lasts rising o (cs ++ c ∷ [])
 knows_push befores lasts rising last o cs h by c is = (
-  chained_push (λ d. opening_bucket (opening_of d)) cs c befores lasts h.0,
+  chained_push contact_bucket cs c befores lasts h.0,
   λ up. all_push (λ d. opening_number (opening_of d) ≤ opening_number o) cs c (by up) (let same = ap opening_number is in omega (arith, same)),
 )
 

@@ -52,9 +52,9 @@ opening_number o = place_number o.start o.from o.to
 abbrev pub opening_bucket : Opening → ℕ
 opening_bucket o = ((o.from * 11400714819323198485 % 2 ^ 64 + o.to * 14029467366897019727 % 2 ^ 64) % 2 ^ 64 + o.start * 1609587929392839161 % 2 ^ 64) % 2 ^ 64 / 2 ^ 44 % 4096
 
--- the buckets of contacts
-abbrev pub contact_buckets : List Contact → List ℕ
-contact_buckets contacts = map (λ c. opening_bucket (opening_of c)) contacts
+-- the bucket of a contact
+abbrev pub contact_bucket : Contact → ℕ
+contact_bucket c = opening_bucket (opening_of c)
 
 -- no contact opens after this
 abbrev pub OpenBy : Opening → List Contact → Type 0
@@ -62,7 +62,7 @@ OpenBy last contacts = AllByRecursion (λ c. opening_number (opening_of c) ≤ o
 
 -- the first contacts are in chains, and if the contacts ascend none opens after the last one
 abbrev pub KnowsSome : List ℕ → List ℕ → Bool → Opening → List Contact → Type 0
-KnowsSome befores lasts rising last contacts = AreChained (contact_buckets contacts) befores lasts × (rising ≡ true → OpenBy last contacts)
+KnowsSome befores lasts rising last contacts = AreChained (map contact_bucket contacts) befores lasts × (rising ≡ true → OpenBy last contacts)
 
 -- the index of a contact that stands and has this opening, or none does
 abbrev pub IsFound : Opening → List Contact → Option ℕ → Type 0
@@ -84,12 +84,9 @@ put_in_turn (x ∷ xs) ys = put_in_turn xs (put_in by_range_key x ys)
 abbrev pub ObeyInTurn : List Range → Type 0
 ObeyInTurn ranges = IsPlan (plan_of_ranges (put_in_turn ranges [])) × IsPermutation ranges (put_in_turn ranges [])
 
--- the buckets of ranges by their ordered pairs, of 2048
-abbrev pub pair_bucket : ℕ → ℕ → ℕ
-pair_bucket one other = (one % 2048 * 509 + other % 2048) % 2048
-
-abbrev pub range_buckets : List Range → List ℕ
-range_buckets ranges = map (λ r. pair_bucket r.one r.other) ranges
+-- the bucket of a range by its ordered pair, one of 2048
+abbrev pub range_bucket : Range → ℕ
+range_bucket r = (r.one % 2048 * 509 + r.other % 2048) % 2048
 
 -- no range ends after a pair and second, given as a number, in the order of ranges
 abbrev pub EndBy : ℕ → List Range → Type 0
@@ -100,5 +97,5 @@ EndBy number ranges = AllByRecursion (λ r. place_number r.one r.other r.end ≤
 pub record KnowsRanges (befores lasts : List ℕ) (rising : Bool) (last : ℕ × ℕ × ℕ) (placed : ℕ) (ranges : List Range) : Type 0 where
   pub within : placed ≤ length ranges
   pub in_order : IsPlan (plan_of_ranges (take placed ranges))
-  pub chained : AreChained (range_buckets (drop placed ranges)) befores lasts
+  pub chained : AreChained (map range_bucket (drop placed ranges)) befores lasts
   pub rises : rising ≡ true → EndBy (place_number last.0 last.1 last.2) ranges

@@ -1,9 +1,9 @@
 //! The openings of contacts that come one by one. A contact whose opening is the largest so far needs no search for a
 //! duplicate.
 
-ghost use Rattle.std.specs.Prelude.{◌≡◌, ◌<◌, ◌≤◌, ◌↔◌, [], IsTrue, length};
+ghost use Rattle.std.specs.Prelude.{◌≡◌, ◌<◌, ◌≤◌, ◌↔◌, [], IsTrue, length, map};
 ghost use Rattle.std.specs.List.{list_any, position};
-ghost use Rattle.sabr_plan.specs.Gathering.{AreChained, opening_number, opening_bucket, contact_buckets, stands_at, OpenBy, KnowsSome, IsFound};
+ghost use Rattle.sabr_plan.specs.Gathering.{AreChained, opening_number, opening_bucket, contact_bucket, stands_at, OpenBy, KnowsSome, IsFound};
 
 use crate::gathering::chains::Chains;
 use sabr_model::{Contact, Opening, comes_by};
@@ -73,9 +73,9 @@ pub fn find_standing<A: Allocator + Copy>(
     contacts: &[Contact],
     opening: &Opening,
 ) -> Option<usize>
-    requires { AreChained (contact_buckets contacts.now) chains.old.befores.items chains.old.lasts.items }
+    requires { AreChained (map contact_bucket contacts.now) chains.old.befores.items chains.old.lasts.items }
     ensures found { IsFound opening.now contacts.now result }
-    ensures chained { AreChained (contact_buckets contacts.now) chains.new.befores.items chains.new.lasts.items }
+    ensures chained { AreChained (map contact_bucket contacts.now) chains.new.befores.items chains.new.lasts.items }
 {
     let chained = chains.add_all(BUCKETS, contacts, |c| bucket_of(c.from, c.to, c.start));
     let Ok(()) = chained else {
@@ -121,7 +121,7 @@ fn find_in_chain(
     opening: &Opening,
 ) -> Option<usize>
     requires sized { 4096 ≤ length lasts.now }
-    requires chained { AreChained (contact_buckets contacts.now) befores.now lasts.now }
+    requires chained { AreChained (map contact_bucket contacts.now) befores.now lasts.now }
     requires all { length befores.now ≡ length contacts.now }
     ensures { IsFound opening.now contacts.now result }
 {

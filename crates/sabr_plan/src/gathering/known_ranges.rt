@@ -1,11 +1,11 @@
 //! What tells whether a range overlaps one of those that came before it. A range that begins after all others end needs
 //! no search.
 
-ghost use Rattle.std.specs.Prelude.{◌≡◌, ◌<◌, ◌≤◌, [], IsTrue, false, drop, length, is_some, not};
+ghost use Rattle.std.specs.Prelude.{◌≡◌, ◌<◌, ◌≤◌, [], IsTrue, false, drop, length, map, is_some, not};
 ghost use Rattle.std.specs.List.{list_any};
 ghost use Rattle.sabr_model.specs.plan.Plan.{overlap};
 ghost use Rattle.sabr_model.specs.plan.RangeOrder.{number_of_range};
-ghost use Rattle.sabr_plan.specs.Gathering.{AreChained, EndBy, KnowsRanges, pair_bucket, range_buckets};
+ghost use Rattle.sabr_plan.specs.Gathering.{AreChained, EndBy, KnowsRanges, range_bucket};
 
 use crate::gathering::chains::Chains;
 use sabr_model::{Range, comes_by};
@@ -100,7 +100,7 @@ impl<A: Allocator + Copy> KnownRanges<A> {
 
 /// The bucket of a range, by its ordered pair.
 fn bucket_of(range: &Range) -> usize
-    ensures value { result ≡ pair_bucket range.now.one range.now.other }
+    ensures value { result ≡ range_bucket range.now }
     ensures limit { result < 2048 }
 {
     ((range.one % 2048 * 509 + range.other % 2048) % 2048) as usize
@@ -118,7 +118,7 @@ fn behind(ranges: &[Range], count: usize) -> &[Range]
 /// ordered pair as `range` and overlaps it, and `None` otherwise.
 fn walk_chain(ranges: &[Range], befores: &[usize], lasts: &[usize], range: &Range) -> Option<usize>
     requires sized { 2048 ≤ length lasts.now }
-    requires chained { AreChained (range_buckets ranges.now) befores.now lasts.now }
+    requires chained { AreChained (map range_bucket ranges.now) befores.now lasts.now }
     requires all { length befores.now ≡ length ranges.now }
     ensures { is_some result ≡ not (list_any (overlap range.now) ranges.now) }
 {
