@@ -6,6 +6,7 @@ use Rattle.std.specs.List.{list_any, find, position, position_or_len}
 use Rattle.sabr_model.specs.declared.contact.Contact.{Contact}
 use Rattle.sabr_model.specs.declared.opening.Opening.{Opening}
 use Rattle.std.proofs.lemmas.Bool.{lt-leb, lt-ltb, le-ltb, ne_eqb, and_parts, or_parts, not-true, ltb-false, both_ways, false_from_ne_true}
+use Rattle.std.proofs.lemmas.List.{get_or_default}
 use Rattle.std.proofs.lemmas.Option.{slice_get-get_or}
 use Rattle.std.proofs.lemmas.List.Folds.{list_any_at}
 use Rattle.std.proofs.lemmas.List.Quantifiers.{position-Some}
@@ -98,7 +99,7 @@ module _ (o : Opening) (cs : List Contact) where
 
 -- the element at an index, by any value past the end
 pub there : (cs : List Contact) (k : ℕ) (c : Contact) → k < length cs → c ≡ get_or cs k c → c ≡ get_or cs k no_contact
-there cs k c lt is = let e : Some (get_or cs k c) ≡ Some (get_or cs k no_contact) = sym (slice_get-get_or cs k c lt) ∙ slice_get-get_or cs k no_contact lt in let same : get_or cs k c ≡ get_or cs k no_contact = cc in is ∙ same
+there cs k c lt is = is ∙ get_or_default cs k c no_contact lt
 
 -- one more that stands
 pub standing_push : (cs : List Contact) (c : Contact) → c.start < c.end → standing (cs ++ c ∷ []) ≡ standing cs ++ c ∷ []

@@ -41,7 +41,7 @@ pub record EndsLine {U : Type 0} (old : Fed) (back : List ℕ) (r : Result U Pla
   pub fits : OnOk r ((old.lines < most_lines) × (length old.held + length back ≤ most_line_bytes))
   pub one : IsTrue (is_one_line old.held)
 
--- at most so many bytes come after these, with an LF for each line
+-- the most bytes that may come after these: each line has up to 255, and its LF
 abbrev pub room : Fed → ℕ
 room s = 256 * (most_lines - s.lines) - length s.held
 
