@@ -99,13 +99,3 @@ module _ {X : Type 0} {f : X → ℕ} {p : X → Bool} {bucket : ℕ} {none : X}
         },
         omega (arith, less, some),
       )
-
--- it begins at the last place of the bucket
-pub walk_begins : {X : Type 0} (f : X → ℕ) (p : X → Bool) (bucket : ℕ) (none : X) (xs : List X) (befores lasts : List ℕ) → ((x : X) → p x ≡ true → f x ≡ bucket) → AreChained (map f xs) befores lasts → length befores ≡ length xs → IsWalked f p bucket none xs (get_or lasts bucket 0)
-walk_begins f p bucket none xs befores lasts others chained many = record {
-  below = length befores;
-  within = omega (arith, many);
-  last = chained.begins bucket;
-  fails = λ j ge lt. absurd (omega (arith, ge, lt, many));
-  others = others;
-}

@@ -19,16 +19,10 @@ use Rattle.sabr_model.specs.declared.fault.AddFault.TheVariants.{DuplicateContac
 use Rattle.sabr_model.specs.plan.Plan.{ContactPlan, opens, same_opening, none_twice}
 use Rattle.sabr_model.specs.plan.Adding.{contact_refusal}
 use Rattle.sabr_model.specs.plan.Openings.{opening_of}
-use Rattle.sabr_plan.specs.Gathering.{stands, standing, stands_at, IsFound, opening_number, opening_bucket, contact_bucket, OpenBy, KnowsSome}
+use Rattle.sabr_plan.specs.Gathering.{stands, standing, stands_at, IsFound, opening_number, contact_bucket, OpenBy, KnowsSome}
 use Rattle.sabr_model.proofs.PlanLemmas.ContactLemmas.{all_push}
 use Rattle.sabr_model.proofs.PlanLemmas.Deletions.{opens_parts}
 use Rattle.sabr_plan.proofs.ChainedPlaces.{chained_push}
-
--- what opens alike is of one bucket
-pub same_bucket : (o : Opening) (c : Contact) → stands_at o c ≡ true → contact_bucket c ≡ opening_bucket o
-same_bucket o c passes =
-    let e = opens_parts o.from o.to o.start c (and_parts (opens o.from o.to o.start c) (stands c) passes).0 in
-    sym (rw (e.0, e.1, e.2) refl)
 
 -- ---- contacts that open by a last opening
 

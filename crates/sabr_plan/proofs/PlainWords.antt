@@ -73,10 +73,6 @@ ended_blanks {text} {rest} after lf = still_ended after.blanks rest (plain_blank
 pub one_space : {text rest : List ℕ} → text ≡ 32 ∷ rest → IsAfterBlanks text rest × (length rest < length text)
 one_space {text} {rest} parts = (record { blanks = 32 ∷ []; parts = parts; blank = refl }, omega (arith, ap length parts))
 
--- blanks, at least one if the rest is shorter
-pub some_blanks : {text rest : List ℕ} → IsAfterBlanks text rest → length rest ≢ length text → IsAfterBlanks text rest × (length rest < length text)
-some_blanks {text} {rest} after shorter = (after, omega (arith, shorter, ap length after.parts, length-append after.blanks rest))
-
 pub ended_front : {Holds : List ℕ → Type 0} {text rest : List ℕ} → IsFront Holds text rest → is_one_line text ≡ false → is_one_line rest ≡ false
 ended_front {Holds} {text} {rest} front lf =
     still_ended front.word rest (plain_word front.word (and_parts (has_bytes front.word) (list_all is_graphic front.word) front.graphic).1) (rw front.parts at lf)

@@ -9,9 +9,6 @@ some : (word : List ℕ) (value : ℕ) → value ≡ digits_value 10 word → 0 
 some [] value e h = absurd (omega arith)
 some (b ∷ word) value e h = omega arith
 
-pub starts_amiss-requires : goal.starts_amiss-requires
-starts_amiss-requires c = some _ _ c.leading_digits-value.ensures.digits.stands
-
 pub returns-clause-value : goal.returns-clause-value
 returns-clause-value c =
     let h = c.leading_digits-value.ensures.digits in

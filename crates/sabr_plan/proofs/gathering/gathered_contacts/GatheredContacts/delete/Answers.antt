@@ -14,11 +14,6 @@ use Rattle.sabr_plan.specs.Gathering.{AreChained, plan_of_contacts, standing, co
 use Rattle.sabr_plan.proofs.GatheredOpenings.{ended, no_contact, deletes, none_found, open_by_set, there}
 use Rattle.sabr_plan.proofs.gathering.gathered_contacts.GatheredContacts.delete.Goals as goal
 
-pub invariant_of-self : goal.invariant_of-self
-invariant_of-self g c =
-    let k = c.find_standing.new.chains in
-    (c.self.invariant.0, (subst (λ ds. AreChained (map contact_bucket ds) k.befores.items k.lasts.items) c.deref.ensures.value c.find_standing.ensures.chained, c.self.invariant.1.1), c.self.invariant.2)
-
 pub returns-in_default-clause-value : goal.returns-in_default-clause-value
 returns-in_default-clause-value g c =
     let o : Opening = record { from = c.args.from; to = c.args.to; start = c.args.start } in
