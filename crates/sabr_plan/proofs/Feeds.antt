@@ -1,12 +1,12 @@
 -- Pieces of a text, fed one after the other.
-use Rattle.std.proofs.Common.{◌≡◌, ◌≢◌, ℕ, ◌+◌, ◌<◌, ◌≤◌, ◌⊎◌, inl, inr, Bool, true, List, [], ◌∷◌, ◌++◌, length, append_assoc, refl, sym, ap, ◌∙◌, arith, Result, Ok, Err, OnOk, IfErr, length-append}
+use Rattle.std.proofs.Common.{◌≡◌, ◌≢◌, ℕ, ◌+◌, ◌≤◌, ◌⊎◌, inl, inr, Bool, true, List, [], ◌∷◌, ◌++◌, length, append_assoc, refl, sym, ap, ◌∙◌, arith, Result, Ok, Err, OnOk, IfErr, length-append}
 use Rattle.sabr_plan.specs.declared.fault.PlanFault.{PlanFault}
 use Rattle.sabr_plan.specs.declared.fault.PlanKind.{PlanKind}
 use Rattle.sabr_plan.specs.declared.fault.PlanKind.TheVariants as kind
 use Rattle.sabr_plan.specs.Steps.{and_then}
 use Rattle.sabr_plan.specs.Words.{is_one_line}
-use Rattle.sabr_plan.specs.Reading.{most_lines, most_line_bytes, limited, read_line, broken_line}
-use Rattle.sabr_plan.specs.Feeding.{Fed, outcome, IsFed, room}
+use Rattle.sabr_plan.specs.Reading.{most_line_bytes, limited, read_line, broken_line}
+use Rattle.sabr_plan.specs.Feeding.{Fed, outcome, IsFed, weight}
 use Rattle.sabr_plan.proofs.Outcomes.{outcome-line, outcome-held, outcome-refused}
 
 -- a line ends in the first of two parts
@@ -30,10 +30,10 @@ module _ (first : Fed) (piece : List ℕ) (s : Fed) (rest : List ℕ) (same : (m
         let made : ◌≡◌ {A = Fed} (record { lines = s.lines + 1; reading = new.reading; held = [] }) new = rw (← lines, ← none) refl in
         line_ends more ended ∙ rw e (ap (λ t. outcome t (back ++ more) ended) made)
 
-    -- which leaves less room
-    pub line_room : (new : Fed) → new.lines ≡ s.lines + 1 → new.held ≡ [] → (s.lines < most_lines) × (length s.held + length front ≤ most_line_bytes) → room s + length piece ≤ room first + length rest → room new + length piece ≤ room first + length back
-    line_room new lines none fits left =
-        omega (arith, fits.0, fits.1, lines, ap length none, ap length parted, length-append front (10 ∷ back))
+    -- which is more than it was
+    pub line_grows : (new : Fed) → new.lines ≡ s.lines + 1 → new.held ≡ [] → length s.held + length front ≤ most_line_bytes → weight first + length piece ≤ weight s + length rest → weight first + length piece ≤ weight new + length back
+    line_grows new lines none short grows =
+        omega (arith, lines, ap length none, ap length parted, length-append front (10 ∷ back))
 
   -- what comes after the last LF is held, or refused
   pub rest_held : {U : Type 0} (new : Fed) (r : Result U PlanFault) → is_one_line rest ≡ true → OnOk r (new ≡ record { lines = s.lines; reading = s.reading; held = s.held ++ rest }) → IfErr r (λ f. (f ≡ broken_line (s.lines + 1) (s.held ++ rest)) × (f.kind ≢ kind.Read)) → IsFed first piece r new

@@ -53,4 +53,4 @@ module _ (s new : Fed) (line : List ℕ) (none : s.held ≡ []) (few : s.lines <
   known_refused k is lines = record { value = rw told is; refused = lines; rest = tt; fits = tt; one = one }
 
   pub known_read : {U : Type 0} (x : U) → judged s.reading line ≡ Ok new.reading → new.lines ≡ s.lines + 1 → new.held ≡ [] → EndsLine s line (Ok x) new
-  known_read x e lines held = record { value = told ∙ e; refused = tt; rest = (lines, held); fits = (few, omega (arith, ap length none, short)); one = one }
+  known_read x e lines held = record { value = told ∙ e; refused = tt; rest = (lines, held); fits = omega (arith, ap length none, short); one = one }

@@ -1,5 +1,5 @@
 -- A plan text that is read in chunks: what was read so far, and what the text comes to.
-use Rattle.std.specs.Prelude.{◌≡◌, ℕ, ◌+◌, ◌-◌, ◌*◌, Bool, List, [], ◌++◌, length, ◌<◌, ◌≤◌, IsTrue, OnOk, OnErr, Result, Ok, Err, ◌⊎◌}
+use Rattle.std.specs.Prelude.{◌≡◌, ℕ, ◌+◌, ◌-◌, ◌*◌, Bool, List, [], ◌++◌, length, ◌≤◌, IsTrue, OnOk, OnErr, Result, Ok, Err, ◌⊎◌}
 use Rattle.sabr_model.specs.plan.Plan.{ContactPlan, TabledPlan}
 use Rattle.sabr_plan.specs.Steps.{and_then}
 use Rattle.sabr_plan.specs.Words.{lines_of, is_one_line}
@@ -38,12 +38,12 @@ pub record EndsLine {U : Type 0} (old : Fed) (back : List ℕ) (r : Result U Pla
   pub value : Leaves (limited (old.lines + 1) old.reading (old.held ++ back)) r new.reading
   pub refused : OnErr r (new.lines ≡ old.lines)
   pub rest : OnOk r ((new.lines ≡ old.lines + 1) × (new.held ≡ []))
-  pub fits : OnOk r ((old.lines < most_lines) × (length old.held + length back ≤ most_line_bytes))
+  pub fits : OnOk r (length old.held + length back ≤ most_line_bytes)
   pub one : IsTrue (is_one_line old.held)
 
--- the most bytes that may come after these: each line has up to 255, and its LF
-abbrev pub room : Fed → ℕ
-room s = 256 * (most_lines - s.lines) - length s.held
+-- it grows with each byte, up to that of the most lines
+abbrev pub weight : Fed → ℕ
+weight s = 256 * s.lines + length s.held
 
 -- the plan, its fault, or a failed allocation
 abbrev pub Answers : Result ContactPlan PlanFault → Result TabledPlan PlanFault → Type 0

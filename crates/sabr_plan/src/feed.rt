@@ -1,6 +1,6 @@
 //! A plan text that is read chunk by chunk. One line at a time is held, in a fixed array.
 
-ghost use Rattle.std.specs.Prelude.{◌≡◌, ◌≢◌, ◌+◌, ◌-◌, ◌≤◌, ◌<◌, [], ◌∷◌, ◌++◌, ◌⊎◌, Ok, Err, OnOk, IfOk, IfErr, IsTrue, IsFalse, length, take, slice_index, MatchOption, MatchResult, false, true};
+ghost use Rattle.std.specs.Prelude.{◌≡◌, ◌≢◌, ◌+◌, ◌-◌, ◌*◌, ◌≤◌, ◌<◌, [], ◌∷◌, ◌++◌, ◌⊎◌, Ok, Err, OnOk, IfOk, IfErr, IsTrue, IsFalse, length, take, slice_index, MatchOption, MatchResult, false, true};
 ghost use Rattle.sabr_plan.specs.Words.{is_one_line};
 ghost use Rattle.sabr_plan.specs.Commands.{line_command};
 ghost use Rattle.sabr_plan.specs.declared.fault.PlanKind.TheVariants as kind;
@@ -75,7 +75,7 @@ fn ended_lines(piece: &[u8]) -> (&[u8], &[u8])
 
 impl<A: Allocator + Copy> PlanFeed<A> {
     ghost use Rattle.sabr_plan.specs.Reading.{Leaves, most_line_bytes, most_lines, limited, ended_line, broken_line};
-    ghost use Rattle.sabr_plan.specs.Feeding.{Fed, nothing_fed, outcome, EndsLine, IsFed, room, Answers};
+    ghost use Rattle.sabr_plan.specs.Feeding.{Fed, nothing_fed, outcome, EndsLine, IsFed, weight, Answers};
 
     /// Returns the feed before the first chunk.
     pub fn new(alloc: A) -> PlanFeed<A>
@@ -91,7 +91,8 @@ impl<A: Allocator + Copy> PlanFeed<A> {
     /// Reads the next chunk of the text.
     pub fn feed(&mut self, piece: &[u8]) -> Result<(), PlanFault>
         ensures fed { IsFed self.old piece.now result self.new }
-        ensures room { OnOk result (room self.new + length piece.now ≤ room self.old) }
+        ensures grows { OnOk result (weight self.old + length piece.now ≤ weight self.new) }
+        ensures bound { OnOk result (weight self.new ≤ 256 * most_lines) }
     {
         let (lines, tail) = ended_lines(piece);
         let mut rest = lines;
@@ -253,7 +254,7 @@ impl<A: Allocator + Copy> PlanFeed<A> {
     fn hold(&mut self, bytes: &[u8]) -> Result<(), PlanFault>
         requires { IsTrue (is_one_line bytes.now) }
         ensures ok { OnOk result (self.new ≡ record { lines = self.old.lines; reading = self.old.reading; held = self.old.held ++ bytes.now }) }
-        ensures room { OnOk result (room self.new + length bytes.now ≤ room self.old) }
+        ensures bound { OnOk result (weight self.new ≤ 256 * most_lines) }
         ensures held { IsTrue (is_one_line self.old.held) }
         ensures err { IfErr result (λ f. (f ≡ broken_line (self.old.lines + 1) (self.old.held ++ bytes.now)) × (f.kind ≢ kind.Read)) }
     {

@@ -4,7 +4,7 @@ use Rattle.std.proofs.lemmas.Bool.Decides.{nat_tests}
 use Rattle.std.proofs.lemmas.List.{nil_from_length}
 use Rattle.sabr_plan.specs.Feeding.{Fed, outcome}
 use Rattle.sabr_plan.proofs.Lines.{still_lf_at_end}
-use Rattle.sabr_plan.proofs.Feeds.{parted_on, line_refused, line_read, line_room, rest_held}
+use Rattle.sabr_plan.proofs.Feeds.{parted_on, line_refused, line_read, line_grows, rest_held}
 use Rattle.sabr_plan.proofs.feed.PlanFeed.feed.Goals as goal
 
 only_tail : (first s : Fed) (piece rest tail : List ℕ) → length rest ≡ 0 → ((more : List ℕ) (ended : Bool) → outcome first (piece ++ more) ended ≡ outcome s ((rest ++ tail) ++ more) ended) → (more : List ℕ) (ended : Bool) → outcome first (piece ++ more) ended ≡ outcome s (tail ++ more) ended
@@ -33,7 +33,7 @@ loop-rest-preserved g c =
     let new = c.feed_line-ended.new.self in
     record {
       same = line_read c.args.self.now c.args.piece.now s (rest ++ tail) c.loop-rest.invariant.same e.one line (behind ++ tail) h.line cut new e.value e.rest.0 e.rest.1;
-      room = line_room c.args.self.now c.args.piece.now s (rest ++ tail) c.loop-rest.invariant.same e.one line (behind ++ tail) h.line cut new e.rest.0 e.rest.1 e.fits c.loop-rest.invariant.room;
+      grows = line_grows c.args.self.now c.args.piece.now s (rest ++ tail) c.loop-rest.invariant.same e.one line (behind ++ tail) h.line cut new e.rest.0 e.rest.1 e.fits c.loop-rest.invariant.grows;
       ended = still_lf_at_end rest line behind h.parts c.loop-rest.invariant.ended;
     }
 
