@@ -4,9 +4,9 @@ use Rattle.std.specs.Prelude.{slice_get, Some, option_map}
 use Rattle.std.proofs.lemmas.Option.{slice_get-map, slice_get-get_or}
 use Rattle.std.specs.List.{list_any}
 use Rattle.std.proofs.lemmas.Bool.{cases_eq, cases_lt, false_from_ne_true}
-use Rattle.std.proofs.lemmas.List.{get_or_append_left, get_or-append_right, get_or-map, map-append}
+use Rattle.std.proofs.lemmas.List.{get_or_append_left, get_or-map, map-append}
 use Rattle.std.proofs.lemmas.List.Recursion.{or_from_places}
-use Rattle.sabr_plan.specs.ChainedPlaces.{IsLastOf, AreChained}
+use Rattle.sabr_plan.specs.Gathering.{IsLastOf, AreChained}
 
 -- the places before a bound alone matter
 last_same : (ks ls : List ℕ) (b below last : ℕ) → ((j : ℕ) → j < below → get_or ls j 0 ≡ get_or ks j 0) → IsLastOf ks b below last → IsLastOf ls b below last
@@ -43,10 +43,6 @@ chained_push f xs x befores lasts h = subst (λ ks. AreChained ks befores lasts)
 -- the bucket of an element at a place
 pub bucket_at : {X : Type 0} (f : X → ℕ) (xs : List X) (d : X) (k n b : ℕ) → k ≡ n → k < length xs → b ≡ f (get_or xs k d) → slice_get (map f xs) n ≡ Some b
 bucket_at f xs d k n b e within is = subst (λ m. slice_get (map f xs) m ≡ Some b) e (slice_get-map f xs k ∙ ap (option_map f) (slice_get-get_or xs k d within) ∙ ap Some (sym is))
-
--- and behind the others
-pub next_bucket : {X : Type 0} (f : X → ℕ) (xs : List X) (x : X) (n : ℕ) → n ≡ length xs → slice_get (map f (xs ++ x ∷ [])) n ≡ Some (f x)
-next_bucket f xs x n e = bucket_at f (xs ++ x ∷ []) x (length xs) n (f x) (sym e) (omega (arith, length-append xs (x ∷ []))) (sym (ap f (get_or-append_right xs (x ∷ []) (length xs) (length xs) x refl (omega arith) ∙ ap (λ m. get_or (x ∷ []) m x) (let none : length xs - length xs ≡ 0 = omega arith in none))))
 
 -- the same, where another table tells the same
 pub chained_told : (ks befores lasts lasts_then : List ℕ) → ((b : ℕ) → get_or lasts_then b 0 ≡ get_or lasts b 0) → AreChained ks befores lasts → AreChained ks befores lasts_then
@@ -103,13 +99,3 @@ module _ {X : Type 0} {f : X → ℕ} {p : X → Bool} {bucket : ℕ} {none : X}
         },
         omega (arith, less, some),
       )
-
--- it begins at the last place of the bucket
-pub walk_begins : {X : Type 0} (f : X → ℕ) (p : X → Bool) (bucket : ℕ) (none : X) (xs : List X) (befores lasts : List ℕ) → ((x : X) → p x ≡ true → f x ≡ bucket) → AreChained (map f xs) befores lasts → length befores ≡ length xs → IsWalked f p bucket none xs (get_or lasts bucket 0)
-walk_begins f p bucket none xs befores lasts others chained many = record {
-  below = length befores;
-  within = omega (arith, many);
-  last = chained.begins bucket;
-  fails = λ j ge lt. absurd (omega (arith, ge, lt, many));
-  others = others;
-}

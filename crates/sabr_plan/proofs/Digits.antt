@@ -1,38 +1,28 @@
 -- Digits and the number that they stand for.
-use Rattle.std.proofs.Common.{◌≡◌, ℕ, ◌+◌, ◌-◌, ◌*◌, ◌/◌, ◌%◌, ◌<◌, ◌≤◌, true, ◌&&◌, List, [], ◌∷◌, length, take, drop, get_or, refl, ap, ◌∙◌, arith, rules, fold}
+use Rattle.std.proofs.Common.{◌≡◌, ℕ, ◌+◌, ◌-◌, ◌*◌, ◌/◌, ◌%◌, ◌<◌, ◌≤◌, true, ◌&&◌, List, [], ◌∷◌, length, take, get_or, refl, ap, ◌∙◌, arith, rules}
 use Rattle.std.specs.Prelude.{nat_lt, Option, Some, None, if◌then◌else◌}
 use Rattle.std.specs.List.{list_all}
-use Rattle.std.proofs.lemmas.List.{take_more, take-append-drop}
 use Rattle.std.proofs.lemmas.List.Folds.{list_all_more}
-use Rattle.std.proofs.lemmas.List.Sums.{fold-append}
-use Rattle.std.proofs.lemmas.Str.Parse.{IsNumeralModel, numerals_by_fold, digits_value_short}
+use Rattle.std.specs.Str.Parse.{digits_value}
+use Rattle.std.specs.Char.{digit_value}
+use Rattle.std.proofs.lemmas.Bool.Decides.{nat_tests}
+use Rattle.std.proofs.lemmas.Int.Digits.{digits_value_more}
+use Rattle.std.proofs.lemmas.Str.Parse.{IsNumeralModel, numerals_by_value, digits_value_short, digits_value-take-le}
 use Rattle.std.proofs.Math.Bool.{and-false}
 use borrow.Author.Tests.{lt-ltb, le-ltb}
 use lib.Lanes.{number_l, digits_l}
 use Rattle.core.specs.Int.Digits.{AllBelowBase}
-use Rattle.sabr_plan.specs.Digits.{is_digit, are_digits, digits_value}
+use Rattle.sabr_plan.specs.Digits.{is_digit, are_digits}
 
--- digits as this crate tests and folds them are those of std
-pub numerals : IsNumeralModel (λ ds. list_all is_digit ds ≡ true) digits_value
-unfolding digits_value
-numerals = numerals_by_fold (λ ds. list_all is_digit ds ≡ true) (search rules) (λ n ds. fold (λ n b. n * 10 + (b - 48)) n ds) (search rules)
+-- digits as this crate tests them are those of std
+pub numerals : IsNumeralModel (λ ds. list_all is_digit ds ≡ true) (digits_value 10)
+numerals = numerals_by_value (λ ds. list_all is_digit ds ≡ true) (search rules)
 
 -- the digits up to a place, and the next
-pub take_digit : (xs : List ℕ) (i : ℕ) → i < length xs → digits_value (take (i + 1) xs) ≡ digits_value (take i xs) * 10 + (get_or xs i 0 - 48)
-unfolding digits_value
-take_digit xs i h = rw (take_more xs i 0 h) (fold-append (λ n b. n * 10 + (b - 48)) 0 (take i xs) (get_or xs i 0 ∷ []))
-
--- the digits up to a place stand for no more than all digits
-take_grows : (xs : List ℕ) (i : ℕ) → digits_value (take i xs) ≤ digits_value xs
-unfolding digits_value
-take_grows xs i =
-    let f : ℕ → ℕ → ℕ = λ n b. n * 10 + (b - 48) in
-    let whole = ap (fold f 0) (take-append-drop i xs) in
-    omega (arith, whole, fold-append f 0 (take i xs) (drop i xs), fold_from (drop i xs) (fold f 0 (take i xs)))
-  where
-    fold_from : (ys : List ℕ) (n : ℕ) → n ≤ fold (λ n b. n * 10 + (b - 48)) n ys
-    fold_from [] n = omega arith
-    fold_from (y ∷ ys) n = omega (arith, fold_from ys (n * 10 + (y - 48)))
+pub take_digit : (xs : List ℕ) (i : ℕ) → i < length xs → is_digit (get_or xs i 0) ≡ true → digits_value 10 (take (i + 1) xs) ≡ digits_value 10 (take i xs) * 10 + (get_or xs i 0 - 48)
+take_digit xs i h one =
+    let value : digit_value (get_or xs i 0) ≡ get_or xs i 0 - 48 = grind (arith, nat_tests) in
+    omega (arith, digits_value_more 10 xs i h, value)
 
 -- if the bytes up to a place and the next are digits, those up to the next place are
 pub take_digits : (xs : List ℕ) (i : ℕ) → i < length xs → list_all is_digit (take i xs) ≡ true → is_digit (get_or xs i 0) ≡ true → list_all is_digit (take (i + 1) xs) ≡ true
@@ -40,26 +30,24 @@ take_digits xs i h all one = rw (list_all_more is_digit xs i 0 h, all, one) refl
 
 -- the number that digits stand for, if it is below 2^64
 abbrev pub small_value : List ℕ → Option ℕ
-small_value word = if are_digits word && nat_lt (digits_value word) 18446744073709551616 then Some (digits_value word) else None
+small_value word = if are_digits word && nat_lt (digits_value 10 word) 18446744073709551616 then Some (digits_value 10 word) else None
 
 -- None if the digits up to a place stand for too much
-pub small_value_over : (xs : List ℕ) (i : ℕ) → i < length xs → 18446744073709551616 ≤ digits_value (take i xs) * 10 + (get_or xs i 0 - 48) → small_value xs ≡ None
-small_value_over xs i h over =
-    let grows : digits_value (take (i + 1) xs) ≤ digits_value xs = take_grows xs (i + 1) in
-    let more = take_digit xs i h in
-    let big : 18446744073709551616 ≤ digits_value xs = omega arith in
+pub small_value_over : (xs : List ℕ) (i : ℕ) → i < length xs → is_digit (get_or xs i 0) ≡ true → 18446744073709551616 ≤ digits_value 10 (take i xs) * 10 + (get_or xs i 0 - 48) → small_value xs ≡ None
+small_value_over xs i h one over =
+    let big : 18446744073709551616 ≤ digits_value 10 xs = omega (arith, digits_value-take-le 10 xs (i + 1) (omega arith), take_digit xs i h one, over) in
     rw (le-ltb _ _ big, and-false (are_digits xs)) refl
 
 -- else the number
-pub small_value_some : (xs : List ℕ) → 0 < length xs → list_all is_digit xs ≡ true → digits_value xs < 18446744073709551616 → small_value xs ≡ Some (digits_value xs)
+pub small_value_some : (xs : List ℕ) → 0 < length xs → list_all is_digit xs ≡ true → digits_value 10 xs < 18446744073709551616 → small_value xs ≡ Some (digits_value 10 xs)
 small_value_some xs some all h = rw (lt-ltb _ _ some, all, lt-ltb _ _ h) refl
 
 -- nineteen digits stand for less than 2^64
-pub few_digits : (xs : List ℕ) → list_all is_digit xs ≡ true → length xs ≤ 19 → digits_value xs < 18446744073709551616
+pub few_digits : (xs : List ℕ) → list_all is_digit xs ≡ true → length xs ≤ 19 → digits_value 10 xs < 18446744073709551616
 few_digits xs all short = omega (arith, digits_value_short numerals xs 19 all short)
 
 -- so at most nineteen digits have a number
-pub small_digits : (xs : List ℕ) → 0 < length xs → list_all is_digit xs ≡ true → length xs ≤ 19 → small_value xs ≡ Some (digits_value xs)
+pub small_digits : (xs : List ℕ) → 0 < length xs → list_all is_digit xs ≡ true → length xs ≤ 19 → small_value xs ≡ Some (digits_value 10 xs)
 small_digits xs some all short = small_value_some xs some all (few_digits xs all short)
 
 -- bytes are the digits of the number that they make

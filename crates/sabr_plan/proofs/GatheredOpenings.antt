@@ -6,6 +6,7 @@ use Rattle.std.specs.List.{list_any, find, position, position_or_len}
 use Rattle.sabr_model.specs.declared.contact.Contact.{Contact}
 use Rattle.sabr_model.specs.declared.opening.Opening.{Opening}
 use Rattle.std.proofs.lemmas.Bool.{lt-leb, lt-ltb, le-ltb, ne_eqb, and_parts, or_parts, not-true, ltb-false, both_ways, false_from_ne_true}
+use Rattle.std.proofs.lemmas.List.{get_or_default}
 use Rattle.std.proofs.lemmas.Option.{slice_get-get_or}
 use Rattle.std.proofs.lemmas.List.Folds.{list_any_at}
 use Rattle.std.proofs.lemmas.List.Quantifiers.{position-Some}
@@ -18,16 +19,10 @@ use Rattle.sabr_model.specs.declared.fault.AddFault.TheVariants.{DuplicateContac
 use Rattle.sabr_model.specs.plan.Plan.{ContactPlan, opens, same_opening, none_twice}
 use Rattle.sabr_model.specs.plan.Adding.{contact_refusal}
 use Rattle.sabr_model.specs.plan.Openings.{opening_of}
-use Rattle.sabr_plan.specs.Gathering.{stands, standing, stands_at, IsFound, opening_number, opening_bucket, OpenBy, KnowsSome}
+use Rattle.sabr_plan.specs.Gathering.{stands, standing, stands_at, IsFound, opening_number, contact_bucket, OpenBy, KnowsSome}
 use Rattle.sabr_model.proofs.PlanLemmas.ContactLemmas.{all_push}
 use Rattle.sabr_model.proofs.PlanLemmas.Deletions.{opens_parts}
 use Rattle.sabr_plan.proofs.ChainedPlaces.{chained_push}
-
--- what opens alike is of one bucket
-pub same_bucket : (o : Opening) (c : Contact) → stands_at o c ≡ true → opening_bucket (opening_of c) ≡ opening_bucket o
-same_bucket o c passes =
-    let e = opens_parts o.from o.to o.start c (and_parts (opens o.from o.to o.start c) (stands c) passes).0 in
-    sym (rw (e.0, e.1, e.2) refl)
 
 -- ---- contacts that open by a last opening
 
@@ -48,7 +43,7 @@ later_opening o last cs all lt = all_weaker (λ d. opening_number (opening_of d)
 -- one more contact, whose opening is the last one
 pub knows_push : (befores lasts : List ℕ) (rising : Bool) (last o : Opening) (cs : List Contact) → KnowsSome befores lasts rising last cs → (rising ≡ true → OpenBy o cs) → (c : Contact) → opening_of c ≡ o → KnowsSome befores lasts rising o (cs ++ c ∷ [])
 knows_push befores lasts rising last o cs h by c is = (
-  chained_push (λ d. opening_bucket (opening_of d)) cs c befores lasts h.0,
+  chained_push contact_bucket cs c befores lasts h.0,
   λ up. all_push (λ d. opening_number (opening_of d) ≤ opening_number o) cs c (by up) (let same = ap opening_number is in omega (arith, same)),
 )
 
@@ -98,7 +93,7 @@ module _ (o : Opening) (cs : List Contact) where
 
 -- the element at an index, by any value past the end
 pub there : (cs : List Contact) (k : ℕ) (c : Contact) → k < length cs → c ≡ get_or cs k c → c ≡ get_or cs k no_contact
-there cs k c lt is = let e : Some (get_or cs k c) ≡ Some (get_or cs k no_contact) = sym (slice_get-get_or cs k c lt) ∙ slice_get-get_or cs k no_contact lt in let same : get_or cs k c ≡ get_or cs k no_contact = cc in is ∙ same
+there cs k c lt is = is ∙ get_or_default cs k c no_contact lt
 
 -- one more that stands
 pub standing_push : (cs : List Contact) (c : Contact) → c.start < c.end → standing (cs ++ c ∷ []) ≡ standing cs ++ c ∷ []

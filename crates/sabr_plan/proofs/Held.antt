@@ -8,9 +8,8 @@ use borrow.Author.Tests.{le-ltb}
 use Rattle.sabr_plan.specs.declared.fault.PlanKind.{PlanKind}
 use Rattle.sabr_plan.specs.declared.fault.PlanKind.TheVariants as kind
 use Rattle.sabr_plan.specs.Words.{is_one_line}
-use Rattle.sabr_plan.specs.Leaving.{Leaves}
 use Rattle.sabr_plan.specs.Feeding.{Fed, EndsLine}
-use Rattle.sabr_plan.specs.Reading.{Reading, most_line_bytes, most_lines, judged, limited, broken_line}
+use Rattle.sabr_plan.specs.Reading.{Reading, Leaves, most_line_bytes, most_lines, judged, limited, broken_line}
 
 pub one_line-append : (a b : List ℕ) → is_one_line a ≡ true → is_one_line b ≡ true → is_one_line (a ++ b) ≡ true
 one_line-append a b h k = rw (list_all-append (λ x. not (eqb x 10)) a b, h, k) refl

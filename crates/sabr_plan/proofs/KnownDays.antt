@@ -1,5 +1,5 @@
 -- The text of a time is that of its day and of a second of that day; it is a word of a line.
-use Rattle.std.proofs.Common.{◌≡◌, ℕ, ◌+◌, ◌-◌, ◌/◌, ◌%◌, ◌<◌, ◌≤◌, true, false, eqb, List, [], ◌∷◌, ◌++◌, length, take, get_or, append_assoc, refl, sym, ap, ◌∙◌, arith, Option, Some, None, Ok, ok_or}
+use Rattle.std.proofs.Common.{◌≡◌, ℕ, ◌+◌, ◌-◌, ◌/◌, ◌%◌, ◌<◌, ◌≤◌, true, false, eqb, List, [], ◌∷◌, ◌++◌, length, take, drop, get_or, append_assoc, refl, ap, ◌∙◌, arith, Option, Some, None, Ok, ok_or}
 use Rattle.std.proofs.lemmas.Bool.{ne_eqb}
 use Rattle.std.proofs.lemmas.List.{take_more}
 use lib.Lanes.{number_l, digits_l}
@@ -8,31 +8,28 @@ use borrow.Author.Tests.{le-leb}
 use Rattle.sabr_model.specs.plan.Plan.{last_time}
 use Rattle.sabr_plan.specs.declared.time.TimeFields.{TimeFields}
 use Rattle.sabr_plan.specs.declared.fault.PlanKind.TheVariants.{BadTime}
-use Rattle.sabr_plan.specs.Times.{day_after_epoch, spelled, fields_of, time_text_of}
-use Rattle.sabr_plan.specs.TimeShape.{HasWidth, date_text, clock_text, IsDate}
+use Rattle.sabr_plan.specs.Times.{spelled, fields_of, time_text_of}
+use Rattle.sabr_plan.specs.TimeShape.{HasWidth, IsDate}
 use Rattle.sabr_plan.specs.Operands.{relative_of, after_reference, absolute_time, time_at}
 use Rattle.sabr_plan.specs.PlainWords.{is_graphic, is_graphic_word}
 use Rattle.sabr_plan.proofs.Digits.{bytes_are}
 use Rattle.sabr_plan.proofs.Seconds.{fields_of_width, time_of-text}
 
-text_is : (t : ℕ) → time_text_of t ≡ date_text (day_after_epoch (t / 86400)) ++ clock_text (t % 86400)
-unfolding time_text_of fields_of
-text_is t = refl
-
 -- a second of a known day
-pub known_text : (date clock : List ℕ) (begin s : ℕ) → IsDate date begin → clock ≡ clock_text s → s < 86400 → (date ++ clock ≡ time_text_of (begin + s)) × (begin + s ≤ last_time)
+pub known_text : (date clock : List ℕ) (begin s : ℕ) → IsDate date begin → clock ≡ drop 10 (time_text_of s) → s < 86400 → (date ++ clock ≡ time_text_of (begin + s)) × (begin + s ≤ last_time)
+unfolding time_text_of fields_of
 known_text date clock begin s is e h =
     let day : (begin + s) / 86400 ≡ begin / 86400 = omega (arith, is.whole) in
-    let rest : (begin + s) % 86400 ≡ s = omega (arith, is.whole) in
-    let texts : date_text (day_after_epoch (begin / 86400)) ++ clock_text s ≡ time_text_of (begin + s) = sym (text_is (begin + s) ∙ rw (day, rest) refl) in
-    (ap (λ d. d ++ clock) is.spelled ∙ ap (λ c. date_text (day_after_epoch (begin / 86400)) ++ c) e ∙ texts, omega (arith, is.whole, is.within))
+    let rest : (begin + s) % 86400 ≡ s % 86400 = omega (arith, is.whole) in
+    (rw (is.spelled, e, day, rest) refl, omega (arith, is.whole, is.within))
 
 -- the day of a second
 pub date_of : (text : List ℕ) (t : ℕ) → text ≡ time_text_of t → t ≤ last_time → IsDate (take 10 text) (t - t % 86400)
+unfolding time_text_of fields_of
 date_of text t e h =
     let day : (t - t % 86400) / 86400 ≡ t / 86400 = omega arith in
     record {
-      spelled = ap (take 10) (e ∙ text_is t) ∙ sym (ap (λ n. date_text (day_after_epoch n)) day);
+      spelled = ap (take 10) e ∙ rw day refl;
       whole = omega arith;
       within = omega arith;
     }

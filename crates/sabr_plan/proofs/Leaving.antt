@@ -6,8 +6,7 @@ use Rattle.sabr_model.specs.plan.Plan.{ContactPlan}
 use Rattle.sabr_model.specs.declared.fault.AddFault.{AddFault}
 use Rattle.sabr_model.specs.declared.fault.AddFault.TheVariants as add
 use Rattle.sabr_plan.specs.declared.fault.PlanKind.{PlanKind}
-use Rattle.sabr_plan.specs.Leaving.{Leaves}
-use Rattle.sabr_plan.specs.Reading.{kind_of, changed, unless_named}
+use Rattle.sabr_plan.specs.Reading.{Leaves, kind_of, changed, unless_named}
 
 -- what a call returns that may be refused in this way, and by memory
 pub record IsAnswered {X : Type 0} (refusal : Option AddFault) (r : Result X AddFault) (p new : ContactPlan) : Type 0 where

@@ -8,7 +8,7 @@ use Rattle.std.proofs.lemmas.List.Sums.{AllPass-from_list_all, list_all-from_All
 use borrow.Author.Tests.{ltb-true, lt-ltb}
 use Rattle.sabr_plan.specs.Digits.{is_digit}
 use Rattle.sabr_plan.specs.Words.{is_blank, is_plain, is_comment, has_bytes, is_one_line, words_of}
-use Rattle.sabr_plan.specs.PlainWords.{is_graphic, is_graphic_word, IsAfterBlanks, IsAfterGap, IsFront, IsAhead}
+use Rattle.sabr_plan.specs.PlainWords.{is_graphic, is_graphic_word, IsAfterBlanks, IsFront, IsAhead}
 use Rattle.sabr_plan.proofs.FirstWords.{first_is, words_of-blank, words_of-nil}
 
 -- if each byte that passes one test passes another
@@ -69,25 +69,16 @@ still_ended front rest plain lf =
 pub ended_blanks : {text rest : List ℕ} → IsAfterBlanks text rest → is_one_line text ≡ false → is_one_line rest ≡ false
 ended_blanks {text} {rest} after lf = still_ended after.blanks rest (plain_blanks after.blanks after.blank) (rw after.parts at lf)
 
-pub ended_gap : {text rest : List ℕ} → IsAfterGap text rest → is_one_line text ≡ false → is_one_line rest ≡ false
-ended_gap {text} {rest} gap lf = still_ended gap.blanks rest (plain_blanks gap.blanks gap.blank) (rw gap.parts at lf)
-
 -- one space
-pub one_space : {text rest : List ℕ} → text ≡ 32 ∷ rest → IsAfterGap text rest
-one_space {text} {rest} parts = record { blanks = 32 ∷ []; parts = parts; some = refl; blank = refl }
-
--- blanks, at least one if the rest is shorter
-pub some_blanks : {text rest : List ℕ} → IsAfterBlanks text rest → length rest ≢ length text → IsAfterGap text rest
-some_blanks {text} {rest} after shorter =
-    let long = ap length after.parts ∙ length-append after.blanks rest in
-    record { blanks = after.blanks; parts = after.parts; some = lt-ltb 0 (length after.blanks) (omega arith); blank = after.blank }
+pub one_space : {text rest : List ℕ} → text ≡ 32 ∷ rest → IsAfterBlanks text rest × (length rest < length text)
+one_space {text} {rest} parts = (record { blanks = 32 ∷ []; parts = parts; blank = refl }, omega (arith, ap length parts))
 
 pub ended_front : {Holds : List ℕ → Type 0} {text rest : List ℕ} → IsFront Holds text rest → is_one_line text ≡ false → is_one_line rest ≡ false
 ended_front {Holds} {text} {rest} front lf =
     still_ended front.word rest (plain_word front.word (and_parts (has_bytes front.word) (list_all is_graphic front.word) front.graphic).1) (rw front.parts at lf)
 
 pub ended_ahead : {Holds : List ℕ → Type 0} {text rest : List ℕ} → IsAhead Holds text rest → is_one_line text ≡ false → is_one_line rest ≡ false
-ended_ahead ahead lf = ended_front ahead.front (ended_gap ahead.gap lf)
+ended_ahead ahead lf = ended_front ahead.front (ended_blanks ahead.gap lf)
 
 -- a text begins with a line of these words, its LF and the rest; the line is empty or begins with a blank
 pub record HasLine (words : List (List ℕ)) (text rest : List ℕ) : Type 0 where
@@ -120,7 +111,7 @@ more_words {Holds} {text} {start} {rest} {words} ahead back =
       line = blanks ++ (word ++ back.line);
       parts = ahead.gap.parts ∙ ap (λ r. blanks ++ r) (ahead.front.parts ∙ ap (λ r. word ++ r) back.parts) ∙ rw (append_assoc, append_assoc) refl;
       plain = plain;
-      apart = λ _. first_blank blanks (word ++ back.line) (ltb-true 0 (length blanks) ahead.gap.some) ahead.gap.blank;
+      apart = λ _. first_blank blanks (word ++ back.line) (omega (arith, ahead.some, ap length ahead.gap.parts, length-append blanks ahead.start)) ahead.gap.blank;
       has = words_of-blanks blanks (word ++ back.line) ahead.gap.blank ∙ first_of word back.line ahead.front.graphic back.apart ∙ ap (λ ws. word ∷ ws) back.has;
     }
 

@@ -10,8 +10,7 @@ use Rattle.std.specs.declared.option.Option.TheVariants.{Some, None}
 use Rattle.std.specs.List.{list_all}
 use Rattle.std.proofs.Common.{zero, suc, length, get_or}
 use Rattle.std.proofs.lemmas.Fmt.{decimal_is_IsNumeral, decimal-digits_value, digits_decimal, digits_value-decimal, decimal_digit, first_decimal}
-use Rattle.sabr_plan.specs.Digits.{is_digit, are_digits, leads_with_zero}
-use Rattle.sabr_plan.specs.Digits as own
+use Rattle.sabr_plan.specs.Digits.{is_digit, leads_with_zero}
 use Rattle.sabr_plan.specs.Numbers.{number_within}
 use Rattle.sabr_plan.proofs.Digits.{numerals, small_value, small_value_some}
 
@@ -47,7 +46,7 @@ number_within-range low high text n e = grind (arith, nat_tests)
 -- the spelling of a number is digits that stand for it
 small_decimal : (n : ℕ) → n < 18446744073709551616 → small_value (decimal n) ≡ Some n
 small_decimal n h =
-    let value : own.digits_value (decimal n) ≡ n = digits_value-decimal numerals n (omega arith) in
+    let value : digits_value 10 (decimal n) ≡ n = digits_value-decimal numerals n (omega arith) in
     small_value_some (decimal n) (decimal_is_IsNumeral n (omega arith)).0.0 (digits_decimal numerals n (omega arith)) (rw value h) ∙ ap Some value
 
 -- it has no leading zero
@@ -58,7 +57,7 @@ decimal_leads (suc n) h =
     grind (arith, nat_tests)
 
 -- digits that stand for less than 2^64
-small_parts : (text : List ℕ) (v : ℕ) → small_value text ≡ Some v → (0 < length text) × (list_all is_digit text ≡ true) × (own.digits_value text ≡ v) × (v < 18446744073709551616)
+small_parts : (text : List ℕ) (v : ℕ) → small_value text ≡ Some v → (0 < length text) × (list_all is_digit text ≡ true) × (digits_value 10 text ≡ v) × (v < 18446744073709551616)
 small_parts text v e = grind (arith, nat_tests)
 
 -- without a leading zero they are the spelling of what they stand for

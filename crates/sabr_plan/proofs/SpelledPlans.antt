@@ -22,7 +22,7 @@ use Rattle.sabr_plan.specs.Steps.{and_then, given_as}
 use Rattle.sabr_plan.specs.Words.{words_of, is_comment, is_plain, has_bytes, lines_of}
 use Rattle.sabr_plan.specs.Numbers.{number_within}
 use Rattle.sabr_plan.specs.Times.{time_of}
-use Rattle.sabr_plan.specs.Operands.{relative_of, after_reference, absolute_time, time_at, node_of, largest_value, value_of, lesser_kind, both_of}
+use Rattle.sabr_plan.specs.Operands.{relative_of, after_reference, absolute_time, time_at, node_of, largest_value, value_of, both_of}
 use Rattle.sabr_plan.specs.Commands.{addition_of, deletion_of, target_of, targeted, reference_of, command_of, line_command, HasBounds}
 use Rattle.sabr_plan.specs.Reading.{Reading, most_line_bytes, most_lines, nothing_read, kind_of, changed, obeyed, at_line, limited, judged, read_line, read_lines, ended_line, last_line, plan_of}
 use Rattle.sabr_plan.proofs.Seconds.{time_of_tells}
@@ -56,15 +56,11 @@ or_gives : {A : Type 0} (P : A → Type 0) (o : Option A) (k : PlanKind) → Not
 or_gives P (Some x) k n p = p x refl
 or_gives P None k n p = n
 
-lesser_not : (f g : PlanKind) → NotRead f → NotRead g → NotRead (lesser_kind f g)
-lesser_not kind.BadTime g p q = p
-lesser_not f g p q = q
-
 both_give : (P : ℕ → Type 0) (a b : Result ℕ PlanKind) → Gives P a → Gives P b → Gives (λ t. P t.0 × P t.1) (both_of a b)
 both_give P (Ok a) (Ok b) p q = (p, q)
-both_give P (Ok a) (Err g) p q = q
+both_give P (Err kind.BadTime) b p q = p
 both_give P (Err f) (Ok b) p q = p
-both_give P (Err f) (Err g) p q = lesser_not f g p q
+both_give P a (Err g) p q = q
 
 -- ---- the operands are within their bounds
 

@@ -1,8 +1,7 @@
 -- Numbers as decimal digits.
-use Rattle.std.specs.Prelude.{◌≡◌, ℕ, ◌+◌, ◌-◌, ◌*◌, ◌<◌, ◌≤◌, ◌==◌, nat_lt, nat_le, ◌&&◌, Bool, IsTrue, List, length, slice_index, fold}
+use Rattle.std.specs.Prelude.{◌≡◌, ℕ, ◌≤◌, ◌==◌, nat_lt, nat_le, ◌&&◌, Bool, IsTrue, List, length, slice_index}
 use Rattle.std.specs.List.{list_all}
-use Rattle.core.specs.Float.Numeral.{digits_len}
-use Rattle.core.specs.Int.{w64, trailing_zeros}
+use Rattle.std.specs.Str.Parse.{digits_value}
 
 -- whether a byte is a digit
 abbrev pub is_digit : ℕ → Bool
@@ -12,19 +11,11 @@ is_digit b = nat_le 48 b && nat_le b 57
 abbrev pub are_digits : List ℕ → Bool
 are_digits word = nat_lt 0 (length word) && list_all is_digit word
 
--- the value of digits
-unfoldable pub digits_value : List ℕ → ℕ
-digits_value word = fold (λ n b. n * 10 + (b - 48)) 0 word
-
 -- at most nineteen digits, which have this value
 pub record SpellsNumber (word : List ℕ) (value : ℕ) : Type 0 where
   pub few : length word ≤ 19
   pub digits : IsTrue (list_all is_digit word)
-  pub stands : value ≡ digits_value word
-
--- fewer than eight digits are in front, and the word's lowest set bit is the highest of the byte after them
-abbrev pub MarksEnd : List ℕ → ℕ → Type 0
-MarksEnd text word = (digits_len text < 8) × (trailing_zeros w64 word ≡ 8 * digits_len text + 7)
+  pub stands : value ≡ digits_value 10 word
 
 -- whether there is more than one digit, and the first is `0`
 abbrev pub leads_with_zero : List ℕ → Bool

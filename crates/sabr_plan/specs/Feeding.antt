@@ -3,8 +3,7 @@ use Rattle.std.specs.Prelude.{◌≡◌, ℕ, ◌+◌, ◌-◌, ◌*◌, Bool, L
 use Rattle.sabr_model.specs.plan.Plan.{ContactPlan, TabledPlan}
 use Rattle.sabr_plan.specs.Steps.{and_then}
 use Rattle.sabr_plan.specs.Words.{lines_of, is_one_line}
-use Rattle.sabr_plan.specs.Leaving.{Leaves}
-use Rattle.sabr_plan.specs.Reading.{Reading, most_lines, most_line_bytes, nothing_read, limited, read_lines, last_line}
+use Rattle.sabr_plan.specs.Reading.{Reading, most_lines, most_line_bytes, nothing_read, Leaves, limited, read_lines, last_line}
 use Rattle.sabr_plan.specs.declared.fault.PlanFault.{PlanFault}
 use Rattle.sabr_plan.specs.declared.fault.PlanKind.{PlanKind}
 use Rattle.sabr_plan.specs.declared.fault.PlanKind.TheVariants.{NoMemory}
@@ -42,13 +41,9 @@ pub record EndsLine {U : Type 0} (old : Fed) (back : List ℕ) (r : Result U Pla
   pub fits : OnOk r (length old.held + length back ≤ most_line_bytes)
   pub one : IsTrue (is_one_line old.held)
 
--- it grows with each byte
+-- it grows with each byte, up to that of the most lines
 abbrev pub weight : Fed → ℕ
 weight s = 256 * s.lines + length s.held
-
--- that of the most lines, with no byte after them
-abbrev pub most_weight : ℕ
-most_weight = 256 * most_lines
 
 -- the plan, its fault, or a failed allocation
 abbrev pub Answers : Result ContactPlan PlanFault → Result TabledPlan PlanFault → Type 0

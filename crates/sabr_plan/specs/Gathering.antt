@@ -1,6 +1,6 @@
 -- Contacts that are gathered with what no two of them share; and ranges that are gathered in any order, and sorted at
--- the end.
-use Rattle.std.specs.Prelude.{◌≡◌, ℕ, ◌+◌, ◌*◌, ◌/◌, ◌%◌, ◌^◌, ◌<◌, ◌≤◌, Bool, false, true, ◌&&◌, nat_lt, List, [], ◌∷◌, length, take, drop, map, slice_get, option_map, IsPermutation}
+-- the end. Indexes of both are in chains by buckets.
+use Rattle.std.specs.Prelude.{◌≡◌, ◌≢◌, ℕ, ◌+◌, ◌*◌, ◌/◌, ◌%◌, ◌^◌, ◌<◌, ◌≤◌, Bool, false, true, ◌&&◌, nat_lt, List, [], ◌∷◌, length, take, drop, map, slice_get, slice_index, option_map, IsPermutation}
 use Rattle.std.specs.List.{filter, list_any, AllByRecursion}
 use Rattle.std.specs.declared.option.Option.{Option}
 use Rattle.std.specs.declared.option.Option.TheVariants.{Some, None}
@@ -12,7 +12,22 @@ use Rattle.sabr_model.specs.plan.Plan.{ContactPlan, IsPlan, opens}
 use Rattle.sabr_model.specs.plan.Adding.{by_range_key}
 use Rattle.sabr_model.specs.plan.RangeOrder.{place_number}
 use Rattle.sabr_model.specs.plan.Openings.{opening_of}
-use Rattle.sabr_plan.specs.ChainedPlaces.{AreChained}
+
+-- ---- chains of indexes by buckets: each has the last index of its bucket before it
+
+-- the number is one more than the last index of the bucket before a bound, and 0 if there is none
+pub record IsLastOf (buckets : List ℕ) (bucket below last : ℕ) : Type 0 where
+  pub within : last ≤ below
+  pub is : (j : ℕ) → last ≡ j + 1 → slice_index buckets j ≡ bucket
+  pub none : (j : ℕ) → last ≤ j → j < below → slice_index buckets j ≢ bucket
+
+-- the first indexes are in the chains of their buckets, and each bucket has its last one of them
+pub record AreChained (buckets befores lasts : List ℕ) : Type 0 where
+  pub within : length befores ≤ length buckets
+  pub begins : (bucket : ℕ) → IsLastOf buckets bucket (length befores) (slice_index lasts bucket)
+  pub followed : (k : ℕ) → k < length befores → IsLastOf buckets (slice_index buckets k) k (slice_index befores k)
+
+-- ---- contacts
 
 -- contacts alone and the largest number assigned, as a plan without ranges
 abbrev pub plan_of_contacts : List Contact → ℕ → ContactPlan
@@ -29,10 +44,6 @@ standing contacts = filter stands contacts
 abbrev pub stands_at : Opening → Contact → Bool
 stands_at o c = opens o.from o.to o.start c && stands c
 
--- the rules of a plan, for these alone
-abbrev pub ContactsObey : List Contact → ℕ → Type 0
-ContactsObey contacts largest = IsPlan (plan_of_contacts contacts largest)
-
 -- an opening as one number: by start, then by sender and receiver
 abbrev pub opening_number : Opening → ℕ
 opening_number o = place_number o.start o.from o.to
@@ -41,9 +52,9 @@ opening_number o = place_number o.start o.from o.to
 abbrev pub opening_bucket : Opening → ℕ
 opening_bucket o = ((o.from * 11400714819323198485 % 2 ^ 64 + o.to * 14029467366897019727 % 2 ^ 64) % 2 ^ 64 + o.start * 1609587929392839161 % 2 ^ 64) % 2 ^ 64 / 2 ^ 44 % 4096
 
--- the buckets of contacts
-abbrev pub contact_buckets : List Contact → List ℕ
-contact_buckets contacts = map (λ c. opening_bucket (opening_of c)) contacts
+-- the bucket of a contact
+abbrev pub contact_bucket : Contact → ℕ
+contact_bucket c = opening_bucket (opening_of c)
 
 -- no contact opens after this
 abbrev pub OpenBy : Opening → List Contact → Type 0
@@ -51,20 +62,18 @@ OpenBy last contacts = AllByRecursion (λ c. opening_number (opening_of c) ≤ o
 
 -- the first contacts are in chains, and if the contacts ascend none opens after the last one
 abbrev pub KnowsSome : List ℕ → List ℕ → Bool → Opening → List Contact → Type 0
-KnowsSome befores lasts rising last contacts = AreChained (contact_buckets contacts) befores lasts × (rising ≡ true → OpenBy last contacts)
+KnowsSome befores lasts rising last contacts = AreChained (map contact_bucket contacts) befores lasts × (rising ≡ true → OpenBy last contacts)
 
 -- the index of a contact that stands and has this opening, or none does
 abbrev pub IsFound : Opening → List Contact → Option ℕ → Type 0
 IsFound o contacts (Some k) = (k < length contacts) × (option_map (stands_at o) (slice_get contacts k) ≡ Some true)
 IsFound o contacts None = list_any (stands_at o) contacts ≡ false
 
+-- ---- ranges
+
 -- ranges alone, as a plan without contacts
 abbrev pub plan_of_ranges : List Range → ContactPlan
 plan_of_ranges ranges = record { contacts = []; ranges = ranges; largest = 0 }
-
--- the rules of a plan, for these alone
-abbrev pub RangesObey : List Range → Type 0
-RangesObey ranges = IsPlan (plan_of_ranges ranges)
 
 -- ranges put into a list, the first before the others
 abbrev pub put_in_turn : List Range → List Range → List Range
@@ -73,27 +82,20 @@ put_in_turn (x ∷ xs) ys = put_in_turn xs (put_in by_range_key x ys)
 
 -- put in one by one, the ranges obey the rules of a plan, and none of them is lost
 abbrev pub ObeyInTurn : List Range → Type 0
-ObeyInTurn ranges = RangesObey (put_in_turn ranges []) × IsPermutation ranges (put_in_turn ranges [])
+ObeyInTurn ranges = IsPlan (plan_of_ranges (put_in_turn ranges [])) × IsPermutation ranges (put_in_turn ranges [])
 
--- the buckets of ranges by their ordered pairs, of 2048
-abbrev pub pair_bucket : ℕ → ℕ → ℕ
-pair_bucket one other = (one % 2048 * 509 + other % 2048) % 2048
+-- the bucket of a range by its ordered pair, one of 2048
+abbrev pub range_bucket : Range → ℕ
+range_bucket r = (r.one % 2048 * 509 + r.other % 2048) % 2048
 
-abbrev pub range_buckets : List Range → List ℕ
-range_buckets ranges = map (λ r. pair_bucket r.one r.other) ranges
-
--- the range ends after a pair and second, given as a number, in the order of ranges
-abbrev pub ends_after : ℕ → Range → Bool
-ends_after number r = nat_lt number (place_number r.one r.other r.end)
-
--- none of them does
+-- no range ends after a pair and second, given as a number, in the order of ranges
 abbrev pub EndBy : ℕ → List Range → Type 0
-EndBy number ranges = list_any (ends_after number) ranges ≡ false
+EndBy number ranges = AllByRecursion (λ r. place_number r.one r.other r.end ≤ number) ranges
 
 -- the first ranges are in order, the next ones are in chains, and if each begins after those before it end, none ends
 -- after the last end
 pub record KnowsRanges (befores lasts : List ℕ) (rising : Bool) (last : ℕ × ℕ × ℕ) (placed : ℕ) (ranges : List Range) : Type 0 where
   pub within : placed ≤ length ranges
-  pub in_order : RangesObey (take placed ranges)
-  pub chained : AreChained (range_buckets (drop placed ranges)) befores lasts
+  pub in_order : IsPlan (plan_of_ranges (take placed ranges))
+  pub chained : AreChained (map range_bucket (drop placed ranges)) befores lasts
   pub rises : rising ≡ true → EndBy (place_number last.0 last.1 last.2) ranges

@@ -1,4 +1,3 @@
-pub mod ChainedPlaces
 pub mod Gathering
 pub mod RangeKeys
 pub mod Steps
@@ -11,8 +10,6 @@ pub mod PlainWords
 pub mod Operands
 pub mod Commands
 pub mod Reading
-pub mod Leaving
 pub mod Feeding
 pub mod PlanRead
 pub mod Canonical
-pub mod Laws

@@ -1,9 +1,10 @@
 -- The operands of a plan line: times, nodes, rates and light times.
 use Rattle.std.specs.Prelude.{ℕ, ◌+◌, ◌==◌, nat_le, ◌&&◌, List, [], ◌∷◌, length, Result, Ok, Err, ok_or, if◌then◌else◌}
+use Rattle.std.specs.Str.Parse.{digits_value}
 use Rattle.std.specs.declared.option.Option.{Option}
 use Rattle.std.specs.declared.option.Option.TheVariants.{Some, None}
 use Rattle.sabr_model.specs.plan.Plan.{last_time, most_light}
-use Rattle.sabr_plan.specs.Digits.{are_digits, digits_value}
+use Rattle.sabr_plan.specs.Digits.{are_digits}
 use Rattle.sabr_plan.specs.Numbers.{number_within}
 use Rattle.sabr_plan.specs.Times.{time_of}
 use Rattle.sabr_plan.specs.declared.fault.PlanKind.{PlanKind}
@@ -14,7 +15,7 @@ use Rattle.sabr_plan.specs.declared.command.Target.TheVariants.{Contact, Range}
 -- the seconds of a relative time: `+` and one to twelve digits
 abbrev pub relative_of : List ℕ → Option ℕ
 relative_of [] = None
-relative_of (b ∷ digits) = if (b == 43) && are_digits digits && nat_le (length digits) 12 then Some (digits_value digits) else None
+relative_of (b ∷ digits) = if (b == 43) && are_digits digits && nat_le (length digits) 12 then Some (digits_value 10 digits) else None
 
 -- the time this many seconds after the reference
 abbrev pub after_reference : Option ℕ → ℕ → Result ℕ PlanKind
@@ -41,14 +42,9 @@ largest_value Range = most_light
 abbrev pub value_of : Target → List ℕ → Result ℕ PlanKind
 value_of target word = ok_or (number_within 0 (largest_value target) word) BadNumber
 
--- the refusal that comes first: BadTime before any other
-abbrev pub lesser_kind : PlanKind → PlanKind → PlanKind
-lesser_kind BadTime g = BadTime
-lesser_kind f g = g
-
--- both values, or the refusal that comes first
+-- both values, or the refusal that comes first: BadTime before any other
 abbrev pub both_of : Result ℕ PlanKind → Result ℕ PlanKind → Result (ℕ × ℕ) PlanKind
 both_of (Ok a) (Ok b) = Ok (a, b)
-both_of (Ok a) (Err g) = Err g
+both_of (Err BadTime) second = Err BadTime
 both_of (Err f) (Ok b) = Err f
-both_of (Err f) (Err g) = Err (lesser_kind f g)
+both_of first (Err g) = Err g

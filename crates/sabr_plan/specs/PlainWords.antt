@@ -1,5 +1,5 @@
 -- Words at the front of a text, each after blanks.
-use Rattle.std.specs.Prelude.{◌≡◌, ℕ, nat_le, ◌&&◌, Bool, List, ◌∷◌, ◌++◌, codes, IsTrue}
+use Rattle.std.specs.Prelude.{◌≡◌, ℕ, nat_le, ◌&&◌, Bool, List, ◌∷◌, ◌++◌, length, ◌<◌, codes, IsTrue}
 use Rattle.std.specs.List.{list_all}
 use Rattle.sabr_plan.specs.Words.{has_bytes, is_blank, is_one_line}
 use Rattle.sabr_plan.specs.declared.command.Target.{Target}
@@ -19,13 +19,6 @@ pub record IsAfterBlanks (text rest : List ℕ) : Type 0 where
   pub parts : text ≡ blanks ++ rest
   pub blank : IsTrue (list_all is_blank blanks)
 
--- a text begins with blanks, at least one, and continues with the rest
-pub record IsAfterGap (text rest : List ℕ) : Type 0 where
-  pub blanks : List ℕ
-  pub parts : text ≡ blanks ++ rest
-  pub some : IsTrue (has_bytes blanks)
-  pub blank : IsTrue (list_all is_blank blanks)
-
 -- a text begins with a word for which this holds, and continues with the rest
 pub record IsFront (Holds : List ℕ → Type 0) (text rest : List ℕ) : Type 0 where
   pub word : List ℕ
@@ -33,10 +26,11 @@ pub record IsFront (Holds : List ℕ → Type 0) (text rest : List ℕ) : Type 0
   pub graphic : IsTrue (is_graphic_word word)
   pub holds : Holds word
 
--- the same after blanks
+-- the same after blanks, at least one
 pub record IsAhead (Holds : List ℕ → Type 0) (text rest : List ℕ) : Type 0 where
   pub start : List ℕ
-  pub gap : IsAfterGap text start
+  pub gap : IsAfterBlanks text start
+  pub some : length start < length text
   pub front : IsFront Holds start rest
 
 -- a text begins with a line for which this holds, and continues after its LF with the rest

@@ -1,11 +1,11 @@
 -- The plan of a text, or its first bad line.
-use Rattle.std.specs.Prelude.{ℕ, ◌+◌, nat_lt, ◌&&◌, Bool, is_some, List, [], ◌∷◌, length, Result, Ok, Err, if◌then◌else◌}
+use Rattle.std.specs.Prelude.{◌≡◌, ◌⊎◌, ℕ, ◌+◌, nat_lt, ◌&&◌, Bool, is_some, List, [], ◌∷◌, length, Result, Ok, Err, if◌then◌else◌}
 use Rattle.std.specs.List.{list_any}
 use Rattle.std.specs.declared.option.Option.{Option}
 use Rattle.std.specs.declared.option.Option.TheVariants.{Some, None}
 use Rattle.sabr_model.specs.declared.fault.AddFault.{AddFault}
 use Rattle.sabr_model.specs.declared.fault.AddFault.TheVariants as add
-use Rattle.sabr_model.specs.plan.Plan.{ContactPlan}
+use Rattle.sabr_model.specs.plan.Plan.{ContactPlan, IsPlan}
 use Rattle.sabr_model.specs.plan.Adding.{next_contact, contact_refusal, with_contact, number_of_opening, without_contact, new_range, range_refusal, with_range, begins, without_range}
 use Rattle.sabr_plan.specs.Steps.{and_then, given_as}
 use Rattle.sabr_plan.specs.Words.{has_bytes, lines_of}
@@ -62,6 +62,11 @@ obeyed r (Delete Range d) =
 unfoldable pub judged : Reading → List ℕ → Result Reading PlanKind
 judged r line = and_then (line_command r.reference line) (obeyed r)
 
+-- a call leaves the state that is wanted, or the refusal, or an allocation failed
+abbrev pub Leaves : {S U : Type 0} → Result S PlanKind → Result U PlanKind → S → Type 0
+Leaves wanted (Ok _) new = wanted ≡ Ok new
+Leaves wanted (Err k) new = (k ≡ kind.NoMemory) ⊎ (wanted ≡ Err k)
+
 -- a refusal of the line with this number
 abbrev pub at_line : {A : Type 0} → ℕ → Result A PlanKind → Result A PlanFault
 at_line n (Ok x) = Ok x
@@ -112,3 +117,7 @@ unfoldable pub plan_of : List ℕ → Bool → Result ContactPlan PlanFault
 plan_of bytes ended =
     let text = lines_of bytes in
     and_then (read_lines 1 nothing_read text.ended) (last_line ended (length text.ended + 1) text.open_line)
+
+-- a law: the plan of a text obeys the rules of a plan
+abbrev pub SpelledPlansObey : Type 0
+SpelledPlansObey = (bytes : List ℕ) (ended : Bool) (p : ContactPlan) → plan_of bytes ended ≡ Ok p → IsPlan p

@@ -1,8 +1,8 @@
 -- The shape of a time's text: digits in pairs, with bytes between them.
-use Rattle.std.specs.Prelude.{◌≡◌, ℕ, ◌+◌, ◌*◌, ◌/◌, ◌%◌, ◌<◌, ◌≤◌, ◌==◌, ◌&&◌, Bool, List, ◌∷◌, ◌++◌, length, slice_index}
+use Rattle.std.specs.Prelude.{◌≡◌, ℕ, ◌+◌, ◌*◌, ◌%◌, ◌<◌, ◌≤◌, ◌==◌, ◌&&◌, Bool, List, length, take, slice_index}
 use Rattle.sabr_plan.specs.Digits.{is_digit}
 use Rattle.sabr_model.specs.plan.Plan.{last_time}
-use Rattle.sabr_plan.specs.Times.{CalendarDay, day_after_epoch, two_digits, pair_at}
+use Rattle.sabr_plan.specs.Times.{pair_at, time_text_of}
 use Rattle.sabr_plan.specs.declared.time.TimeFields.{TimeFields}
 
 -- whether there are two digits from index i on
@@ -36,16 +36,8 @@ pub record HasWidth (f : TimeFields) : Type 0 where
   pub minute : f.minute < 100
   pub second : f.second < 100
 
--- the 10 bytes of a day, `yyyy/mm/dd`
-abbrev pub date_text : CalendarDay → List ℕ
-date_text d = two_digits (d.year / 100) ++ two_digits (d.year % 100) ++ 47 ∷ two_digits d.month ++ 47 ∷ two_digits d.day
-
--- that of a second of a day, behind its date
-abbrev pub clock_text : ℕ → List ℕ
-clock_text s = 45 ∷ two_digits (s / 3600) ++ 58 ∷ two_digits (s % 3600 / 60) ++ 58 ∷ two_digits (s % 60)
-
--- these bytes are the date of the day that begins with this second
+-- these bytes are the date of the day that begins with this second, `yyyy/mm/dd`
 pub record IsDate (date : List ℕ) (begin : ℕ) : Type 0 where
-  pub spelled : date ≡ date_text (day_after_epoch (begin / 86400))
+  pub spelled : date ≡ take 10 (time_text_of begin)
   pub whole : begin % 86400 ≡ 0
   pub within : begin ≤ last_time

@@ -1,9 +1,11 @@
 //! The digits at the front of a text, read eight bytes at a time.
 
-ghost use Rattle.std.specs.Prelude.{◌≡◌, ℕ, List, ◌*◌, ◌%◌, ◌^◌, ◌<◌, ◌≤◌, length, map, take};
+ghost use Rattle.std.specs.Prelude.{◌≡◌, ℕ, List, ◌+◌, ◌*◌, ◌%◌, ◌^◌, ◌<◌, ◌≤◌, length, map, take};
 ghost use Rattle.core.specs.Dec2flt.Digits.{less_zero, IsEightBytes, IsEightDigits};
+ghost use Rattle.core.specs.Float.Numeral.{digits_len};
+ghost use Rattle.core.specs.Int.{w64, trailing_zeros};
 ghost use Rattle.core.specs.Int.Digits.{number_from_digits};
-ghost use Rattle.sabr_plan.specs.Digits.{SpellsNumber, MarksEnd};
+ghost use Rattle.sabr_plan.specs.Digits.{SpellsNumber};
 ghost use lib.Lanes.{number_l};
 
 use core::dec2flt::read_digits;
@@ -27,7 +29,7 @@ pub fn first_eight(text: &[u8]) -> u64
 /// byte. Only that byte and those after it carry into the next one.
 #[inline(always)]
 fn mark_from_ten(word: u64) -> u64
-    ensures { (text : List ℕ) → IsEightBytes text → word ≡ number_l 256 (map less_zero text) → 0 < result → MarksEnd text result }
+    ensures { (text : List ℕ) → IsEightBytes text → word ≡ number_l 256 (map less_zero text) → 0 < result → (digits_len text < 8) × (trailing_zeros w64 result ≡ 8 * digits_len text + 7) }
 {
     (word.wrapping_add(0x7676_7676_7676_7676) | word) & 0x8080_8080_8080_8080
 }
@@ -47,7 +49,6 @@ fn value_of_seven(word: u64) -> u64
 /// function of its own, since most numbers are shorter than eight digits, with more text after them.
 #[cold]
 #[inline(never)]
-#[tactic(auto, unfolding(crate::specs::Digits::digits_value))]
 fn count_any_digits(text: &[u8]) -> (usize, u64)
     ensures range { result.0 ≤ length text.now }
     ensures digits { SpellsNumber (take result.0 text.now) result.1 }

@@ -1,8 +1,8 @@
 //! A fast reader of additions, in one pass over a line. It leaves all other lines to the general reader.
 
-ghost use Rattle.std.specs.Prelude.{◌≡◌, ◌≢◌, ◌∷◌, Ok, Some, IfSome, IsFalse};
+ghost use Rattle.std.specs.Prelude.{◌≡◌, ◌≢◌, ◌<◌, ◌∷◌, length, Ok, Some, IfSome, IsFalse};
 ghost use Rattle.sabr_plan.specs.Numbers.{number_within};
-ghost use Rattle.sabr_plan.specs.PlainWords.{IsAfterBlanks, IsAfterGap, IsFront, IsAhead, BeginsWithLine, AddsAhead};
+ghost use Rattle.sabr_plan.specs.PlainWords.{IsAfterBlanks, IsFront, IsAhead, BeginsWithLine, AddsAhead};
 ghost use Rattle.sabr_plan.specs.Operands.{time_at};
 ghost use Rattle.sabr_plan.specs.Commands.{line_command};
 ghost use Rattle.sabr_plan.specs.Words.{is_one_line};
@@ -73,7 +73,7 @@ fn after_end(text: &[u8]) -> Option<&[u8]>
 #[inline(always)]
 fn after_gap(text: &[u8]) -> Option<&[u8]>
     requires { IsFalse (is_one_line text.now) }
-    ensures gap { IfSome result (λ r. IsAfterGap text.now r.now) }
+    ensures gap { IfSome result (λ r. IsAfterBlanks text.now r.now × (length r.now < length text.now)) }
     ensures ended { IfSome result (λ r. IsFalse (is_one_line r.now)) }
 {
     if let Some(start) = behind(text, b' ') {

@@ -1,9 +1,8 @@
 //! A plan text that is read chunk by chunk. One line at a time is held, in a fixed array.
 
-ghost use Rattle.std.specs.Prelude.{◌≡◌, ◌≢◌, ◌+◌, ◌-◌, ◌≤◌, ◌<◌, [], ◌∷◌, ◌++◌, Ok, Err, OnOk, IfOk, IfErr, IsTrue, IsFalse, length, take, slice_index, MatchOption, false, true};
+ghost use Rattle.std.specs.Prelude.{◌≡◌, ◌≢◌, ◌+◌, ◌-◌, ◌*◌, ◌≤◌, ◌<◌, [], ◌∷◌, ◌++◌, ◌⊎◌, Ok, Err, OnOk, IfOk, IfErr, IsTrue, IsFalse, length, take, slice_index, MatchOption, MatchResult, false, true};
 ghost use Rattle.sabr_plan.specs.Words.{is_one_line};
 ghost use Rattle.sabr_plan.specs.Commands.{line_command};
-ghost use Rattle.sabr_plan.specs.Leaving.{Leaves, LeavesAt};
 ghost use Rattle.sabr_plan.specs.declared.fault.PlanKind.TheVariants as kind;
 
 use crate::command::Command;
@@ -75,8 +74,8 @@ fn ended_lines(piece: &[u8]) -> (&[u8], &[u8])
 }
 
 impl<A: Allocator + Copy> PlanFeed<A> {
-    ghost use Rattle.sabr_plan.specs.Reading.{most_line_bytes, most_lines, limited, ended_line, broken_line};
-    ghost use Rattle.sabr_plan.specs.Feeding.{Fed, nothing_fed, outcome, EndsLine, IsFed, weight, most_weight, Answers};
+    ghost use Rattle.sabr_plan.specs.Reading.{Leaves, most_line_bytes, most_lines, limited, ended_line, broken_line};
+    ghost use Rattle.sabr_plan.specs.Feeding.{Fed, nothing_fed, outcome, EndsLine, IsFed, weight, Answers};
 
     /// Returns the feed before the first chunk.
     pub fn new(alloc: A) -> PlanFeed<A>
@@ -93,7 +92,7 @@ impl<A: Allocator + Copy> PlanFeed<A> {
     pub fn feed(&mut self, piece: &[u8]) -> Result<(), PlanFault>
         ensures fed { IsFed self.old piece.now result self.new }
         ensures grows { OnOk result (weight self.old + length piece.now ≤ weight self.new) }
-        ensures bound { OnOk result (weight self.new ≤ most_weight) }
+        ensures bound { OnOk result (weight self.new ≤ 256 * most_lines) }
     {
         let (lines, tail) = ended_lines(piece);
         let mut rest = lines;
@@ -141,7 +140,7 @@ impl<A: Allocator + Copy> PlanFeed<A> {
 
     /// Ends the held bytes as a line, if there are any.
     fn end_text(&mut self) -> Result<(), PlanFault>
-        ensures value { LeavesAt (ended_line (self.old.lines + 1) self.old.reading self.old.held) result self.new.reading }
+        ensures value { MatchResult result (λ _. ended_line (self.old.lines + 1) self.old.reading self.old.held ≡ Ok self.new.reading) (λ f. (f.kind ≡ kind.NoMemory) ⊎ (ended_line (self.old.lines + 1) self.old.reading self.old.held ≡ Err f)) }
         ensures held { IsTrue (is_one_line self.old.held) }
     {
         if self.held.is_empty() {
@@ -255,7 +254,7 @@ impl<A: Allocator + Copy> PlanFeed<A> {
     fn hold(&mut self, bytes: &[u8]) -> Result<(), PlanFault>
         requires { IsTrue (is_one_line bytes.now) }
         ensures ok { OnOk result (self.new ≡ record { lines = self.old.lines; reading = self.old.reading; held = self.old.held ++ bytes.now }) }
-        ensures bound { OnOk result (weight self.new ≤ most_weight) }
+        ensures bound { OnOk result (weight self.new ≤ 256 * most_lines) }
         ensures held { IsTrue (is_one_line self.old.held) }
         ensures err { IfErr result (λ f. (f ≡ broken_line (self.old.lines + 1) (self.old.held ++ bytes.now)) × (f.kind ≢ kind.Read)) }
     {

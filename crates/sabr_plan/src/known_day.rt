@@ -1,11 +1,11 @@
 //! A cache of one day: that of the last absolute start or end. If the next one has the same date, only its time of day
 //! is read.
 
-ghost use Rattle.std.specs.Prelude.{◌≡◌, ◌<◌, ◌≤◌, ◌∷◌, [], ◌++◌, IfSome, length};
+ghost use Rattle.std.specs.Prelude.{◌≡◌, ◌<◌, ◌≤◌, ◌∷◌, [], ◌++◌, IfSome, drop, length};
 ghost use lib.Lanes.{digits_l};
 ghost use Rattle.sabr_model.specs.plan.Plan.{last_time};
 ghost use Rattle.sabr_plan.specs.Times.{time_text_of};
-ghost use Rattle.sabr_plan.specs.TimeShape.{clock_text, IsDate};
+ghost use Rattle.sabr_plan.specs.TimeShape.{IsDate};
 
 use crate::eight_digits::first_eight;
 use crate::time::{is_pair, pair_at, parse_time};
@@ -33,7 +33,7 @@ pub struct KnownDay {
 #[inline(always)]
 fn clock_of(text: &[u8]) -> Option<u64>
     requires { length text.now ≡ 9 }
-    ensures { IfSome result (λ s. (text.now ≡ clock_text s) × (s < 86400)) }
+    ensures { IfSome result (λ s. (text.now ≡ drop 10 (time_text_of s)) × (s < 86400)) }
 {
     if text[0] != b'-' || text[3] != b':' || text[6] != b':' {
         return None;
@@ -52,7 +52,7 @@ fn clock_of(text: &[u8]) -> Option<u64>
 
 impl KnownDay {
     /// Returns the cache of the first day that a time may have.
-    #[tactic(auto, unfolding(crate::specs::Times::day_after_epoch))]
+    #[tactic(auto, unfolding(crate::specs::Times::time_text_of, crate::specs::Times::fields_of, crate::specs::Times::day_after_epoch))]
     pub fn new() -> KnownDay {
         KnownDay {
             month: FIRST_MONTH,

@@ -2,7 +2,8 @@
 
 ghost use Rattle.std.specs.Prelude.{◌≡◌, ◌<◌, ◌≤◌, ◌+◌, ◌-◌, ◌*◌, ◌++◌, Some, None, SomeIff, IfSome, IsTrue, IsFalse, false, if◌then◌else◌, ◌&&◌, nat_lt, length};
 ghost use Rattle.std.specs.List.{list_all};
-ghost use Rattle.sabr_plan.specs.Digits.{is_digit, are_digits, digits_value, leads_with_zero, SpellsNumber};
+ghost use Rattle.std.specs.Str.Parse.{digits_value};
+ghost use Rattle.sabr_plan.specs.Digits.{is_digit, are_digits, leads_with_zero, SpellsNumber};
 ghost use Rattle.sabr_plan.specs.Numbers.{number_within};
 
 use crate::eight_digits::count_digits;
@@ -17,7 +18,7 @@ fn push_digit(value: u64, byte: u8) -> Option<u64>
 
 /// Returns the value of a word of digits. `None` for an empty word, another byte, or a value of 2^64 or more.
 pub fn digits_value(word: &[u8]) -> Option<u64>
-    ensures { result ≡ (if are_digits word.now && nat_lt (digits_value word.now) 18446744073709551616 then Some (digits_value word.now) else None) }
+    ensures { result ≡ (if are_digits word.now && nat_lt (digits_value 10 word.now) 18446744073709551616 then Some (digits_value 10 word.now) else None) }
 {
     if word.is_empty() {
         return None;

@@ -2,9 +2,8 @@
 
 ghost use Rattle.std.specs.Prelude.{◌≡◌, None, [], Ok, Err, IsOk, IfOk, MatchResult, IfSome, IsFalse};
 ghost use Rattle.sabr_plan.specs.Commands.{line_command, HasBounds};
-ghost use Rattle.sabr_plan.specs.Leaving.{Leaves};
 ghost use Rattle.sabr_plan.specs.PlainWords.{BeginsWithLine};
-ghost use Rattle.sabr_plan.specs.Reading.{kind_of};
+ghost use Rattle.sabr_plan.specs.Reading.{kind_of, Leaves};
 ghost use Rattle.sabr_plan.specs.Words.{is_one_line};
 ghost use Rattle.sabr_plan.specs.declared.command.Command.TheVariants.{Add, Delete};
 ghost use Rattle.sabr_plan.specs.declared.command.Target.TheVariants as target;

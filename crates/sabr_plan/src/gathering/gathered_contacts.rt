@@ -26,15 +26,15 @@ pub struct GatheredContacts<A: Allocator + Copy = Global> {
 }
 
 impl<A: Allocator + Copy> Model for GatheredContacts<A> {
-    ghost use Rattle.sabr_model.specs.plan.Plan.{ContactPlan};
+    ghost use Rattle.sabr_model.specs.plan.Plan.{ContactPlan, IsPlan};
     ghost use Rattle.std.specs.Prelude.{◌≡◌};
-    ghost use Rattle.sabr_plan.specs.Gathering.{plan_of_contacts, standing, ContactsObey, KnowsSome};
+    ghost use Rattle.sabr_plan.specs.Gathering.{plan_of_contacts, standing, KnowsSome};
 
     ghost Value = { ContactPlan };
 
     ghost view = { λ g. plan_of_contacts (standing g.contacts.items) g.largest };
 
-    ghost invariant = { λ g. ContactsObey (standing g.contacts.items) g.largest × KnowsSome g.openings.chains.befores.items g.openings.chains.lasts.items g.openings.rising g.openings.last g.contacts.items × (g.deleted ≡ 0 → standing g.contacts.items ≡ g.contacts.items) };
+    ghost invariant = { λ g. IsPlan (plan_of_contacts (standing g.contacts.items) g.largest) × KnowsSome g.openings.chains.befores.items g.openings.chains.lasts.items g.openings.rising g.openings.last g.contacts.items × (g.deleted ≡ 0 → standing g.contacts.items ≡ g.contacts.items) };
 }
 
 impl<A: Allocator + Copy> GatheredContacts<A> {

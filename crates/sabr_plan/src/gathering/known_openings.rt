@@ -1,14 +1,13 @@
 //! The openings of contacts that come one by one. A contact whose opening is the largest so far needs no search for a
 //! duplicate.
 
-ghost use Rattle.std.specs.Prelude.{◌≡◌, ◌<◌, ◌≤◌, ◌↔◌, [], IsTrue, OnOk, length};
+ghost use Rattle.std.specs.Prelude.{◌≡◌, ◌<◌, ◌≤◌, ◌↔◌, [], IsTrue, length, map};
 ghost use Rattle.std.specs.List.{list_any, position};
-ghost use Rattle.sabr_plan.specs.ChainedPlaces.{AreChained};
-ghost use Rattle.sabr_plan.specs.Gathering.{opening_number, opening_bucket, contact_buckets, stands_at, OpenBy, KnowsSome, IsFound};
+ghost use Rattle.sabr_plan.specs.Gathering.{AreChained, opening_number, opening_bucket, contact_bucket, stands_at, OpenBy, KnowsSome, IsFound};
 
 use crate::gathering::chains::Chains;
 use sabr_model::{Contact, Opening, comes_by};
-use std::alloc::{AllocError, Allocator};
+use std::alloc::Allocator;
 
 /// The number of buckets. A chain of the largest plan has five contacts. With 8192, plans of 448 and 1833 contacts take
 /// 4 and 2 percent more instructions for one route, and four of 17000 to 20000 contacts 0.3 to 0.8 percent fewer; with
@@ -74,11 +73,12 @@ pub fn find_standing<A: Allocator + Copy>(
     contacts: &[Contact],
     opening: &Opening,
 ) -> Option<usize>
-    requires { AreChained (contact_buckets contacts.now) chains.old.befores.items chains.old.lasts.items }
+    requires { AreChained (map contact_bucket contacts.now) chains.old.befores.items chains.old.lasts.items }
     ensures found { IsFound opening.now contacts.now result }
-    ensures chained { AreChained (contact_buckets contacts.now) chains.new.befores.items chains.new.lasts.items }
+    ensures chained { AreChained (map contact_bucket contacts.now) chains.new.befores.items chains.new.lasts.items }
 {
-    let Ok(()) = chain_all(chains, contacts) else {
+    let chained = chains.add_all(BUCKETS, contacts, |c| bucket_of(c.from, c.to, c.start));
+    let Ok(()) = chained else {
         return find_by_pass(contacts, opening);
     };
     find_in_chain(contacts, &chains.befores, &chains.lasts, opening)
@@ -102,38 +102,15 @@ fn comes_after(opening: &Opening, other: &Opening) -> bool
 }
 
 /// The bucket of an opening.
-fn bucket_of(opening: &Opening) -> usize
-    ensures value { result ≡ opening_bucket opening.now }
+fn bucket_of(from: u64, to: u64, start: u64) -> usize
+    ensures value { result ≡ opening_bucket (record { from = from; to = to; start = start }) }
     ensures limit { result < 4096 }
 {
-    let from = opening.from.wrapping_mul(11_400_714_819_323_198_485);
-    let to = opening.to.wrapping_mul(14_029_467_366_897_019_727);
-    let start = opening.start.wrapping_mul(1_609_587_929_392_839_161);
+    let from = from.wrapping_mul(11_400_714_819_323_198_485);
+    let to = to.wrapping_mul(14_029_467_366_897_019_727);
+    let start = start.wrapping_mul(1_609_587_929_392_839_161);
     let mixed = from.wrapping_add(to).wrapping_add(start);
     ((mixed >> 44) % 4096) as usize
-}
-
-/// Adds the contacts that aren't in the hash table.
-fn chain_all<A: Allocator + Copy>(
-    chains: &mut Chains<A>,
-    contacts: &[Contact],
-) -> Result<(), AllocError>
-    requires { AreChained (contact_buckets contacts.now) chains.old.befores.items chains.old.lasts.items }
-    ensures sized { OnOk result (4096 ≤ length chains.new.lasts.items) }
-    ensures chained { AreChained (contact_buckets contacts.now) chains.new.befores.items chains.new.lasts.items }
-    ensures all { OnOk result (length chains.new.befores.items ≡ length contacts.now) }
-{
-    chains.size(BUCKETS)?;
-    while chains.befores.len() < contacts.len() {
-        let Contact {
-            from,
-            to,
-            start,
-            ..
-        } = contacts[chains.befores.len()];
-        chains.push(bucket_of(&Opening { from, to, start }))?;
-    }
-    Ok(())
 }
 
 /// Returns the index of the contact that stands and has this opening, or `None`. All contacts are in the hash table.
@@ -144,11 +121,11 @@ fn find_in_chain(
     opening: &Opening,
 ) -> Option<usize>
     requires sized { 4096 ≤ length lasts.now }
-    requires chained { AreChained (contact_buckets contacts.now) befores.now lasts.now }
+    requires chained { AreChained (map contact_bucket contacts.now) befores.now lasts.now }
     requires all { length befores.now ≡ length contacts.now }
     ensures { IsFound opening.now contacts.now result }
 {
-    let mut at = lasts[bucket_of(opening)];
+    let mut at = lasts[bucket_of(opening.from, opening.to, opening.start)];
     while at > 0 {
         if stands_at(&contacts[at - 1], opening) {
             return Some(at - 1);

@@ -1,16 +1,15 @@
 //! What tells whether a range overlaps one of those that came before it. A range that begins after all others end needs
 //! no search.
 
-ghost use Rattle.std.specs.Prelude.{◌≡◌, ◌<◌, ◌≤◌, [], IsTrue, OnOk, false, drop, length, is_some, not};
+ghost use Rattle.std.specs.Prelude.{◌≡◌, ◌<◌, ◌≤◌, [], IsTrue, false, drop, length, map, is_some, not};
 ghost use Rattle.std.specs.List.{list_any};
 ghost use Rattle.sabr_model.specs.plan.Plan.{overlap};
 ghost use Rattle.sabr_model.specs.plan.RangeOrder.{number_of_range};
-ghost use Rattle.sabr_plan.specs.ChainedPlaces.{AreChained};
-ghost use Rattle.sabr_plan.specs.Gathering.{EndBy, KnowsRanges, pair_bucket, range_buckets};
+ghost use Rattle.sabr_plan.specs.Gathering.{AreChained, EndBy, KnowsRanges, range_bucket};
 
 use crate::gathering::chains::Chains;
 use sabr_model::{Range, comes_by};
-use std::alloc::{AllocError, Allocator};
+use std::alloc::Allocator;
 
 /// The number of buckets. With 4096, a plan of 10000 ranges by start takes 0.8 percent fewer instructions for one
 /// route, and one of 100 ranges 0.9 percent more. To vary it: `bench/figures.py --counts 1 --only
@@ -71,7 +70,7 @@ impl<A: Allocator + Copy> KnownRanges<A> {
             return true;
         }
         let next = behind(ranges, self.placed);
-        let Ok(()) = chain_all(&mut self.chains, next) else {
+        let Ok(()) = self.chains.add_all(BUCKETS, next, bucket_of) else {
             return any_overlaps(next, range);
         };
         let Chains { lasts, befores } = &self.chains;
@@ -99,12 +98,12 @@ impl<A: Allocator + Copy> KnownRanges<A> {
     }
 }
 
-/// The bucket of an ordered pair.
-fn bucket_of(one: u64, other: u64) -> usize
-    ensures value { result ≡ pair_bucket one other }
+/// The bucket of a range, by its ordered pair.
+fn bucket_of(range: &Range) -> usize
+    ensures value { result ≡ range_bucket range.now }
     ensures limit { result < 2048 }
 {
-    ((one % 2048 * 509 + other % 2048) % 2048) as usize
+    ((range.one % 2048 * 509 + range.other % 2048) % 2048) as usize
 }
 
 /// Returns the ranges after the first `count`.
@@ -115,34 +114,16 @@ fn behind(ranges: &[Range], count: usize) -> &[Range]
     &ranges[count..]
 }
 
-/// Adds the ranges that aren't in the hash table.
-fn chain_all<A: Allocator + Copy>(
-    chains: &mut Chains<A>,
-    ranges: &[Range],
-) -> Result<(), AllocError>
-    requires { AreChained (range_buckets ranges.now) chains.old.befores.items chains.old.lasts.items }
-    ensures sized { OnOk result (2048 ≤ length chains.new.lasts.items) }
-    ensures chained { AreChained (range_buckets ranges.now) chains.new.befores.items chains.new.lasts.items }
-    ensures all { OnOk result (length chains.new.befores.items ≡ length ranges.now) }
-{
-    chains.size(BUCKETS)?;
-    while chains.befores.len() < ranges.len() {
-        let Range { one, other, .. } = ranges[chains.befores.len()];
-        chains.push(bucket_of(one, other))?;
-    }
-    Ok(())
-}
-
 /// Returns the number of steps along a chain if none of the ranges, all of which are in the hash table, is of the same
 /// ordered pair as `range` and overlaps it, and `None` otherwise.
 fn walk_chain(ranges: &[Range], befores: &[usize], lasts: &[usize], range: &Range) -> Option<usize>
     requires sized { 2048 ≤ length lasts.now }
-    requires chained { AreChained (range_buckets ranges.now) befores.now lasts.now }
+    requires chained { AreChained (map range_bucket ranges.now) befores.now lasts.now }
     requires all { length befores.now ≡ length ranges.now }
     ensures { is_some result ≡ not (list_any (overlap range.now) ranges.now) }
 {
     let mut walked = 0usize;
-    let mut at = lasts[bucket_of(range.one, range.other)];
+    let mut at = lasts[bucket_of(range)];
     while at > 0 {
         if range.overlaps(&ranges[at - 1]) {
             return None;

@@ -1,7 +1,7 @@
 -- Nineteen digits always fit, and std reads them as this crate does.
 use Rattle.std.proofs.Common.{◌≡◌, take, true, ap, arith, length-take}
 use Rattle.std.specs.Prelude.{slice_range}
-use Rattle.std.specs.Str.Parse as std
+use Rattle.std.specs.Str.Parse.{digits_value}
 use Rattle.std.specs.List.{list_all}
 use Rattle.core.proofs.dec2flt.Rows.{AllDigits-digits_len}
 use Rattle.sabr_plan.specs.Digits.{is_digit}
@@ -14,12 +14,12 @@ returns c =
     let text = c.args.text.now in
     let count = c.read_digits-count.result.0 in
     let front = take count text in
-    let same : std.digits_value 10 (slice_range text 0 count) ≡ std.digits_value 10 front = ap (λ n. std.digits_value 10 (take n text)) {y = count} (omega arith) in
+    let same : digits_value 10 (slice_range text 0 count) ≡ digits_value 10 front = ap (λ n. digits_value 10 (take n text)) {y = count} (omega arith) in
     let told = AllDigits-digits_len text count (omega (arith, r.end)) in
     let all : list_all is_digit front ≡ true = numerals.from front told in
     let long = length-take count text in
     let small = few_digits front all (omega (arith, long, c.if-count-gt19.false)) in
     record {
       range = r.within;
-      digits = record { few = omega (arith, long, c.if-count-gt19.false); digits = all; stands = omega (arith, r.value, same, small, numerals.same front told) };
+      digits = record { few = omega (arith, long, c.if-count-gt19.false); digits = all; stands = omega (arith, r.value, same, small) };
     }

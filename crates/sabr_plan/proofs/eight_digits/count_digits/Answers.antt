@@ -2,11 +2,12 @@
 use Rattle.std.proofs.Common.{◌≡◌, ◌-◌, ◌*◌, ◌/◌, ◌%◌, ◌^◌, ◌<◌, take, refl, sym, ap, ◌∙◌, arith, take-take, length-take}
 use Rattle.std.specs.Prelude.{bit_xor}
 use Rattle.std.specs.List.{list_all}
+use Rattle.std.specs.Str.Parse.{digits_value}
 use Rattle.core.specs.Float.Numeral.{digits_len}
 use Rattle.core.proofs.dec2flt.Eight.{eight_at, lanes_are, shifted_is, bytes_up}
 use lib.Count.{count_trailing_zeros}
 use Rattle.core.proofs.dec2flt.Rows.{AllDigits-digits_len}
-use Rattle.sabr_plan.specs.Digits.{is_digit, digits_value}
+use Rattle.sabr_plan.specs.Digits.{is_digit}
 use Rattle.sabr_plan.proofs.Digits.{numerals}
 use Rattle.sabr_plan.proofs.eight_digits.count_digits.Goals as goal
 
@@ -24,7 +25,7 @@ returns c =
     let shift : 63 - before ≡ 56 - 8 * (before / 8) = omega (arith, mark.0, mark.1) in
     let shifted = shifted_is front (before / 8) (word * 2 ^ (63 - before) % 2 ^ 64 * 256 % 2 ^ 64) eight (omega (arith, count)) (omega (arith, few)) (rw shift (bytes_up word (before / 8) few ∙ rw lanes refl)) in
     let value = c.value_of_seven.ensures shifted.0 shifted.1 shifted.2 ∙ shifted.3 in
-    let told = AllDigits-digits_len front _ (omega (arith, count)) in
+    let told = AllDigits-digits_len front (before / 8) (omega (arith, count)) in
     let same = take-take (before / 8) 8 text (omega (arith, few)) in
     let long = length-take (before / 8) text in
     record {
@@ -32,6 +33,6 @@ returns c =
       digits = record {
         few = omega (arith, long, few);
         digits = sym (ap (list_all is_digit) same) ∙ numerals.from _ told;
-        stands = value ∙ sym (numerals.same _ told) ∙ ap digits_value same;
+        stands = value ∙ ap (digits_value 10) same;
       };
     }

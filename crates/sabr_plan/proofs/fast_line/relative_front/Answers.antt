@@ -1,18 +1,19 @@
 -- Digits come after `+`.
 use Rattle.std.proofs.Common.{Option, Some, None, true, ℕ, List, ◌≡◌, ◌<◌, ◌≤◌, length, ◌∷◌, refl, sym, ap, ◌∙◌, arith}
 use Rattle.std.specs.List.{list_all}
+use Rattle.std.specs.Str.Parse.{digits_value}
 use Rattle.std.proofs.lemmas.Bool.Decides.{nat_tests}
 use borrow.Author.Tests.{le-leb, lt-ltb}
-use Rattle.sabr_plan.specs.Digits.{is_digit, digits_value}
+use Rattle.sabr_plan.specs.Digits.{is_digit}
 use Rattle.sabr_plan.specs.Operands.{after_reference, absolute_time, relative_of, time_at}
 use Rattle.sabr_plan.proofs.PlainWords.{graphic_digits, graphic_behind}
 use Rattle.sabr_plan.proofs.fast_line.relative_front.Goals as goal
 
 module _ (digits : List ℕ) (some : 0 < length digits) (all : list_all is_digit digits ≡ true) where
-  relative : (reference : Option ℕ) → length digits ≤ 12 → time_at reference (43 ∷ digits) ≡ after_reference reference (digits_value digits)
+  relative : (reference : Option ℕ) → length digits ≤ 12 → time_at reference (43 ∷ digits) ≡ after_reference reference (digits_value 10 digits)
   unfolding time_at
   relative reference few =
-      let is : relative_of (43 ∷ digits) ≡ Some (digits_value digits) = rw (lt-ltb 0 (length digits) some, all, le-leb _ _ few) refl in
+      let is : relative_of (43 ∷ digits) ≡ Some (digits_value 10 digits) = rw (lt-ltb 0 (length digits) some, all, le-leb _ _ few) refl in
       ap (λ o. elim o [ Some seconds ↦ after_reference reference seconds | None ↦ absolute_time (43 ∷ digits) ]) is
 
 pub returns : goal.returns

@@ -19,7 +19,8 @@ adds_plain target count line front = record {
   first = record { blanks = []; parts = sym (take-append-drop count line) ∙ ap (λ f. f ++ drop count line) front; blank = refl };
   name = record {
     start = name_of target ++ drop count line;
-    gap = record { blanks = 32 ∷ []; parts = refl; some = refl; blank = refl };
+    gap = record { blanks = 32 ∷ []; parts = refl; blank = refl };
+    some = omega arith;
     front = record { word = name_of target; parts = refl; graphic = graphic_name target; holds = refl };
   };
 }

@@ -1,11 +1,12 @@
 use Rattle.std.proofs.Common.{◌≡◌, ◌<◌, take, true}
 use Rattle.std.specs.List.{list_all}
-use Rattle.sabr_plan.specs.Digits.{is_digit, digits_value}
+use Rattle.std.specs.Str.Parse.{digits_value}
+use Rattle.sabr_plan.specs.Digits.{is_digit}
 use Rattle.sabr_plan.proofs.number.digits_value.Given as goal
 
 abbrev pub invariant-loop-byte : goal.invariant-loop-byte
 invariant-loop-byte l = record {
-  value : l.value ≡ digits_value (take l.byte-index l.word);
+  value : l.value ≡ digits_value 10 (take l.byte-index l.word);
   small : l.value < 18446744073709551616;
   digits : list_all is_digit (take l.byte-index l.word) ≡ true;
 }

@@ -1,17 +1,13 @@
 -- Digits at the front, few enough to be small, spell what they stand for.
 use Rattle.std.proofs.Common.{◌≡◌, ℕ, ◌<◌, List, [], ◌∷◌, length, Some, sym, ap, ◌∙◌, arith}
-use Rattle.sabr_plan.specs.Digits.{digits_value}
+use Rattle.std.specs.Str.Parse.{digits_value}
 use Rattle.sabr_plan.proofs.Digits.{small_digits}
 use Rattle.sabr_plan.proofs.SpelledNumbers.{within_yes}
 use Rattle.sabr_plan.proofs.number.leading_number.Goals as goal
 
-some : (word : List ℕ) (value : ℕ) → value ≡ digits_value word → 0 < value → 0 < length word
-unfolding digits_value
+some : (word : List ℕ) (value : ℕ) → value ≡ digits_value 10 word → 0 < value → 0 < length word
 some [] value e h = absurd (omega arith)
 some (b ∷ word) value e h = omega arith
-
-pub starts_amiss-requires : goal.starts_amiss-requires
-starts_amiss-requires c = some _ _ c.leading_digits-value.ensures.digits.stands
 
 pub returns-clause-value : goal.returns-clause-value
 returns-clause-value c =

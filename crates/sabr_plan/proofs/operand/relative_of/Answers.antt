@@ -1,9 +1,10 @@
 -- At most twelve digits come after `+`.
 use Rattle.std.proofs.Common.{◌≡◌, ℕ, ◌-◌, ◌<◌, ◌≤◌, List, [], ◌∷◌, length, get_or, take, drop, true, ◌∙◌, arith}
 use Rattle.std.specs.List.{list_all}
+use Rattle.std.specs.Str.Parse.{digits_value}
 use Rattle.std.proofs.lemmas.List.{take_all}
 use Rattle.std.proofs.lemmas.Bool.Decides.{nat_tests}
-use Rattle.sabr_plan.specs.Digits.{is_digit, digits_value}
+use Rattle.sabr_plan.specs.Digits.{is_digit}
 use Rattle.sabr_plan.specs.Operands.{relative_of}
 use Rattle.sabr_plan.proofs.Digits.{small_value, few_digits}
 use Rattle.sabr_plan.proofs.operand.relative_of.Goals as goal
@@ -13,7 +14,7 @@ behind [] some plus short = absurd (omega arith)
 behind (b ∷ digits) some plus short =
     let few : length digits ≤ 12 = omega arith in
     let whole : take (length (b ∷ digits) - 1) digits ≡ digits = take_all _ digits (omega arith) in
-    let small : list_all is_digit digits ≡ true → digits_value digits < 18446744073709551616 = λ all. few_digits digits all (omega arith) in
+    let small : list_all is_digit digits ≡ true → digits_value 10 digits < 18446744073709551616 = λ all. few_digits digits all (omega arith) in
     rw whole (grind (arith, nat_tests))
 
 pub returns : goal.returns

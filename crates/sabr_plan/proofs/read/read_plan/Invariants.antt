@@ -1,5 +1,6 @@
-use Rattle.std.proofs.Common.{◌≡◌, ◌+◌, ◌-◌}
-use Rattle.sabr_plan.specs.Feeding.{weight, most_weight}
+use Rattle.std.proofs.Common.{◌≡◌, ◌+◌, ◌-◌, ◌*◌}
+use Rattle.sabr_plan.specs.Reading.{most_lines}
+use Rattle.sabr_plan.specs.Feeding.{weight}
 use Rattle.sabr_plan.proofs.ReadSoFar.{HasRead}
 use Rattle.sabr_plan.proofs.read.read_plan.Given as goal
 
@@ -10,4 +11,4 @@ invariant-loop-feed g l = record {
 }
 
 abbrev pub decreases-loop-feed : goal.decreases-loop-feed
-decreases-loop-feed g l = most_weight + 1 - weight l.feed
+decreases-loop-feed g l = 256 * most_lines + 1 - weight l.feed

@@ -1,6 +1,6 @@
 use Rattle.sabr_model.specs.declared.contact.Range.{Range}
 use Rattle.sabr_model.specs.plan.Plan.{overlap}
-use Rattle.sabr_plan.specs.Gathering.{pair_bucket}
+use Rattle.sabr_plan.specs.Gathering.{range_bucket}
 use Rattle.sabr_plan.proofs.ChainedPlaces.{IsWalked}
 use Rattle.sabr_plan.proofs.gathering.known_ranges.walk_chain.Given as goal
 
@@ -8,7 +8,7 @@ abbrev none : Range
 none = record { one = 0; other = 0; start = 0; end = 0; light = 0 }
 
 abbrev pub invariant-loop-at : goal.invariant-loop-at
-invariant-loop-at l = IsWalked (λ (r : Range). pair_bucket r.one r.other) (overlap l.range) (pair_bucket l.range.one l.range.other) none l.ranges l.at
+invariant-loop-at l = IsWalked range_bucket (overlap l.range) (range_bucket l.range) none l.ranges l.at
 
 abbrev pub decreases-loop-at : goal.decreases-loop-at
 decreases-loop-at l = l.at

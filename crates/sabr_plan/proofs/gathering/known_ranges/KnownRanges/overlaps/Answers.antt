@@ -4,7 +4,7 @@ use Rattle.std.specs.List.{list_any}
 use Rattle.sabr_model.specs.plan.Plan.{overlap}
 use Rattle.sabr_plan.specs.Gathering.{plan_of_ranges}
 use Rattle.sabr_model.proofs.PlanLemmas.RangeKeys.{range_list}
-use Rattle.sabr_plan.proofs.LastRanges.{any_parts, any_next, not_same, later_end, overlaps_none}
+use Rattle.sabr_plan.proofs.LastRanges.{any_parts, any_next, later_end, overlaps_none}
 use Rattle.sabr_plan.proofs.gathering.known_ranges.KnownRanges.overlaps.Goals as goal
 
 pub returns-then-comes_by-clause-value : goal.returns-then-comes_by-clause-value
@@ -31,6 +31,6 @@ returns-in_default-clause-value g c =
 
 pub returns-clause-value : goal.returns-clause-value
 returns-clause-value g c =
-    not_same c.is_none.result (list_any (overlap c.args.range.now) c.behind-next.result.now) (sym c.is_none.ensures ∙ c.walk_chain-walked.ensures)
+    (let told = sym c.is_none.ensures ∙ c.walk_chain-walked.ensures in grind (arith, told))
     ∙ ap (list_any (overlap c.args.range.now)) c.behind-next.ensures
     ∙ any_next (overlap c.args.range.now) c.args.self.now.placed c.args.ranges.now (sym c.overlaps_some.ensures ∙ c.if-overlaps_some.false)
