@@ -181,7 +181,7 @@ pub fn table_of<A: Allocator + Copy>(
 }
 
 /// Returns a guess of the index of a node in the table.
-fn guess_of(guesses: &[u32], node: u64) -> usize {
+fn guess_of(guesses: &[u16], node: u64) -> usize {
     match guesses.get(node as usize % GUESSES) {
         Some(guess) => *guess as usize,
         None => 0,
@@ -189,10 +189,10 @@ fn guess_of(guesses: &[u32], node: u64) -> usize {
 }
 
 /// Notes the index of a node as the guess for it, unless that was the guess.
-fn note_guess(guesses: &mut [u32], node: u64, guess: usize, index: usize) {
+fn note_guess(guesses: &mut [u16], node: u64, guess: usize, index: usize) {
     let place = node as usize % GUESSES;
     if guess != index && place < guesses.len() {
-        guesses[place] = index.min(u32::MAX as usize) as u32;
+        guesses[place] = index.min(u16::MAX as usize) as u16;
     }
 }
 
