@@ -37,6 +37,7 @@ module _ {A : Type 0} (task : SearchTask) (is : IsTask task) (since : List ℕ) 
       linked = linked;
       last = λ v inside. last_of task _ _ s.late.items s.place.items s.entries.items made.lists v (omega (arith, inside, made.lists.flags));
       later = later;
+      by = made.lists.by;
     };
     first_end = made.first_end;
     second_end = made.second_end;

@@ -46,6 +46,7 @@ pub record AreChained {A : Type 0} (s : Deadlines A) : Type 0 where
   pub linked : AreLinked s.entries.items s.fewer.items
   pub last : (v : ℕ) → v < length s.place.items → IsLastBelow s.entries.items v (length s.entries.items) (head_of s.late.items s.place.items v)
   pub later : (p q : ℕ) (e f : Deadline) → p < q → slice_get s.entries.items p ≡ Some e → slice_get s.entries.items q ≡ Some f → e.node ≡ f.node → e.before < f.before
+  pub by : (p : ℕ) (e : Deadline) → slice_get s.entries.items p ≡ Some e → e.before ≤ slice_index s.late.items e.node
 
 -- no entry of node v before `end` may be left at this second or later
 abbrev pub IsLatestWithin : List Deadline → ℕ → ℕ → ℕ → Type 0

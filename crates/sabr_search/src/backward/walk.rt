@@ -149,6 +149,10 @@ impl<A: Allocator + Copy> Walk<A> {
         let mut least: Option<Step> = None;
         for place in 0..links.links.len() {
             let link = task.link(links, from.node, place);
+            // Too late for any number of hops.
+            if layers.late[link.to] <= from.at {
+                continue;
+            }
             if task.forbidden()[link.to] {
                 continue;
             }

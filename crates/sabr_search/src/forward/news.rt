@@ -12,5 +12,7 @@ pub fn news_before(arrival: &[u64], costs: &[u64], node: usize, delivery: u64) -
     requires { node < length arrival.now }
     ensures { result ≡ min (delivery - slice_index costs.now node) (slice_index arrival.now node) }
 {
-    delivery.saturating_sub(seconds_of(costs, node)).min(arrival[node])
+    delivery
+        .saturating_sub(seconds_of(costs, node))
+        .min(arrival[node])
 }

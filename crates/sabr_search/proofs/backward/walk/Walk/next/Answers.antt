@@ -1,10 +1,11 @@
-use Rattle.std.proofs.Common.{inl, inr, false, true, slice_index_or, ◌≡◌, ◌<◌, ◌≤◌, ap, sym, subst, ◌∙◌, arith}
+use Rattle.std.proofs.Common.{inl, inr, false, true, slice_index, slice_index_or, ◌≡◌, ◌<◌, ◌≤◌, length, ap, sym, subst, ◌∙◌, arith}
 use Rattle.std.proofs.lemmas.Bool.{both_ways, cases_lt}
 use Rattle.std.proofs.lemmas.Option.{slice_get_within}
 use Rattle.sabr_search.specs.questions.Task.{Takes}
 use Rattle.sabr_search.specs.layers.WholeDeadlines.{IsDeadEnd}
 use Rattle.sabr_search.proofs.ForwardLemmas.Forward.{last_or_before}
 use Rattle.sabr_search.proofs.WholeLemmas.Walks.{chosen_in_time, entry_within, level_nodes, some_end, step_late, step_ended, step_over, step_chosen, step_missing}
+use Rattle.sabr_search.proofs.ForwardLemmas.LayerEntries.{read_at}
 use Rattle.sabr_search.proofs.LinkLemmas.OverLinks.{in_place}
 use Rattle.sabr_search.proofs.WayLemmas.RoutesAndWays.{takes_timely}
 use Rattle.sabr_search.proofs.backward.walk.Walk.next.Goals as goal
@@ -24,6 +25,35 @@ before-deadline-requires-clause-chained g c = c.requires.whole_deadlines.layers.
 
 pub before-deadline-requires-clause-node : goal.before-deadline-requires-clause-node
 before-deadline-requires-clause-node g c = omega (arith, level_nodes c.args.task.now c.requires.task c.args.self.now.delivery c.args.hops c.args.layers.now c.requires.whole_deadlines, c.link-link.ensures.receiver)
+
+pub loop-place-preserved-then-index-from : goal.loop-place-preserved-then-index-from
+loop-place-preserved-then-index-from g c =
+    let task = c.args.task.now in
+    let d = c.args.self.now.delivery in
+    let layers = c.args.layers.now in
+    let chained = c.requires.whole_deadlines.layers.chained in
+    let from = c.args.from in
+    let so_far = c.loop-place.invariant in
+    let here = c.link-link.ensures.here in
+    let link = in_place _ _ _ _ so_far.links _ _ _ here in
+    let node : c.link-link.result.to < length layers.late.items = omega (arith, chained.many, level_nodes task c.requires.task d c.args.hops layers c.requires.whole_deadlines, c.link-link.ensures.receiver) in
+    let known = read_at layers.late.items c.link-link.result.to c.index.result.now node c.index.ensures in
+    record {
+      links = so_far.links;
+      counted = so_far.counted;
+      looked = so_far.looked;
+      placed = λ k m from at. omega (arith, so_far.placed c.loop-place.place here.link (omega arith) here.here, link.few, link.later k m (omega (arith, from)) at);
+      chosen = so_far.chosen;
+      least = λ j x n w b less at has s. elim (last_or_before j c.loop-place.place less) [
+        | inl before ↦ so_far.least j x n w b before at has s
+        | inr same ↦
+            (let to = link.leads c.requires.task n from.at w b (link.own j x n at same has) s in
+            let late : slice_index layers.late.items c.link-link.result.to ≤ b = omega (arith, (takes_timely task c.requires.task.nodes).later n from.node from.at w b s, known, c.if-index-from.true) in
+            inl (subst (λ k. IsDeadEnd task d k b c.args.hops) (sym to)
+            (step_late task c.requires.task d c.args.hops layers c.requires.whole_deadlines c.requires.here.0 from c.requires.here.1 n c.link-link.result.to b (slice_index layers.late.items c.link-link.result.to) (subst (λ k. Takes task n from.node from.at k b) to s)
+            (λ p e less at same. omega (arith, chained.by p e at, ap (slice_index layers.late.items) same)) late)))
+      ];
+    }
 
 pub loop-place-preserved-then-forbidden-link : goal.loop-place-preserved-then-forbidden-link
 loop-place-preserved-then-forbidden-link g c =
