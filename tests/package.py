@@ -270,7 +270,8 @@ def ended_by(room, number, words, pid):
     if os.path.exists(pid):
         os.remove(pid)
     how = {"stdin": subprocess.DEVNULL, "stdout": subprocess.DEVNULL, "stderr": subprocess.DEVNULL}
-    with subprocess.Popen(words, **how) as ran:
+    # What runs the tests may ignore the signal, and a program that is started would go on to.
+    with subprocess.Popen(words, preexec_fn=lambda: signal.signal(number, signal.SIG_DFL), **how) as ran:
         while not os.path.exists(pid) and ran.poll() is None:
             time.sleep(0.05)
         ran.send_signal(number)
