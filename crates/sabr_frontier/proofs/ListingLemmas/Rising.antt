@@ -7,10 +7,14 @@ use Rattle.std.specs.Ordering.{is_eq, ordering_reverse}
 use Rattle.std.specs.declared.cmp.Ordering.{Ordering}
 use Rattle.std.specs.declared.cmp.Ordering.TheVariants.{Less, Equal, Greater}
 use Rattle.sabr_model.specs.Order.{put_in}
-use Rattle.sabr_frontier.specs.listing.Rising.{has, Below, Rises, IsExact}
+use Rattle.sabr_frontier.specs.listing.Rising.{has, Below, Rises}
 use Rattle.std.proofs.lemmas.List.{map-id}
 use Rattle.sabr_frontier.specs.listing.State.{Member}
 use Rattle.sabr_frontier.proofs.ListingLemmas.ListMembers.{same_by_members}
+
+-- only equal keys tie
+abbrev pub IsExact : {K : Type 0} → (K → K → Ordering) → Type 0
+IsExact {K} R = (x y : K) → R x y ≡ Equal → x ≡ y
 
 pub or_same : (a b : Bool) → (a || (a || b)) ≡ (a || b)
 or_same true b = refl

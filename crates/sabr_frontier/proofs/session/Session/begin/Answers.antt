@@ -1,9 +1,8 @@
 use Rattle.std.proofs.Common.{◌≡◌, ◌+◌, [], length, reverse, ap, sym, subst, ◌∙◌}
 use Rattle.sabr_model.proofs.RouteLemmas.Prefixes.{empty_is_prefix}
 use Rattle.sabr_frontier.specs.tree.Searching.{Asked}
-use Rattle.sabr_frontier.specs.tree.Shape.{Shape, shape_of, shown}
+use Rattle.sabr_frontier.specs.tree.Shape.{Shape, shape_of, shown, root}
 use Rattle.sabr_frontier.specs.session.Session.{AreStarts, IsSession, IsSound, former_of}
-use Rattle.sabr_frontier.specs.tree.Root.{root}
 use Rattle.sabr_frontier.specs.tree.Best.{best_of}
 use Rattle.sabr_frontier.proofs.TreeLemmas.FirstTrees.{root_is_tree, shown_root}
 use Rattle.sabr_frontier.proofs.session.Session.begin.Goals as goal
