@@ -30,12 +30,11 @@ use Rattle.sabr_frontier.specs.loading.Loading.{comes_after, may_carry, rise_str
 use Rattle.sabr_frontier.specs.tree.Shape.{numbers_of}
 use Rattle.sabr_frontier.specs.tree.Undo.{last_item, front}
 use Rattle.sabr_frontier.specs.loading.Partial.{PartialShape, AreLent, IsAnswered, IsPartial, IsChecked, IsVerdict, answered_by, with_node, is_expected, is_least, is_complete, nothing_yet, expected_in, expected_after, pairs_in, part_for, parts_in, parts_of, partial_shape_of, loaded}
-use Rattle.sabr_frontier.proofs.ListingLemmas.Rising.{Below-lower}
+use Rattle.sabr_frontier.proofs.ListingLemmas.Rising.{Below-lower, less_from_test}
 use Rattle.sabr_frontier.proofs.ListingLemmas.ListMembers.{Member-append_right, Member-append_cases, Below-member}
 use Rattle.sabr_frontier.proofs.ListingLemmas.ExpectedPrefixes.{Expects-push, Expects-front, Expects-one, expects_closed, closed_expects}
 use Rattle.sabr_frontier.proofs.ListingLemmas.AllRoutes.{goes_on_within}
 use Rattle.sabr_frontier.proofs.TreeLemmas.ModifiedPlaces.{get_Member, last_split, member_taken, no_last, pair_across, pairs_front}
-use Rattle.sabr_frontier.proofs.TreeLemmas.IndexOrder.{less_from_test}
 use Rattle.sabr_frontier.proofs.ListingLemmas.Paths.{prefix_no_route}
 use Rattle.sabr_frontier.proofs.TreeLemmas.DividedStates.{numbers_back, told_back}
 use Rattle.sabr_model.proofs.ListLemmas.Apart.{same_numbers_tell}

@@ -23,7 +23,7 @@ use Rattle.sabr_frontier.specs.tree.Undo.{modify}
 use Rattle.sabr_frontier.specs.tree.Best.{best_of}
 use Rattle.sabr_frontier.specs.tree.Giving.{passing, stands_before, widened, wide_of, fresh_nodes, ids_from, with_block, divided_with}
 use Rattle.sabr_frontier.specs.tree.Sound.{IsTree, IsLent}
-use Rattle.sabr_frontier.proofs.ListingLemmas.Rising.{turned}
+use Rattle.sabr_frontier.proofs.ListingLemmas.Rising.{turned, earlier_prefix, less_from_test}
 use Rattle.sabr_frontier.proofs.ListingLemmas.NumbersAfter.{lists_exact, number_after-snoc}
 use Rattle.sabr_frontier.proofs.ListingLemmas.ListMembers.{Member-map, Member-map_cases, Member-append_left, Member-append_right, Less-apart}
 use Rattle.sabr_frontier.proofs.ListingLemmas.ClosedTrees.{tree_has}
@@ -31,7 +31,6 @@ use Rattle.sabr_frontier.proofs.ListingLemmas.Leaves.{closed_tree}
 use Rattle.sabr_frontier.proofs.ListingLemmas.Division.{begins_less, earlier_excludes, divided_set, fresh}
 use Rattle.sabr_frontier.proofs.TreeLemmas.ModifiedPlaces.{length-modify, get_Member, get_front, get_at_end, get_same, Member_split, member_cut, member_dropped, pair_across, pairs_back, same_node}
 use Rattle.sabr_frontier.proofs.TreeLemmas.TestBoundaries.{front_passes, back_fails}
-use Rattle.sabr_frontier.proofs.TreeLemmas.IndexOrder.{earlier_prefix, less_from_test}
 use Rattle.sabr_frontier.proofs.TreeLemmas.CarryingNodes.{prefix_stable, index_order, node_within, kept, here, part_is, here_in, inside, cut}
 use Rattle.std.proofs.Math.Seq.{take-append_seam}
 

@@ -100,8 +100,7 @@ fn fresh_node<B: BestOf<A>, A: Allocator + Copy>(
     })
 }
 
-/// Adds the nodes of a leaf for the beginnings of a route from `first` numbers on, each with its next number excluded.
-/// There is room for them. If an allocation failed, some may have been added.
+/// Adds the nodes of a leaf for the beginnings of a route from `first` numbers on, for which there is room.
 #[tactic(auto, using(crate::proofs::TreeLemmas::ListFronts::fresh_push, crate::proofs::TreeLemmas::ListFronts::fresh_all))]
 fn fresh_nodes<B: BestOf<A>, A: Allocator + Copy>(
     searcher: &mut Searcher<'_, B, A>,
@@ -210,9 +209,8 @@ fn include_next<A: Allocator + Copy>(nodes: &mut Vec<Node<A>, A>, node: NodeId, 
     part.excluded.forget(number);
 }
 
-/// Divides the part of a node by a route of it, which is then a leaf: the node excludes one number more, and
-/// the new parts come after the others. There is room for them. It returns what the node carries then. If it fails,
-/// the nodes are as they were.
+/// Divides the part of a node by a route of it, which is then a leaf: the node excludes one number more, and the new
+/// parts come after the others, for which there is room. It returns what the node carries then.
 #[tactic(auto, using(crate::proofs::TreeLemmas::ModifiedPlaces::get_same))]
 pub fn divide<B: BestOf<A>, A: Allocator + Copy>(
     searcher: &mut Searcher<'_, B, A>,

@@ -89,8 +89,7 @@ impl<A: Allocator + Copy> PartialTree<A> {
         self.nodes.is_empty() || self.last.as_slice().cmp(prefix) == Ordering::Less
     }
 
-    /// Returns true if a part comes after the others: its excluded numbers rise, and its prefix is greater than the
-    /// last.
+    /// Returns true if a part may come after the others.
     pub fn is_next(&self, prefix: &[u32], excluded: &[u32]) -> bool
         requires paired { length self.now.prefixes.items ≡ length self.now.nodes.items }
         requires last { last_item self.now.prefixes.items ≡ last_prefix (partial_shape_of self.now) }

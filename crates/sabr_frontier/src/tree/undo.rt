@@ -42,8 +42,7 @@ impl<A: Allocator + Copy> Tree<A> {
         self.last = entry.last;
     }
 
-    /// Takes routes back until the journal has as many entries as it had then. It allocates nothing, and leaves the
-    /// index and the winners as they were.
+    /// Takes routes back as [`undo`](Tree::undo) does, until the journal has as many entries as it had then.
     fn undo_each(&mut self, start: usize)
         requires possible { CanUndoTimes (length self.old.journal.items - start) (shape_of self.old) }
         requires room { IsSpacious self.old }
