@@ -45,7 +45,7 @@ fresh_after best leaf n s = fresh_nodes best leaf (take (n.length + 1) s) (drop 
 abbrev pub widened : {A : Type 0} → List ℕ → Option RouteRecord → Node A → Node A
 widened wide found n = record n { excluded = wide; route = found }
 
--- the tree once the node's route x is given, with this index and these nodes, the new ones from `first` on
+-- the tree once the node's route x is given, with this index and these nodes, of which those from `first` on are new
 abbrev pub changed_by : {A : Type 0} → Shape A → NodeId → RouteRecord → ℕ → List NodeId → List (Node A) → Shape A
 changed_by t node x first index nodes =
     record {

@@ -1,4 +1,4 @@
--- What the undo of a route leaves, and when it can be undone.
+-- Room in the vectors of a tree, what the undo of a route leaves, and when it can be undone.
 use Rattle.std.specs.Prelude.{◌≡◌, ℕ, ◌-◌, ◌+◌, ◌<◌, ◌≤◌, zero, suc, not, nat_lt, nat_eq, List, [], ◌∷◌, length, take, Option, Some, None, slice_index, slice_index_or, slice_get, vec_len, vec_capacity}
 use Rattle.std.specs.List.{filter}
 use Rattle.sabr_model.specs.routes.Record.{RouteRecord}
