@@ -3,7 +3,6 @@ pub mod ModifiedPlaces
 pub mod TestBoundaries
 pub mod ListFronts
 pub mod OtherWays
-pub mod IndexOrder
 pub mod SlotWinners
 pub mod Excluding
 pub mod CarryingNodes

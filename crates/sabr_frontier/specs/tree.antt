@@ -2,15 +2,11 @@
 pub mod Winners
 pub mod Shape
 pub mod Undo
-pub mod Queue
 pub mod Index
 pub mod Best
 pub mod Searching
-pub mod Floors
 pub mod Giving
 pub mod Left
-pub mod Room
 pub mod Cut
 pub mod Sound
 pub mod Prepared
-pub mod Root

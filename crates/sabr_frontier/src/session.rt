@@ -88,17 +88,7 @@ impl<'p, B: BestOf<A>, A: Allocator + Copy> Session<'p, B, A> {
     {
         index.plan().rules_hold();
         request.limits_hold();
-        Session::begin(Searcher::over(alloc, index, request, finder))
-    }
-
-    /// Starts a session of what the searcher searches for.
-    fn begin(searcher: Searcher<'p, B, A>) -> Result<Session<'p, B, A>, NoMemory>
-        requires rules { IsPlan searcher.asked.plan.plan }
-        requires limits { IsRequest searcher.asked.request }
-        ensures { IfOk result (λ s. s ≡ started searcher.entry.asked.plan searcher.entry.asked.request (searcher.entry.calls + 1)) }
-    {
-        let mut searcher = searcher;
-        let alloc = searcher.alloc();
+        let mut searcher = Searcher::over(alloc, index, request, finder);
         let found = searcher.find_best(&[], &[], 0, None)?;
         let tree = Tree::root(alloc, found)?;
         searcher.take_sum();

@@ -30,8 +30,7 @@ pub struct Node<A: Allocator + Copy = Global> {
     pub route: Option<Route<A>>,
 }
 
-/// What taking one route back needs: the node that carried it, how many nodes there were before, and which route was
-/// the last.
+/// What was before a route was given: the node that carried it, how many nodes there were, and the last route.
 #[derive(Clone, Copy)]
 pub struct Entry {
     pub node: NodeId,
@@ -39,9 +38,7 @@ pub struct Entry {
     pub last: Option<usize>,
 }
 
-/// The nodes; their numbers in order of prefix, without those of the page that is made; the winners among them; the
-/// routes given; the last of them; an entry for each route that can be taken back; and whether searches found what the
-/// nodes carry.
+/// The parts that are left, and what takes routes back.
 #[derive(Drop)]
 pub struct Tree<A: Allocator + Copy = Global> {
     /// The parts, in the order in which they were made.

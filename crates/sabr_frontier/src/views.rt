@@ -8,15 +8,14 @@ use crate::tree::{Node, NodeId};
 use sabr_model::Route;
 use std::alloc::{Allocator, Global};
 
-/// A part: the routes that begin with the prefix, are longer, and whose next number is not excluded. It comes with its
-/// best route, or none if it has no route.
+/// A part: the routes that begin with the prefix, are longer, and whose next number is not excluded.
 #[derive(Drop)]
 pub struct PartView<'a, A: Allocator + Copy = Global> {
     /// The contact numbers that each route of the part begins with.
     pub prefix: &'a [u32],
     /// The contact numbers that no route of the part takes next, rising.
     pub excluded: &'a [u32],
-    /// The best route of the part by key.
+    /// The best route of the part by key, or none if it has no route.
     pub route: Option<&'a Route<A>>,
 }
 

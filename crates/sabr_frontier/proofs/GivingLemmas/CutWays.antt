@@ -16,7 +16,8 @@ use Rattle.sabr_frontier.specs.giving.SmallestKeys.{AreNoted, IsBoundOf, SeenKey
 use Rattle.sabr_frontier.specs.listing.Listing.{searches_in}
 use Rattle.sabr_frontier.specs.listing.State.{State}
 use Rattle.sabr_frontier.specs.tree.Searching.{Asked, best_for, records_for, steps_for}
-use Rattle.sabr_frontier.specs.tree.Cut.{IsBoundFor, ShowsCut, carries_before, count_before}
+use Rattle.sabr_frontier.specs.tree.Cut.{ShowsCut, carries_before, count_before}
+use Rattle.sabr_frontier.proofs.TreeLemmas.CutDivided.{IsBoundFor}
 use Rattle.sabr_frontier.specs.tree.Shape.{Shape, shown}
 use Rattle.sabr_frontier.specs.tree.Sound.{IsTree}
 use Rattle.sabr_frontier.specs.tree.Giving.{IsNextGiven, OfNode, fresh_after, wide_of, widened}

@@ -19,7 +19,8 @@ use Rattle.sabr_model.proofs.ListLemmas.Members.{IsIn, in_from_Contains, Contain
 use Rattle.sabr_model.proofs.RouteLemmas.Least as model
 use Rattle.sabr_model.proofs.RouteLemmas.Listed.{key_tells}
 use Rattle.sabr_model.proofs.RouteLemmas.RoutesListed.{routes_are_listed}
-use Rattle.sabr_frontier.specs.listing.Rising.{has, Rises, IsExact}
+use Rattle.sabr_frontier.specs.listing.Rising.{has, Rises}
+use Rattle.sabr_frontier.proofs.ListingLemmas.Rising.{IsExact}
 use Rattle.sabr_frontier.specs.listing.State.{Member}
 use Rattle.sabr_frontier.specs.listing.Formed.{Within}
 use Rattle.sabr_frontier.proofs.ListingLemmas.Division.{Below-from}

@@ -11,7 +11,7 @@ use Rattle.sabr_model.specs.routes.Parts.{number_after}
 use Rattle.sabr_frontier.specs.listing.Rising.{has, Below, Rises}
 use Rattle.sabr_frontier.specs.listing.Tree.{numbers_after, prefixes, tree, put_number}
 use Rattle.sabr_frontier.specs.listing.State.{PartState, pair_of, Member}
-use Rattle.sabr_frontier.specs.listing.Step.{same_pair, carried_in, carry, fresh}
+use Rattle.sabr_frontier.specs.listing.Step.{same_pair, carried_in, carry}
 use Rattle.sabr_frontier.proofs.ListingLemmas.Rising.{has-put_in, put_again, is_equal, has_itself, same_members, put_in_has}
 use Rattle.sabr_frontier.proofs.ListingLemmas.NumbersAfter.{lists_exact, numbers_exact, number_after-snoc, number_after-compare, number_after-trans, number_after-nil, number_after-same}
 use Rattle.sabr_frontier.proofs.ListingLemmas.TreeSets.{In, Listed, In-first, In-later, In-cases, numbers_after_has, has_numbers_after, Rises-numbers_after, Rises-prefixes, tree_same, prefixes_has, has_prefixes, Listed-within}
@@ -115,6 +115,11 @@ pub earlier_excludes : (S : List (List ℕ)) (p q : List ℕ) (x : ℕ) → List
 earlier_excludes S p q x (inl e) n = absurd (number_after-nil p x (ap (number_after p) (sym e) ∙ n))
 earlier_excludes S p q x (inr w) n = has_numbers_after x p w.0 S w.2 (number_after-trans p q w.0 x w.1 n w.3)
 
+-- the parts for the beginnings of q ++ rest from q on, each with its next number excluded
+abbrev pub fresh : (List ℕ → List ℕ → Option (List ℕ)) → List ℕ → List ℕ → List PartState
+fresh least q [] = []
+fresh least q (y ∷ ys) = record { prefix = q; excluded = y ∷ []; carried = least q (y ∷ []) } ∷ fresh least (q ++ y ∷ []) ys
+
 module _ (route : List ℕ → Bool) (least : List ℕ → List ℕ → Option (List ℕ)) where
   abbrev key : PartState → List ℕ
   key t = t.prefix
@@ -124,27 +129,27 @@ module _ (route : List ℕ → Bool) (least : List ℕ → List ℕ → Option (
   alone q y = record { prefix = q; excluded = y ∷ []; carried = least q (y ∷ []) }
 
   -- a member of the block is for a beginning of q ++ ys that is q or longer, with its next number alone
-  fresh_cases : (q ys : List ℕ) (t : PartState) → Member t (fresh route least q ys) → (a : List ℕ) × (y : ℕ) × (b : List ℕ) × (ys ≡ a ++ y ∷ b) × (t ≡ alone (q ++ a) y)
+  fresh_cases : (q ys : List ℕ) (t : PartState) → Member t (fresh least q ys) → (a : List ℕ) × (y : ℕ) × (b : List ℕ) × (ys ≡ a ++ y ∷ b) × (t ≡ alone (q ++ a) y)
   fresh_cases q [] t m = absurd m
   fresh_cases q (y ∷ ys) t (inl e) = ([], y, ys, refl, e ∙ ap (λ z. alone z y) (sym (append-nil q)))
   fresh_cases q (y ∷ ys) t (inr m) =
       let w = fresh_cases (q ++ y ∷ []) ys t m in
       (y ∷ w.0, w.1, w.2, ap (λ z. y ∷ z) w.3, w.4 ∙ ap (λ z. alone z w.1) (append_assoc q (y ∷ []) w.0))
 
-  fresh_key : (q ys k : List ℕ) → Member k (map key (fresh route least q ys)) → (a : List ℕ) × (k ≡ q ++ a)
+  fresh_key : (q ys k : List ℕ) → Member k (map key (fresh least q ys)) → (a : List ℕ) × (k ≡ q ++ a)
   fresh_key q ys k m =
-      let v = Member-map_cases key k (fresh route least q ys) m in
+      let v = Member-map_cases key k (fresh least q ys) m in
       let w = fresh_cases q ys v.0 v.2 in
       (w.0, v.1 ∙ ap key w.4)
 
-  fresh_has : (q a b : List ℕ) (y : ℕ) → Member (q ++ a) (map key (fresh route least q (a ++ y ∷ b)))
+  fresh_has : (q a b : List ℕ) (y : ℕ) → Member (q ++ a) (map key (fresh least q (a ++ y ∷ b)))
   fresh_has q [] b y = inl (append-nil q)
-  fresh_has q (z ∷ a) b y = inr (subst (λ w. Member w (map key (fresh route least (q ++ z ∷ []) (a ++ y ∷ b)))) (append_assoc q (z ∷ []) a) (fresh_has (q ++ z ∷ []) a b y))
+  fresh_has q (z ∷ a) b y = inr (subst (λ w. Member w (map key (fresh least (q ++ z ∷ []) (a ++ y ∷ b)))) (append_assoc q (z ∷ []) a) (fresh_has (q ++ z ∷ []) a b y))
 
-  fresh_rises : (q ys : List ℕ) → Rises by_numbers (map key (fresh route least q ys))
+  fresh_rises : (q ys : List ℕ) → Rises by_numbers (map key (fresh least q ys))
   fresh_rises q [] = tt
   fresh_rises q (y ∷ ys) = (
-    Below-from by_numbers q (map key (fresh route least (q ++ y ∷ []) ys)) (λ k m.
+    Below-from by_numbers q (map key (fresh least (q ++ y ∷ []) ys)) (λ k m.
         let w = fresh_key (q ++ y ∷ []) ys k m in
         subst (λ z. by_numbers q z ≡ Less) (sym (w.1 ∙ append_assoc q (y ∷ []) w.0)) (begins_less q y w.0)),
     fresh_rises (q ++ y ∷ []) ys,
@@ -171,7 +176,7 @@ module _ (route : List ℕ → Bool) (least : List ℕ → List ℕ → Option (
     wide = record { prefix = p; excluded = put_in nat_cmp x X; carried = least p (put_in nat_cmp x X) }
 
     abbrev block : List PartState
-    block = fresh route least next rest
+    block = fresh least next rest
 
     abbrev new : List PartState
     new = (front ++ wide ∷ mid) ++ (block ++ back)
@@ -312,7 +317,7 @@ module _ (route : List ℕ → Bool) (least : List ℕ → List ℕ → Option (
             let v = number_after_some q taken z e in
             let is : q ≡ next ++ s.0 = s.1 ∙ sym (append_assoc p (x ∷ []) s.0) in
             let split : rest ≡ s.0 ++ z ∷ v.0 = append_cancel_left next rest (s.0 ++ z ∷ v.0) (append_assoc p (x ∷ []) rest ∙ v.1 ∙ ap (λ w. w ++ z ∷ v.0) is ∙ append_assoc next s.0 (z ∷ v.0)) in
-            Member-append_right q A (B ++ C) (Member-append_left q B C (subst (λ w. Member w B) (sym is) (subst (λ w. Member (next ++ s.0) (map key (fresh route least next w))) (sym split) (fresh_has next s.0 v.0 z))))
+            Member-append_right q A (B ++ C) (Member-append_left q B C (subst (λ w. Member w B) (sym is) (subst (λ w. Member (next ++ s.0) (map key (fresh least next w))) (sym split) (fresh_has next s.0 v.0 z))))
       ]
     ]
 

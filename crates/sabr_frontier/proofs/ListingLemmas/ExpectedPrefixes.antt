@@ -7,27 +7,26 @@ use Rattle.std.specs.Ordering.{nat_cmp, ordering_then}
 use Rattle.std.specs.declared.cmp.Ordering.TheVariants.{Less}
 use Rattle.sabr_model.specs.Order.{by_numbers}
 use Rattle.sabr_frontier.specs.listing.Rising.{has, Rises}
-use Rattle.sabr_frontier.specs.listing.State.{Member}
+use Rattle.sabr_frontier.specs.listing.State.{Member, InPairs}
 use Rattle.sabr_frontier.specs.listing.Formed.{IsClosed, InOrder}
-use Rattle.sabr_frontier.specs.listing.Expecting.{Prefixes, onward, IsGood, Expects}
+use Rattle.sabr_frontier.specs.listing.Expecting.{onward, IsGood, Expects}
 use Rattle.sabr_frontier.proofs.ListingLemmas.ListMembers.{Member-map, Member-map_cases, Member-filter, Member-filter_cases, Member-append_left, Member-append_right, Member-append_cases, Below-member, Less-apart, pairs_two}
 use Rattle.sabr_frontier.proofs.ListingLemmas.ClosedTrees.{Number_has, has_Number}
 use Rattle.sabr_frontier.proofs.ListingLemmas.Leaves.{Pairs}
 use Rattle.sabr_frontier.proofs.ListingLemmas.Division.{begins_less}
-use Rattle.sabr_frontier.specs.tree.Queue.{InPairs}
 
 module _ (route chain : List ℕ → Bool) where
   -- one pair more
-  pub Expects-push : (T : Pairs) (os mid end : Prefixes) (e : List ℕ × List ℕ) → Expects route chain os T mid → Expects route chain mid (e ∷ []) end → Expects route chain os (T ++ e ∷ []) end
+  pub Expects-push : (T : Pairs) (os mid end : List (List ℕ)) (e : List ℕ × List ℕ) → Expects route chain os T mid → Expects route chain mid (e ∷ []) end → Expects route chain os (T ++ e ∷ []) end
   Expects-push [] os mid end e a b = subst (λ z. Expects route chain z (e ∷ []) end) (sym a) b
   Expects-push (f ∷ T) os mid end e a b = (a.0, a.1, a.2, Expects-push T (onward route chain f ++ a.0) mid end e a.3 b)
 
-  pub Expects-front : (T : Pairs) (os end : Prefixes) (e : List ℕ × List ℕ) → Expects route chain os (T ++ e ∷ []) end → (mid : Prefixes) × Expects route chain os T mid × Expects route chain mid (e ∷ []) end
+  pub Expects-front : (T : Pairs) (os end : List (List ℕ)) (e : List ℕ × List ℕ) → Expects route chain os (T ++ e ∷ []) end → (mid : List (List ℕ)) × Expects route chain os T mid × Expects route chain mid (e ∷ []) end
   Expects-front [] os end e a = (os, refl, a)
   Expects-front (f ∷ T) os end e a = let w = Expects-front T (onward route chain f ++ a.0) end e a.3 in (w.0, (a.0, a.1, a.2, w.1), w.2)
 
   -- at most one list is expected
-  pub Expects-one : (T : Pairs) (os a b : Prefixes) → Expects route chain os T a → Expects route chain os T b → a ≡ b
+  pub Expects-one : (T : Pairs) (os a b : List (List ℕ)) → Expects route chain os T a → Expects route chain os T b → a ≡ b
   Expects-one [] os a b p q = sym p ∙ q
   Expects-one (e ∷ T) os a b p q =
       let same : p.0 ≡ q.0 = let h : e.0 ∷ p.0 ≡ e.0 ∷ q.0 = sym p.1 ∙ q.1 in cc in
@@ -62,7 +61,7 @@ module _ (route chain fits : List ℕ → Bool) (fits_nil : fits [] ≡ true)
   IsAsked E p = (d : List ℕ × List ℕ) × (x : ℕ) × (p ≡ d.0 ++ x ∷ []) × Member d E × (has nat_cmp x d.1 ≡ true)
 
   -- closed, but for the expected prefixes, which are asked for elsewhere
-  record IsAnswer (os : Prefixes) (E : Pairs) : Type 0 where
+  record IsAnswer (os : List (List ℕ)) (E : Pairs) : Type 0 where
     listed : (o : List ℕ) → Member o os → (X : List ℕ) × Member (o, X) E
     fit : (e : List ℕ × List ℕ) → Member e E → fits e.0 ≡ true
     below : (e : List ℕ × List ℕ) (x : ℕ) → Member e E → has nat_cmp x e.1 ≡ true → GoesOn E e x
@@ -70,10 +69,10 @@ module _ (route chain fits : List ℕ → Bool) (fits_nil : fits [] ≡ true)
     busy : (e : List ℕ × List ℕ) → Member e E → (e.0 ≡ []) ⊎ ((x : ℕ) × (has nat_cmp x e.1 ≡ true))
 
   -- what answers the expected prefixes in order
-  answers : (E : Pairs) (os : Prefixes) → Expects route chain os E [] → ((o : List ℕ) → Member o os → fits o ≡ true) → IsAnswer os E
+  answers : (E : Pairs) (os : List (List ℕ)) → Expects route chain os E [] → ((o : List ℕ) → Member o os → fits o ≡ true) → IsAnswer os E
   answers [] os w f = record { listed = λ o m. absurd (subst (Member o) w m); fit = λ e m. absurd m; below = λ e x m. absurd m; above = λ e m. absurd m; busy = λ e m. absurd m }
   answers (e ∷ E) os w f =
-      let on : Prefixes = onward route chain e in
+      let on : List (List ℕ) = onward route chain e in
       let fit_e : fits e.0 ≡ true = f e.0 (subst (Member e.0) (sym w.1) (inl refl)) in
       let rest_in : (o : List ℕ) → Member o w.0 → Member o os = λ o m. subst (Member o) (sym w.1) (inr m) in
       let h : IsAnswer (on ++ w.0) E = answers E (on ++ w.0) w.3 (λ o m. elim (Member-append_cases o on w.0 m) [
@@ -128,7 +127,7 @@ module _ (route chain fits : List ℕ → Bool) (fits_nil : fits [] ≡ true)
   onward_apart : (p X : List ℕ) → Rises nat_cmp X → InPairs Precedes (onward route chain (p, X))
   onward_apart p [] r = tt
   onward_apart p (x ∷ X) r =
-      let on : Prefixes = onward route chain (p, X) in
+      let on : List (List ℕ) = onward route chain (p, X) in
       elim (not (route (p ++ x ∷ []))) as (λ c. InPairs Precedes (cond c ((p ++ x ∷ []) ∷ on) on)) [
         | true ↦ (
           (λ b m. let v = onward_cases route chain b (p, X) m in subst (Precedes (p ++ x ∷ [])) (sym v.1) (lesser_precedes p x v.0 (Below-member nat_cmp_total x v.0 X r.0 (has_Number v.0 X v.2)))),
@@ -137,11 +136,11 @@ module _ (route chain fits : List ℕ → Bool) (fits_nil : fits [] ≡ true)
         | false ↦ onward_apart p X r.1
       ]
 
-  accepts : (E : Pairs) (os : Prefixes) → InOrder E → InPairs Precedes os → IsAnswer os E → Expects route chain os E []
+  accepts : (E : Pairs) (os : List (List ℕ)) → InOrder E → InPairs Precedes os → IsAnswer os E → Expects route chain os E []
   accepts [] [] order s h = refl
   accepts [] (o ∷ os) order s h = absurd (h.listed o (inl refl)).1
   accepts (e ∷ E) os order s h =
-      let on : Prefixes = onward route chain e in
+      let on : List (List ℕ) = onward route chain e in
       let above_e : (d : List ℕ × List ℕ) → Member d E → by_numbers e.0 d.0 ≡ Less = λ d m. Below-member nat_list_cmp_total e.0 d.0 (map (λ z. z.0) E) order.by_prefix.0 (Member-map (λ z. z.0) d E m) in
       let not_below : (d : List ℕ × List ℕ) → Member d (e ∷ E) → by_numbers d.0 e.0 ≡ Less → ⊥ = λ d m l. elim m [
         | inl k ↦ Less-apart nat_list_cmp_total e.0 (ap (λ (z : List ℕ × List ℕ). by_numbers z.0 e.0) (sym k) ∙ l)
@@ -155,14 +154,14 @@ module _ (route chain fits : List ℕ → Bool) (fits_nil : fits [] ≡ true)
         | inl m ↦ m
         | inr w ↦ absurd (not_below w.0 w.3 (subst (λ z. by_numbers w.0.0 z ≡ Less) (sym w.2) (begins_less w.0.0 w.1 [])))
       ] in
-      let first : (rest : Prefixes) × (os ≡ e.0 ∷ rest) = elim os as (λ os. Member e.0 os → InPairs Precedes os → IsAnswer os (e ∷ E) → (rest : Prefixes) × (os ≡ e.0 ∷ rest)) [
+      let first : (rest : List (List ℕ)) × (os ≡ e.0 ∷ rest) = elim os as (λ os. Member e.0 os → InPairs Precedes os → IsAnswer os (e ∷ E) → (rest : List (List ℕ)) × (os ≡ e.0 ∷ rest)) [
         | [] ↦ λ m _ _. absurd m
         | o ∷ os ↦ λ m s h. elim m [
           | inl k ↦ (os, ap (λ z. z ∷ os) (sym k))
           | inr n ↦ absurd (not_below (o, (h.listed o (inl refl)).0) (h.listed o (inl refl)).1 (subst (λ z. by_numbers z e.0 ≡ Less) (append-nil o) (s.0 e.0 n [])))
         ]
       ] expected s h in
-      let rest : Prefixes = first.0 in
+      let rest : List (List ℕ) = first.0 in
       let s' : InPairs Precedes (e.0 ∷ rest) = subst (InPairs Precedes) first.1 s in
       let good : IsGood route chain e = record { busy = h.busy e (inl refl); chains = λ x t. (h.below e x (inl refl) t).0 } in
       let left : IsAnswer (on ++ rest) E = record {

@@ -12,7 +12,7 @@ use Rattle.sabr_frontier.specs.listing.Rising.{has}
 use Rattle.sabr_frontier.specs.listing.Tree.{tree, numbers_after}
 use Rattle.sabr_frontier.specs.listing.State.{pair_of}
 use Rattle.sabr_frontier.specs.listing.Formed.{Within}
-use Rattle.sabr_frontier.specs.listing.Step.{step_of, state_of}
+use Rattle.sabr_frontier.specs.listing.Step.{state_of, given}
 use Rattle.sabr_frontier.specs.listing.Listing.{state_at, next_route, one_step, given_first, steps}
 use Rattle.sabr_frontier.specs.listing.Laws.{PartsDivide, StatesAreTold, StepsFollow}
 use Rattle.sabr_frontier.proofs.ListingLemmas.TreeSets.{In}
@@ -26,6 +26,7 @@ use Rattle.sabr_frontier.proofs.ListingLemmas.AllRoutes.{within_goes_on, goes_on
 use Rattle.sabr_frontier.proofs.SessionLemmas.Pages.{steps_stop, steps_go, steps_none}
 use Rattle.std.proofs.lemmas.List.{drop_all, take_all, take-append-drop}
 use Rattle.sabr_frontier.proofs.TreeLemmas.ModifiedPlaces.{within_get}
+use Rattle.std.specs.Option.{option_map}
 
 -- ---- how the parts divide the routes
 
@@ -89,7 +90,7 @@ module _ (p : ContactPlan) (r : RouteRequest) (good : IsPlan p) where
 
   past : (i : ℕ) → take i L ≡ L → one_step p r (state_at p r i) ≡ None
   unfolding state_at
-  past i e = ap (λ A. one_step p r (state_of (least_in p r) A)) e ∙ ap (step_of (is_route p r) (least_in p r) (state_of (least_in p r) L)) (none_left p r good)
+  past i e = ap (λ A. one_step p r (state_of (least_in p r) A)) e ∙ ap (option_map (given (is_route p r) (least_in p r) (state_of (least_in p r) L))) (none_left p r good)
 
   pages_at : (k i : ℕ) → steps p r k (state_at p r i) ≡ (take k (drop i L), state_at p r (i + length (take k (drop i L))))
   pages_at zero i = steps_none p r (state_at p r i) ∙ ap (λ n. ([], state_at p r n)) (let e : i ≡ i + 0 = omega arith in e)

@@ -8,8 +8,7 @@ use Rattle.std.specs.Ordering.{is_eq}
 use Rattle.std.specs.declared.cmp.Ordering.{Ordering}
 use Rattle.std.specs.declared.cmp.Ordering.TheVariants.{Less}
 use Rattle.sabr_frontier.specs.listing.Rising.{Below, Rises}
-use Rattle.sabr_frontier.specs.listing.State.{Member}
-use Rattle.sabr_frontier.specs.tree.Queue.{InPairs}
+use Rattle.sabr_frontier.specs.listing.State.{Member, InPairs}
 
 pub Member-append_left : {X : Type 0} (e : X) (xs ys : List X) → Member e xs → Member e (xs ++ ys)
 Member-append_left e [] ys h = absurd h

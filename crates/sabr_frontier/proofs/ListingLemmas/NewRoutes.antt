@@ -6,11 +6,10 @@ use Rattle.sabr_model.specs.routes.Arrival.{RouteRequest}
 use Rattle.sabr_model.specs.routes.Route.{is_route, is_path, is_prefix, by_key}
 use Rattle.sabr_model.specs.routes.Parts.{least_in}
 use Rattle.sabr_model.proofs.RouteLemmas.Prefixes.{empty_is_prefix}
-use Rattle.sabr_frontier.specs.listing.State.{State, Member}
-use Rattle.sabr_frontier.specs.listing.Step.{given, step_of}
+use Rattle.sabr_frontier.specs.listing.State.{State, Member, InPairs}
+use Rattle.sabr_frontier.specs.listing.Step.{given}
 use Rattle.sabr_frontier.specs.listing.Listing.{IsState, leaves_in, next_route, one_step, steps}
 use Rattle.sabr_frontier.specs.listing.Formed.{Within}
-use Rattle.sabr_frontier.specs.tree.Queue.{InPairs}
 use Rattle.sabr_frontier.specs.listing.Fresh.{GivesNewRoutes}
 use Rattle.sabr_frontier.proofs.ListingLemmas.TreeSets.{put_in-In}
 use Rattle.sabr_frontier.proofs.ListingLemmas.ClosedTrees.{In_Member, Member_In}
@@ -19,6 +18,7 @@ use Rattle.sabr_frontier.proofs.ListingLemmas.Paths.{route_filled, routes_apart,
 use Rattle.sabr_frontier.proofs.ListingLemmas.AllRoutes.{least_some}
 use Rattle.sabr_frontier.proofs.SessionLemmas.Pages.{steps_stop, steps_go, steps_none}
 use Rattle.sabr_frontier.proofs.ListingLemmas.NextPlace.{carrier}
+use Rattle.std.specs.Option.{option_map}
 
 module _ (p : ContactPlan) (r : RouteRequest) (good : IsPlan p) where
   -- one step from a well-formed state whose least route is x
@@ -36,7 +36,7 @@ module _ (p : ContactPlan) (r : RouteRequest) (good : IsPlan p) where
       let after = leaves_after (is_route p r) (is_path p r) (is_prefix p r) (routes_apart p r) (route_filled p r) (route_chains p r) (route_fits p r) (empty_is_prefix p r) (least_in p r) least s h c.0 x c.1 c.2 in
       let unseen = given_new (is_route p r) (is_path p r) (is_prefix p r) (routes_apart p r) (route_filled p r) (route_chains p r) (route_fits p r) (empty_is_prefix p r) (least_in p r) least s h c.0 x c.1 c.2 in
       record {
-        stepped = ap (step_of (is_route p r) (least_in p r) s) e;
+        stepped = ap (option_map (given (is_route p r) (least_in p r) s)) e;
         formed = formed_after (is_route p r) (is_path p r) (is_prefix p r) (routes_apart p r) (route_filled p r) (route_chains p r) (route_fits p r) (empty_is_prefix p r) (least_in p r) least s h c.0 x c.1 c.2;
         route = (h.carried c.0 x c.1 c.2).0;
         new = λ m. true≢false (sym (In_Member x (leaves_in p r s) m) ∙ unseen);
@@ -63,7 +63,7 @@ module _ (p : ContactPlan) (r : RouteRequest) (good : IsPlan p) where
   pub new_routes : (k : ℕ) (s : State) → IsState p r s → GivesNewRoutes p r k s
   new_routes zero s h = stop 0 s h (steps_none p r s) (inl refl)
   new_routes (suc k) s h = elim (next_route p r s) as (λ o. next_route p r s ≡ o → GivesNewRoutes p r (suc k) s) [
-    | None ↦ λ e. stop (suc k) s h (steps_stop p r s (suc k) (ap (step_of (is_route p r) (least_in p r) s) e)) (inr e)
+    | None ↦ λ e. stop (suc k) s h (steps_stop p r s (suc k) (ap (option_map (given (is_route p r) (least_in p r) s)) e)) (inr e)
     | Some x ↦ λ e.
         let n = new_step s x h e in
         let t : State = (given (is_route p r) (least_in p r) s x).1 in

@@ -5,7 +5,7 @@ use Rattle.std.specs.Ordering.{nat_cmp}
 use Rattle.std.specs.FinMap.{slice_cmp-IsAntisymmetric, nat_cmp-IsAntisymmetric}
 use Rattle.sabr_model.specs.Order.{by_numbers}
 use Rattle.sabr_model.specs.routes.Parts.{number_after}
-use Rattle.sabr_frontier.specs.listing.Rising.{IsExact}
+use Rattle.sabr_frontier.proofs.ListingLemmas.Rising.{IsExact}
 use Rattle.sabr_search.proofs.WayLemmas.Prefixes.{number_after_some, number_after-append}
 
 pub lists_exact : IsExact by_numbers

@@ -1,16 +1,20 @@
 -- What holds of lists that rise strictly, as finite sets.
-use Rattle.std.proofs.Common.{◌≡◌, ◌+◌, Bool, true, false, ◌||◌, List, [], ◌∷◌, ◌++◌, length, sym, ap, subst, refl, ◌∙◌, true≢false, ◌⊎◌, inl, inr, arith}
+use Rattle.std.proofs.Common.{◌≡◌, ◌+◌, Bool, true, false, ◌||◌, List, [], ◌∷◌, ◌++◌, length, sym, ap, subst, refl, ◌∙◌, true≢false, ◌⊎◌, inl, inr, arith, ℕ}
 use Rattle.std.proofs.lemmas.Bool.{or_cases, or_left, or_right}
 use Rattle.std.specs.Cmp.{IsTotalOrder, both_ways}
-use Rattle.std.proofs.lemmas.Cmp.{tied_itself, alike_right}
-use Rattle.std.specs.Ordering.{is_eq, ordering_reverse}
+use Rattle.std.proofs.lemmas.Cmp.{tied_itself, alike_right, nat_list_cmp_total}
+use Rattle.std.specs.Ordering.{is_eq, ordering_reverse, is_lt}
 use Rattle.std.specs.declared.cmp.Ordering.{Ordering}
 use Rattle.std.specs.declared.cmp.Ordering.TheVariants.{Less, Equal, Greater}
-use Rattle.sabr_model.specs.Order.{put_in}
-use Rattle.sabr_frontier.specs.listing.Rising.{has, Below, Rises, IsExact}
+use Rattle.sabr_model.specs.Order.{put_in, by_numbers}
+use Rattle.sabr_frontier.specs.listing.Rising.{has, Below, Rises}
 use Rattle.std.proofs.lemmas.List.{map-id}
 use Rattle.sabr_frontier.specs.listing.State.{Member}
 use Rattle.sabr_frontier.proofs.ListingLemmas.ListMembers.{same_by_members}
+
+-- only equal keys tie
+abbrev pub IsExact : {K : Type 0} → (K → K → Ordering) → Type 0
+IsExact {K} R = (x y : K) → R x y ≡ Equal → x ≡ y
 
 pub or_same : (a b : Bool) → (a || (a || b)) ≡ (a || b)
 or_same true b = refl
@@ -25,6 +29,15 @@ pub is_equal : (r : Ordering) → is_eq r ≡ true → r ≡ Equal
 is_equal Less e = absurd (true≢false (sym e))
 is_equal Equal e = refl
 is_equal Greater e = absurd (true≢false (sym e))
+
+pub less_from_test : (o : Ordering) → is_lt o ≡ true → o ≡ Less
+less_from_test Less e = refl
+less_from_test Equal e = absurd (true≢false (sym e))
+less_from_test Greater e = absurd (true≢false (sym e))
+
+-- what is before a prefix that is below q is below q
+pub earlier_prefix : (q a b : List ℕ) → by_numbers a b ≡ Less → is_lt (by_numbers b q) ≡ true → is_lt (by_numbers a q) ≡ true
+earlier_prefix q a b e t = ap is_lt (nat_list_cmp_total.trans a b q e (less_from_test (by_numbers b q) t))
 
 module _ {K : Type 0} {R : K → K → Ordering} (o : IsTotalOrder R) where
   pub turned : (x y : K) (r : Ordering) → R x y ≡ r → R y x ≡ ordering_reverse r

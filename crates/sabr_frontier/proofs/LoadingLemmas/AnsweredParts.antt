@@ -22,21 +22,19 @@ use Rattle.sabr_frontier.specs.declared.tree.Node.{Node}
 use Rattle.sabr_frontier.specs.declared.loader.check.Checked.{Checked}
 use Rattle.sabr_frontier.specs.declared.loader.leading.ExpectedPrefix.{ExpectedPrefix}
 use Rattle.sabr_frontier.specs.listing.Rising.{Below, Rises}
-use Rattle.sabr_frontier.specs.listing.State.{PartState, pair_of, Member, leaves_of}
+use Rattle.sabr_frontier.specs.listing.State.{PartState, pair_of, Member, leaves_of, InPairs}
 use Rattle.sabr_frontier.specs.listing.Formed.{IsClosed, InOrder, Within}
-use Rattle.sabr_frontier.specs.listing.Expecting.{Prefixes, onward, IsGood, Expects}
+use Rattle.sabr_frontier.specs.listing.Expecting.{onward, IsGood, Expects}
 use Rattle.sabr_frontier.specs.loading.Leading.{AreExpected, AreSteps, IsLead, expected_prefix, step_of}
 use Rattle.sabr_frontier.specs.loading.Loading.{comes_after, may_carry, rise_strictly, IsCarryFault, Loaded, refusal_by}
 use Rattle.sabr_frontier.specs.tree.Shape.{numbers_of}
 use Rattle.sabr_frontier.specs.tree.Undo.{last_item, front}
-use Rattle.sabr_frontier.specs.loading.Partial.{PartialShape, AreLent, IsAnswered, IsPartial, IsChecked, IsVerdict, partial_then, is_expected, is_least, is_complete, node_for, nothing_yet, expected_in, expected_after, pairs_in, part_for, parts_in, parts_of, partial_shape_of, loaded}
-use Rattle.sabr_frontier.proofs.ListingLemmas.Rising.{Below-lower}
-use Rattle.sabr_frontier.specs.tree.Queue.{InPairs}
+use Rattle.sabr_frontier.specs.loading.Partial.{PartialShape, AreLent, IsAnswered, IsPartial, IsChecked, IsVerdict, answered_by, with_node, is_expected, is_least, is_complete, nothing_yet, expected_in, expected_after, pairs_in, part_for, parts_in, parts_of, partial_shape_of, loaded}
+use Rattle.sabr_frontier.proofs.ListingLemmas.Rising.{Below-lower, less_from_test}
 use Rattle.sabr_frontier.proofs.ListingLemmas.ListMembers.{Member-append_right, Member-append_cases, Below-member}
 use Rattle.sabr_frontier.proofs.ListingLemmas.ExpectedPrefixes.{Expects-push, Expects-front, Expects-one, expects_closed, closed_expects}
 use Rattle.sabr_frontier.proofs.ListingLemmas.AllRoutes.{goes_on_within}
 use Rattle.sabr_frontier.proofs.TreeLemmas.ModifiedPlaces.{get_Member, last_split, member_taken, no_last, pair_across, pairs_front}
-use Rattle.sabr_frontier.proofs.TreeLemmas.IndexOrder.{less_from_test}
 use Rattle.sabr_frontier.proofs.ListingLemmas.Paths.{prefix_no_route}
 use Rattle.sabr_frontier.proofs.TreeLemmas.DividedStates.{numbers_back, told_back}
 use Rattle.sabr_model.proofs.ListLemmas.Apart.{same_numbers_tell}
@@ -174,7 +172,7 @@ expected_first h q paired first lead = elim (zero_or_more (length h.nodes)) [
 ]
 
 -- and the least that is expected comes next
-first_expected : {A : Type 0} (h : PartialShape A) (q : List ℕ) (rest : Prefixes) → length h.prefixes ≡ length h.nodes → (parts_in h ≡ [] → expected_in h ≡ []) → expected_after (parts_in h) (expected_in h) ≡ q ∷ rest → is_least h q ≡ true
+first_expected : {A : Type 0} (h : PartialShape A) (q : List ℕ) (rest : List (List ℕ)) → length h.prefixes ≡ length h.nodes → (parts_in h ≡ [] → expected_in h ≡ []) → expected_after (parts_in h) (expected_in h) ≡ q ∷ rest → is_least h q ≡ true
 first_expected h q rest paired first o = elim (zero_or_more (length h.nodes)) [
   | inl e ↦
       let none = no_parts h paired e in
@@ -304,7 +302,7 @@ module _ (p : ContactPlan) (r : RouteRequest) where
       e = (q, X)
 
       abbrev n : Node A
-      n = node_for h q X kept
+      n = record { leaf = length h.leaves; length = length q; excluded = X; route = kept }
 
       more : parts_of (h.prefixes ++ q ∷ []) (h.nodes ++ n ∷ []) ≡ parts_in h ++ part_for q n ∷ []
       more = parts_push h.prefixes h.nodes q n partial.paired
@@ -316,7 +314,7 @@ module _ (p : ContactPlan) (r : RouteRequest) where
       expected_after_more [] t expected = refl
       expected_after_more (u ∷ parts) t expected = refl
 
-      answered_more : (j : Checked A) → IsAnswered p r h → is_least h q ≡ true → IsGood route path e → IsChecked p r e j → IsAnswered p r (partial_then h q X kept (Some j))
+      answered_more : (j : Checked A) → IsAnswered p r h → is_least h q ≡ true → IsGood route path e → IsChecked p r e j → IsAnswered p r (answered_by (with_node h q X kept) (Some j))
       answered_more j a lead good checked = record {
         expects = subst (λ T. Expects route path ([] ∷ []) T (expected_after parts (map (expected_prefix q) expected))) (sym pairs_more)
             (Expects-push route path (pairs_in h) ([] ∷ []) (expected_after (parts_in h) (expected_in h)) (expected_after parts (map (expected_prefix q) expected)) e a.expects
@@ -339,7 +337,7 @@ module _ (p : ContactPlan) (r : RouteRequest) where
               ∙ reverse-append (front (expected_in h)) (reverse (map (step_of q) j.onward.items))
               ∙ ap (λ z. z ++ reverse (front (expected_in h))) (reverse-reverse (map (step_of q) j.onward.items) ∙ checked.onward_are)
 
-      broken_more : (is_expected h q ≡ true → IsGood route path e → ⊥) → (os : Prefixes) → Expects route path ([] ∷ []) (pairs_in h ++ e ∷ []) os → ⊥
+      broken_more : (is_expected h q ≡ true → IsGood route path e → ⊥) → (os : List (List ℕ)) → Expects route path ([] ∷ []) (pairs_in h ++ e ∷ []) os → ⊥
       broken_more none os o =
           let w = Expects-front route path (pairs_in h) ([] ∷ []) os e o in
           elim (cases_Bool h.sound) [
@@ -350,7 +348,7 @@ module _ (p : ContactPlan) (r : RouteRequest) where
           ]
 
       -- the parts then
-      pub parts_then : (j : Option (Checked A)) → parts_in (partial_then h q X kept j) ≡ parts_in h ++ record { prefix = q; excluded = X; carried = carried } ∷ []
+      pub parts_then : (j : Option (Checked A)) → parts_in (answered_by (with_node h q X kept) j) ≡ parts_in h ++ record { prefix = q; excluded = X; carried = carried } ∷ []
       parts_then None = more ∙ ap (λ (o : Option (List ℕ)). parts_in h ++ record { prefix = q; excluded = X; carried = o } ∷ []) (ap (option_map numbers_of) is ∙ numbers_back p r carried)
       parts_then (Some j) = more ∙ ap (λ (o : Option (List ℕ)). parts_in h ++ record { prefix = q; excluded = X; carried = o } ∷ []) (ap (option_map numbers_of) is ∙ numbers_back p r carried)
 
@@ -387,7 +385,7 @@ module _ (p : ContactPlan) (r : RouteRequest) where
           | inr b ↦ elim b [ inl same ↦ told_back p r carried x (sym is ∙ sym (ap (λ (z : Node A). z.route) same) ∙ a) | inr z ↦ absurd z ]
         ]
 
-        pub partial_more : (j : Option (Checked A)) → IsVerdict p r h e j → IsPartial p r (partial_then h q X kept j)
+        pub partial_more : (j : Option (Checked A)) → IsVerdict p r h e j → IsPartial p r (answered_by (with_node h q X kept) j)
         partial_more (Some j) v = record {
           paired = counted;
           order = ordered;

@@ -24,7 +24,7 @@ use Rattle.sabr_frontier.specs.loading.Leading.{AreSteps, IsLead, step_of}
 use Rattle.sabr_frontier.specs.listing.Rising.{has}
 use Rattle.sabr_frontier.specs.listing.State.{leaves_of}
 use Rattle.sabr_frontier.specs.listing.Expecting.{onward}
-use Rattle.sabr_frontier.specs.loading.Partial.{AllGoOn, PartialShape, IsChecked, IsVerdict, is_expected, onward_of, routes_of}
+use Rattle.sabr_frontier.specs.loading.Partial.{AllGoOn, PartialShape, IsChecked, IsVerdict, is_expected}
 use Rattle.sabr_frontier.proofs.ListingLemmas.Rising.{has-append, has_itself}
 use Rattle.sabr_frontier.proofs.ListingLemmas.ClosedTrees.{Number_has, has_Number}
 use Rattle.sabr_frontier.proofs.TreeLemmas.ModifiedPlaces.{member_at}
@@ -41,13 +41,13 @@ module _ (p : ContactPlan) (r : RouteRequest) where
       route : is_route p r s ≡ true
       route = ends_there p r s lead.here (some_behind q n) is.path is.reached same
 
-      pub leaf_there : map (record_of p r) (routes_of p r s) ≡ record { contacts = s; delivery = lead.here.at; until = lead.summary.until; entry = lead.summary.entry } ∷ []
+      pub leaf_there : map (record_of p r) (filter (is_route p r) (s ∷ [])) ≡ record { contacts = s; delivery = lead.here.at; until = lead.summary.until; entry = lead.summary.entry } ∷ []
       leaf_there =
           let until = ap (λ (t : RouteSummary). t.until) is.summary in
           let entry = ap (λ (t : RouteSummary). t.entry) is.summary in
           ap (λ b. map (record_of p r) (cond b (s ∷ []) [])) route ∙ (λ i. record { contacts = s; delivery = unwrap_or (is.reached.at i) 0; until = sym until i; entry = sym entry i } ∷ [])
 
-      pub none_onward : onward_of p r s ≡ []
+      pub none_onward : filter (λ q. not (is_route p r q)) (s ∷ []) ≡ []
       none_onward = ap (λ b. cond (not b) (s ∷ []) []) route
 
     -- a path to another node
@@ -55,10 +55,10 @@ module _ (p : ContactPlan) (r : RouteRequest) where
       no_route : is_route p r s ≡ false
       no_route = fault_is_no_route p r s WrongEnd (ends_elsewhere p r s lead.here (some_behind q n) is.path is.reached other)
 
-      pub no_leaf : routes_of p r s ≡ []
+      pub no_leaf : filter (is_route p r) (s ∷ []) ≡ []
       no_leaf = ap (λ b. cond b (s ∷ []) []) no_route
 
-      pub onward_there : onward_of p r s ≡ s ∷ []
+      pub onward_there : filter (λ q. not (is_route p r q)) (s ∷ []) ≡ s ∷ []
       onward_there = ap (λ b. cond (not b) (s ∷ []) []) no_route
 
   -- a list that has a fault on the way is no path
@@ -75,16 +75,16 @@ module _ (p : ContactPlan) (r : RouteRequest) where
     more : take (i + 1) X ≡ take i X ++ x ∷ []
     more = take_more X i 0 lt
 
-    leaves_more : leaves_of (is_route p r) (q, take (i + 1) X) ≡ leaves_of (is_route p r) (q, take i X) ++ routes_of p r (q ++ x ∷ [])
+    leaves_more : leaves_of (is_route p r) (q, take (i + 1) X) ≡ leaves_of (is_route p r) (q, take i X) ++ filter (is_route p r) ((q ++ x ∷ []) ∷ [])
     leaves_more = ap (λ Y. leaves_of (is_route p r) (q, Y)) more ∙ ap (filter (is_route p r)) (map-append (λ x. q ++ x ∷ []) (take i X) (x ∷ [])) ∙ filter-append (is_route p r) (map (λ x. q ++ x ∷ []) (take i X)) ((q ++ x ∷ []) ∷ [])
 
-    onward_more : onward (is_route p r) (is_path p r) (q, take (i + 1) X) ≡ onward (is_route p r) (is_path p r) (q, take i X) ++ onward_of p r (q ++ x ∷ [])
+    onward_more : onward (is_route p r) (is_path p r) (q, take (i + 1) X) ≡ onward (is_route p r) (is_path p r) (q, take i X) ++ filter (λ s. not (is_route p r s)) ((q ++ x ∷ []) ∷ [])
     onward_more = ap (λ Y. onward (is_route p r) (is_path p r) (q, Y)) more ∙ ap (filter (λ q. not (is_route p r q))) (map-append (λ x. q ++ x ∷ []) (take i X) (x ∷ [])) ∙ filter-append (λ q. not (is_route p r q)) (map (λ x. q ++ x ∷ []) (take i X)) ((q ++ x ∷ []) ∷ [])
 
-    pub checked_more : {A : Type 0} (old new : Checked A) → IsChecked p r (q, take i X) old → new.leaves.items ≡ old.leaves.items ++ map (record_of p r) (routes_of p r (q ++ x ∷ [])) → map (step_of q) new.onward.items ≡ map (step_of q) old.onward.items ++ onward_of p r (q ++ x ∷ []) → (AreSteps p r q old.onward.items → AreSteps p r q new.onward.items) → IsChecked p r (q, take (i + 1) X) new
+    pub checked_more : {A : Type 0} (old new : Checked A) → IsChecked p r (q, take i X) old → new.leaves.items ≡ old.leaves.items ++ map (record_of p r) (filter (is_route p r) ((q ++ x ∷ []) ∷ [])) → map (step_of q) new.onward.items ≡ map (step_of q) old.onward.items ++ filter (λ s. not (is_route p r s)) ((q ++ x ∷ []) ∷ []) → (AreSteps p r q old.onward.items → AreSteps p r q new.onward.items) → IsChecked p r (q, take (i + 1) X) new
     checked_more old new h a b f = record {
-      leaves_are = a ∙ ap (λ z. z ++ map (record_of p r) (routes_of p r (q ++ x ∷ []))) h.leaves_are ∙ sym (map-append (record_of p r) (leaves_of (is_route p r) (q, take i X)) (routes_of p r (q ++ x ∷ []))) ∙ ap (map (record_of p r)) (sym leaves_more);
-      onward_are = b ∙ ap (λ z. z ++ onward_of p r (q ++ x ∷ [])) h.onward_are ∙ sym onward_more;
+      leaves_are = a ∙ ap (λ z. z ++ map (record_of p r) (filter (is_route p r) ((q ++ x ∷ []) ∷ []))) h.leaves_are ∙ sym (map-append (record_of p r) (leaves_of (is_route p r) (q, take i X)) (filter (is_route p r) ((q ++ x ∷ []) ∷ []))) ∙ ap (map (record_of p r)) (sym leaves_more);
+      onward_are = b ∙ ap (λ z. z ++ filter (λ s. not (is_route p r s)) ((q ++ x ∷ []) ∷ [])) h.onward_are ∙ sym onward_more;
       steps = f h.steps;
     }
 

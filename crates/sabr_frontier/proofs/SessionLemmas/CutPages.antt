@@ -16,14 +16,14 @@ use Rattle.sabr_frontier.specs.listing.State.{State}
 use Rattle.sabr_frontier.specs.listing.Listing.{next_route, one_step, searches_for, searches_in}
 use Rattle.sabr_frontier.specs.tree.Searching.{Asked, best_for, steps_for}
 use Rattle.sabr_frontier.specs.tree.Best.{best_of}
-use Rattle.sabr_frontier.specs.tree.Cut.{AreCutBy, IsBoundFor, IsCutTree, ShowsCut, carries_before, count_before}
+use Rattle.sabr_frontier.specs.tree.Cut.{AreCutBy, IsCutTree, ShowsCut, carries_before, count_before}
 use Rattle.sabr_frontier.specs.tree.Left.{others_carry, part_goes_on, some_carry}
 use Rattle.sabr_frontier.specs.tree.Shape.{Shape, shown}
 use Rattle.sabr_frontier.specs.tree.Sound.{IsTree}
-use Rattle.sabr_frontier.specs.tree.Giving.{IsNextGiven, divided, divided_with}
+use Rattle.sabr_frontier.specs.tree.Giving.{IsNextGiven, divided_with}
 use Rattle.sabr_frontier.specs.tree.Winners.{CarriesNone, IsFirst, IsBestOf}
 use Rattle.sabr_frontier.proofs.TreeLemmas.CarryingNodes.{route_there, searches_are}
-use Rattle.sabr_frontier.proofs.TreeLemmas.CutDivided.{answer_cut, cut_self, cut_sound, divided_cut, stands_in, still_before}
+use Rattle.sabr_frontier.proofs.TreeLemmas.CutDivided.{answer_cut, cut_self, cut_sound, divided_cut, stands_in, still_before, IsBoundFor}
 use Rattle.sabr_frontier.proofs.TreeLemmas.CutTrees.{at_most_one, cut_weaken, least_same, none_same}
 use Rattle.sabr_frontier.proofs.TreeLemmas.SlotWinners.{carries_cases, standing_at}
 use Rattle.sabr_frontier.proofs.SessionLemmas.LeftSteps.{left_after, one_step_is}
@@ -69,7 +69,7 @@ cut_turn a o k s t v before after step good h bound taken =
     let x = taken.route in
     let stands = stands_whole p r k u t h.2 node taken.part x taken.stands taken.carries taken.least in
     let g = given_by p r good u h.2.sound node taken.part x stands taken.carries (least_whole p r k u t h.2 node taken.part x taken.stands taken.carries taken.least) in
-    let D = divided p r u node taken.part x in
+    let D = divided_with (best_of p r) u node taken.part x in
     let C = divided_with (best_for a o) t node taken.part x in
     let cut : IsCutTree p r k D C = divided_cut p r good k u t h.2 (best_for a o) node taken.part x taken.stands taken.carries
     (λ q X. answer_cut k C.nodes p r o q X (λ b y e above. still_before k (best_for a o) t node taken.part x y (bound b y e above))) in

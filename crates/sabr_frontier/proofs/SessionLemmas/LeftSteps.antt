@@ -19,7 +19,7 @@ use Rattle.sabr_model.specs.routes.Arrival.{RouteRequest}
 use Rattle.sabr_model.proofs.RouteLemmas.Listed.{key_total}
 use Rattle.sabr_frontier.specs.declared.tree.NodeId.{NodeId}
 use Rattle.sabr_frontier.specs.tree.Best.{best_of}
-use Rattle.sabr_frontier.specs.tree.Giving.{divided, fresh_nodes, widened, wide_of}
+use Rattle.sabr_frontier.specs.tree.Giving.{fresh_nodes, widened, wide_of, divided_with}
 use Rattle.sabr_frontier.specs.tree.Undo.{modify}
 use Rattle.sabr_frontier.proofs.ListingLemmas.AllRoutes.{by_key_exact}
 use Rattle.sabr_frontier.proofs.ListingLemmas.ListMembers.{Member-map, any_has, none_has}
@@ -79,7 +79,7 @@ module _ {A : Type 0} (p : ContactPlan) (r : RouteRequest) (good : IsPlan p) (t 
 module _ {A : Type 0} (p : ContactPlan) (r : RouteRequest) (good : IsPlan p) (t : Shape A) (is : IsTree p r t) (id : NodeId) (n : Node A) (x : RouteRecord)
     (stands : slice_get t.nodes id.0 ≡ Some n) (carries : n.route ≡ Some x) (least : IsBestOf t.nodes x) where
   abbrev then : Shape A
-  then = divided p r t id n x
+  then = divided_with (best_of p r) t id n x
 
   abbrev given : IsGiven p r t then
   given = given_by p r good t is id n x stands carries least

@@ -15,7 +15,7 @@ use Rattle.sabr_frontier.specs.tree.Shape.{Shape, numbers_of, shown, part_at}
 use Rattle.sabr_frontier.specs.tree.Undo.{CanUndoTimes, undone, undone_times, CanUndo, undone_by}
 use Rattle.sabr_frontier.specs.tree.Searching.{Asked, best_for}
 use Rattle.sabr_frontier.specs.tree.Best.{best_of}
-use Rattle.sabr_frontier.specs.tree.Giving.{divided, IsNextGiven, fresh_nodes}
+use Rattle.sabr_frontier.specs.tree.Giving.{IsNextGiven, fresh_nodes, divided_with}
 use Rattle.sabr_frontier.specs.tree.Winners.{CarriesNone, CarriesSome, IsBestOf, IsNext}
 use Rattle.sabr_frontier.specs.tree.Sound.{IsTree}
 use Rattle.sabr_frontier.specs.session.Session.{IsSoundFor, IsSound, tree_before, former_of}
@@ -25,7 +25,6 @@ use Rattle.sabr_model.specs.routes.Route.{is_route}
 use Rattle.sabr_model.specs.routes.Parts.{least_in}
 use Rattle.sabr_model.proofs.RouteLemmas.Listed.{key_total}
 use Rattle.sabr_model.proofs.RouteLemmas.Routes.{route_facts}
-use Rattle.sabr_frontier.specs.listing.Step.{step_of}
 use Rattle.sabr_frontier.proofs.ListingLemmas.ListMembers.{Member-map_cases}
 use Rattle.sabr_frontier.proofs.ListingLemmas.NextPlace.{least_carried_none}
 use Rattle.sabr_frontier.proofs.ListingLemmas.AllRoutes.{by_key_exact}
@@ -33,6 +32,7 @@ use Rattle.sabr_frontier.proofs.TreeLemmas.ListFronts.{length_fresh}
 use Rattle.sabr_frontier.proofs.TreeLemmas.SlotWinners.{standing_at}
 use Rattle.sabr_frontier.proofs.TreeLemmas.DividedStates.{shown_divided}
 use Rattle.sabr_frontier.proofs.TreeLemmas.SoundSteps.{tree_divided, undone_divided, can_undo}
+use Rattle.sabr_frontier.specs.listing.Step.{given}
 
 -- ---- what giving the least route that a node of a sound tree carries is
 
@@ -57,12 +57,12 @@ pub record IsGiven {A : Type 0} (p : ContactPlan) (r : RouteRequest) (t u : Shap
 
 module _ {A : Type 0} (p : ContactPlan) (r : RouteRequest) (good : IsPlan p) (t : Shape A) (is : IsTree p r t) where
   module _ (node : NodeId) (n : Node A) (x : RouteRecord) (stands : slice_get t.nodes node.0 ≡ Some n) (carries : n.route ≡ Some x) (least : IsBestOf t.nodes x) where
-    abbrev pub given_by : IsGiven p r t (divided p r t node n x)
+    abbrev pub given_by : IsGiven p r t (divided_with (best_of p r) t node n x)
     given_by = record {
       route = x;
       next = next_is p r t is node n x stands carries least;
       told = record_is p r t is node n x stands carries;
-      stepped = ap (step_of (is_route p r) (least_in p r) (shown t)) (next_is p r t is node n x stands carries least)
+      stepped = ap (option_map (given (is_route p r) (least_in p r) (shown t))) (next_is p r t is node n x stands carries least)
           ∙ (λ i. Some (x.contacts, sym (shown_divided p r t is node n x stands carries) i));
       sound = tree_divided p r good t is node n x stands carries;
       entries = length_push t.journal _;
@@ -78,7 +78,7 @@ module _ {A : Type 0} (p : ContactPlan) (r : RouteRequest) (good : IsPlan p) (t 
 
   -- where some node carries a route, a step can be made
   pub some_given : CarriesSome t.nodes → (u : Shape A) × IsGiven p r t u
-  some_given (x, h) = let id = h.0 in let w = standing_at t.nodes id x h.1.carries in (divided p r t id w.0 x, given_by id w.0 x w.1 w.2 h.1.least)
+  some_given (x, h) = let id = h.0 in let w = standing_at t.nodes id x h.1.carries in (divided_with (best_of p r) t id w.0 x, given_by id w.0 x w.1 w.2 h.1.least)
 
   pub next_carried : (x : RouteRecord) → IsNext t.nodes x → (next_route p r (shown t) ≡ Some x.contacts) × (x ≡ record_of p r x.contacts)
   next_carried x h = let id = h.0 in let w = standing_at t.nodes id x h.1.carries in (next_is p r t is id w.0 x w.1 w.2 h.1.least, record_is p r t is id w.0 x w.1 w.2)
@@ -93,7 +93,7 @@ module _ {A : Type 0} (p : ContactPlan) (r : RouteRequest) (good : IsPlan p) (t 
   nothing_carried none = least_carried_none (key_total p r) (by_key_exact p r) (shown t).parts (none_carried none)
 
   pub nothing_given : CarriesNone t.nodes → one_step p r (shown t) ≡ None
-  nothing_given none = ap (step_of (is_route p r) (least_in p r) (shown t)) (nothing_carried none)
+  nothing_given none = ap (option_map (given (is_route p r) (least_in p r) (shown t))) (nothing_carried none)
 
 -- ---- one undo of several
 
@@ -299,7 +299,7 @@ counts_first p r s (suc k) l = elim (one_step p r s) as (λ o. elim o [ None ↦
 pub counts_one : {A : Type 0} (p : ContactPlan) (r : RouteRequest) (good : IsPlan p) (t : Shape A) (is : IsTree p r t) (id : NodeId) (n : Node A) (x : RouteRecord) → slice_get t.nodes id.0 ≡ Some n → n.route ≡ Some x → IsBestOf t.nodes x
     → searches_in p r 1 (shown t) ≡ length x.contacts - n.length
 counts_one p r good t is id n x stands carries least =
-    let u = divided p r t id n x in
+    let u = divided_with (best_of p r) t id n x in
     let go = counts_go p r (shown t) (shown u) x.contacts 0 (given_by p r good t is id n x stands carries least).stepped in
     omega (arith, go, counts_none p r (shown u) 0 refl, searches_are p r t is id n x stands carries)
 

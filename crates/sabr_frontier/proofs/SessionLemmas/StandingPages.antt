@@ -3,9 +3,8 @@ use Rattle.std.proofs.Common.{◌≡◌, ℕ, zero, suc, List, [], ◌∷◌, fl
 use Rattle.sabr_model.specs.plan.Plan.{ContactPlan, IsPlan}
 use Rattle.sabr_model.specs.routes.Arrival.{RouteRequest}
 use Rattle.sabr_model.specs.routes.Route.{is_route}
-use Rattle.sabr_frontier.specs.listing.State.{State, Member}
+use Rattle.sabr_frontier.specs.listing.State.{State, Member, InPairs}
 use Rattle.sabr_frontier.specs.listing.Listing.{IsState, leaves_in, one_step, steps}
-use Rattle.sabr_frontier.specs.tree.Queue.{InPairs}
 use Rattle.sabr_frontier.specs.listing.Standing.{PageGiven, Standing, standing_at, page_then, paged, gone_back, after_calls, StandsForNewRoutes, PagesGiveNewRoutes}
 use Rattle.sabr_frontier.proofs.LoadingLemmas.AnsweredParts.{pairs_two}
 use Rattle.sabr_frontier.proofs.ListingLemmas.ListMembers.{Member-append_cases}

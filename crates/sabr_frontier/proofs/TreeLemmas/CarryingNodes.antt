@@ -17,14 +17,13 @@ use Rattle.sabr_frontier.specs.declared.tree.NodeId.{NodeId}
 use Rattle.sabr_frontier.specs.declared.tree.Node.{Node}
 use Rattle.sabr_frontier.specs.listing.Rising.{has, Rises}
 use Rattle.sabr_frontier.specs.listing.Tree.{numbers_after}
-use Rattle.sabr_frontier.specs.listing.State.{PartState, pair_of, Member, leaves}
+use Rattle.sabr_frontier.specs.listing.State.{PartState, pair_of, Member, leaves, InPairs}
 use Rattle.sabr_frontier.specs.listing.Formed.{Within}
-use Rattle.sabr_frontier.specs.listing.Listing.{next_route, carries_it, hops_past, searches_for}
-use Rattle.sabr_frontier.specs.tree.Shape.{Shape, shown, part_at, part_of, prefix_of, numbers_of, route_at, route_of, front_of}
+use Rattle.sabr_frontier.specs.listing.Listing.{next_route, carries_it, searches_for}
+use Rattle.sabr_frontier.specs.tree.Shape.{Shape, shown, part_at, part_of, prefix_of, numbers_of, route_at, route_of, front_of, IsBefore}
 use Rattle.sabr_frontier.specs.tree.Undo.{modify}
 use Rattle.sabr_frontier.specs.tree.Winners.{IsFirst, IsBestOf}
-use Rattle.sabr_frontier.specs.tree.Queue.{InPairs, IsBefore}
-use Rattle.sabr_frontier.specs.tree.Giving.{nodes_then, widened}
+use Rattle.sabr_frontier.specs.tree.Giving.{widened}
 use Rattle.sabr_frontier.specs.tree.Sound.{IsTree, CanExclude, IsLent}
 use Rattle.sabr_frontier.specs.tree.Searching.{Asked}
 use Rattle.sabr_frontier.proofs.TreeLemmas.TestBoundaries.{found_is, none_found, pairs_from_rises}
@@ -110,7 +109,7 @@ module _ {A : Type 0} (p : ContactPlan) (r : RouteRequest) (t : Shape A) (is : I
   -- ---- other nodes stay as they are
 
   module _ (node : NodeId) (wide : List ℕ) (found : Option RouteRecord) (fresh : List (Node A)) where
-    pub kept : (id : NodeId) → id.0 < length t.nodes → (id.0 ≡ node.0 → ⊥) → slice_get (nodes_then t.nodes node wide found fresh) id.0 ≡ slice_get t.nodes id.0
+    pub kept : (id : NodeId) → id.0 < length t.nodes → (id.0 ≡ node.0 → ⊥) → slice_get (modify (widened wide found) t.nodes node.0 ++ fresh) id.0 ≡ slice_get t.nodes id.0
     kept id l ne = get_front (modify (widened wide found) t.nodes node.0) fresh id.0 (omega (arith, length-modify (widened wide found) t.nodes node.0)) ∙ get_other (widened wide found) t.nodes node.0 id.0 ne
 
   -- ---- the part that carries the route
@@ -190,7 +189,7 @@ module _ {A : Type 0} (p : ContactPlan) (r : RouteRequest) (t : Shape A) (is : I
 
     pub searches_are : searches_for (shown t) x.contacts ≡ length x.contacts - n.length
     unfolding searches_for
-    searches_are = elim (find (carries_it x.contacts) parts) as (λ o. find (carries_it x.contacts) parts ≡ o → hops_past x.contacts o ≡ length x.contacts - n.length) [
+    searches_are = elim (find (carries_it x.contacts) parts) as (λ o. find (carries_it x.contacts) parts ≡ o → option_map_or (λ (u : PartState). length x.contacts - length u.prefix) o 0 ≡ length x.contacts - n.length) [
       | None ↦ λ e. absurd (none_found (carries_it x.contacts) parts e here here_in (ap is_eq (tied_itself nat_list_cmp_total x.contacts)))
       | Some u ↦ λ e.
           let w = found_is (carries_it x.contacts) parts u e in

@@ -19,7 +19,7 @@ use Rattle.sabr_frontier.specs.tree.Best.{best_of, best_up_to, up_to}
 use Rattle.sabr_frontier.specs.tree.Cut.{AreCutBy, IsCutOf, IsCutTree, count_before}
 use Rattle.sabr_frontier.specs.tree.Shape.{Shape, given_at, ids_from, part_at, part_of, prefix_of, shown, stands_before}
 use Rattle.sabr_frontier.specs.tree.Sound.{IsLent, IsTree}
-use Rattle.sabr_frontier.specs.tree.Giving.{divided, divided_with, fresh_nodes, passing, wide_of, widened, with_block}
+use Rattle.sabr_frontier.specs.tree.Giving.{divided_with, fresh_nodes, passing, wide_of, widened, with_block}
 use Rattle.sabr_frontier.specs.tree.Undo.{modify}
 use Rattle.sabr_frontier.proofs.ListingLemmas.ListMembers.{Member-map, Member-map_cases}
 use Rattle.sabr_frontier.proofs.TreeLemmas.CutTrees.{count-append, count-modify, cut_append, cut_carries, cut_get, cut_modify, cut_weaken}
@@ -135,9 +135,12 @@ cut_sound p r k u t h = subst (IsTree p r) (sym h.same) (tree_cut p r k t.nodes 
 abbrev pub IsCutAnswer : {A : Type 0} → ℕ → List (Node A) → Option RouteRecord → Option RouteRecord → Type 0
 IsCutAnswer k all found cut = (cut ≡ found) ⊎ ((x : RouteRecord) × (found ≡ Some x) × (cut ≡ None) × (k ≤ count_before x all))
 
+-- what is above the bound, if there is one, comes after at least k that these nodes carry
+abbrev pub IsBoundFor : {A : Type 0} → Option Bound → ℕ → List (Node A) → Type 0
+IsBoundFor o k nodes = (b : Bound) (x : RouteRecord) → o ≡ Some b → is_up_to b x.delivery (length x.contacts) ≡ false → k ≤ count_before x nodes
+
 -- so is the least route of a part up to a bound
-pub answer_cut : {A : Type 0} (k : ℕ) (all : List (Node A)) (p : ContactPlan) (r : RouteRequest) (o : Option Bound) (q X : List ℕ)
-    → ((b : Bound) (x : RouteRecord) → o ≡ Some b → is_up_to b x.delivery (length x.contacts) ≡ false → k ≤ count_before x all) → IsCutAnswer k all (best_of p r q X) (best_up_to p r o q X)
+pub answer_cut : {A : Type 0} (k : ℕ) (all : List (Node A)) (p : ContactPlan) (r : RouteRequest) (o : Option Bound) (q X : List ℕ) → IsBoundFor o k all → IsCutAnswer k all (best_of p r q X) (best_up_to p r o q X)
 answer_cut k all p r None q X above = inl refl
 answer_cut k all p r (Some b) q X above = elim (best_of p r q X) as (λ f. IsCutAnswer k all f (up_to b f)) [
   | None ↦ inl refl
@@ -182,7 +185,7 @@ module _ {A : Type 0} (p : ContactPlan) (r : RouteRequest) (good : IsPlan p) (k 
   bare = record u { nodes = ts }
 
   abbrev D : Shape A
-  D = divided p r u node n x
+  D = divided_with (best_of p r) u node n x
 
   abbrev C : Shape A
   C = divided_with cut bare node n x
@@ -247,10 +250,10 @@ module _ {A : Type 0} (p : ContactPlan) (r : RouteRequest) (good : IsPlan p) (k 
 
 -- a tree whose routes that aren't carried come after k + 1 others, is then one whose such routes come after k
 pub divided_cut : {A : Type 0} (p : ContactPlan) (r : RouteRequest) (good : IsPlan p) (k : ℕ) (u t : Shape A) → IsCutTree p r (suc k) u t → (cut : List ℕ → List ℕ → Option RouteRecord) (node : NodeId) (n : Node A) (x : RouteRecord)
-    → slice_get t.nodes node.0 ≡ Some n → n.route ≡ Some x → ((q X : List ℕ) → IsCutAnswer k (divided_with cut t node n x).nodes (best_of p r q X) (cut q X)) → IsCutTree p r k (divided p r u node n x) (divided_with cut t node n x)
+    → slice_get t.nodes node.0 ≡ Some n → n.route ≡ Some x → ((q X : List ℕ) → IsCutAnswer k (divided_with cut t node n x).nodes (best_of p r q X) (cut q X)) → IsCutTree p r k (divided_with (best_of p r) u node n x) (divided_with cut t node n x)
 divided_cut {A} p r good k u t h cut node n x stands carries answers =
     let Answers = λ (z : Shape A). (q X : List ℕ) → IsCutAnswer k (divided_with cut z node n x).nodes (best_of p r q X) (cut q X) in
-    subst (λ z. IsCutTree p r k (divided p r u node n x) (divided_with cut z node n x)) (sym h.same)
+    subst (λ z. IsCutTree p r k (divided_with (best_of p r) u node n x) (divided_with cut z node n x)) (sym h.same)
     (cut_then p r good k u h.sound t.nodes h.nodes cut node n x stands carries (subst Answers h.same answers))
 
 -- a sound tree that is divided with answers up to a bound is sound
@@ -258,5 +261,5 @@ pub tree_divided_up_to : {A : Type 0} (p : ContactPlan) (r : RouteRequest) (good
     → slice_get t.nodes node.0 ≡ Some n → n.route ≡ Some x → IsTree p r (divided_with (best_up_to p r b) t node n x)
 tree_divided_up_to p r good b t is node n x stands carries =
     let C = divided_with (best_up_to p r b) t node n x in
-    cut_sound p r 0 (divided p r t node n x) C
+    cut_sound p r 0 (divided_with (best_of p r) t node n x) C
     (divided_cut p r good 0 t t (record { sound = is; nodes = cut_self 1 t.nodes t.nodes; same = refl }) (best_up_to p r b) node n x stands carries (λ q X. answer_cut 0 C.nodes p r b q X (λ _ _ _ _. omega arith)))

@@ -12,7 +12,7 @@ use Rattle.sabr_frontier.specs.declared.tree.Node.{Node}
 use Rattle.sabr_frontier.specs.declared.tree.NodeId.{NodeId}
 use Rattle.sabr_frontier.specs.tree.Undo.{modify}
 use Rattle.sabr_frontier.specs.tree.Winners.{CarriesNone, IsFirst, route_at, route_of}
-use Rattle.sabr_frontier.proofs.TreeLemmas.IndexOrder.{less_from_test}
+use Rattle.sabr_frontier.proofs.ListingLemmas.Rising.{less_from_test}
 use Rattle.sabr_frontier.specs.tree.Cut.{AreCutBy, IsCutOf, carries_before, count_before}
 
 -- ---- how many carry a route before another

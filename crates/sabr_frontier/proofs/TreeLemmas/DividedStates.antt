@@ -16,23 +16,21 @@ use Rattle.sabr_frontier.specs.declared.tree.NodeId.{NodeId}
 use Rattle.sabr_frontier.specs.declared.tree.Node.{Node}
 use Rattle.sabr_frontier.specs.listing.Rising.{has}
 use Rattle.sabr_frontier.specs.listing.Tree.{tree}
-use Rattle.sabr_frontier.specs.listing.State.{PartState, pair_of, Member, leaves}
-use Rattle.sabr_frontier.specs.listing.Step.{carry, parts_after, given, fresh}
-use Rattle.sabr_frontier.specs.tree.Shape.{Shape, shown, part_at, part_of, prefix_of, front_of, contacts_in, numbers_of}
+use Rattle.sabr_frontier.specs.listing.State.{PartState, pair_of, Member, leaves, InPairs}
+use Rattle.sabr_frontier.specs.listing.Step.{carry, parts_after, given}
+use Rattle.sabr_frontier.specs.tree.Shape.{Shape, shown, part_at, part_of, prefix_of, front_of, contacts_in, numbers_of, IsBefore}
 use Rattle.sabr_frontier.specs.tree.Undo.{modify}
 use Rattle.sabr_frontier.specs.tree.Best.{best_of}
-use Rattle.sabr_frontier.specs.tree.Giving.{passing, stands_before, nodes_then, widened, wide_of, fresh_nodes, ids_from, with_block, divided}
+use Rattle.sabr_frontier.specs.tree.Giving.{passing, stands_before, widened, wide_of, fresh_nodes, ids_from, with_block, divided_with}
 use Rattle.sabr_frontier.specs.tree.Sound.{IsTree, IsLent}
-use Rattle.sabr_frontier.specs.tree.Queue.{InPairs, IsBefore}
-use Rattle.sabr_frontier.proofs.ListingLemmas.Rising.{turned}
+use Rattle.sabr_frontier.proofs.ListingLemmas.Rising.{turned, earlier_prefix, less_from_test}
 use Rattle.sabr_frontier.proofs.ListingLemmas.NumbersAfter.{lists_exact, number_after-snoc}
 use Rattle.sabr_frontier.proofs.ListingLemmas.ListMembers.{Member-map, Member-map_cases, Member-append_left, Member-append_right, Less-apart}
 use Rattle.sabr_frontier.proofs.ListingLemmas.ClosedTrees.{tree_has}
 use Rattle.sabr_frontier.proofs.ListingLemmas.Leaves.{closed_tree}
-use Rattle.sabr_frontier.proofs.ListingLemmas.Division.{begins_less, earlier_excludes, divided_set}
+use Rattle.sabr_frontier.proofs.ListingLemmas.Division.{begins_less, earlier_excludes, divided_set, fresh}
 use Rattle.sabr_frontier.proofs.TreeLemmas.ModifiedPlaces.{length-modify, get_Member, get_front, get_at_end, get_same, Member_split, member_cut, member_dropped, pair_across, pairs_back, same_node}
 use Rattle.sabr_frontier.proofs.TreeLemmas.TestBoundaries.{front_passes, back_fails}
-use Rattle.sabr_frontier.proofs.TreeLemmas.IndexOrder.{earlier_prefix, less_from_test}
 use Rattle.sabr_frontier.proofs.TreeLemmas.CarryingNodes.{prefix_stable, index_order, node_within, kept, here, part_is, here_in, inside, cut}
 use Rattle.std.proofs.Math.Seq.{take-append_seam}
 
@@ -52,7 +50,7 @@ best_numbers p r q X = numbers_back p r (least_in p r q X)
 -- the parts of the new nodes
 fresh_parts : {A : Type 0} (p : ContactPlan) (r : RouteRequest) (leaves : List RouteRecord) (leaf : ℕ) (x : RouteRecord) (is : slice_get leaves leaf ≡ Some x) (base : List (Node A)) (q rest : List ℕ) (count : ℕ)
     → x.contacts ≡ q ++ rest → count ≡ length (fresh_nodes {A = A} (best_of p r) leaf q rest)
-    → map (part_at leaves (base ++ fresh_nodes (best_of p r) leaf q rest)) (ids_from (length base) count) ≡ fresh (is_route p r) (least_in p r) q rest
+    → map (part_at leaves (base ++ fresh_nodes (best_of p r) leaf q rest)) (ids_from (length base) count) ≡ fresh (least_in p r) q rest
 fresh_parts p r leaves leaf x is base q [] count e c = ap (λ n. map (part_at leaves (base ++ [])) (ids_from (length base) n)) c
 fresh_parts {A} p r leaves leaf x is base q (y ∷ rest) count e c =
     let new : Node A = record { leaf = leaf; length = length q; excluded = y ∷ []; route = best_of p r q (y ∷ []) } in
@@ -63,7 +61,7 @@ fresh_parts {A} p r leaves leaf x is base q (y ∷ rest) count e c =
     let long : length (base ++ new ∷ []) ≡ suc (length base) = omega (arith, length-append base (new ∷ [])) in
     let rest_is = fresh_parts p r leaves leaf x is (base ++ new ∷ []) (q ++ y ∷ []) rest (length more) (e ∙ sym (append_assoc q (y ∷ []) rest)) refl in
     let assoc : base ++ new ∷ more ≡ (base ++ new ∷ []) ++ more = sym (append_assoc base (new ∷ []) more) in
-    let tail : map (part_at leaves (base ++ new ∷ more)) (ids_from (suc (length base)) (length more)) ≡ fresh (is_route p r) (least_in p r) (q ++ y ∷ []) rest =
+    let tail : map (part_at leaves (base ++ new ∷ more)) (ids_from (suc (length base)) (length more)) ≡ fresh (least_in p r) (q ++ y ∷ []) rest =
     (λ i. map (part_at leaves (assoc i)) (ids_from (sym long i) (length more))) ∙ rest_is in
     ap (λ n. map (part_at leaves (base ++ new ∷ more)) (ids_from (length base) n)) c ∙ (λ i. first i ∷ tail i)
 
@@ -197,7 +195,7 @@ module _ {A : Type 0} (p : ContactPlan) (r : RouteRequest) (t : Shape A) (is : I
   new = fresh_nodes (best_of p r) (length t.leaves) q0 (drop (n.length + 1) s)
 
   abbrev nodes' : List (Node A)
-  nodes' = nodes_then t.nodes node wide found new
+  nodes' = modify (widened wide found) t.nodes node.0 ++ new
 
   abbrev leaves' : List RouteRecord
   leaves' = t.leaves ++ x ∷ []
@@ -245,7 +243,7 @@ module _ {A : Type 0} (p : ContactPlan) (r : RouteRequest) (t : Shape A) (is : I
   abbrev ids : List NodeId
   ids = ids_from (length t.nodes) (length new)
 
-  new_parts : map part' ids ≡ fresh (is_route p r) (least_in p r) (pre ++ y ∷ []) rest
+  new_parts : map part' ids ≡ fresh (least_in p r) (pre ++ y ∷ []) rest
   new_parts =
       let base : List (Node A) = modify (widened wide found) t.nodes node.0 in
       let long : length t.nodes ≡ length base = sym (length-modify (widened wide found) t.nodes node.0) in
@@ -253,14 +251,14 @@ module _ {A : Type 0} (p : ContactPlan) (r : RouteRequest) (t : Shape A) (is : I
       let all : x.contacts ≡ q0 ++ drop (n.length + 1) s = sym (take-append-drop (n.length + 1) s) in
       ap (λ m. map part' (ids_from m (length new))) long
       ∙ fresh_parts p r leaves' (length t.leaves) x (get_at_end t.leaves [] x) base q0 (drop (n.length + 1) s) (length new) all refl
-      ∙ (λ i. fresh (is_route p r) (least_in p r) (q_is i) (after i))
+      ∙ (λ i. fresh (least_in p r) (q_is i) (after i))
 
-  parts_then : map part' (with_block k ids t.index) ≡ (map part F ++ wide_part ∷ map part M) ++ (fresh (is_route p r) (least_in p r) (pre ++ y ∷ []) rest ++ map part B)
+  parts_then : map part' (with_block k ids t.index) ≡ (map part F ++ wide_part ∷ map part M) ++ (fresh (least_in p r) (pre ++ y ∷ []) rest ++ map part B)
   parts_then =
       map-append part' (take k t.index ++ ids) B
       ∙ ap (λ z. z ++ map part' B) (map-append part' (take k t.index) ids ∙ ap (λ z. map part' z ++ map part' ids) parted.2 ∙ ap (λ z. z ++ map part' ids) (map-append part' F (node ∷ M)))
       ∙ (λ i. ((same_parts F (λ id m. other id (inl m)) i ++ this_part i ∷ same_parts M (λ id m. other id (inr (Member-append_left id M B m))) i) ++ new_parts i) ++ same_parts B (λ id m. other id (inr (Member-append_right id M B m))) i)
-      ∙ append_assoc (map part F ++ wide_part ∷ map part M) (fresh (is_route p r) (least_in p r) (pre ++ y ∷ []) rest) (map part B)
+      ∙ append_assoc (map part F ++ wide_part ∷ map part M) (fresh (least_in p r) (pre ++ y ∷ []) rest) (map part B)
 
   parts_stepped : map part' (with_block k ids t.index) ≡ parts_after (is_route p r) (least_in p r) old s
   parts_stepped =
@@ -269,7 +267,7 @@ module _ {A : Type 0} (p : ContactPlan) (r : RouteRequest) (t : Shape A) (is : I
       ∙ (λ i. map (carry (is_route p r) (least_in p r) (sym old_is i)) (tree (put_in by_numbers (sym whole i) S)))
 
   -- the state then
-  pub shown_divided : shown (divided p r t node n x) ≡ (given (is_route p r) (least_in p r) (shown t) s).1
+  pub shown_divided : shown (divided_with (best_of p r) t node n x) ≡ (given (is_route p r) (least_in p r) (shown t) s).1
   shown_divided =
       let count : length leaves' ≡ length t.leaves + 1 = omega (arith, length-append t.leaves (x ∷ [])) in
       λ i. record { emitted = count i; last = contacts_in (get_at_end t.leaves [] x i); parts = parts_stepped i }

@@ -3,10 +3,10 @@ use Rattle.std.proofs.Common.{◌≡◌, ℕ, List, ap, refl, ◌∙◌, Option,
 use Rattle.std.specs.Prelude.{slice_get, slice_index}
 use Rattle.sabr_model.specs.routes.Record.{RouteRecord}
 use Rattle.sabr_frontier.specs.declared.tree.Node.{Node}
-use Rattle.sabr_frontier.specs.tree.Undo.{modify}
+use Rattle.sabr_frontier.specs.tree.Undo.{modify, including}
 use Rattle.sabr_frontier.specs.tree.Giving.{widened, wide_of}
 use Rattle.sabr_frontier.specs.tree.Sound.{CanExclude}
-use Rattle.sabr_frontier.specs.tree.Prepared.{excluding, including, carrying}
+use Rattle.sabr_frontier.specs.tree.Prepared.{excluding, carrying}
 use Rattle.sabr_frontier.proofs.TreeLemmas.ModifiedPlaces.{modify_twice, modify_back, modify_same, get_same}
 use Rattle.std.proofs.lemmas.Bool.{or_parts}
 use Rattle.std.proofs.lemmas.Bool.Decides.{nat_tests}

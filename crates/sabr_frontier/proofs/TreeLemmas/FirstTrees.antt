@@ -12,10 +12,9 @@ use Rattle.sabr_frontier.specs.declared.tree.NodeId.{NodeId}
 use Rattle.sabr_frontier.specs.declared.tree.Node.{Node}
 use Rattle.sabr_frontier.specs.listing.State.{Member}
 use Rattle.sabr_frontier.specs.listing.Listing.{IsState, state_at}
-use Rattle.sabr_frontier.specs.tree.Shape.{Shape, shown, part_at, prefix_of, numbers_of, route_at}
+use Rattle.sabr_frontier.specs.tree.Shape.{Shape, shown, part_at, prefix_of, numbers_of, route_at, root}
 use Rattle.sabr_frontier.specs.tree.Best.{best_of}
 use Rattle.sabr_frontier.specs.tree.Sound.{IsTree}
-use Rattle.sabr_frontier.specs.tree.Root.{root, first_id}
 use Rattle.sabr_frontier.specs.session.Session.{seen_part}
 use Rattle.sabr_frontier.specs.session.Views.{seen_at, seen_node}
 use Rattle.sabr_frontier.proofs.ListingLemmas.FormedSteps.{formed_start}
@@ -34,8 +33,8 @@ unfolding state_at
 first_formed p r good = formed_start (is_route p r) (is_path p r) (is_prefix p r) (routes_apart p r) (route_filled p r) (route_chains p r) (route_fits p r) (empty_is_prefix p r) (least_in p r)
     (λ q X u e. let w = least_some p r good q X u e in (w.0, w.1))
 
-first_only : (id : NodeId) → id.0 < 1 → id ≡ first_id
-first_only id l = same_node id first_id (omega arith)
+first_only : (id : NodeId) → id.0 < 1 → id ≡ record { 0 = 0 }
+first_only id l = same_node id (record { 0 = 0 }) (omega arith)
 
 module _ (A : Type 0) (p : ContactPlan) (r : RouteRequest) (good : IsPlan p) where
   pub root_is_tree : IsTree p r (root {A = A} (best_of p r [] []))

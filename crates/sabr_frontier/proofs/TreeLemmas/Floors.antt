@@ -19,7 +19,6 @@ use Rattle.sabr_search.proofs.WayLemmas.Prefixes.{goes_on-append, goes_on_parts}
 use Rattle.sabr_frontier.specs.listing.Rising.{has}
 use Rattle.sabr_frontier.specs.tree.Searching.{Asked}
 use Rattle.sabr_frontier.specs.tree.Best.{best_of}
-use Rattle.sabr_frontier.specs.tree.Floors.{IsFloorAfter}
 use Rattle.sabr_frontier.specs.tree.Shape.{numbers_of}
 use Rattle.sabr_frontier.proofs.ListingLemmas.AllRoutes.{has_number}
 use Rattle.sabr_frontier.proofs.ListingLemmas.Rising.{has-put_in}
@@ -63,23 +62,23 @@ module _ (p : ContactPlan) (r : RouteRequest) (d : ℕ) where
   pub floor_wide : (q X : List ℕ) (x : ℕ) → IsFloor p r q X d → IsFloor p r q (put_in nat_cmp x X) d
   floor_wide q X x = floor_part q X q (put_in nat_cmp x X) (fewer_go_on q X x)
 
-  pub floor_one : (s : List ℕ) (n x : ℕ) → IsFloorAfter p r s n d → IsFloor p r (take n s) (x ∷ []) d
+  pub floor_one : (s : List ℕ) (n x : ℕ) → IsFloor p r (take n s) [] d → IsFloor p r (take n s) (x ∷ []) d
   floor_one s n x = floor_part (take n s) [] (take n s) (x ∷ []) (one_goes_on (take n s) x)
 
-  pub floor_after : (s : List ℕ) (n : ℕ) (X : List ℕ) → n < length s → has nat_cmp (slice_index s n) X ≡ false → IsFloor p r (take n s) X d → IsFloorAfter p r s (n + 1) d
+  pub floor_after : (s : List ℕ) (n : ℕ) (X : List ℕ) → n < length s → has nat_cmp (slice_index s n) X ≡ false → IsFloor p r (take n s) X d → IsFloor p r (take (n + 1) s) [] d
   floor_after s n X within absent = floor_part (take n s) X (take (n + 1) s) [] (λ t. longer_goes_on s n X [] t within absent)
 
   -- and none does after more numbers of the route
-  floor_later : (s : List ℕ) (n k : ℕ) → n + k ≤ length s → IsFloorAfter p r s n d → IsFloorAfter p r s (n + k) d
-  floor_later s n zero within floor = subst (λ m. IsFloorAfter p r s m d) (omega arith) floor
-  floor_later s n (suc k) within floor = subst (λ m. IsFloorAfter p r s m d) (omega arith) (floor_after s (n + k) [] (omega (arith, within)) refl (floor_later s n k (omega (arith, within)) floor))
+  floor_later : (s : List ℕ) (n k : ℕ) → n + k ≤ length s → IsFloor p r (take n s) [] d → IsFloor p r (take (n + k) s) [] d
+  floor_later s n zero within floor = subst (λ m. IsFloor p r (take m s) [] d) (omega arith) floor
+  floor_later s n (suc k) within floor = subst (λ m. IsFloor p r (take m s) [] d) (omega arith) (floor_after s (n + k) [] (omega (arith, within)) refl (floor_later s n k (omega (arith, within)) floor))
 
-pub floor_on : {a b : Asked} → b ≡ a → (s : List ℕ) (n m d : ℕ) → n ≤ m → m ≤ length s → IsFloorAfter a.plan.plan a.request s n d → IsFloorAfter b.plan.plan b.request s m d
+pub floor_on : {a b : Asked} → b ≡ a → (s : List ℕ) (n m d : ℕ) → n ≤ m → m ≤ length s → IsFloor a.plan.plan a.request (take n s) [] d → IsFloor b.plan.plan b.request (take m s) [] d
 floor_on {a = a} same s n m d from to floor =
     let p = a.plan.plan in
     let r = a.request in
     let more = floor_later p r d s n (m - n) (omega (arith, from, to)) floor in
-    subst (λ (z : Asked). IsFloorAfter z.plan.plan z.request s m d) (sym same) (subst (λ k. IsFloorAfter p r s k d) (omega (arith, from)) more)
+    subst (λ (z : Asked). IsFloor z.plan.plan z.request (take m s) [] d) (sym same) (subst (λ k. IsFloor p r (take k s) [] d) (omega (arith, from)) more)
 
 -- ---- no route of a part delivers before its least
 

@@ -7,8 +7,7 @@ use Rattle.std.proofs.lemmas.Bool.{cases_eq}
 use Rattle.std.proofs.lemmas.Option.{slice_get_within, slice_get-get_or}
 use Rattle.std.proofs.lemmas.List.{take-append-drop}
 use Rattle.sabr_frontier.specs.declared.tree.NodeId.{NodeId}
-use Rattle.sabr_frontier.specs.listing.State.{Member}
-use Rattle.sabr_frontier.specs.tree.Queue.{InPairs}
+use Rattle.sabr_frontier.specs.listing.State.{Member, InPairs}
 use Rattle.sabr_frontier.specs.tree.Giving.{ids_from}
 use Rattle.sabr_frontier.proofs.ListingLemmas.ListMembers.{Member-append_left, Member-append_right, Member-append_cases}
 

@@ -12,10 +12,9 @@ use Rattle.sabr_frontier.specs.declared.tree.NodeId.{NodeId}
 use Rattle.sabr_frontier.specs.listing.State.{Member}
 use Rattle.sabr_frontier.specs.tree.Searching.{Asked}
 use Rattle.sabr_frontier.specs.tree.Best.{best_of}
-use Rattle.sabr_frontier.specs.tree.Floors.{CarriesOnlyLeast, IsFloorOf}
 use Rattle.sabr_frontier.specs.tree.Shape.{Shape, front_of, numbers_of, prefix_of}
-use Rattle.sabr_frontier.specs.tree.Sound.{IsTree}
-use Rattle.sabr_frontier.specs.tree.Giving.{divided, fresh_nodes, wide_of, widened}
+use Rattle.sabr_frontier.specs.tree.Sound.{IsTree, CarriesOnlyLeast}
+use Rattle.sabr_frontier.specs.tree.Giving.{fresh_nodes, wide_of, widened, divided_with}
 use Rattle.sabr_frontier.specs.tree.Undo.{modify}
 use Rattle.sabr_frontier.proofs.ListingLemmas.ListMembers.{Member-append_cases}
 use Rattle.sabr_frontier.proofs.TreeLemmas.CarryingNodes.{IsKnown, cut, prefix_stable}
@@ -53,7 +52,7 @@ module _ {A : Type 0} (p : ContactPlan) (r : RouteRequest) where
         let prefix = ap (λ (z : Node A). prefix_of (t.leaves ++ x ∷ []) z) same ∙ stays n (get_Member t.nodes node.0 n stands) ∙ sym front in
         ap (λ w. best_of p r w wide) prefix ∙ c
 
-    pub divided_least : CarriesOnlyLeast p r t → CarriesOnlyLeast p r (divided p r t node n x)
+    pub divided_least : CarriesOnlyLeast p r t → CarriesOnlyLeast p r (divided_with (best_of p r) t node n x)
     divided_least least m y inside carried = elim (Member-append_cases m (modify (widened wide found) t.nodes node.0) (fresh_nodes (best_of p r) (length t.leaves) (take (n.length + 1) s) (drop (n.length + 1) s)) inside) [
       | inr new ↦ fresh_least (t.leaves ++ x ∷ []) (length t.leaves) x (get_at_end t.leaves [] x) (take (n.length + 1) s) (drop (n.length + 1) s) (sym (take-append-drop (n.length + 1) s)) m y new carried
       | inl former ↦ elim (modify_cases (widened wide found) t.nodes node.0 m former) [
@@ -66,7 +65,7 @@ module _ {A : Type 0} (p : ContactPlan) (r : RouteRequest) where
 
 -- no route of the part of the node that is known delivers before the tree's second for the route that it carries
 pub floor_known : {A : Type 0} (a : Asked) (t : Shape A) (id : NodeId) (w : RouteRecord) → IsKnown a t id w → IsPlan a.plan.plan → IsTree a.plan.plan a.request t → (copy : List ℕ) → copy ≡ w.contacts → (d : ℕ)
-    → (IsTrue t.is_searched → d ≡ w.delivery) → (IsFalse t.is_searched → d ≡ 0) → (n : Node A) → slice_get t.nodes id.0 ≡ Some n → IsFloorOf a.plan.plan a.request copy d n
+    → (IsTrue t.is_searched → d ≡ w.delivery) → (IsFalse t.is_searched → d ≡ 0) → (n : Node A) → slice_get t.nodes id.0 ≡ Some n → IsFloor a.plan.plan a.request (take n.length copy) n.excluded d
 floor_known {A} a t id w k good tree copy e d told other m stands =
     let p = a.plan.plan in
     let r = a.request in
@@ -76,4 +75,4 @@ floor_known {A} a t id w k good tree copy e d told other m stands =
     let front : take k.part.length x.contacts ≡ prefix_of t.leaves k.part = (cut p r t tree id k.part x k.stands k.carries).2.front in
     let floor : IsFloor p r (prefix_of t.leaves k.part) k.part.excluded d =
     floor_when p r good (prefix_of t.leaves k.part) k.part.excluded x t.is_searched d (λ s. told s ∙ ap (λ (z : RouteRecord). z.delivery) k.copied) other (λ s. tree.least s k.part x (get_Member t.nodes id.0 k.part k.stands) k.carries) in
-    subst (IsFloorOf p r copy d) (sym same) (subst (λ z. IsFloor p r (take k.part.length z) k.part.excluded d) (sym contacts) (subst (λ q. IsFloor p r q k.part.excluded d) (sym front) floor))
+    subst (λ (n : Node A). IsFloor p r (take n.length copy) n.excluded d) (sym same) (subst (λ z. IsFloor p r (take k.part.length z) k.part.excluded d) (sym contacts) (subst (λ q. IsFloor p r q k.part.excluded d) (sym front) floor))

@@ -12,9 +12,8 @@ use Rattle.sabr_model.specs.routes.Record.{RouteRecord, by_record, by_record_tot
 use Rattle.sabr_frontier.specs.declared.tree.NodeId.{NodeId}
 use Rattle.sabr_frontier.specs.declared.tree.Node.{Node}
 use Rattle.sabr_frontier.specs.tree.Shape.{route_at}
-use Rattle.sabr_frontier.specs.tree.Winners.{route_of, winner_at, is_lesser, IsUpTo, IsNoGreater, IsBestOf, IsFirst, CarriesNone, IsLesser, IsWinner, IsWon, AreWinners, low, high, IsAbove, AreOthersWinners, IsSettled, IsRising, IsBeside}
-use Rattle.sabr_frontier.proofs.ListingLemmas.Rising.{turned}
-use Rattle.sabr_frontier.proofs.TreeLemmas.IndexOrder.{less_from_test}
+use Rattle.sabr_frontier.specs.tree.Winners.{route_of, winner_at, is_lesser, IsNoGreater, IsBestOf, IsFirst, CarriesNone, IsLesser, IsWinner, IsWon, AreWinners, low, high, IsAbove, AreOthersWinners, IsRising, IsBeside}
+use Rattle.sabr_frontier.proofs.ListingLemmas.Rising.{turned, less_from_test}
 
 -- ---- what a node carries
 
@@ -38,7 +37,7 @@ winners_same nodes old ids same won k l =
 -- ---- routes that are no greater
 
 no_greater_itself : (o : Option RouteRecord) → IsNoGreater o o
-no_greater_itself None = tt
+no_greater_itself None = refl
 no_greater_itself (Some x) = ap is_lt (tied_itself by_record_total x)
 
 not_less : (x y z : RouteRecord) → is_lt (by_record y x) ≡ false → is_lt (by_record z y) ≡ false → is_lt (by_record z x) ≡ false
@@ -53,20 +52,15 @@ not_less x y z a b = elim (by_record z x) as (λ o. by_record z x ≡ o → is_l
 ] refl
 
 no_greater_then : (o p q : Option RouteRecord) → IsNoGreater o p → IsNoGreater p q → IsNoGreater o q
-no_greater_then o p None a b = tt
-no_greater_then o None (Some z) a b = absurd b
-no_greater_then None (Some y) (Some z) a b = absurd a
+no_greater_then o p None a b = refl
+no_greater_then o None (Some z) a b = absurd (true≢false b)
+no_greater_then None (Some y) (Some z) a b = absurd (true≢false a)
 no_greater_then (Some x) (Some y) (Some z) a b = not_less x y z a b
 
 first_then : (o p : Option RouteRecord) → is_lesser o p ≡ true → IsNoGreater o p
 first_then None p e = absurd (true≢false (sym e))
-first_then (Some x) None e = tt
+first_then (Some x) None e = refl
 first_then (Some x) (Some y) e = ap is_lt (turned by_record_total x y Less (less_from_test (by_record x y) e))
-
-not_first : (o p : Option RouteRecord) → is_lesser o p ≡ false → IsNoGreater p o
-not_first None p e = tt
-not_first (Some x) None e = absurd (true≢false e)
-not_first (Some x) (Some y) e = e
 
 -- ---- slots over others
 
@@ -94,12 +88,18 @@ above_none k a (m, x, y) = omega (arith, y, high_zero m)
 
 -- ---- the winner of a slot
 
+-- the slots from a on and below b name winners, and the others what they named
+pub record IsSettled {A : Type 0} (nodes : List (Node A)) (old ids : List NodeId) (a b : ℕ) : Type 0 where
+  pub won : (k : ℕ) → a ≤ k → k < b → IsWon nodes ids k
+  pub others : (k : ℕ) → (k < a) ⊎ (b ≤ k) → winner_at ids k ≡ winner_at old k
+  pub long : length ids ≡ length old
+
 module _ {A : Type 0} (nodes : List (Node A)) where
   pub lesser_other : (a b : NodeId) → is_lesser (route_at nodes b) (route_at nodes a) ≡ true → IsLesser nodes a b b
   lesser_other a b e = record { first = first_then (route_at nodes b) (route_at nodes a) e; second = no_greater_itself (route_at nodes b); one = inr refl }
 
   pub lesser_same : (a b : NodeId) → is_lesser (route_at nodes b) (route_at nodes a) ≡ false → IsLesser nodes a b a
-  lesser_same a b e = record { first = no_greater_itself (route_at nodes a); second = not_first (route_at nodes b) (route_at nodes a) e; one = inl refl }
+  lesser_same a b e = record { first = no_greater_itself (route_at nodes a); second = e; one = inl refl }
 
   module _ (ids : List NodeId) (k : ℕ) where
     abbrev own : NodeId
@@ -212,7 +212,7 @@ module _ {A : Type 0} (nodes : List (Node A)) where
     -- a node carries the least route where some node carries one
     module _ (all : length nodes ≤ length ids) where
       least_of : (o : Option RouteRecord) → ((id : NodeId) → id.0 < length nodes → IsNoGreater o (route_at nodes id)) → (x : RouteRecord) → o ≡ Some x → IsBestOf nodes x
-      least_of o below x e id y f = subst (λ o. IsUpTo o y) e (subst (IsNoGreater o) f (below id (let w = standing_at nodes id y f in slice_get_within nodes id.0 w.0 w.1)))
+      least_of o below x e id y f = subst (λ o. IsNoGreater o (Some y)) e (subst (IsNoGreater o) f (below id (let w = standing_at nodes id y f in slice_get_within nodes id.0 w.0 w.1)))
 
       below_first : (id : NodeId) → id.0 < length nodes → IsNoGreater (route_at nodes (winner_at ids 0)) (route_at nodes id)
       below_first id l = least_is id.0 (omega (arith, l, all))
@@ -223,7 +223,7 @@ module _ {A : Type 0} (nodes : List (Node A)) where
       pub none_carries : route_at nodes (winner_at ids 0) ≡ None → CarriesNone nodes
       none_carries e id = elim (route_at nodes id) as (λ o. route_at nodes id ≡ o → o ≡ None) [
         | None ↦ λ _. refl
-        | Some y ↦ λ f. absurd (subst (λ o. IsUpTo o y) e (subst (IsNoGreater (route_at nodes (winner_at ids 0))) f (below_first id (let w = standing_at nodes id y f in slice_get_within nodes id.0 w.0 w.1))))
+        | Some y ↦ λ f. absurd (true≢false (subst (λ o. IsNoGreater o (Some y)) e (subst (IsNoGreater (route_at nodes (winner_at ids 0))) f (below_first id (let w = standing_at nodes id y f in slice_get_within nodes id.0 w.0 w.1)))))
       ] refl
 
     pub nothing_there : length nodes ≡ 0 → CarriesNone nodes
@@ -298,7 +298,7 @@ module _ {A : Type 0} (nodes : List (Node A)) where
       | inl f ↦ subst (λ k. IsWon nodes ids k) (sym f) (record {
         own = b.own;
         over = λ c s t u. elim (cases_eq c at) [
-          | inl g ↦ subst (λ c. IsNoGreater (route_at nodes (winner_at ids p)) (route_at nodes (winner_at ids c))) (sym g) (subst (λ z. IsNoGreater (route_at nodes (winner_at ids p)) (route_at nodes z)) (sym is.here) (not_first (route_at nodes id) (route_at nodes (winner_at ids p)) e))
+          | inl g ↦ subst (λ c. IsNoGreater (route_at nodes (winner_at ids p)) (route_at nodes (winner_at ids c))) (sym g) (subst (λ z. IsNoGreater (route_at nodes (winner_at ids p)) (route_at nodes z)) (sym is.here) e)
           | inr d ↦ b.over c s t u d
         ];
         from = elim b.from [
@@ -365,7 +365,7 @@ no_greater_there : {A : Type 0} (n : Node A) (nodes : List (Node A)) → (id : N
 no_greater_there {A} n [] = (record { 0 = 0 }, first) where
   first : (i : ℕ) → IsNoGreater n.route (route_at (n ∷ []) (record { 0 = i }))
   first zero = no_greater_itself n.route
-  first (suc i) = tt
+  first (suc i) = refl
 no_greater_there {A} n (m ∷ nodes) =
     let w = no_greater_there m nodes in
     let o : Option RouteRecord = route_at (m ∷ nodes) w.0 in
@@ -380,7 +380,7 @@ no_greater_there {A} n (m ∷ nodes) =
       | false ↦ λ e. (
         record { 0 = suc w.0.0 },
         λ i. elim i as (λ i. IsNoGreater o (route_at (n ∷ m ∷ nodes) (record { 0 = i }))) [
-          | zero ↦ not_first n.route o e
+          | zero ↦ e
           | suc i ↦ w.1 i
         ],
       )
@@ -388,7 +388,7 @@ no_greater_there {A} n (m ∷ nodes) =
 
 no_greater_none : (o p : Option RouteRecord) → o ≡ None → IsNoGreater o p → p ≡ None
 no_greater_none o None e h = refl
-no_greater_none None (Some y) e h = absurd h
+no_greater_none None (Some y) e h = absurd (true≢false h)
 no_greater_none (Some x) (Some y) e h = absurd cc
 
 -- no node carries a route, or one carries the least

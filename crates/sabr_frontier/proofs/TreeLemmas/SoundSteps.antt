@@ -1,6 +1,6 @@
 -- A sound tree stays sound where a node's route is given, and the undo of that gives the tree back.
 use Rattle.std.proofs.Common.{◌≡◌, ℕ, ◌+◌, ◌<◌, nat_lt, List, [], ◌∷◌, ◌++◌, length, take, drop, refl, sym, ap, subst, ◌∙◌, ◌⊎◌, inl, inr, arith, Option, Some, append_assoc, length-append, slice_index, take_at, ◌≤◌, zero, suc, Bool, true, false, cond, filter, take-append-drop, append-nil}
-use Rattle.std.specs.Prelude.{slice_get, slice_index_or}
+use Rattle.std.specs.Prelude.{slice_get, slice_index_or, not, nat_eq}
 use Rattle.std.proofs.lemmas.Bool.{cases_lt, lt-ltb}
 use Rattle.std.proofs.lemmas.List.{take-append-drop}
 use Rattle.std.proofs.lemmas.Option.{get_or_from_slice_get}
@@ -16,9 +16,9 @@ use Rattle.sabr_frontier.specs.declared.tree.Node.{Node}
 use Rattle.sabr_frontier.specs.listing.State.{Member}
 use Rattle.sabr_frontier.specs.listing.Listing.{IsState, leaves_in}
 use Rattle.sabr_frontier.specs.tree.Shape.{Shape, shown}
-use Rattle.sabr_frontier.specs.tree.Undo.{modify, undone, without, CanUndo, IsIndexed, given_back, undone_by}
+use Rattle.sabr_frontier.specs.tree.Undo.{modify, undone, CanUndo, IsIndexed, given_back, undone_by}
 use Rattle.sabr_frontier.specs.tree.Best.{best_of}
-use Rattle.sabr_frontier.specs.tree.Giving.{passing, stands_before, widened, wide_of, fresh_nodes, ids_from, divided, divided_by}
+use Rattle.sabr_frontier.specs.tree.Giving.{passing, stands_before, widened, wide_of, fresh_nodes, ids_from, divided_with, changed_by, with_block}
 use Rattle.sabr_frontier.specs.tree.Sound.{IsTree, IsLent, AreGiven}
 use Rattle.sabr_frontier.proofs.ListingLemmas.ListMembers.{Member-append_left, Member-append_right, Member-append_cases}
 use Rattle.sabr_frontier.proofs.ListingLemmas.TreeSets.{In-put_in, put_in-In}
@@ -49,14 +49,14 @@ not_below f (suc n) c l = let no : nat_lt f c ≡ false = grind (arith, nat_test
 module _ {A : Type 0} (t : Shape A) (node : NodeId) (part : Node A) (r : RouteRecord) (wide : List ℕ) (found : Option RouteRecord) (fresh : List (Node A)) (place : ℕ)
     (stands : slice_get t.nodes node.0 ≡ Some part)
     (carries : part.route ≡ Some r)
-    (forgets : without (slice_index r.contacts part.length) wide ≡ part.excluded)
+    (forgets : filter (λ y. not (nat_eq y (slice_index r.contacts part.length))) wide ≡ part.excluded)
     (known : (id : NodeId) → Member id t.index → nat_lt id.0 (length t.nodes) ≡ true) where
   abbrev entry : Entry
   entry = record { node = node; nodes = length t.nodes; last = t.last }
 
   -- the tree once the route is
   abbrev after : Shape A
-  after = divided_by t node r place wide found fresh
+  after = changed_by t node r (length t.nodes) (with_block place (ids_from (length t.nodes) (length fresh)) t.index) (modify (widened wide found) t.nodes node.0 ++ fresh)
 
   nodes_back : modify (given_back r) (take (length t.nodes) (modify (widened wide found) t.nodes node.0 ++ fresh)) node.0 ≡ t.nodes
   nodes_back = ap (λ z. modify (given_back r) z node.0) (take_at (modify (widened wide found) t.nodes node.0) fresh (length t.nodes) (length-modify (widened wide found) t.nodes node.0))
@@ -98,7 +98,7 @@ fresh_lent p r leaves leaf x is q (y ∷ rest) n e (inr m) = fresh_lent p r leav
 module _ {A : Type 0} (p : ContactPlan) (r : RouteRequest) (good : IsPlan p) (t : Shape A) (is : IsTree p r t) (node : NodeId)
     (n : Node A) (x : RouteRecord) (stands : slice_get t.nodes node.0 ≡ Some n) (carries : n.route ≡ Some x) where
   abbrev D : Shape A
-  D = divided p r t node n x
+  D = divided_with (best_of p r) t node n x
 
   abbrev s : List ℕ
   s = x.contacts
@@ -204,7 +204,7 @@ module _ {A : Type 0} (p : ContactPlan) (r : RouteRequest) (good : IsPlan p) (t 
 
   -- ---- and back
 
-  forgets : without (slice_index s n.length) wide ≡ n.excluded
+  forgets : filter (λ y. not (nat_eq y (slice_index s n.length))) wide ≡ n.excluded
   forgets = forget-put_in (slice_index s n.length) n.excluded (can_exclude p r t is node n x stands carries).absent
 
   pub undone_divided : undone D ≡ t

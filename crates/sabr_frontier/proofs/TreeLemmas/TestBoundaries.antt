@@ -11,11 +11,15 @@ use Rattle.std.proofs.lemmas.Bool.Decides.{nat_tests}
 use Rattle.std.proofs.lemmas.Bool.{or_parts, cases_Bool}
 use Rattle.sabr_model.specs.Order.{put_in}
 use Rattle.sabr_frontier.specs.listing.Rising.{has, Rises}
-use Rattle.sabr_frontier.specs.listing.State.{Member}
-use Rattle.sabr_frontier.specs.tree.Giving.{passing, put_past}
-use Rattle.sabr_frontier.specs.tree.Queue.{InPairs}
+use Rattle.sabr_frontier.specs.listing.State.{Member, InPairs}
+use Rattle.sabr_frontier.specs.tree.Giving.{passing}
 use Rattle.sabr_frontier.proofs.ListingLemmas.ListMembers.{Below-member, Member-map}
 use Rattle.sabr_frontier.proofs.TreeLemmas.ModifiedPlaces.{member_at}
+
+-- x after those in front that pass the test
+abbrev put_past : {X : Type 0} → (X → Bool) → X → List X → List X
+put_past test x [] = x ∷ []
+put_past test x (y ∷ ys) = cond (test y) (y ∷ put_past test x ys) (x ∷ y ∷ ys)
 
 -- ---- the first that passes a test
 

@@ -3,9 +3,8 @@ use Rattle.std.specs.Prelude.{◌≡◌, ℕ, ◌<◌, ◌⊎◌, List, ◌∷�
 use Rattle.sabr_model.specs.plan.Plan.{ContactPlan}
 use Rattle.sabr_model.specs.routes.Arrival.{RouteRequest}
 use Rattle.sabr_model.specs.routes.Route.{is_route}
-use Rattle.sabr_frontier.specs.listing.State.{State, Member}
+use Rattle.sabr_frontier.specs.listing.State.{State, Member, InPairs}
 use Rattle.sabr_frontier.specs.listing.Listing.{IsState, leaves_in, next_route, steps}
-use Rattle.sabr_frontier.specs.tree.Queue.{InPairs}
 
 -- k steps from s give routes, none of them a leaf of s and none twice. After them, all of these and the leaves of s are
 -- leaves. The first is the least that a part carries. There are k of them, or no part carries one then.

@@ -50,15 +50,10 @@ steps p r (suc k) s = elim (one_step p r s) [ None ↦ ([], s) | Some w ↦ give
 abbrev pub carries_it : List ℕ → PartState → Bool
 carries_it s u = option_map_or (same_numbers s) u.carried false
 
--- the hops of a route after a part's prefix
-abbrev pub hops_past : List ℕ → Option PartState → ℕ
-hops_past s None = 0
-hops_past s (Some u) = length s - length u.prefix
-
 -- the number of searches that it takes to give a route that a state carries: one for each hop after the prefix of the
 -- part that carries it
 unfoldable pub searches_for : State → List ℕ → ℕ
-searches_for state s = hops_past s (find (carries_it s) state.parts)
+searches_for state s = option_map_or (λ u. length s - length u.prefix) (find (carries_it s) state.parts) 0
 
 -- the number of searches that at most k steps take
 unfoldable pub searches_in : ContactPlan → RouteRequest → ℕ → State → ℕ

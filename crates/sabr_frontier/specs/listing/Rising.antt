@@ -2,7 +2,7 @@
 use Rattle.std.specs.Prelude.{◌≡◌, Bool, false, ◌||◌, List, [], ◌∷◌}
 use Rattle.std.specs.Ordering.{is_eq}
 use Rattle.std.specs.declared.cmp.Ordering.{Ordering}
-use Rattle.std.specs.declared.cmp.Ordering.TheVariants.{Less, Equal}
+use Rattle.std.specs.declared.cmp.Ordering.TheVariants.{Less}
 
 module _ {K : Type 0} (R : K → K → Ordering) where
   -- whether the key is one of these
@@ -19,7 +19,3 @@ module _ {K : Type 0} (R : K → K → Ordering) where
   abbrev pub Rises : List K → Type 0
   Rises [] = Unit {0}
   Rises (x ∷ xs) = Below x xs × Rises xs
-
--- only equal keys tie
-abbrev pub IsExact : {K : Type 0} → (K → K → Ordering) → Type 0
-IsExact {K} R = (x y : K) → R x y ≡ Equal → x ≡ y

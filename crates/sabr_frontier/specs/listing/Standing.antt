@@ -3,9 +3,8 @@ use Rattle.std.specs.Prelude.{◌≡◌, ℕ, IsTrue, List, [], ◌∷◌, flat_
 use Rattle.sabr_model.specs.plan.Plan.{ContactPlan, IsPlan}
 use Rattle.sabr_model.specs.routes.Arrival.{RouteRequest}
 use Rattle.sabr_model.specs.routes.Route.{is_route}
-use Rattle.sabr_frontier.specs.listing.State.{State, Member}
+use Rattle.sabr_frontier.specs.listing.State.{State, Member, InPairs}
 use Rattle.sabr_frontier.specs.listing.Listing.{IsState, leaves_in, steps}
-use Rattle.sabr_frontier.specs.tree.Queue.{InPairs}
 use Rattle.sabr_frontier.specs.listing.Fresh.{GivesNewRoutes}
 
 -- a page that gave routes, and the state before it

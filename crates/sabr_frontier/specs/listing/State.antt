@@ -29,6 +29,11 @@ abbrev pub Member : {X : Type 0} → X → List X → Type 0
 Member e [] = ⊥
 Member e (f ∷ T) = (e ≡ f) ⊎ Member e T
 
+-- each stands so to all that follow
+abbrev pub InPairs : {X : Type 0} → (X → X → Type 0) → List X → Type 0
+InPairs Q [] = Unit {0}
+InPairs {X} Q (x ∷ xs) = ((y : X) → Member y xs → Q x y) × InPairs Q xs
+
 module _ (route : List ℕ → Bool) where
   -- the routes that are the prefix and one excluded number
   abbrev pub leaves_of : List ℕ × List ℕ → List (List ℕ)

@@ -1,6 +1,7 @@
 -- The state of given routes, and the one step from a state to the next, for any test of routes and any
 -- choice of a part's best route.
-use Rattle.std.specs.Prelude.{ℕ, ◌+◌, Bool, ◌&&◌, List, [], ◌∷◌, ◌++◌, map, length, Option, Some, None, if◌then◌else◌}
+use Rattle.std.specs.Prelude.{ℕ, ◌+◌, Bool, ◌&&◌, List, [], ◌∷◌, map, length, Option, Some, None, if◌then◌else◌}
+use Rattle.std.specs.Option.{option_map}
 use Rattle.std.specs.Ordering.{is_eq, is_lt}
 use Rattle.std.specs.declared.cmp.Ordering.{Ordering}
 use Rattle.sabr_model.specs.Order.{put_in, by_numbers}
@@ -48,15 +49,6 @@ module _ (route : List ℕ → Bool) (least : List ℕ → List ℕ → Option (
   abbrev pub given : State → List ℕ → List ℕ × State
   given s r = (r, record { emitted = s.emitted + 1; last = r; parts = parts_after s.parts r })
 
-  abbrev pub step_of : State → Option (List ℕ) → Option (List ℕ × State)
-  step_of s None = None
-  step_of s (Some r) = Some (given s r)
-
   -- the best route that a part carries is given, if there is one
   abbrev pub step : (List ℕ → List ℕ → Ordering) → State → Option (List ℕ × State)
-  step cmp s = step_of s (least_carried cmp s.parts)
-
-  -- the parts for the beginnings of q ++ rest from q on, each with its next number excluded
-  abbrev pub fresh : List ℕ → List ℕ → List PartState
-  fresh q [] = []
-  fresh q (y ∷ ys) = record { prefix = q; excluded = y ∷ []; carried = least q (y ∷ []) } ∷ fresh (q ++ y ∷ []) ys
+  step cmp s = option_map (given s) (least_carried cmp s.parts)

@@ -7,8 +7,7 @@ use Rattle.sabr_model.specs.routes.Following.{IsReachedBy}
 use Rattle.sabr_model.specs.routes.Telling.{summary_of}
 use Rattle.sabr_frontier.specs.declared.loader.leading.Lead.{Lead}
 use Rattle.sabr_frontier.specs.declared.loader.leading.ExpectedPrefix.{ExpectedPrefix}
-use Rattle.sabr_frontier.specs.listing.State.{Member}
-use Rattle.sabr_frontier.specs.tree.Queue.{InPairs}
+use Rattle.sabr_frontier.specs.listing.State.{Member, InPairs}
 
 -- the prefix is a path that leads there, and this is its record
 pub record IsLead (p : ContactPlan) (r : RouteRequest) (q : List ℕ) (lead : Lead) : Type 0 where

@@ -38,16 +38,12 @@ comes_after parts q = option_map_or (λ t. numbers_before t.prefix q) (last_item
 abbrev pub may_carry : ContactPlan → RouteRequest → PartState → Bool
 may_carry p r t = option_map_or (in_part p r t.prefix t.excluded) t.carried true
 
--- the reason why a part is refused after others, the first that holds
-abbrev pub part_refusal : ContactPlan → RouteRequest → List PartState → PartState → Option LoadFault
-part_refusal p r parts t =
-    if not (rise_strictly t.excluded && comes_after parts t.prefix) then Some BadOrder
-    else if not (may_carry p r t) then Some BadRoute
-    else None
-
--- the reason why a loader refuses a part
+-- the reason why a loader refuses a part, the first that holds
 abbrev pub refusal_by : Loaded → PartState → Option LoadFault
-refusal_by l t = part_refusal l.plan.plan l.request l.parts t
+refusal_by l t =
+    if not (rise_strictly t.excluded && comes_after l.parts t.prefix) then Some BadOrder
+    else if not (may_carry l.plan.plan l.request t) then Some BadRoute
+    else None
 
 -- the loader with the part after the others
 abbrev pub with_part : Loaded → PartState → Loaded

@@ -15,7 +15,7 @@ use Rattle.sabr_frontier.specs.declared.loader.check.Checked.{Checked}
 use Rattle.sabr_frontier.specs.declared.loader.leading.ExpectedPrefix.{ExpectedPrefix}
 use Rattle.sabr_frontier.specs.listing.State.{PartState, pair_of, Member, leaves_of}
 use Rattle.sabr_frontier.specs.listing.Formed.{InOrder, Within}
-use Rattle.sabr_frontier.specs.listing.Expecting.{Prefixes, onward, IsGood, Expects}
+use Rattle.sabr_frontier.specs.listing.Expecting.{onward, IsGood, Expects}
 use Rattle.sabr_frontier.specs.tree.Shape.{Shape, given_at, numbers_of}
 use Rattle.sabr_frontier.specs.tree.Undo.{last_item, front}
 use Rattle.sabr_frontier.specs.tree.Giving.{ids_from}
@@ -64,7 +64,7 @@ abbrev pub last_prefix : {A : Type 0} → PartialShape A → Option (List ℕ)
 last_prefix h = if length h.nodes == 0 then None else Some h.last
 
 -- what is expected after these parts, the least first: the empty prefix before any
-abbrev pub expected_after : List PartState → List (List ℕ) → Prefixes
+abbrev pub expected_after : List PartState → List (List ℕ) → List (List ℕ)
 expected_after [] expected = [] ∷ []
 expected_after (t ∷ ts) expected = reverse expected
 
@@ -86,20 +86,13 @@ is_complete h = h.sound && (not (length h.nodes == 0) && (length h.expected == 0
 abbrev pub AllGoOn : ContactPlan → RouteRequest → List ℕ × List ℕ → Type 0
 AllGoOn p r e = (x : ℕ) → has nat_cmp x e.1 ≡ true → is_path p r (e.0 ++ x ∷ []) ≡ true
 
--- the list alone if it is a route, and nothing if it is none
-abbrev pub routes_of : ContactPlan → RouteRequest → List ℕ → List (List ℕ)
-routes_of p r s = filter (is_route p r) (s ∷ [])
-
-abbrev pub onward_of : ContactPlan → RouteRequest → List ℕ → List (List ℕ)
-onward_of p r s = filter (λ q. not (is_route p r q)) (s ∷ [])
-
 -- the leaves, with the list if it is a route
 abbrev pub leaves_with : Asked → List RouteRecord → List ℕ → List RouteRecord
-leaves_with a leaves s = leaves ++ map (record_of a.plan.plan a.request) (routes_of a.plan.plan a.request s)
+leaves_with a leaves s = leaves ++ map (record_of a.plan.plan a.request) (filter (is_route a.plan.plan a.request) (s ∷ []))
 
 -- the steps of a prefix, with one more number if that makes no route
 abbrev pub onward_with : Asked → List ℕ → List ExpectedPrefix → ℕ → List (List ℕ)
-onward_with a q os x = map (step_of q) os ++ onward_of a.plan.plan a.request (q ++ x ∷ [])
+onward_with a q os x = map (step_of q) os ++ filter (λ s. not (is_route a.plan.plan a.request s)) ((q ++ x ∷ []) ∷ [])
 
 -- where a pair's excluded numbers lead: the leaves and the prefixes that go on
 pub record IsChecked {A : Type 0} (p : ContactPlan) (r : RouteRequest) (e : List ℕ × List ℕ) (j : Checked A) : Type 0 where
@@ -107,36 +100,20 @@ pub record IsChecked {A : Type 0} (p : ContactPlan) (r : RouteRequest) (e : List
   pub onward_are : map (step_of e.0) j.onward.items ≡ onward (is_route p r) (is_path p r) e
   pub steps : AreSteps p r e.0 j.onward.items
 
--- if the first are steps of the prefix, so are the second
-abbrev pub AreStepsStill : Asked → List ℕ → List ExpectedPrefix → List ExpectedPrefix → Type 0
-AreStepsStill a q old new = AreSteps a.plan.plan a.request q old → AreSteps a.plan.plan a.request q new
-
--- each excluded number makes a path, and this is where they lead
-abbrev pub GoesOnTo : {A : Type 0} → Asked → List ℕ × List ℕ → Checked A → Type 0
-GoesOnTo a e j = AllGoOn a.plan.plan a.request e × IsChecked a.plan.plan a.request e j
-
 -- the pair answers what is expected and is good, and this is where it leads; or there is no verdict, since it doesn't
 -- or isn't
 abbrev pub IsVerdict : {A : Type 0} → ContactPlan → RouteRequest → PartialShape A → List ℕ × List ℕ → Option (Checked A) → Type 0
 IsVerdict p r h e (Some j) = (is_expected h e.0 ≡ true) × IsGood (is_route p r) (is_path p r) e × IsChecked p r e j
 IsVerdict p r h e None = is_expected h e.0 ≡ true → IsGood (is_route p r) (is_path p r) e → ⊥
 
--- the node of a part: its leaf is the next one to come
-abbrev pub node_for : {A : Type 0} → PartialShape A → List ℕ → List ℕ → Option RouteRecord → Node A
-node_for h q X route = record { leaf = length h.leaves; length = length q; excluded = X; route = route }
-
--- a partial tree with one more prefix and its node
+-- a partial tree with one more prefix and its node, whose leaf is the next one to come
 abbrev pub with_node : {A : Type 0} → PartialShape A → List ℕ → List ℕ → Option RouteRecord → PartialShape A
-with_node h q X route = record h { prefixes = h.prefixes ++ q ∷ []; last = q; nodes = h.nodes ++ node_for h q X route ∷ [] }
+with_node h q X route = record h { prefixes = h.prefixes ++ q ∷ []; last = q; nodes = h.nodes ++ record { leaf = length h.leaves; length = length q; excluded = X; route = route } ∷ [] }
 
 -- a partial tree with what the part leads to in place of the least that was expected
 abbrev pub answered_by : {A : Type 0} → PartialShape A → Option (Checked A) → PartialShape A
 answered_by h None = record h { sound = false }
 answered_by h (Some j) = record h { leaves = h.leaves ++ j.leaves.items; expected = front h.expected ++ reverse j.onward.items }
-
--- a partial tree with one more part
-abbrev pub partial_then : {A : Type 0} → PartialShape A → List ℕ → List ℕ → Option RouteRecord → Option (Checked A) → PartialShape A
-partial_then h q X route j = answered_by (with_node h q X route) j
 
 -- there is room for a part whose prefix has this number of numbers, with these numbers of leaves and of expected
 -- prefixes
@@ -148,7 +125,7 @@ pub record HasPlaces {A : Type 0} (h : PartialTree A) (numbers leaves onward : �
 
 -- a partial tree with one more part, for the verdict on it
 abbrev pub IsTakenIn : {A : Type 0} → ContactPlan → RouteRequest → PartialShape A → List ℕ → List ℕ → Option RouteRecord → PartialShape A → Type 0
-IsTakenIn {A} p r h q X route new = (j : Option (Checked A)) × IsVerdict p r h (q, X) j × (new ≡ partial_then h q X route j)
+IsTakenIn {A} p r h q X route new = (j : Option (Checked A)) × IsVerdict p r h (q, X) j × (new ≡ answered_by (with_node h q X route) j)
 
 -- ---- what holds of it
 
@@ -175,7 +152,7 @@ pub record IsPartial {A : Type 0} (p : ContactPlan) (r : RouteRequest) (h : Part
   pub carried : (t : PartState) (s : List ℕ) → Member t (parts_in h) → t.carried ≡ Some s → (is_route p r s ≡ true) × Within t.prefix t.excluded s
   pub records : (n : Node A) (x : RouteRecord) → Member n h.nodes → n.route ≡ Some x → x ≡ record_of p r x.contacts
   pub answered : h.sound ≡ true → IsAnswered p r h
-  pub broken : h.sound ≡ false → (os : Prefixes) → Expects (is_route p r) (is_path p r) ([] ∷ []) (pairs_in h) os → ⊥
+  pub broken : h.sound ≡ false → (os : List (List ℕ)) → Expects (is_route p r) (is_path p r) ([] ∷ []) (pairs_in h) os → ⊥
 
 -- ---- the tree
 
@@ -199,9 +176,6 @@ pub record IsLastPlace (leaves : List RouteRecord) (emitted : ℕ) (last : List 
   pub count : emitted ≡ length leaves
   pub is : given_at leaves place ≡ last
   pub right : IsGiven leaves last
-
-abbrev pub IsWrongLast : List RouteRecord → ℕ → List ℕ → Type 0
-IsWrongLast leaves emitted last = emitted ≡ length leaves → IsGiven leaves last → ⊥
 
 -- ---- the loader
 

@@ -1,14 +1,10 @@
 -- A tree some of whose nodes don't carry what they might: a route that comes after so many that others carry.
-use Rattle.std.specs.Prelude.{◌≡◌, ◌⊎◌, ℕ, ◌≤◌, suc, Bool, false, List, [], ◌∷◌, length, if◌then◌else◌}
+use Rattle.std.specs.Prelude.{◌≡◌, ◌⊎◌, ℕ, ◌≤◌, suc, Bool, false, List, [], ◌∷◌, if◌then◌else◌, Some, None}
 use Rattle.std.specs.Option.{option_map_or}
 use Rattle.std.specs.Ordering.{is_lt}
-use Rattle.std.specs.declared.option.Option.{Option}
-use Rattle.std.specs.declared.option.Option.TheVariants.{Some, None}
 use Rattle.sabr_model.specs.plan.Plan.{ContactPlan}
 use Rattle.sabr_model.specs.routes.Arrival.{RouteRequest}
 use Rattle.sabr_model.specs.routes.Record.{RouteRecord, by_record}
-use Rattle.sabr_search.specs.declared.bound.Bound.{Bound}
-use Rattle.sabr_search.specs.questions.Bounded.{is_up_to}
 use Rattle.sabr_frontier.specs.declared.tree.Node.{Node}
 use Rattle.sabr_frontier.specs.listing.State.{State}
 use Rattle.sabr_frontier.specs.tree.Searching.{Asked}
@@ -44,7 +40,3 @@ pub record IsCutTree {A : Type 0} (p : ContactPlan) (r : RouteRequest) (k : ℕ)
 -- so a tree is that of a state
 abbrev pub ShowsCut : {A : Type 0} → Asked → ℕ → State → Shape A → Type 0
 ShowsCut {A} a k s t = (u : Shape A) × (s ≡ shown u) × IsCutTree a.plan.plan a.request k u t
-
--- what is above the bound, if there is one, comes after at least k that these nodes carry
-abbrev pub IsBoundFor : {A : Type 0} → Option Bound → ℕ → List (Node A) → Type 0
-IsBoundFor o k nodes = (b : Bound) (x : RouteRecord) → o ≡ Some b → is_up_to b x.delivery (length x.contacts) ≡ false → k ≤ count_before x nodes

@@ -2,8 +2,6 @@
 use Rattle.std.specs.Prelude.{◌≡◌, ℕ, ◌+◌, ◌-◌, suc, Bool, List, [], ◌∷◌, ◌++◌, length, take, drop, Option, Some, slice_index, slice_get, if◌then◌else◌}
 use Rattle.std.specs.Ordering.{nat_cmp}
 use Rattle.sabr_model.specs.Order.{put_in}
-use Rattle.sabr_model.specs.plan.Plan.{ContactPlan}
-use Rattle.sabr_model.specs.routes.Arrival.{RouteRequest}
 use Rattle.sabr_model.specs.routes.Record.{RouteRecord}
 use Rattle.sabr_frontier.specs.declared.tree.NodeId.{NodeId}
 use Rattle.sabr_frontier.specs.declared.tree.Node.{Node}
@@ -12,14 +10,8 @@ use Rattle.sabr_frontier.specs.tree.Shape.{Shape}
 pub use Rattle.sabr_frontier.specs.tree.Shape.{ids_from, stands_before}
 use Rattle.sabr_frontier.specs.tree.Undo.{modify}
 use Rattle.sabr_frontier.specs.tree.Winners.{IsBestOf}
-use Rattle.sabr_frontier.specs.tree.Best.{best_of}
 
 -- ---- places in lists
-
--- x after those in front that pass the test
-abbrev pub put_past : {X : Type 0} → (X → Bool) → X → List X → List X
-put_past test x [] = x ∷ []
-put_past test x (y ∷ ys) = if test y then y ∷ put_past test x ys else x ∷ y ∷ ys
 
 -- how many in front pass the test
 abbrev pub passing : {X : Type 0} → (X → Bool) → List X → ℕ
@@ -53,40 +45,31 @@ fresh_after best leaf n s = fresh_nodes best leaf (take (n.length + 1) s) (drop 
 abbrev pub widened : {A : Type 0} → List ℕ → Option RouteRecord → Node A → Node A
 widened wide found n = record n { excluded = wide; route = found }
 
--- the nodes then
-abbrev pub nodes_then : {A : Type 0} → List (Node A) → NodeId → List ℕ → Option RouteRecord → List (Node A) → List (Node A)
-nodes_then nodes node wide found fresh = modify (widened wide found) nodes node.0 ++ fresh
-
--- the tree once the node's route x is given, with this index and these nodes
-abbrev pub changed_by : {A : Type 0} → Shape A → NodeId → RouteRecord → List NodeId → List (Node A) → Shape A
-changed_by t node x index nodes =
+-- the tree once the node's route x is given, with this index and these nodes, of which those from `first` on are new
+abbrev pub changed_by : {A : Type 0} → Shape A → NodeId → RouteRecord → ℕ → List NodeId → List (Node A) → Shape A
+changed_by t node x first index nodes =
     record {
       nodes = nodes;
       index = index;
       leaves = t.leaves ++ x ∷ [];
       last = Some (length t.leaves);
-      journal = t.journal ++ record { node = node; nodes = length t.nodes; last = t.last } ∷ [];
+      journal = t.journal ++ record { node = node; nodes = first; last = t.last } ∷ [];
       is_searched = t.is_searched;
     }
 
--- that for what the searches found: the new nodes stand at a place of the index
-abbrev pub divided_by : {A : Type 0} → Shape A → NodeId → RouteRecord → ℕ → List ℕ → Option RouteRecord → List (Node A) → Shape A
-divided_by t node x place wide found fresh = changed_by t node x (with_block place (ids_from (length t.nodes) (length fresh)) t.index) (nodes_then t.nodes node wide found fresh)
-
--- the numbers that the node excludes then, the front of the route that its new parts begin with, and the rest
+-- the numbers that the node excludes once s is given
 abbrev pub wide_of : {A : Type 0} → Node A → List ℕ → List ℕ
 wide_of n s = put_in nat_cmp (slice_index s n.length) n.excluded
 
--- that for what each search answers
+-- that for what each search answers, where n is the node: the new nodes stand together in the index
 abbrev pub divided_with : {A : Type 0} → (List ℕ → List ℕ → Option RouteRecord) → Shape A → NodeId → Node A → RouteRecord → Shape A
 divided_with best t node n x =
     let s = x.contacts in
     let q = take (n.length + 1) s in
-    divided_by t node x (passing (stands_before t.leaves t.nodes q) t.index) (wide_of n s) (best (take n.length s) (wide_of n s)) (fresh_nodes best (length t.leaves) q (drop (n.length + 1) s))
-
--- that for the best routes
-abbrev pub divided : {A : Type 0} → ContactPlan → RouteRequest → Shape A → NodeId → Node A → RouteRecord → Shape A
-divided p r = divided_with (best_of p r)
+    let fresh = fresh_after best (length t.leaves) n s in
+    let place = passing (stands_before t.leaves t.nodes q) t.index in
+    let nodes = modify (widened (wide_of n s) (best (take n.length s) (wide_of n s))) t.nodes node.0 ++ fresh in
+    changed_by t node x (length t.nodes) (with_block place (ids_from (length t.nodes) (length fresh)) t.index) nodes
 
 -- this step gave the best route that a node carries, with a search for each hop of the route after the node's prefix
 pub record IsNextGiven {A : Type 0} (best : List ℕ → List ℕ → Option RouteRecord) (t u : Shape A) (before after : List RouteRecord) (step : Step) : Type 0 where

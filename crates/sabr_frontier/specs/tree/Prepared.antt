@@ -1,18 +1,15 @@
 -- The nodes while a route is given.
-use Rattle.std.specs.Prelude.{ℕ, List, [], ◌∷◌, ◌++◌, length, Option, Some, slice_index}
+use Rattle.std.specs.Prelude.{ℕ, List, [], ◌∷◌, ◌++◌, Option}
 use Rattle.sabr_model.specs.routes.Record.{RouteRecord}
 use Rattle.sabr_frontier.specs.declared.tree.NodeId.{NodeId}
 use Rattle.sabr_frontier.specs.declared.tree.Node.{Node}
 use Rattle.sabr_frontier.specs.tree.Shape.{Shape, order_of}
-use Rattle.sabr_frontier.specs.tree.Undo.{modify, without}
-use Rattle.sabr_frontier.specs.tree.Giving.{fresh_after, wide_of}
+use Rattle.sabr_frontier.specs.tree.Undo.{modify}
+use Rattle.sabr_frontier.specs.tree.Giving.{changed_by, fresh_after, wide_of}
 
--- the node with the number after its prefix in s among those that it excludes, and without it
+-- the node with the number after its prefix in s among those that it excludes
 abbrev pub excluding : {A : Type 0} → List ℕ → Node A → Node A
 excluding s n = record n { excluded = wide_of n s }
-
-abbrev pub including : {A : Type 0} → List ℕ → Node A → Node A
-including s n = record n { excluded = without (slice_index s n.length) n.excluded }
 
 -- the nodes once the part n of one is divided by s: it excludes one number more, and those of a leaf for s come after all
 abbrev pub parted : {A : Type 0} → (List ℕ → List ℕ → Option RouteRecord) → ℕ → List (Node A) → NodeId → List ℕ → Node A → List (Node A)
@@ -25,11 +22,5 @@ carrying found n = record n { route = found }
 -- the tree once the node's route x is given and it carries this, where the new nodes stand from `first` on already
 abbrev pub given_by : {A : Type 0} → Shape A → NodeId → RouteRecord → Option RouteRecord → ℕ → Shape A
 given_by t node x found first =
-    record {
-      nodes = modify (carrying found) t.nodes node.0;
-      index = order_of (t.leaves ++ x ∷ []) (modify (carrying found) t.nodes node.0);
-      leaves = t.leaves ++ x ∷ [];
-      last = Some (length t.leaves);
-      journal = t.journal ++ record { node = node; nodes = first; last = t.last } ∷ [];
-      is_searched = t.is_searched;
-    }
+    let nodes = modify (carrying found) t.nodes node.0 in
+    changed_by t node x first (order_of (t.leaves ++ x ∷ []) nodes) nodes

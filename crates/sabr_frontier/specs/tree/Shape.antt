@@ -1,8 +1,9 @@
 -- What a tree is made of, and the state that it stands for.
-use Rattle.std.specs.Prelude.{ℕ, zero, suc, Bool, List, [], ◌∷◌, map, length, take, Option, Some, None, slice_get}
+use Rattle.std.specs.Prelude.{ℕ, zero, suc, Bool, List, [], ◌∷◌, map, length, take, Option, Some, None, slice_get, ◌≡◌, true}
 use Rattle.std.specs.Option.{option_map}
 use Rattle.std.specs.Ordering.{is_lt}
 use Rattle.std.specs.declared.cmp.Ordering.{Ordering}
+use Rattle.std.specs.declared.cmp.Ordering.TheVariants.{Less}
 use Rattle.sabr_model.specs.Order.{by_numbers, in_order}
 use Rattle.sabr_model.specs.routes.Record.{RouteRecord}
 use Rattle.sabr_frontier.specs.declared.tree.NodeId.{NodeId}
@@ -60,6 +61,10 @@ stands_before leaves nodes q id = is_lt (by_numbers (part_at leaves nodes id).pr
 abbrev pub by_prefix : {A : Type 0} → List RouteRecord → List (Node A) → NodeId → NodeId → Ordering
 by_prefix leaves nodes a b = by_numbers (part_at leaves nodes a).prefix (part_at leaves nodes b).prefix
 
+-- a's prefix is below that of b
+abbrev pub IsBefore : {A : Type 0} → List RouteRecord → List (Node A) → NodeId → NodeId → Type 0
+IsBefore leaves nodes a b = by_prefix leaves nodes a b ≡ Less
+
 -- all nodes in order of prefix
 unfoldable pub order_of : {A : Type 0} → List RouteRecord → List (Node A) → List NodeId
 order_of leaves nodes = in_order (by_prefix leaves nodes) (ids_from 0 (length nodes))
@@ -67,6 +72,17 @@ order_of leaves nodes = in_order (by_prefix leaves nodes) (ids_from 0 (length no
 -- its index is that of all nodes, at each time
 abbrev pub shape_of : {A : Type 0} → Tree A → Shape A
 shape_of t = record { nodes = t.nodes.items; index = order_of t.leaves.items t.nodes.items; leaves = t.leaves.items; last = t.last; journal = t.journal.items; is_searched = t.is_searched }
+
+-- the tree before any route is given: one node with the empty prefix, with nothing excluded, and the best route of all
+abbrev pub root : {A : Type 0} → Option RouteRecord → Shape A
+root found = record {
+  nodes = record { leaf = 0; length = 0; excluded = []; route = found } ∷ [];
+  index = record { 0 = 0 } ∷ [];
+  leaves = [];
+  last = None;
+  journal = [];
+  is_searched = true;
+}
 
 -- the route of the leaf with this number
 abbrev pub given_at : List RouteRecord → Option ℕ → List ℕ

@@ -9,8 +9,8 @@ use Rattle.sabr_frontier.specs.declared.tree.Node.{Node}
 use Rattle.sabr_frontier.specs.listing.Rising.{has, Rises}
 use Rattle.sabr_frontier.specs.listing.State.{Member}
 use Rattle.sabr_frontier.specs.listing.Listing.{IsState, leaves_in}
-use Rattle.sabr_frontier.specs.tree.Floors.{CarriesOnlyLeast}
-use Rattle.sabr_frontier.specs.tree.Shape.{Shape, shown}
+use Rattle.sabr_frontier.specs.tree.Shape.{Shape, shown, prefix_of}
+use Rattle.sabr_frontier.specs.tree.Best.{best_of}
 
 -- the node's prefix is empty, or a front of a leaf that is there and long enough
 abbrev pub IsLent : {A : Type 0} → List RouteRecord → Node A → Type 0
@@ -20,6 +20,10 @@ IsLent leaves n = (n.length ≡ 0) ⊎ ((x : RouteRecord) × (slice_get leaves n
 pub record AreGiven {A : Type 0} (p : ContactPlan) (r : RouteRequest) (t : Shape A) : Type 0 where
   pub counted : (x : RouteRecord) → Member x t.leaves → (x ≡ record_of p r x.contacts) × Member x.contacts (leaves_in p r (shown t))
   pub recorded : (s : List ℕ) → Member s (leaves_in p r (shown t)) → Member (record_of p r s) t.leaves
+
+-- each route that a node carries is the least of its part
+abbrev pub CarriesOnlyLeast : {A : Type 0} → ContactPlan → RouteRequest → Shape A → Type 0
+CarriesOnlyLeast {A} p r t = (n : Node A) (x : RouteRecord) → Member n t.nodes → n.route ≡ Some x → best_of p r (prefix_of t.leaves n) n.excluded ≡ Some x
 
 pub record IsTree {A : Type 0} (p : ContactPlan) (r : RouteRequest) (t : Shape A) : Type 0 where
   pub formed : IsState p r (shown t)

@@ -1,4 +1,4 @@
--- What the undo of a route leaves, and when it can be undone.
+-- Room in the vectors of a tree, what the undo of a route leaves, and when it can be undone.
 use Rattle.std.specs.Prelude.{◌≡◌, ℕ, ◌-◌, ◌+◌, ◌<◌, ◌≤◌, zero, suc, not, nat_lt, nat_eq, List, [], ◌∷◌, length, take, Option, Some, None, slice_index, slice_index_or, slice_get, vec_len, vec_capacity}
 use Rattle.std.specs.List.{filter}
 use Rattle.sabr_model.specs.routes.Record.{RouteRecord}
@@ -21,6 +21,15 @@ pub record IsRoomy {A : Type 0} (t : Tree A) : Type 0 where
   pub won : AreWinners t.nodes.items t.winners.items
   pub count : vec_len t.winners ≡ length t.nodes.items
 
+-- there is room for one route given and m new nodes, so that the change doesn't allocate
+pub record HasRoom {A : Type 0} (t : Tree A) (m : ℕ) : Type 0 where
+  pub nodes : vec_len t.nodes + m ≤ vec_capacity t.nodes
+  pub index : vec_len t.nodes + m ≤ vec_capacity t.index
+  pub added : vec_len t.nodes + m ≤ vec_len t.index + vec_capacity t.late
+  pub winners : vec_len t.nodes + m ≤ vec_capacity t.winners
+  pub leaves : vec_len t.leaves < vec_capacity t.leaves
+  pub journal : vec_len t.journal < vec_capacity t.journal
+
 -- f at one place
 abbrev pub modify : {X : Type 0} → (X → X) → List X → ℕ → List X
 modify f [] i = []
@@ -35,13 +44,13 @@ last_item xs = slice_get xs (length xs - 1)
 abbrev pub front : {X : Type 0} → List X → List X
 front xs = take (length xs - 1) xs
 
--- without a number
-abbrev pub without : ℕ → List ℕ → List ℕ
-without x xs = filter (λ y. not (nat_eq y x)) xs
+-- the node without the number after its prefix in s among those that it excludes
+abbrev pub including : {A : Type 0} → List ℕ → Node A → Node A
+including s n = record n { excluded = filter (λ y. not (nat_eq y (slice_index s n.length))) n.excluded }
 
 -- the node with the route again
 abbrev pub given_back : {A : Type 0} → RouteRecord → Node A → Node A
-given_back r n = record n { excluded = without (slice_index r.contacts n.length) n.excluded; route = Some r }
+given_back r n = record (including r.contacts n) { route = Some r }
 
 abbrev pub undone_by : {A : Type 0} → Shape A → Option Entry → Option RouteRecord → Shape A
 undone_by t (Some e) (Some r) = record {

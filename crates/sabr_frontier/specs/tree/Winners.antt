@@ -37,25 +37,15 @@ CarriesNone nodes = (id : NodeId) → route_at nodes id ≡ None
 abbrev pub winner_at : List NodeId → ℕ → NodeId
 winner_at ids k = get_or ids k (record { 0 = 0 })
 
--- x is less than what is there, or nothing is there
-abbrev pub is_less : RouteRecord → Option RouteRecord → Bool
-is_less x None = true
-is_less x (Some y) = is_lt (by_record x y)
-
 -- the first is there and less than the second, or the second isn't there
 abbrev pub is_lesser : Option RouteRecord → Option RouteRecord → Bool
 is_lesser None o = false
-is_lesser (Some x) o = is_less x o
+is_lesser (Some x) None = true
+is_lesser (Some x) (Some y) = is_lt (by_record x y)
 
--- the first is there and y isn't less
-abbrev pub IsUpTo : Option RouteRecord → RouteRecord → Type 0
-IsUpTo None y = ⊥
-IsUpTo (Some x) y = is_lt (by_record y x) ≡ false
-
--- the second isn't less than the first, or isn't there
+-- the second isn't there, or isn't less than the first
 abbrev pub IsNoGreater : Option RouteRecord → Option RouteRecord → Type 0
-IsNoGreater o None = Unit {0}
-IsNoGreater o (Some y) = IsUpTo o y
+IsNoGreater o p = is_lesser p o ≡ false
 
 -- w is one of both, and carries a route that is no greater than either's
 pub record IsLesser {A : Type 0} (nodes : List (Node A)) (a b w : NodeId) : Type 0 where
@@ -92,12 +82,6 @@ IsAbove k a b = (m : ℕ) × (low m a ≤ k) × (k < high m b)
 -- all other slots name winners
 abbrev pub AreOthersWinners : {A : Type 0} → List (Node A) → List NodeId → ℕ → ℕ → Type 0
 AreOthersWinners nodes ids a b = (k : ℕ) → k < length ids → (IsAbove k a b → ⊥) → IsWon nodes ids k
-
--- the slots from a on and below b name winners, and the others what they named
-pub record IsSettled {A : Type 0} (nodes : List (Node A)) (old ids : List NodeId) (a b : ℕ) : Type 0 where
-  pub won : (k : ℕ) → a ≤ k → k < b → IsWon nodes ids k
-  pub others : (k : ℕ) → (k < a) ⊎ (b ≤ k) → winner_at ids k ≡ winner_at old k
-  pub long : length ids ≡ length old
 
 -- slot k, over the slot `at`, names a winner but for that slot; or what it names carries a worse route than the node
 pub record IsBeside {A : Type 0} (nodes : List (Node A)) (ids : List NodeId) (k at : ℕ) (id : NodeId) : Type 0 where

@@ -4,12 +4,12 @@ ghost use Rattle.std.specs.Prelude.{◌≡◌, ◌+◌, ◌≤◌, ◌<◌, ◌+
 ghost use Rattle.std.specs.Ordering.{nat_cmp};
 ghost use Rattle.sabr_model.specs.routes.Route.{is_route};
 ghost use Rattle.sabr_frontier.specs.tree.Searching.{best_for};
-ghost use Rattle.sabr_frontier.specs.tree.Floors.{IsFloorAfter, IsFloorOf};
 ghost use Rattle.sabr_frontier.specs.listing.Rising.{Rises};
-ghost use Rattle.sabr_frontier.specs.tree.Undo.{modify};
+ghost use Rattle.sabr_frontier.specs.tree.Undo.{modify, including};
 ghost use Rattle.sabr_frontier.specs.tree.Giving.{OfNode, fresh_after, fresh_node, fresh_nodes, wide_of};
 ghost use Rattle.sabr_frontier.specs.tree.Sound.{CanExclude};
-ghost use Rattle.sabr_frontier.specs.tree.Prepared.{excluding, including, parted};
+ghost use Rattle.sabr_frontier.specs.tree.Prepared.{excluding, parted};
+ghost use Rattle.sabr_search.specs.questions.Bounded.{IsFloor};
 
 use crate::giving::searcher::Searcher;
 use crate::tree::excluded_numbers::ExcludedNumbers;
@@ -60,7 +60,7 @@ pub fn find_best_after<B: BestOf<A>, A: Allocator + Copy>(
     floor: u64,
     bound: Option<Bound>,
 ) -> Result<Option<Route<A>>, NoMemory>
-    requires floor { IsFloorAfter searcher.old.asked.plan.plan searcher.old.asked.request route.now count floor }
+    requires floor { IsFloor searcher.old.asked.plan.plan searcher.old.asked.request (take count route.now) [] floor }
     requires route { IsTrue (is_route searcher.old.asked.plan.plan searcher.old.asked.request route.now) }
     requires longer { count < length route.now }
     ensures best { IfOk result (λ found. found ≡ best_for searcher.old.asked bound (take count route.now) (slice_index route.now count ∷ [])) }
@@ -82,7 +82,7 @@ fn fresh_node<B: BestOf<A>, A: Allocator + Copy>(
     given: Given,
     count: usize,
 ) -> Result<Node<A>, NoMemory>
-    requires floor { IsFloorAfter searcher.old.asked.plan.plan searcher.old.asked.request route.now count given.floor }
+    requires floor { IsFloor searcher.old.asked.plan.plan searcher.old.asked.request (take count route.now) [] given.floor }
     requires route { IsTrue (is_route searcher.old.asked.plan.plan searcher.old.asked.request route.now) }
     requires longer { count < length route.now }
 
@@ -100,8 +100,7 @@ fn fresh_node<B: BestOf<A>, A: Allocator + Copy>(
     })
 }
 
-/// Adds the nodes of a leaf for the beginnings of a route from `first` numbers on, each with its next number excluded.
-/// There is room for them. If an allocation failed, some may have been added.
+/// Adds the nodes of a leaf for the beginnings of a route from `first` numbers on, for which there is room.
 #[tactic(auto, using(crate::proofs::TreeLemmas::ListFronts::fresh_push, crate::proofs::TreeLemmas::ListFronts::fresh_all))]
 fn fresh_nodes<B: BestOf<A>, A: Allocator + Copy>(
     searcher: &mut Searcher<'_, B, A>,
@@ -111,7 +110,7 @@ fn fresh_nodes<B: BestOf<A>, A: Allocator + Copy>(
     first: usize,
 ) -> Result<(), NoMemory>
     requires route { IsTrue (is_route searcher.old.asked.plan.plan searcher.old.asked.request route.now) }
-    requires floor { IsFloorAfter searcher.old.asked.plan.plan searcher.old.asked.request route.now first given.floor }
+    requires floor { IsFloor searcher.old.asked.plan.plan searcher.old.asked.request (take first route.now) [] given.floor }
     requires within { first ≤ length route.now }
     requires room { vec_len nodes.old + length route.now ≤ vec_capacity nodes.old + first }
 
@@ -149,8 +148,8 @@ fn search<B: BestOf<A>, A: Allocator + Copy>(
     requires route { IsTrue (is_route searcher.old.asked.plan.plan searcher.old.asked.request route.now) }
     requires longer { OfNode nodes.old.items node (λ n. n.length < length route.now) }
     requires rising { OfNode nodes.old.items node (λ n. Rises nat_cmp n.excluded) }
-    requires floor { OfNode nodes.old.items node (IsFloorOf searcher.old.asked.plan.plan searcher.old.asked.request route.now given.floor) }
-    requires after { OfNode nodes.old.items node (λ n. IsFloorAfter searcher.old.asked.plan.plan searcher.old.asked.request route.now (n.length + 1) given.floor) }
+    requires floor { OfNode nodes.old.items node (λ n. IsFloor searcher.old.asked.plan.plan searcher.old.asked.request (take n.length route.now) n.excluded given.floor) }
+    requires after { OfNode nodes.old.items node (λ n. IsFloor searcher.old.asked.plan.plan searcher.old.asked.request (take (n.length + 1) route.now) [] given.floor) }
     requires room { vec_len nodes.old + length route.now ≤ vec_capacity nodes.old }
 
     // It finds what the node carries, and adds the new nodes, by a search each.
@@ -210,9 +209,8 @@ fn include_next<A: Allocator + Copy>(nodes: &mut Vec<Node<A>, A>, node: NodeId, 
     part.excluded.forget(number);
 }
 
-/// Divides the part of a node by a route of it, which is then a leaf: the node excludes one number more, and
-/// the new parts come after the others. There is room for them. It returns what the node carries then. If it fails,
-/// the nodes are as they were.
+/// Divides the part of a node by a route of it, which is then a leaf: the node excludes one number more, and the new
+/// parts come after the others, for which there is room. It returns what the node carries then.
 #[tactic(auto, using(crate::proofs::TreeLemmas::ModifiedPlaces::get_same))]
 pub fn divide<B: BestOf<A>, A: Allocator + Copy>(
     searcher: &mut Searcher<'_, B, A>,
@@ -224,7 +222,7 @@ pub fn divide<B: BestOf<A>, A: Allocator + Copy>(
     requires in_range { node.0 < vec_len nodes.old }
     requires route { IsTrue (is_route searcher.old.asked.plan.plan searcher.old.asked.request route.now) }
     requires next { OfNode nodes.old.items node (λ n. CanExclude n route.now) }
-    requires floor { OfNode nodes.old.items node (IsFloorOf searcher.old.asked.plan.plan searcher.old.asked.request route.now given.floor) }
+    requires floor { OfNode nodes.old.items node (λ n. IsFloor searcher.old.asked.plan.plan searcher.old.asked.request (take n.length route.now) n.excluded given.floor) }
     requires room { vec_len nodes.old + length route.now ≤ vec_capacity nodes.old }
 
     // It finds what the node carries, and changes and adds nodes, by a search each.

@@ -22,7 +22,6 @@ use std::alloc::Allocator;
 
 impl<A: Allocator + Copy> Tree<A> {
     /// Gives the next `count` routes, or all that are left if they are fewer, and returns how many searches that took.
-    /// If an allocation failed, the routes given so far can be taken back.
     pub fn give_page<B: BestOf<A>>(
         &mut self,
         searcher: &mut Searcher<'_, B, A>,

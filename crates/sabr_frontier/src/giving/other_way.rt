@@ -217,37 +217,27 @@ fn detours<A: Allocator + Copy>(
     false
 }
 
-/// A route, and numbers that may not take the place of its last one.
-#[derive(Clone, Copy)]
-pub struct Ending<'a> {
-    pub route: &'a [u32],
-    pub excluded: &'a [u32],
-}
-
 /// Returns true if a route is seen to have another ending in place of its last number. Either one number that isn't
 /// excluded leads to the destination; only the last contact of its link is tried. Or there is a detour of two numbers.
 ///
 /// It takes a look for each contact of the route, and at most two for each link that is tried.
-///
-/// # Errors
-///
-/// [`NoMemory`] if an allocation failed.
 pub fn goes_otherwise<A: Allocator + Copy>(
     alloc: A,
     plan: &CountedPlan<'_, A>,
     looks: &mut Looks,
     request: &Request,
-    ending: Ending<'_>,
+    route: &[u32],
+    excluded: &[u32],
 ) -> Result<bool, NoMemory>
-    requires route { IsTrue (is_route plan.now.plan request.now ending.route.now) }
-    requires few { detour_looks (length ending.route.now) ≤ looks.old.left }
-    ensures most { looks.old.left ≤ looks.new.left + detour_looks (length ending.entry.route.now) }
+    requires route { IsTrue (is_route plan.now.plan request.now route.now) }
+    requires few { detour_looks (length route.now) ≤ looks.old.left }
+    ensures most { looks.old.left ≤ looks.new.left + detour_looks (length route.now) }
     ensures fewer { looks.new.left ≤ looks.old.left }
-    ensures yes { IfOk result (λ yes. IsTrue yes → GoesOtherwise plan.now.plan request.now ending.entry.route.now ending.entry.excluded.now) }
+    ensures yes { IfOk result (λ yes. IsTrue yes → GoesOtherwise plan.now.plan request.now route.now excluded.now) }
 {
     plan.rules_hold();
     plan.nodes();
-    let Some((last, front)) = ending.route.split_last() else {
+    let Some((last, front)) = route.split_last() else {
         return Ok(false);
     };
     let Some(to) = plan.node_index(request.to()) else {
@@ -262,7 +252,7 @@ pub fn goes_otherwise<A: Allocator + Copy>(
         forbidden: led.forbidden.as_slice(),
         to,
         last: *last,
-        excluded: ending.excluded,
+        excluded,
     };
     if let Some(pass) = last_pass(plan, led.here.node, to) {
         if ends_on(plan, looks, request, end, pass) {

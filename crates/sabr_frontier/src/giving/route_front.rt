@@ -69,10 +69,6 @@ fn start<A: Allocator + Copy>(
 }
 
 /// Follows the front of a route: one look for each of its numbers.
-///
-/// # Errors
-///
-/// [`NoMemory`] if an allocation failed.
 pub fn follow_front<A: Allocator + Copy>(
     alloc: A,
     plan: &CountedPlan<'_, A>,

@@ -83,10 +83,6 @@ impl<'p, B: BestOf<A>, A: Allocator + Copy> Model for Searcher<'p, B, A> {
 
 impl<'p, B: BestOf<A>, A: Allocator + Copy> Searcher<'p, B, A> {
     /// Makes the plan's index, and a searcher with an empty cache.
-    ///
-    /// # Errors
-    ///
-    /// [`NoMemory`] if an allocation failed. The finder is dropped.
     pub fn new(question: PlanRequest<'p, A>, finder: B) -> Result<Searcher<'p, B, A>, NoMemory>
         ensures { IfOk result (λ searcher. searcher ≡ searching_first question.entry.plan.now question.entry.request (B.calls_of finder) (B.looks_of finder)) }
     {
@@ -115,13 +111,7 @@ impl<'p, B: BestOf<A>, A: Allocator + Copy> Searcher<'p, B, A> {
         ensures cache { IsSearchCache self.entry.asked.plan result.0.request result.0.cache }
         ensures index { result.1 ≡ self.entry.asked.plan }
     {
-        let Searcher {
-            index,
-            rest,
-            looks: _,
-            summed: _,
-        } = self;
-        (rest, index)
+        (self.rest, self.index)
     }
 
     /// Returns the sum of the looks that the finder's calls took, `u64::MAX` if they are more, and begins it anew.
@@ -224,12 +214,6 @@ impl<B: BestOf<A>, A: Allocator + Copy> PausedSearcher<B, A> {
     pub fn into_finder(self) -> B
         ensures { result ≡ self.finder }
     {
-        let PausedSearcher {
-            alloc: _,
-            request: _,
-            finder,
-            cache: _,
-        } = self;
-        finder
+        self.finder
     }
 }

@@ -1,20 +1,20 @@
 //! Looking at the best route that the tree carries, and whether a route would be left after it. Nothing is given.
 
-ghost use Rattle.std.specs.Prelude.{◌≡◌, ◌+◌, ◌≤◌, ◌<◌, ◌++◌, ◌||◌, None, take, drop, length, is_some, IfOk, OnOk, IsTrue};
+ghost use Rattle.std.specs.Prelude.{◌≡◌, ◌+◌, ◌≤◌, ◌<◌, ◌++◌, ◌||◌, None, take, drop, length, is_some, IfOk, OnOk, IsTrue, []};
 ghost use Rattle.sabr_model.specs.plan.Plan.{IsPlan};
 ghost use Rattle.sabr_model.specs.routes.Route.{is_route};
 ghost use Rattle.sabr_frontier.specs.listing.Listing.{next_route, searches_in};
 ghost use Rattle.sabr_frontier.specs.giving.Detours.{detour_looks};
 ghost use Rattle.sabr_frontier.specs.tree.Searching.{best_for, records_for, steps_for};
-ghost use Rattle.sabr_frontier.specs.tree.Floors.{IsFloorAfter, IsFloorOf};
 ghost use Rattle.sabr_frontier.specs.tree.Left.{longer_go_on, others_carry, part_goes_on, some_carry};
 ghost use Rattle.sabr_frontier.specs.tree.Shape.{shape_of, shown};
 ghost use Rattle.sabr_frontier.specs.tree.Sound.{CanExclude, IsTree};
 ghost use Rattle.sabr_frontier.specs.tree.Giving.{OfNode};
 ghost use Rattle.sabr_frontier.specs.tree.Undo.{IsRoomy};
+ghost use Rattle.sabr_search.specs.questions.Bounded.{IsFloor};
 
 use crate::giving::divide::{find_best_after, numbers};
-use crate::giving::other_way::{Ending, goes_otherwise};
+use crate::giving::other_way::goes_otherwise;
 use crate::giving::searcher::Searcher;
 use crate::tree::{Node, NodeId, Tree};
 use sabr_index::Looks;
@@ -49,7 +49,7 @@ fn longer_go_on<B: BestOf<A>, A: Allocator + Copy>(
 ) -> Result<bool, NoMemory>
     requires route { IsTrue (is_route searcher.old.asked.plan.plan searcher.old.asked.request route.now) }
     requires within { first ≤ length route.now }
-    requires floor { IsFloorAfter searcher.old.asked.plan.plan searcher.old.asked.request route.now first floor }
+    requires floor { IsFloor searcher.old.asked.plan.plan searcher.old.asked.request (take first route.now) [] floor }
     ensures ok { IfOk result (λ yes. yes ≡ longer_go_on (best_for searcher.old.asked None) (take first route.now) (drop first route.now)) }
     ensures no_fewer { searcher.old.calls ≤ searcher.new.calls }
     ensures at_most { searcher.new.calls + first ≤ searcher.old.calls + length route.now }
@@ -76,7 +76,7 @@ fn part_goes_on<B: BestOf<A>, A: Allocator + Copy>(
 ) -> Result<bool, NoMemory>
     requires route { IsTrue (is_route searcher.old.asked.plan.plan searcher.old.asked.request route.now) }
     requires next { CanExclude part.now route.now }
-    requires floor { IsFloorOf searcher.old.asked.plan.plan searcher.old.asked.request route.now floor part.now }
+    requires floor { IsFloor searcher.old.asked.plan.plan searcher.old.asked.request (take part.now.length route.now) part.now.excluded floor }
     requires few { detour_looks searcher.old.asked.request.max_hops ≤ looks.old.left }
     ensures ok { IfOk result (λ yes. yes ≡ part_goes_on (best_for searcher.old.asked None) part.now route.now) }
     ensures no_fewer { searcher.old.calls ≤ searcher.new.calls }
@@ -87,13 +87,13 @@ fn part_goes_on<B: BestOf<A>, A: Allocator + Copy>(
     searcher.plan().rules_hold();
     let request = searcher.request();
     let excluded = part.excluded.as_slice();
-    let ending = Ending { route, excluded };
     if goes_otherwise(
         searcher.alloc(),
         searcher.index().counted(),
         looks,
         request,
-        ending,
+        route,
+        excluded,
     )? {
         return Ok(true);
     }
@@ -119,7 +119,7 @@ impl<A: Allocator + Copy> Tree<A> {
         requires in_range { node.0 < length self.now.nodes.items }
         requires route { IsTrue (is_route searcher.old.asked.plan.plan searcher.old.asked.request route.now) }
         requires next { OfNode self.now.nodes.items node (λ n. CanExclude n route.now) }
-        requires floor { OfNode self.now.nodes.items node (IsFloorOf searcher.old.asked.plan.plan searcher.old.asked.request route.now floor) }
+        requires floor { OfNode self.now.nodes.items node (λ n. IsFloor searcher.old.asked.plan.plan searcher.old.asked.request (take n.length route.now) n.excluded floor) }
         requires few { detour_looks searcher.old.asked.request.max_hops ≤ looks.old.left }
         ensures ok { IfOk result (λ yes. OfNode self.now.nodes.items node (λ n. yes ≡ (others_carry self.now.nodes.items node || part_goes_on (best_for searcher.old.asked None) n route.now))) }
         ensures no_fewer { searcher.old.calls ≤ searcher.new.calls }

@@ -54,11 +54,7 @@ fn delivery<A: Allocator + Copy>(
 }
 
 /// Returns the record of the route that a part has to carry. If its prefix is known to lead to `lead`, the route is
-/// followed from there on.
-///
-/// # Errors
-///
-/// [`LoadFault::BadRoute`] if it is no route of the part, else [`LoadFault::NoMemory`] if an allocation failed.
+/// followed from there on. [`LoadFault::BadRoute`] says that it is no route of the part.
 pub fn carried<A: Allocator + Copy>(
     question: &PlanRequest<'_, A>,
     prefix: &[u32],

@@ -3,8 +3,8 @@
 ghost use Rattle.std.specs.Prelude.{◌≡◌, true, ◌∷◌, ◌++◌, [], map, IfOk, IfSome, IfNone};
 ghost use Rattle.sabr_model.specs.routes.Route.{is_path};
 ghost use Rattle.sabr_frontier.specs.tree.Searching.{asked_of};
-ghost use Rattle.sabr_frontier.specs.loading.Leading.{IsLead, step_of};
-ghost use Rattle.sabr_frontier.specs.loading.Partial.{AllGoOn, AreStepsStill, GoesOnTo, leaves_with, onward_with};
+ghost use Rattle.sabr_frontier.specs.loading.Leading.{AreSteps, IsLead, step_of};
+ghost use Rattle.sabr_frontier.specs.loading.Partial.{AllGoOn, IsChecked, leaves_with, onward_with};
 
 use crate::lists::longer;
 use crate::loader::leading::{ExpectedPrefix, Lead};
@@ -43,7 +43,7 @@ impl<A: Allocator + Copy> Checked<A> {
         ensures path { IfOk result (λ is. is ≡ is_path question.now.plan.now.plan question.now.request (prefix.now ++ number ∷ [])) }
         ensures leaves { IfOk result (λ is. is ≡ true → self.new.leaves.items ≡ leaves_with (asked_of question.now) self.old.leaves.items (prefix.now ++ number ∷ [])) }
         ensures onward { IfOk result (λ is. is ≡ true → map (step_of prefix.now) self.new.onward.items ≡ onward_with (asked_of question.now) prefix.now self.old.onward.items number) }
-        ensures steps { IfOk result (λ _. AreStepsStill (asked_of question.now) prefix.now self.old.onward.items self.new.onward.items) }
+        ensures steps { IfOk result (λ _. AreSteps question.now.plan.now.plan question.now.request prefix.now self.old.onward.items → AreSteps question.now.plan.now.plan question.now.request prefix.now self.new.onward.items) }
     {
         let Some(lead) = lead.extended(question.plan, &question.request, prefix, number) else {
             return Ok(false);
@@ -74,7 +74,7 @@ pub fn check<A: Allocator + Copy>(
     mut checked: Checked<A>,
 ) -> Result<Option<Checked<A>>, NoMemory>
     requires { IsLead question.now.plan.now.plan question.now.request prefix.now lead }
-    ensures some { IfOk result (λ o. IfSome o (GoesOnTo (asked_of question.now) (prefix.now, excluded.now))) }
+    ensures some { IfOk result (λ o. IfSome o (λ j. AllGoOn question.now.plan.now.plan question.now.request (prefix.now, excluded.now) × IsChecked question.now.plan.now.plan question.now.request (prefix.now, excluded.now) j)) }
     ensures none { IfOk result (λ o. IfNone o (AllGoOn question.now.plan.now.plan question.now.request (prefix.now, excluded.now) → ⊥)) }
 {
     checked.leaves.clear();

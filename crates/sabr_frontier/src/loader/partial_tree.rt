@@ -7,7 +7,7 @@ ghost use Rattle.sabr_frontier.specs.tree.Shape.{shape_of};
 ghost use Rattle.sabr_frontier.specs.tree.Undo.{IsIndexed, IsRoomy, front, last_item};
 ghost use Rattle.sabr_frontier.specs.loading.Loading.{comes_after, rise_strictly};
 ghost use Rattle.sabr_frontier.specs.loading.Leading.{AreExpected, IsLead};
-ghost use Rattle.sabr_frontier.specs.loading.Partial.{HasPlaces, IsLastPlace, IsTakenIn, IsVerdict, IsWrongLast, partial_then, partial_shape_of, is_expected, is_complete, last_prefix, loaded_tree, nothing_yet, parts_in, with_node};
+ghost use Rattle.sabr_frontier.specs.loading.Partial.{HasPlaces, IsGiven, IsLastPlace, IsTakenIn, IsVerdict, answered_by, partial_shape_of, is_expected, is_complete, last_prefix, loaded_tree, nothing_yet, parts_in, with_node};
 
 use crate::loader::check::{Checked, check};
 use crate::loader::ghost_lists::GhostLists;
@@ -50,7 +50,7 @@ pub fn last_place<A: Allocator + Copy>(
     last: &[u32],
 ) -> Option<Option<usize>>
     ensures some { IfSome result (IsLastPlace leaves.now emitted last.now) }
-    ensures none { IfNone result (IsWrongLast leaves.now emitted last.now) }
+    ensures none { IfNone result (emitted ≡ length leaves.now → IsGiven leaves.now last.now → ⊥) }
 {
     if leaves.len() as u128 != emitted {
         return None;
@@ -89,8 +89,7 @@ impl<A: Allocator + Copy> PartialTree<A> {
         self.nodes.is_empty() || self.last.as_slice().cmp(prefix) == Ordering::Less
     }
 
-    /// Returns true if a part comes after the others: its excluded numbers rise, and its prefix is greater than the
-    /// last.
+    /// Returns true if a part may come after the others.
     pub fn is_next(&self, prefix: &[u32], excluded: &[u32]) -> bool
         requires paired { length self.now.prefixes.items ≡ length self.now.nodes.items }
         requires last { last_item self.now.prefixes.items ≡ last_prefix (partial_shape_of self.now) }
@@ -187,7 +186,7 @@ impl<A: Allocator + Copy> PartialTree<A> {
         route: Option<Route<A>>,
         mut checked: Checked<A>,
     ) -> Result<(), NoMemory>
-        ensures ok { OnOk result (partial_shape_of self.new ≡ partial_then (partial_shape_of self.old) prefix.now excluded route (Some checked)) }
+        ensures ok { OnOk result (partial_shape_of self.new ≡ answered_by (with_node (partial_shape_of self.old) prefix.now excluded route) (Some checked)) }
         ensures err { OnErr result (partial_shape_of self.new ≡ partial_shape_of self.old) }
     {
         self.reserve(prefix.len(), checked.leaves.len(), checked.onward.len())?;
@@ -209,7 +208,7 @@ impl<A: Allocator + Copy> PartialTree<A> {
         excluded: ExcludedNumbers<A>,
         route: Option<Route<A>>,
     ) -> Result<(), NoMemory>
-        ensures ok { OnOk result (partial_shape_of self.new ≡ partial_then (partial_shape_of self.old) prefix.now excluded route None) }
+        ensures ok { OnOk result (partial_shape_of self.new ≡ answered_by (with_node (partial_shape_of self.old) prefix.now excluded route) None) }
         ensures err { OnErr result (partial_shape_of self.new ≡ partial_shape_of self.old) }
     {
         self.reserve(prefix.len(), 0, 0)?;

@@ -58,13 +58,8 @@ impl<'p, B: BestOf<A>, A: Allocator + Copy> Session<'p, B, A> {
         requires { count ≤ most_routes }
         ensures { IfOk result (IsLastPage self.entry count) }
     {
-        let Session {
-            mut searcher,
-            mut tree,
-            pages: _,
-            searches: _,
-            looks: _,
-        } = self;
+        let mut searcher = self.searcher;
+        let mut tree = self.tree;
         let mut routes = Vec::new(searcher.alloc());
         let mut detours = Looks::many();
         let more = tree.give_last_page(&mut searcher, count, &mut routes, &mut detours)?;
@@ -163,14 +158,7 @@ impl<'p, B: BestOf<A>, A: Allocator + Copy> LastPage<'p, B, A> {
         ensures index { result.0 ≡ self.entry.plan }
         ensures calls { B.calls_of result.1 ≡ self.entry.calls }
     {
-        let LastPage {
-            searcher,
-            routes: _,
-            more: _,
-            looks: _,
-            detour_looks: _,
-        } = self;
-        let (searcher, index) = searcher.pause();
+        let (searcher, index) = self.searcher.pause();
         (index, searcher.into_finder())
     }
 }

@@ -62,20 +62,14 @@ impl<B: BestOf<A>, A: Allocator + Copy> PausedSession<B, A> {
         requires { IsPausedOver index self }
         ensures { result ≡ seen_over B.calls_of index.entry self }
     {
-        let PausedSession {
-            searcher,
-            tree,
-            pages,
-            searches,
-            looks,
-        } = self;
-        let searcher = searcher.resume(index);
+        let tree = self.tree;
+        let searcher = self.searcher.resume(index);
         Session {
             searcher,
             tree,
-            pages,
-            searches,
-            looks,
+            pages: self.pages,
+            searches: self.searches,
+            looks: self.looks,
         }
     }
 }

@@ -3,10 +3,9 @@
 ghost use Rattle.std.specs.Prelude.{◌≡◌, ◌<◌, ◌≤◌, take, length, vec_len, vec_capacity, Some, IfSome, IfNone, IsSome, IsTrue, IsFalse, OnOk};
 ghost use Rattle.sabr_model.specs.routes.Record.{RouteRecord};
 ghost use Rattle.sabr_frontier.specs.tree.Shape.{shape_of, route_at};
-ghost use Rattle.sabr_frontier.specs.tree.Undo.{IsRoomy, IsSpacious, modify};
+ghost use Rattle.sabr_frontier.specs.tree.Undo.{IsRoomy, IsSpacious, modify, HasRoom};
 ghost use Rattle.sabr_frontier.specs.tree.Winners.{AreWinners, CarriesNone, CarriesSome, IsFirst};
 ghost use Rattle.sabr_frontier.specs.tree.Prepared.{carrying, given_by};
-ghost use Rattle.sabr_frontier.specs.tree.Room.{HasRoom};
 
 use crate::tree::places::carried;
 use crate::tree::winners::{fill, renew};

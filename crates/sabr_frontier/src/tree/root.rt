@@ -1,8 +1,7 @@
 //! The tree before any route is given.
 
 ghost use Rattle.std.specs.Prelude.{◌≡◌, IfOk};
-ghost use Rattle.sabr_frontier.specs.tree.Root.{root};
-ghost use Rattle.sabr_frontier.specs.tree.Shape.{shape_of};
+ghost use Rattle.sabr_frontier.specs.tree.Shape.{shape_of, root};
 ghost use Rattle.sabr_frontier.specs.tree.Undo.{IsRoomy};
 
 use crate::tree::excluded_numbers::ExcludedNumbers;

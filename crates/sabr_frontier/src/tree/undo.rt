@@ -10,14 +10,6 @@ use crate::tree::{Node, NodeId, Tree};
 use sabr_model::Route;
 use std::alloc::Allocator;
 
-/// Keeps only the nodes below a number.
-fn keep_below<A: Allocator + Copy>(ids: &mut Vec<NodeId, A>, count: usize)
-    ensures items { ids.new.items ≡ filter (λ id. nat_lt id.0 count) ids.old.items }
-    ensures capacity { vec_capacity ids.new ≡ vec_capacity ids.old }
-{
-    ids.retain(|id| id.0 < count);
-}
-
 /// Puts the route back into its node.
 fn give_back<A: Allocator + Copy>(nodes: &mut Vec<Node<A>, A>, node: NodeId, route: Route<A>)
     requires in_range { node.0 < vec_len nodes.old }
@@ -50,8 +42,7 @@ impl<A: Allocator + Copy> Tree<A> {
         self.last = entry.last;
     }
 
-    /// Takes routes back until the journal has as many entries as it had then. It allocates nothing, and leaves the
-    /// index and the winners as they were.
+    /// Takes routes back as [`undo`](Tree::undo) does, until the journal has as many entries as it had then.
     fn undo_each(&mut self, start: usize)
         requires possible { CanUndoTimes (length self.old.journal.items - start) (shape_of self.old) }
         requires room { IsSpacious self.old }
@@ -74,7 +65,8 @@ impl<A: Allocator + Copy> Tree<A> {
         ensures room { IsRoomy self.new }
     {
         self.undo_each(start);
-        keep_below(&mut self.index, self.nodes.len());
+        let count = self.nodes.len();
+        self.index.retain(|id| id.0 < count);
         rebuild(self.nodes.as_slice(), &mut self.winners);
     }
 }

@@ -79,19 +79,6 @@ fn rise<A: Allocator + Copy>(nodes: &[Node<A>], ids: &mut [NodeId], id: NodeId)
     }
 }
 
-/// Adds a slot for the next node, for which there is room.
-fn push<A: Allocator + Copy>(nodes: &[Node<A>], winners: &mut Vec<NodeId, A>)
-    requires won { AreWinners nodes.now winners.old.items }
-    requires room { vec_len winners.old < vec_capacity winners.old }
-    ensures won { AreWinners nodes.now winners.new.items }
-    ensures len { vec_len winners.new ≡ vec_len winners.old + 1 }
-    ensures capacity { vec_capacity winners.old ≤ vec_capacity winners.new }
-{
-    let id = NodeId(winners.len());
-    winners.push_reserved(id);
-    rise(nodes, winners.as_mut_slice(), id);
-}
-
 /// Adds a slot for each node that has none, for which there is room.
 pub fn fill<A: Allocator + Copy>(nodes: &[Node<A>], winners: &mut Vec<NodeId, A>)
     requires won { AreWinners nodes.now winners.old.items }
@@ -101,8 +88,9 @@ pub fn fill<A: Allocator + Copy>(nodes: &[Node<A>], winners: &mut Vec<NodeId, A>
     ensures len { vec_len winners.new ≡ length nodes.now }
     ensures capacity { vec_capacity winners.old ≤ vec_capacity winners.new }
 {
-    for _ in winners.len()..nodes.len() {
-        push(nodes, winners);
+    for place in winners.len()..nodes.len() {
+        winners.push_reserved(NodeId(place));
+        rise(nodes, winners.as_mut_slice(), NodeId(place));
     }
 }
 

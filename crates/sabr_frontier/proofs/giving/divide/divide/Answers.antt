@@ -1,4 +1,4 @@
-use Rattle.std.proofs.Common.{◌≡◌, ◌+◌, ◌<◌, slice_index, length, take, arith, sym, ap, subst, ◌∙◌, ℕ, List, Some}
+use Rattle.std.proofs.Common.{[], ◌≡◌, ◌+◌, ◌<◌, slice_index, length, take, arith, sym, ap, subst, ◌∙◌, ℕ, List, Some}
 use Rattle.std.specs.Cmp.{nat_cmp_total}
 use Rattle.std.specs.Ordering.{nat_cmp}
 use Rattle.std.specs.Prelude.{slice_get}
@@ -9,13 +9,13 @@ use Rattle.sabr_frontier.specs.tree.Undo.{modify}
 use Rattle.sabr_frontier.specs.tree.Prepared.{excluding}
 use Rattle.sabr_model.specs.plan.Plan.{ContactPlan}
 use Rattle.sabr_model.specs.routes.Arrival.{RouteRequest}
-use Rattle.sabr_frontier.specs.tree.Floors.{IsFloorAfter, IsFloorOf}
 use Rattle.sabr_frontier.proofs.TreeLemmas.Floors.{floor_after, floor_wide}
 use Rattle.sabr_frontier.proofs.TreeLemmas.ModifiedPlaces.{within_get}
 use Rattle.sabr_frontier.proofs.ListingLemmas.Rising.{Rises-put_in}
 use Rattle.sabr_frontier.proofs.TreeLemmas.Excluding.{excluded_there, included}
 use Rattle.sabr_frontier.proofs.giving.divide.divide.Goals as goal
 use Rattle.sabr_frontier.specs.tree.Sound.{CanExclude}
+use Rattle.sabr_search.specs.questions.Bounded.{IsFloor}
 
 -- what the node is once it excludes the route's number
 node_then : {A : Type 0} (nodes then : List (Node A)) (i : ℕ) (s : List ℕ) → i < length nodes → then ≡ modify (excluding s) nodes i → ((n : Node A) → slice_get nodes i ≡ Some n → CanExclude n s) → (k : Node A) → slice_get then i ≡ Some k → (k.length < length s) × Rises nat_cmp k.excluded
@@ -26,17 +26,17 @@ node_then {A} nodes then i s l e can k stands =
 
 -- no route of the parts that it makes delivers before a second that none of its own does
 module _ {A : Type 0} (p : ContactPlan) (r : RouteRequest) (d : ℕ) (nodes then : List (Node A)) (i : ℕ) (s : List ℕ) (l : i < length nodes) (e : then ≡ modify (excluding s) nodes i)
-    (can : (n : Node A) → slice_get nodes i ≡ Some n → CanExclude n s) (floor : (n : Node A) → slice_get nodes i ≡ Some n → IsFloorOf p r s d n) (k : Node A) (stands : slice_get then i ≡ Some k) where
-  wide_then : IsFloorOf p r s d k
+    (can : (n : Node A) → slice_get nodes i ≡ Some n → CanExclude n s) (floor : (n : Node A) → slice_get nodes i ≡ Some n → IsFloor p r (take n.length s) n.excluded d) (k : Node A) (stands : slice_get then i ≡ Some k) where
+  wide_then : IsFloor p r (take k.length s) k.excluded d
   wide_then =
       let w = within_get nodes i l in
-      subst (λ (k : Node A). IsFloorOf p r s d k) (sym (excluded_there nodes then i s w.0 w.1 e k stands)) (floor_wide p r d (take w.0.length s) w.0.excluded (slice_index s w.0.length) (floor w.0 w.1))
+      subst (λ (k : Node A). IsFloor p r (take k.length s) k.excluded d) (sym (excluded_there nodes then i s w.0 w.1 e k stands)) (floor_wide p r d (take w.0.length s) w.0.excluded (slice_index s w.0.length) (floor w.0 w.1))
 
-  after_then : IsFloorAfter p r s (k.length + 1) d
+  after_then : IsFloor p r (take (k.length + 1) s) [] d
   after_then =
       let w = within_get nodes i l in
       let c = can w.0 w.1 in
-      subst (λ (k : Node A). IsFloorAfter p r s (k.length + 1) d) (sym (excluded_there nodes then i s w.0 w.1 e k stands)) (floor_after p r d s w.0.length w.0.excluded c.longer c.absent (floor w.0 w.1))
+      subst (λ (k : Node A). IsFloor p r (take (k.length + 1) s) [] d) (sym (excluded_there nodes then i s w.0 w.1 e k stands)) (floor_after p r d s w.0.length w.0.excluded c.longer c.absent (floor w.0 w.1))
 
 -- what is cut off again
 cut_again : {X : Type 0} (then made now xs : List X) (n : ℕ) → now ≡ take n made → n ≡ length then → take (length then) made ≡ then → then ≡ xs → now ≡ xs

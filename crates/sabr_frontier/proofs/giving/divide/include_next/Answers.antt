@@ -1,5 +1,5 @@
 use Rattle.std.proofs.Common.{arith, ℕ, List, ap, ◌∙◌, set}
-use Rattle.sabr_frontier.specs.tree.Prepared.{including}
+use Rattle.sabr_frontier.specs.tree.Undo.{including}
 use Rattle.sabr_frontier.proofs.TreeLemmas.ModifiedPlaces.{set-modify}
 use Rattle.sabr_frontier.proofs.giving.divide.include_next.Goals as goal
 

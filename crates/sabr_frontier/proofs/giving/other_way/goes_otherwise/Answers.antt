@@ -16,7 +16,7 @@ pub follow_front-requires-clause-fits : goal.follow_front-requires-clause-fits
 follow_front-requires-clause-fits g c =
     let p = c.args.plan.now.plan in
     let r = c.args.request.now in
-    let numbers : c.args.ending.route.now ≡ c.in-Some.front.now ++ c.in-Some.last.now ∷ [] = (c.in-Some.ensures {u = tt}).cases.0 in
+    let numbers : c.args.route.now ≡ c.in-Some.front.now ++ c.in-Some.last.now ∷ [] = (c.in-Some.ensures {u = tt}).cases.0 in
     beginning_is_prefix p r c.in-Some.front.now c.in-Some.last.now [] (subst (λ s. IsTrue (is_route p r s)) numbers c.requires.route)
 
 pub last_pass-requires : goal.last_pass-requires
@@ -29,7 +29,7 @@ ends_on-requires-clause-end g c =
     let p = c.args.plan.now in
     let r = c.args.request.now in
     let front = c.in-Some.front.now in
-    let numbers : c.args.ending.route.now ≡ front ++ c.in-Some.last.now ∷ [] = (c.in-Some.ensures {u = tt}).cases.0 in
+    let numbers : c.args.route.now ≡ front ++ c.in-Some.last.now ∷ [] = (c.in-Some.ensures {u = tt}).cases.0 in
     route_end p r _ c.rules_hold.ensures (has_nodes p c.nodes.ensures.tabled) (rw c.in-Some-2.is at c.in_ok-led.ensures.leads)
     (subst (λ xs. AreForbidden p.table xs (is_closed p.plan r front)) (sym c.as_slice.ensures.value) (rw c.in-Some-2.is at c.in_ok-led.ensures.forbids))
     (rw c.to.ensures.value at c.in-Some-node_index.ensures) (subst (λ s. IsTrue (is_route p.plan r s)) numbers c.requires.route)
@@ -39,7 +39,7 @@ detours-requires-clause-end g c =
     let p = c.args.plan.now in
     let r = c.args.request.now in
     let front = c.in-Some.front.now in
-    let numbers : c.args.ending.route.now ≡ front ++ c.in-Some.last.now ∷ [] = (c.in-Some.ensures {u = tt}).cases.0 in
+    let numbers : c.args.route.now ≡ front ++ c.in-Some.last.now ∷ [] = (c.in-Some.ensures {u = tt}).cases.0 in
     route_end p r _ c.rules_hold.ensures (has_nodes p c.nodes.ensures.tabled) (rw c.in-Some-2.is at c.in_ok-led.ensures.leads)
     (subst (λ xs. AreForbidden p.table xs (is_closed p.plan r front)) (sym c.as_slice.ensures.value) (rw c.in-Some-2.is at c.in_ok-led.ensures.forbids))
     (rw c.to.ensures.value at c.in-Some-node_index.ensures) (subst (λ s. IsTrue (is_route p.plan r s)) numbers c.requires.route)

@@ -14,7 +14,7 @@ use Rattle.sabr_frontier.specs.loading.Loading.{IsClosedState, IsCounted, IsRefu
 use Rattle.sabr_frontier.specs.session.Session.{session_over}
 use Rattle.sabr_frontier.specs.tree.Shape.{shape_of, shown, Shape, front_of, numbers_of, part_at, part_of, prefix_of}
 use Rattle.sabr_frontier.specs.tree.Sound.{IsTree, AreGiven, IsLent}
-use Rattle.sabr_frontier.specs.loading.Partial.{IsLastPlace, IsLoader, IsWrongLast, partial_shape_of, is_complete, loaded, loaded_tree, PartialShape, AreLent, IsAnswered, IsGiven, IsPartial, pairs_in, parts_in, parts_of}
+use Rattle.sabr_frontier.specs.loading.Partial.{IsLastPlace, IsLoader, partial_shape_of, is_complete, loaded, loaded_tree, PartialShape, AreLent, IsAnswered, IsGiven, IsPartial, pairs_in, parts_in, parts_of}
 use Rattle.sabr_frontier.proofs.LoadingLemmas.AnsweredParts.{complete_closed, incomplete_open, complete_expects, pairs_two}
 use Rattle.sabr_frontier.proofs.TreeLemmas.IndexedNodes.{tree_indexed}
 use Rattle.std.proofs.lemmas.Bool.{cases_Bool}
@@ -30,10 +30,9 @@ use Rattle.sabr_frontier.specs.declared.tree.NodeId.{NodeId}
 use Rattle.sabr_frontier.specs.declared.tree.Node.{Node}
 use Rattle.sabr_frontier.specs.listing.Rising.{has, Rises}
 use Rattle.sabr_frontier.specs.listing.Tree.{set_of}
-use Rattle.sabr_frontier.specs.listing.State.{pair_of, Member, leaves, leaves_of}
+use Rattle.sabr_frontier.specs.listing.State.{pair_of, Member, leaves, leaves_of, InPairs}
 use Rattle.sabr_frontier.specs.listing.Formed.{InOrder}
-use Rattle.sabr_frontier.specs.listing.Expecting.{Prefixes, onward, Expects}
-use Rattle.sabr_frontier.specs.tree.Queue.{InPairs}
+use Rattle.sabr_frontier.specs.listing.Expecting.{onward, Expects}
 use Rattle.sabr_frontier.specs.tree.Giving.{ids_from}
 use Rattle.sabr_frontier.proofs.ListingLemmas.Rising.{length-put_in}
 use Rattle.sabr_frontier.proofs.ListingLemmas.NumbersAfter.{number_after-snoc, number_after-of_longer}
@@ -53,12 +52,12 @@ module _ (route path : List ℕ → Bool) where
   leaf_is s e m = Member-map_cases (λ x. e.0 ++ x ∷ []) s e.1 (Member-filter_cases route s (map (λ x. e.0 ++ x ∷ []) e.1) m).1
 
   -- if no number makes a leaf, the first number asks for more
-  first_onward : (e : List ℕ × List ℕ) (x : ℕ) → has nat_cmp x e.1 ≡ true → leaves_of route e ≡ [] → (y : ℕ) × (more : Prefixes) × (onward route path e ≡ (e.0 ++ y ∷ []) ∷ more)
+  first_onward : (e : List ℕ × List ℕ) (x : ℕ) → has nat_cmp x e.1 ≡ true → leaves_of route e ≡ [] → (y : ℕ) × (more : List (List ℕ)) × (onward route path e ≡ (e.0 ++ y ∷ []) ∷ more)
   first_onward e x h none = at e.1 h none
     where
-      at : (X : List ℕ) → has nat_cmp x X ≡ true → leaves_of route (e.0, X) ≡ [] → (y : ℕ) × (more : Prefixes) × (onward route path (e.0, X) ≡ (e.0 ++ y ∷ []) ∷ more)
+      at : (X : List ℕ) → has nat_cmp x X ≡ true → leaves_of route (e.0, X) ≡ [] → (y : ℕ) × (more : List (List ℕ)) × (onward route path (e.0, X) ≡ (e.0 ++ y ∷ []) ∷ more)
       at [] h none = absurd (true≢false (sym h))
-      at (y ∷ X) h none = elim (route (e.0 ++ y ∷ [])) as (λ b. cond b ((e.0 ++ y ∷ []) ∷ leaves_of route (e.0, X)) (leaves_of route (e.0, X)) ≡ [] → (z : ℕ) × (more : Prefixes) × (cond (not b) ((e.0 ++ y ∷ []) ∷ onward route path (e.0, X)) (onward route path (e.0, X)) ≡ (e.0 ++ z ∷ []) ∷ more)) [
+      at (y ∷ X) h none = elim (route (e.0 ++ y ∷ [])) as (λ b. cond b ((e.0 ++ y ∷ []) ∷ leaves_of route (e.0, X)) (leaves_of route (e.0, X)) ≡ [] → (z : ℕ) × (more : List (List ℕ)) × (cond (not b) ((e.0 ++ y ∷ []) ∷ onward route path (e.0, X)) (onward route path (e.0, X)) ≡ (e.0 ++ z ∷ []) ∷ more)) [
         | true ↦ λ k. absurd cc
         | false ↦ λ k. (y, onward route path (e.0, X), refl)
       ] none
@@ -73,7 +72,7 @@ module _ (route path : List ℕ → Bool) where
   ] refl
 
   -- the first leaf of a pair and those after it goes on after the pair's prefix
-  first_leaf : (e : List ℕ × List ℕ) (T : Pairs) (os : Prefixes) → Expects route path os (e ∷ T) [] → (x : ℕ) → has nat_cmp x e.1 ≡ true → (s : List ℕ) × (more : List (List ℕ)) × (n : ℕ) × (flat_map (leaves_of route) (e ∷ T) ≡ s ∷ more) × (number_after e.0 s ≡ Some n)
+  first_leaf : (e : List ℕ × List ℕ) (T : Pairs) (os : List (List ℕ)) → Expects route path os (e ∷ T) [] → (x : ℕ) → has nat_cmp x e.1 ≡ true → (s : List ℕ) × (more : List (List ℕ)) × (n : ℕ) × (flat_map (leaves_of route) (e ∷ T) ≡ s ∷ more) × (number_after e.0 s ≡ Some n)
   first_leaf e [] os w x h = elim (leaf_or_none e (flat_map (leaves_of route) [])) [
     | inl v ↦ v
     | inr k ↦
@@ -109,7 +108,7 @@ module _ (p : ContactPlan) (r : RouteRequest) (L : List RouteRecord) where
   begins q s n h = let w = number_after_some q s n h in (ap (take (length q)) w.1 ∙ take-append_seam q (n ∷ w.0), omega (arith, ap (length {A = ℕ}) w.1, length-append q (n ∷ w.0)))
 
   -- a node of a prefix, whose leaf is the first of these
-  one_lent : {A : Type 0} (q : List ℕ) (n : Node A) (T : Pairs) (os : Prefixes) (F : List RouteRecord) → n.leaf ≡ length F → n.length ≡ length q → L ≡ F ++ map (record_of p r) (flat_map (leaves_of route) ((q, n.excluded) ∷ T)) → Expects route path os ((q, n.excluded) ∷ T) [] → (prefix_of L n ≡ q) × IsLent L n
+  one_lent : {A : Type 0} (q : List ℕ) (n : Node A) (T : Pairs) (os : List (List ℕ)) (F : List RouteRecord) → n.leaf ≡ length F → n.length ≡ length q → L ≡ F ++ map (record_of p r) (flat_map (leaves_of route) ((q, n.excluded) ∷ T)) → Expects route path os ((q, n.excluded) ∷ T) [] → (prefix_of L n ≡ q) × IsLent L n
   one_lent q n T os F leaf len is w = elim w.2.busy [
     | inl e ↦
         let none : n.length ≡ 0 = len ∙ ap (length {A = ℕ}) e in
@@ -122,7 +121,7 @@ module _ (p : ContactPlan) (r : RouteRequest) (L : List RouteRecord) where
   ]
 
   -- all of them
-  all_lent : {A : Type 0} (qs : List (List ℕ)) (ns : List (Node A)) (c : ℕ) (os : Prefixes) (F : List RouteRecord) → AreLent route c qs ns → c ≡ length F → L ≡ F ++ map (record_of p r) (flat_map (leaves_of route) (map pair_of (parts_of qs ns))) → Expects route path os (map pair_of (parts_of qs ns)) [] → (map (λ n. part_of L (Some n)) ns ≡ parts_of qs ns) × ((n : Node A) → Member n ns → IsLent L n)
+  all_lent : {A : Type 0} (qs : List (List ℕ)) (ns : List (Node A)) (c : ℕ) (os : List (List ℕ)) (F : List RouteRecord) → AreLent route c qs ns → c ≡ length F → L ≡ F ++ map (record_of p r) (flat_map (leaves_of route) (map pair_of (parts_of qs ns))) → Expects route path os (map pair_of (parts_of qs ns)) [] → (map (λ n. part_of L (Some n)) ns ≡ parts_of qs ns) × ((n : Node A) → Member n ns → IsLent L n)
   all_lent [] [] c os F h e is w = (refl, λ n m. absurd m)
   all_lent [] (n ∷ ns) c os F h e is w = absurd h
   all_lent (q ∷ qs) [] c os F h e is w = absurd h
@@ -229,7 +228,7 @@ module _ {A : Type 0} (p : ContactPlan) (r : RouteRequest) (h : PartialShape A) 
   recorded_in s m = subst (Member (record_of p r s)) (sym answered.leaves) (Member-map (record_of p r) s S (Member_In s S (set_of_has s S (In_Member s (leaves (is_route p r) T) m))))
 
   -- a wrong count or last
-  wrong_count : (emitted : ℕ) (last : List ℕ) → IsWrongLast h.leaves emitted last → IsCounted p r (state_with (parts_in h) emitted last) → ⊥
+  wrong_count : (emitted : ℕ) (last : List ℕ) → (emitted ≡ length h.leaves → IsGiven h.leaves last → ⊥) → IsCounted p r (state_with (parts_in h) emitted last) → ⊥
   wrong_count emitted last wrong c = wrong (c.count ∙ sym count) (right_given last c.right)
 
   module _ (emitted : ℕ) (last : List ℕ) (place : Option ℕ) (at : IsLastPlace h.leaves emitted last place) where
@@ -312,7 +311,7 @@ returns-in_default-clause-err g c =
     let emitted = c.args.emitted in
     let last = c.args.last.now in
     let complete = sym c.is_complete.ensures ∙ c.if-not-is_complete.false in
-    let wrong = subst (λ xs. IsWrongLast xs emitted last) c.as_slice.ensures.value c.in_default.ensures.none in
+    let wrong = subst (λ (xs : List RouteRecord). emitted ≡ length xs → IsGiven xs last → ⊥) c.as_slice.ensures.value c.in_default.ensures.none in
     subst (λ (v : Loaded). IsClosedState v.plan.plan v.request (state_with v.parts emitted last) × (IsCounted v.plan.plan v.request (state_with v.parts emitted last) → ⊥)) c.self.view_is
     (complete_closed p r h c.self.invariant.partial complete, wrong_count p r h c.self.invariant.partial complete emitted last wrong)
 

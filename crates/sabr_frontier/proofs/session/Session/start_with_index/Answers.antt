@@ -1,8 +1,43 @@
-use Rattle.std.proofs.Common.{◌≡◌, ◌+◌, IfOk, subst}
-use Rattle.sabr_frontier.specs.tree.Searching.{Searching}
-use Rattle.sabr_frontier.specs.session.Session.{started}
+use Rattle.std.proofs.Common.{◌≡◌, ◌+◌, [], length, reverse, ap, sym, subst, ◌∙◌}
+use Rattle.sabr_model.specs.plan.Plan.{IsPlan, TabledPlan}
+use Rattle.sabr_model.specs.routes.Asking.{IsRequest}
+use Rattle.sabr_model.proofs.RouteLemmas.Prefixes.{empty_is_prefix}
+use Rattle.sabr_frontier.specs.tree.Searching.{Asked, Searching}
+use Rattle.sabr_frontier.specs.tree.Shape.{Shape, shape_of, shown, root}
+use Rattle.sabr_frontier.specs.session.Session.{AreStarts, IsSession, IsSound, former_of, started}
+use Rattle.sabr_frontier.specs.tree.Best.{best_of}
+use Rattle.sabr_frontier.proofs.TreeLemmas.FirstTrees.{root_is_tree, shown_root}
 use Rattle.sabr_frontier.proofs.session.Session.start_with_index.Goals as goal
+
+pub find_best-requires-clause-fits : goal.find_best-requires-clause-fits
+find_best-requires-clause-fits g c =
+    empty_is_prefix c.over-searcher.result.asked.plan.plan c.over-searcher.result.asked.request
+
+pub invariant_of-result : goal.invariant_of-result
+invariant_of-result g c =
+    let p = c.over-searcher.result.asked.plan.plan in
+    let r = c.over-searcher.result.asked.request in
+    let asked = c.take_sum.ensures.begun ∙ ap (λ (a : Asked). record a { since = c.find_best.new.self.calls + 1 }) c.find_best.ensures.same in
+    let same : shape_of c.in_ok-tree.tree ≡ root (best_of p r [] []) = c.in_ok-tree.ensures.shape ∙ ap root c.in_ok-found.ensures.best in
+    let rules : IsPlan p = subst (λ (a : Searching). IsPlan a.asked.plan.plan) (sym c.over-searcher.ensures) (subst (λ (q : TabledPlan). IsPlan q.plan) c.plan.ensures c.rules_hold.ensures) in (
+      subst (λ (a : Asked). IsSession a.plan a.request c.in_ok-tree.tree c.new.result.items) (sym asked) (record {
+        rules = rules;
+        limits = subst (λ (a : Searching). IsRequest a.asked.request) (sym c.over-searcher.ensures) c.limits_hold.ensures;
+        sound = subst (IsSound p r) (sym same) (root_is_tree g.row.A.Denot p r rules);
+        starts = subst (λ z. AreStarts (reverse z) (length c.in_ok-tree.tree.journal.items)) (sym c.new.ensures.items) (ap (λ (z : Shape g.row.A.Denot). length z.journal) same);
+        index = c.in_ok-tree.ensures.index;
+        room = c.in_ok-tree.ensures.room;
+      }),
+      c.take_sum.ensures.rest,
+    )
 
 pub returns : goal.returns
 returns g c =
-    subst (λ (a : Searching). IfOk c.begin.result (λ s. s ≡ started a.asked.plan a.asked.request (a.calls + 1))) c.over.ensures c.begin.ensures
+    let p = c.over-searcher.result.asked.plan.plan in
+    let r = c.over-searcher.result.asked.request in
+    let asked = c.take_sum.ensures.begun ∙ ap (λ (a : Asked). record a { since = c.find_best.new.self.calls + 1 }) c.find_best.ensures.same in
+    let same : shape_of c.in_ok-tree.tree ≡ root (best_of p r [] []) = c.in_ok-tree.ensures.shape ∙ ap root c.in_ok-found.ensures.best in
+    let state = ap shown same ∙ shown_root g.row.A.Denot p r in
+    let former = ap (λ z. former_of (reverse z) (shape_of c.in_ok-tree.tree)) c.new.ensures.items in
+    (λ i. record { plan = (asked i).plan; request = (asked i).request; state = state i; former = former i; searches = 1; calls = (c.take_sum.ensures.calls ∙ c.find_best.ensures.called) i; looks = 0 })
+    ∙ ap (λ (a : Searching). started a.asked.plan a.asked.request (a.calls + 1)) c.over-searcher.ensures

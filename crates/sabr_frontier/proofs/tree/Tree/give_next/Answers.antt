@@ -15,7 +15,7 @@ use Rattle.sabr_frontier.specs.tree.Undo.{modify}
 use Rattle.sabr_frontier.specs.tree.Winners.{AreWinners, IsFirst}
 use Rattle.sabr_frontier.specs.tree.Searching.{Asked, best_for}
 use Rattle.sabr_frontier.specs.tree.Sound.{CanExclude, IsTree}
-use Rattle.sabr_frontier.specs.tree.Giving.{IsNextGiven, changed_by, divided_with, fresh_after, nodes_then, wide_of}
+use Rattle.sabr_frontier.specs.tree.Giving.{IsNextGiven, changed_by, divided_with, fresh_after, wide_of, widened}
 use Rattle.sabr_frontier.specs.tree.Prepared.{carrying, excluding, given_by}
 use Rattle.sabr_frontier.proofs.TreeLemmas.ModifiedPlaces.{length-modify, modify_front, get_front, get_same}
 use Rattle.sabr_frontier.proofs.TreeLemmas.Excluding.{carried_then}
@@ -80,7 +80,7 @@ module _ {A : Type 0} {a : Asked} {t : Shape A} {id : NodeId} {w : RouteRecord} 
     carries_then {then} e = route_there then id (excluding s k.part) k.route (ap (λ z. slice_get z id.0) e ∙ get_front former fresh id.0 inner ∙ get_same (excluding s) t.nodes id.0 k.part k.stands) k.carries
 
     -- the nodes once it carries what was found
-    nodes_found : {then : List (Node A)} → then ≡ former ++ fresh → (found : Option RouteRecord) → modify (carrying found) then id.0 ≡ nodes_then t.nodes id (wide_of k.part s) found fresh
+    nodes_found : {then : List (Node A)} → then ≡ former ++ fresh → (found : Option RouteRecord) → modify (carrying found) then id.0 ≡ modify (widened (wide_of k.part s) found) t.nodes id.0 ++ fresh
     nodes_found e found = ap (λ z. modify (carrying found) z id.0) e ∙ modify_front (carrying found) former fresh id.0 inner ∙ ap (λ z. z ++ fresh) (carried_then t.nodes former id.0 s k.part k.stands refl found)
 
 pub copy_carried-requires : goal.copy_carried-requires
@@ -131,12 +131,12 @@ returns-clause-ok g c =
     let s = numbers_are k c.numbers-2.ensures in
     let first : length c.reserve-2.new.self.winners.items ≡ length u.nodes = omega (arith, c.in_ok-reserve-2.ensures.room.count) in
     let best = c.in_ok-found.ensures.found k.part k.stands ∙ (λ i. best_for a c.args.bound (take k.part.length (s i)) (wide_of k.part (s i))) in
-    let nodes = nodes_found k c.args.bound e found ∙ (λ i. nodes_then u.nodes node (wide_of k.part k.route.contacts) (best i) (fresh k c.args.bound)) in
+    let nodes = nodes_found k c.args.bound e found ∙ (λ i. modify (widened (wide_of k.part k.route.contacts) (best i)) u.nodes node.0 ++ fresh k c.args.bound) in
     let D = divided_with (best_for a c.args.bound) u node k.part k.route in
     let tree = subst (IsTree p r) (sym c.reserve-2.ensures.same) c.requires.tree in
     let shape = c.change.ensures.shape k.route (carries_then k c.args.bound e)
     ∙ (λ i. given_by (record u { nodes = c.divide.new.nodes.items }) node k.route found (first i))
-    ∙ (λ i. changed_by u node k.route (order_of (u.leaves ++ k.route ∷ []) (nodes i)) (nodes i))
+    ∙ (λ i. changed_by u node k.route (length u.nodes) (order_of (u.leaves ++ k.route ∷ []) (nodes i)) (nodes i))
     ∙ (λ i. record D { index = sym (tree_indexed p r D (tree_divided_up_to p r c.requires.plan c.args.bound u tree node k.part k.route k.stands k.carries)) i }) in
     let former : c.len-first.result ≡ length u.nodes = omega (arith, c.len-first.ensures) in
     let counted : c.len-2.result - c.len-first.result + 1 ≡ length k.route.contacts - k.part.length = omega (arith, long_then k c.args.bound e, k.can.longer, c.len-2.ensures, c.len-first.ensures) in

@@ -1,8 +1,8 @@
-use Rattle.std.proofs.Common.{◌++◌, ◌∷◌, true, [], arith, ap, sym, subst, ◌∙◌, None}
+use Rattle.std.proofs.Common.{◌++◌, ◌∷◌, true, [], arith, ap, sym, subst, ◌∙◌, None, List}
 use Rattle.sabr_frontier.specs.declared.tree.Node.{Node}
-use Rattle.sabr_frontier.specs.tree.Root.{first_id}
 use Rattle.sabr_frontier.specs.tree.Winners.{AreWinners}
 use Rattle.sabr_frontier.proofs.TreeLemmas.IndexedNodes.{order_one}
+use Rattle.sabr_frontier.specs.declared.tree.NodeId.{NodeId}
 use Rattle.sabr_frontier.proofs.tree.Tree.root.Goals as goal
 
 pub returns-clause-shape : goal.returns-clause-shape
@@ -26,4 +26,4 @@ pub returns-clause-index : goal.returns-clause-index
 returns-clause-index g c =
     let first : Node g.row.A.Denot = record { leaf = 0; length = 0; excluded = []; route = c.args.found } in
     let nodes = c.push_reserved-2.ensures.items ∙ (λ i. (c.in_ok-reserve.ensures.items ∙ c.new-nodes.ensures.items) i ++ record first { excluded = c.none.ensures i } ∷ []) in
-    c.push_reserved.ensures.items ∙ ap (λ z. z ++ first_id ∷ []) (c.in_ok-reserve-2.ensures.items ∙ c.new-index.ensures.items) ∙ sym (order_one c.new-2.result.items c.push_reserved-2.new.self.items _ nodes)
+    c.push_reserved.ensures.items ∙ ap (λ (z : List NodeId). z ++ record { 0 = 0 } ∷ []) (c.in_ok-reserve-2.ensures.items ∙ c.new-index.ensures.items) ∙ sym (order_one c.new-2.result.items c.push_reserved-2.new.self.items _ nodes)

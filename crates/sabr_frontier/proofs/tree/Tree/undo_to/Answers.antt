@@ -1,4 +1,5 @@
-use Rattle.std.proofs.Common.{◌≡◌, ◌-◌, arith, ap, sym, subst, ◌∙◌, length}
+use Rattle.std.proofs.Common.{rules, ◌≡◌, ◌-◌, arith, ap, sym, subst, ◌∙◌, length}
+use Rattle.std.proofs.lemmas.Fn.{filter_same}
 use Rattle.std.specs.Prelude.{nat_lt}
 use Rattle.std.specs.List.{filter}
 use Rattle.sabr_frontier.specs.declared.tree.NodeId.{NodeId}
@@ -11,20 +12,20 @@ pub returns-clause-index : goal.returns-clause-index
 returns-clause-index g c =
     let s = c.args.self.now in
     let former = c.undo_each.ensures.former in
-    let count : c.len.result ≡ length (undone_times (length s.journal.items - c.args.start) (shape_of s)).nodes = omega (arith, c.len.ensures, ap (λ (z : Shape g.row.A.Denot). length z.nodes) former) in
-    c.keep_below.ensures.items ∙ (λ i. filter (λ (id : NodeId). nat_lt id.0 (count i)) (c.undo_each.ensures.index i)) ∙ sym c.requires.index.index ∙ sym (ap (λ (z : Shape g.row.A.Denot). z.index) former)
+    let count : c.len-count.result ≡ length (undone_times (length s.journal.items - c.args.start) (shape_of s)).nodes = omega (arith, c.len-count.ensures, ap (λ (z : Shape g.row.A.Denot). length z.nodes) former) in
+    filter_same _ (λ id. nat_lt id.0 c.len-count.result) _ (λ x b f' k. search rules) _ _ c.retain.ensures.filtered ∙ (λ i. filter (λ (id : NodeId). nat_lt id.0 (count i)) (c.undo_each.ensures.index i)) ∙ sym c.requires.index.index ∙ sym (ap (λ (z : Shape g.row.A.Denot). z.index) former)
 
 pub returns-clause-room : goal.returns-clause-room
 returns-clause-room g c =
     let s = c.args.self.now in
     let former = c.undo_each.ensures.former in
     let room = c.undo_each.ensures.room in
-    let count : c.len.result ≡ length (undone_times (length s.journal.items - c.args.start) (shape_of s)).nodes = omega (arith, c.len.ensures, ap (λ (z : Shape g.row.A.Denot). length z.nodes) former) in
-    let index = c.keep_below.ensures.items ∙ (λ i. filter (λ (id : NodeId). nat_lt id.0 (count i)) (c.undo_each.ensures.index i)) ∙ sym c.requires.index.index in
+    let count : c.len-count.result ≡ length (undone_times (length s.journal.items - c.args.start) (shape_of s)).nodes = omega (arith, c.len-count.ensures, ap (λ (z : Shape g.row.A.Denot). length z.nodes) former) in
+    let index = filter_same _ (λ id. nat_lt id.0 c.len-count.result) _ (λ x b f' k. search rules) _ _ c.retain.ensures.filtered ∙ (λ i. filter (λ (id : NodeId). nat_lt id.0 (count i)) (c.undo_each.ensures.index i)) ∙ sym c.requires.index.index in
     let nodes = c.as_slice.ensures.value in
     record {
       space = record {
-        index = omega (arith, room.index, c.keep_below.ensures.capacity);
+        index = omega (arith, room.index, c.retain.ensures.capacity);
         added = omega (arith, c.requires.index.whole, ap (length {A = NodeId}) index, ap (λ (z : Shape g.row.A.Denot). length z.nodes) former);
         places = omega (arith, room.places, c.rebuild.ensures.capacity);
       };

@@ -1,7 +1,8 @@
 use Rattle.std.proofs.Common.{arith, ℕ, List, ◌≡◌, ap, ◌∙◌, set, Some, slice_index}
 use Rattle.sabr_frontier.specs.tree.Shape.{numbers_of}
-use Rattle.sabr_frontier.specs.tree.Undo.{given_back, without}
+use Rattle.sabr_frontier.specs.tree.Undo.{given_back}
 use Rattle.sabr_frontier.proofs.TreeLemmas.ModifiedPlaces.{set-modify}
+use Rattle.std.specs.Prelude.{not, nat_eq, filter}
 use Rattle.sabr_frontier.proofs.tree.undo.give_back.Goals as goal
 
 pub returns : goal.returns
@@ -9,7 +10,7 @@ returns g c =
     let n = c.index_mut-part.result.now in
     let r = c.args.route in
     let items = c.args.nodes.now.items in
-    let forgotten : c.forget.new.self ≡ without (slice_index r.contacts n.length) n.excluded =
-    c.forget.ensures ∙ ap (λ (s : List ℕ). without (slice_index s n.length) n.excluded) (c.as_slice.ensures ∙ ap numbers_of c.route.view_is) in
+    let forgotten : c.forget.new.self ≡ filter (λ y. not (nat_eq y (slice_index r.contacts n.length))) n.excluded =
+    c.forget.ensures ∙ ap (λ (s : List ℕ). filter (λ y. not (nat_eq y (slice_index s n.length))) n.excluded) (c.as_slice.ensures ∙ ap numbers_of c.route.view_is) in
     ap (λ (z : List ℕ). set items c.args.node.0 (record { leaf = n.leaf; length = n.length; excluded = z; route = Some r })) forgotten
     ∙ set-modify (given_back r) items c.args.node.0 n (omega arith) c.index_mut-part.ensures.value

@@ -1,5 +1,21 @@
-use Rattle.std.proofs.Common.{arith}
+use Rattle.std.proofs.Common.{arith, sym, subst, ◌∙◌}
+use Rattle.std.proofs.lemmas.List.{take_at}
+use Rattle.sabr_frontier.specs.tree.Winners.{AreWinners}
+use Rattle.sabr_frontier.proofs.TreeLemmas.SlotWinners.{rising_first}
 use Rattle.sabr_frontier.proofs.tree.winners.fill.Goals as goal
 
+pub rise-requires : goal.rise-requires
+rise-requires g c =
+    let l = c.loop-place in
+    rising_first c.args.nodes.now l.winners.items c.as_mut_slice.result.now l.place (omega (arith, l.invariant.long)) (c.as_mut_slice.ensures.value ∙ c.push_reserved.ensures.items) l.invariant.won
+
+pub loop-place-preserved : goal.loop-place-preserved
+loop-place-preserved g c = record {
+  won = subst (AreWinners c.args.nodes.now) (sym (take_at c.rise.new.ids _ c.push_reserved.new.self.len (omega (arith, c.rise.ensures.len, c.as_mut_slice.ensures.len)))) c.rise.ensures.won;
+  long = omega (arith, c.push_reserved.ensures.len, c.loop-place.invariant.long);
+  few = omega (arith, c.loop-place-test.true);
+  room = omega (arith, c.push_reserved.ensures.capacity, c.loop-place.invariant.room);
+}
+
 pub returns-clause-len : goal.returns-clause-len
-returns-clause-len g c = omega (arith, c.loop.invariant.long, c.loop.invariant.few, c.loop-test.false)
+returns-clause-len g c = omega (arith, c.loop-place.invariant.long, c.loop-place.invariant.few, c.loop-place-test.false)

@@ -2,10 +2,10 @@ use Rattle.std.proofs.Common.{◌≡◌, ◌≤◌, length, vec_len, vec_capacit
 use Rattle.sabr_frontier.specs.tree.Winners.{AreWinners}
 use Rattle.sabr_frontier.proofs.tree.winners.fill.Given as goal
 
-abbrev pub invariant-loop : goal.invariant-loop
-invariant-loop g l = record {
+abbrev pub invariant-loop-place : goal.invariant-loop-place
+invariant-loop-place g l = record {
   won : AreWinners l.nodes l.winners.items;
-  long : vec_len l.winners ≡ l.counter;
-  few : l.counter ≤ length l.nodes;
+  long : vec_len l.winners ≡ l.place;
+  few : l.place ≤ length l.nodes;
   room : vec_capacity l.fn.winners ≤ vec_capacity l.winners;
 }
