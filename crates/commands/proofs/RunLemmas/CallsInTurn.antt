@@ -18,9 +18,8 @@ use Rattle.commands.specs.declared.failure.Failure.{Failure}
 use Rattle.commands.specs.declared.status.Status.TheVariants as status
 use Rattle.commands.specs.runs.Files.{LeavesFile}
 use Rattle.commands.specs.runs.Calls.{IsMadeWhereKept, RunsCommand}
-use Rattle.commands.specs.runs.Runs.{status_at}
-use Rattle.commands.specs.runs.SessionRuns.{WritesFirstPage, WritesNextPage, WritesPage, place_of, text_over}
-use Rattle.commands.specs.runs.NextPage.{place_after, report_from}
+use Rattle.commands.specs.texts.Messages.{status_at}
+use Rattle.commands.specs.runs.SessionRuns.{WritesFirstPage, WritesNextPage, WritesPage, place_of, text_over, place_after, report_from}
 use Rattle.commands.specs.runs.RunsInTurn.{Run, IsDone, IsFirst, IsNext, AreNext, ArePages}
 use Rattle.commands.specs.runs.CallsInTurn.{Files, over, files_after, Call, IsDoneCall, Asks, AsksFirst, AsksNext, IsFirstCall, AreNextCalls, files_left, ArePrinted, CallsInTurn}
 use Rattle.commands.proofs.RunLemmas.RunsInTurn.{never_done, runs_in_turn}
@@ -92,7 +91,7 @@ ran : (name : CommandName) (Has : Found → Type 0) (files : Files) (c : Call) �
     → (found : Found) × Has found × RunsCommand name (over files) found [] c.left c.out c.out₁ c.err c.err₁ status.Done
 ran name Has files c (named, has) (inl unread) = elim unread.refuses [ inl (text, faults, tells, ends) ↦ absurd cc | inr (tells, ends) ↦ absurd cc ]
 ran name Has files c (named, has) (inr read) =
-    let n = read.does in
+    let n = read.1 in
     let is : Some n.name ≡ Some name = sym n.named ∙ named in
     let same : n.name ≡ name = cc in
     elim n.does [
@@ -123,16 +122,18 @@ module _ (text : List ℕ) (files : Files) (c : Call) (reader : Input) (planned 
 
   run_done : reader.remaining ≡ Some text → ReadsPlan reader planned reader₁ → status_at end ≡ status.Done → IsDone text run_of
   run_done has reads done = record {
-    reader = reader;
-    planned = planned;
-    reader₁ = reader₁;
-    has = inl has;
-    reads = reads;
+    alone = record {
+      reader = reader;
+      planned = planned;
+      reader₁ = reader₁;
+      has = inl has;
+      reads = reads;
+      out = c.out;
+      out₁ = c.out₁;
+      takes = inl texts.prints;
+    };
     end = end;
     done = done;
-    out = c.out;
-    out₁ = c.out₁;
-    takes_report = inl texts.prints;
     session = session;
     session₁ = session₁;
     takes_text = inl texts.keeps.0;

@@ -1,5 +1,5 @@
 -- What a call of a command leaves: over the files that its words name, the run of their values.
-use Rattle.std.specs.Prelude.{◌≡◌, ℕ, ◌⊎◌, Bool, IsTrue, List, is_some, Result, Ok, Err, if◌then◌else◌}
+use Rattle.std.specs.Prelude.{◌≡◌, ℕ, ◌⊎◌, Bool, IsTrue, List, is_some, Result, Ok, Err}
 use Rattle.std.specs.declared.option.Option.{Option}
 use Rattle.std.specs.declared.option.Option.TheVariants.{Some, None}
 use Rattle.clap.specs.Matches.{first_value}
@@ -22,18 +22,18 @@ use Rattle.commands.specs.declared.words.lines_fault.LinesFault.{LinesFault}
 use Rattle.commands.specs.declared.words.value_fault.ValueFault.{ValueFault}
 use Rattle.commands.specs.texts.CheckText.{WritesCheck}
 use Rattle.commands.specs.texts.Explanation.{WritesExplanation}
-use Rattle.commands.specs.texts.Messages.{failure_of_value}
-use Rattle.commands.specs.words.Paths.{path_under, plan_word, session_word, requests_word, lists_word, session_out_word}
+use Rattle.commands.specs.texts.Messages.{failure_of_value, TellsEnd, status_at, status_of_answer}
 use Rattle.commands.specs.words.Lines.{AskedLine}
-use Rattle.commands.specs.words.Values.{ValuesRead, values_of, has_contacts, has_lists, has_requests, has_session, keeps_session}
+use Rattle.commands.specs.words.Values.{ValuesRead, values_of, has_contacts, has_session, path_under, plan_word, session_word, requests_word, lists_word, session_out_word}
 use Rattle.commands.specs.runs.Files.{FileRules, Left, LeavesFile}
-use Rattle.commands.specs.runs.Runs.{TellsEnd, status_at, status_of_answer}
 use Rattle.commands.specs.runs.Many.{ReadsLinesOver, WritesAnswers}
 use Rattle.commands.specs.runs.SessionRuns.{ReadsOldSession, VerifiesOldSession, WritesAnswer, WritesFirstPage, WritesNextPage, place_of}
 
 -- where the words keep the session after a page, if they do
 abbrev pub kept_path : CommandName → Found → Option (List ℕ)
-kept_path name found = if keeps_session name then first_value found session_out_word else None
+kept_path command.First found = first_value found session_out_word
+kept_path command.Next found = first_value found session_out_word
+kept_path _ found = None
 
 -- the session's writer is that of the file made at its path, if there is one
 abbrev pub IsMadeWhereKept : FileRules → Option (List ℕ) → Output → Type 0
@@ -193,21 +193,15 @@ IsUnopened rules found word = rules.unopened (path_under found word)
 abbrev pub FailsAtFile : FileRules → CommandName → Found → Failure → Type 0
 FailsAtFile rules name found failure.CannotOpenPlan = IsUnopened rules found plan_word
 FailsAtFile rules name found failure.CannotOpenSession = IsTrue (has_session name) × Opens rules found plan_word × IsUnopened rules found session_word
-FailsAtFile rules name found failure.CannotOpenRequests = IsTrue (has_requests name) × Opens rules found plan_word × IsUnopened rules found requests_word
-FailsAtFile rules name found failure.CannotOpenLists = IsTrue (has_lists name) × Opens rules found plan_word × IsUnopened rules found lists_word
+FailsAtFile rules name found failure.CannotOpenRequests = (name ≡ command.Many) × Opens rules found plan_word × IsUnopened rules found requests_word
+FailsAtFile rules name found failure.CannotOpenLists = (name ≡ command.Follow) × Opens rules found plan_word × IsUnopened rules found lists_word
 FailsAtFile rules name found failure.CannotMakeSession =
     (path : List ℕ) × (kept_path name found ≡ Some path) × Opens rules found plan_word × (IsTrue (has_session name) → Opens rules found session_word) × rules.unmade path
 FailsAtFile rules name found _ = ⊥
 
--- the values of a command's words are refused
-abbrev pub RefusesValues : CommandName → Found → Failure → Type 0
-RefusesValues name found f = (fault : ValueFault) × (values_of name found ≡ Err fault) × (f ≡ failure_of_value fault)
-
--- they aren't, and a file is
-abbrev pub RefusesFile : FileRules → CommandName → Found → Failure → Type 0
-RefusesFile rules name found f = (values : ValuesRead) × (values_of name found ≡ Ok values) × FailsAtFile rules name found f
-
 -- why a command ends before its run: its values are refused, memory for its contacts is, or one of its files is
 abbrev pub StopsBefore : FileRules → CommandName → Found → Failure → Type 0
 StopsBefore rules name found f =
-    RefusesValues name found f ⊎ (((f ≡ failure.NoMemory) × IsTrue (has_contacts name)) ⊎ RefusesFile rules name found f)
+    ((fault : ValueFault) × (values_of name found ≡ Err fault) × (f ≡ failure_of_value fault))
+    ⊎ (((f ≡ failure.NoMemory) × IsTrue (has_contacts name))
+    ⊎ ((values : ValuesRead) × (values_of name found ≡ Ok values) × FailsAtFile rules name found f))
