@@ -52,16 +52,9 @@ TellsRefusal Why err err₁ ended =
     ((text : List ℕ) × Why × TellsText err text err₁ × (ended ≡ status.Usage))
     ⊎ (TellsText err (message_text failure.NoMemory) err₁ × (ended ≡ status.Memory))
 
--- no command was begun: the words have a fault or ask for help, and clap's own account names the kinds; or memory for
--- them was refused
-pub record EndsUnread (words : List (List ℕ)) (left left₁ : Left) (out out₁ err err₁ : Output) (ended : Status) : Type 0 where
-  pub refuses : TellsRefusal (fault_of program_app words ≢ []) err err₁ ended
-  pub writes_nothing : out₁ ≡ out
-  pub makes_nothing : left₁ ≡ left
-
--- what the program leaves over these words: if they have no fault and don't ask for help, the command that they name
--- ended
+-- what the program leaves over these words: if they have a fault or ask for help, and clap's own account names the
+-- kinds, or if memory for them was refused, no command is begun; else the command that they name ended
 abbrev pub EndsWords : FileRules → List (List ℕ) → Left → Left → Output → Output → Output → Output → Status → Type 0
 EndsWords rules words left left₁ out out₁ err err₁ ended =
-    EndsUnread words left left₁ out out₁ err err₁ ended
+    (TellsRefusal (fault_of program_app words ≢ []) err err₁ ended × (out₁ ≡ out) × (left₁ ≡ left))
     ⊎ ((fault_of program_app words ≡ []) × EndsNamed rules (given_by words) left left₁ out out₁ err err₁ ended)
