@@ -1,12 +1,10 @@
 -- What runs leave on their writers.
-pub mod Runs
 pub mod Files
 pub mod Calls
 pub mod SessionRuns
 pub mod EveryRun
 pub mod NextPage
 pub mod RunsInTurn
-pub mod RunsGoOn
 pub mod PagesLeft
 pub mod Many
 pub mod ManyAsFirst

@@ -1,6 +1,5 @@
 -- What the words of the command line say.
 pub mod Lists
-pub mod Paths
 pub mod Values
 pub mod CommandLine
 pub mod Lines

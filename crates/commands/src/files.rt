@@ -8,7 +8,7 @@ ghost use Rattle.clap.specs.Matches.{first_value, found_of};
 ghost use Rattle.commands.specs.declared.failure.Failure.TheVariants as failure;
 ghost use Rattle.commands.specs.runs.Calls.{IsUnopened};
 ghost use Rattle.commands.specs.runs.Files.{KeepsIfDone, Makes};
-ghost use Rattle.commands.specs.words.Paths.{path_under, plan_word, session_out_word, session_word};
+ghost use Rattle.commands.specs.words.Values.{path_under, plan_word, session_out_word, session_word};
 
 use crate::failure::Failure;
 use crate::status::Status;

@@ -6,8 +6,7 @@ ghost use Rattle.commands.specs.runs.EveryRun.{EveryRunFollows};
 ghost use Rattle.commands.specs.runs.ManyAsFirst.{FollowAnswersAsExplain, ManyAnswersAsFirst};
 ghost use Rattle.commands.specs.runs.NextPage.{NextGoesOn};
 ghost use Rattle.commands.specs.runs.PagesLeft.{PagesStand};
-ghost use Rattle.commands.specs.runs.RunsGoOn.{RunsGoOn};
-ghost use Rattle.commands.specs.runs.RunsInTurn.{RunsInTurn};
+ghost use Rattle.commands.specs.runs.RunsInTurn.{RunsInTurn, RunsGoOn};
 
 /// Shows that every run of a session follows the list of all routes. Whatever sizes its pages have, and wherever it
 /// went through its text, its pages in turn are the next routes of the list, best first, none left out and none twice.

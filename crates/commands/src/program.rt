@@ -1,6 +1,6 @@
 //! The program: words, files and the runs over them.
 
-ghost use Rattle.std.specs.Prelude.{IsTrue, is_some, map};
+ghost use Rattle.std.specs.Prelude.{◌≢◌, IsTrue, is_some, map};
 ghost use Rattle.clap.specs.Simple.{subcommand_rows_of};
 ghost use Rattle.clap.specs.Values.{kind_of};
 ghost use Rattle.commands.specs.runs.Program.{EndsNamed, EndsWords, TellsRefusal, named_in};
@@ -48,7 +48,7 @@ fn tell_text<E: Write>(text: &str, err: &mut E)
 
 /// Reports why the words were refused, or writes the help that they ask for.
 fn tell_usage<E: Write>(alloc: Global, refusal: &Error, err: &mut E) -> Status
-    ensures { TellsRefusal (kind_of refusal.now) (E.output err.old) (E.output err.new) result }
+    ensures { TellsRefusal (kind_of refusal.now ≢ ErrorKind.OutOfMemory) (E.output err.old) (E.output err.new) result }
 {
     if refusal.kind() == ErrorKind::OutOfMemory {
         return tell(err, Failure::NoMemory);

@@ -18,9 +18,8 @@ use Rattle.commands.specs.declared.failure.Failure.{Failure}
 use Rattle.commands.specs.declared.status.Status.TheVariants as status
 use Rattle.commands.specs.runs.Files.{LeavesFile}
 use Rattle.commands.specs.runs.Calls.{IsMadeWhereKept, RunsCommand}
-use Rattle.commands.specs.runs.Runs.{status_at}
-use Rattle.commands.specs.runs.SessionRuns.{WritesFirstPage, WritesNextPage, WritesPage, place_of, text_over}
-use Rattle.commands.specs.runs.NextPage.{place_after, report_from}
+use Rattle.commands.specs.texts.Messages.{status_at}
+use Rattle.commands.specs.runs.SessionRuns.{WritesFirstPage, WritesNextPage, WritesPage, place_of, text_over, place_after, report_from}
 use Rattle.commands.specs.runs.RunsInTurn.{Run, IsDone, IsFirst, IsNext, AreNext, ArePages}
 use Rattle.commands.specs.runs.CallsInTurn.{Files, over, files_after, Call, IsDoneCall, Asks, AsksFirst, AsksNext, IsFirstCall, AreNextCalls, files_left, ArePrinted, CallsInTurn}
 use Rattle.commands.proofs.RunLemmas.RunsInTurn.{never_done, runs_in_turn}
@@ -90,9 +89,9 @@ next_texts (Ok t) (Ok s) count end out out₁ session session₁ done w = page_t
 -- the command that the words name ran, over what they give it
 ran : (name : CommandName) (Has : Found → Type 0) (files : Files) (c : Call) → Asks name c.words Has → IsDoneCall files c
     → (found : Found) × Has found × RunsCommand name (over files) found [] c.left c.out c.out₁ c.err c.err₁ status.Done
-ran name Has files c (named, has) (inl unread) = elim unread.refuses [ inl (text, faults, tells, ends) ↦ absurd cc | inr (tells, ends) ↦ absurd cc ]
+ran name Has files c (named, has) (inl unread) = elim unread.0 [ inl (text, faults, tells, ends) ↦ absurd cc | inr (tells, ends) ↦ absurd cc ]
 ran name Has files c (named, has) (inr read) =
-    let n = read.does in
+    let n = read.1 in
     let is : Some n.name ≡ Some name = sym n.named ∙ named in
     let same : n.name ≡ name = cc in
     elim n.does [
@@ -123,16 +122,18 @@ module _ (text : List ℕ) (files : Files) (c : Call) (reader : Input) (planned 
 
   run_done : reader.remaining ≡ Some text → ReadsPlan reader planned reader₁ → status_at end ≡ status.Done → IsDone text run_of
   run_done has reads done = record {
-    reader = reader;
-    planned = planned;
-    reader₁ = reader₁;
-    has = inl has;
-    reads = reads;
+    alone = record {
+      reader = reader;
+      planned = planned;
+      reader₁ = reader₁;
+      has = inl has;
+      reads = reads;
+      out = c.out;
+      out₁ = c.out₁;
+      takes = inl texts.prints;
+    };
     end = end;
     done = done;
-    out = c.out;
-    out₁ = c.out₁;
-    takes_report = inl texts.prints;
     session = session;
     session₁ = session₁;
     takes_text = inl texts.keeps.0;
@@ -159,18 +160,19 @@ module _ (text : List ℕ) where
   unfolding run_done ran
   first_run files at r c there (asks, done) =
       let (found, a, h) = ran command.First (AsksFirst at r c) files c asks done in
+      let run = h.runs in
       let values : h.values ≡ record { request = Some r; count = Some c.count; contacts = [] } = ok_same _ _ (sym h.given ∙ a.values) in
       let request : h.request ≡ r = some_same _ _ (sym h.asked ∙ ap (λ v. v.request) values) in
       let count : h.count ≡ c.count = some_same _ _ (sym h.counted ∙ ap (λ v. v.count) values) in
       let made = subst (λ kept. IsMadeWhereKept (over files) kept h.session) a.kept h.makes in
       let leaves = subst (λ kept. LeavesFile (over files) kept status.Done h.session₁ [] c.left) a.kept h.leaves in
-      let kept = subst (λ kept. WritesFirstPage h.planned h.request (is_some kept) h.count h.end c.out c.out₁ h.session h.session₁) a.kept h.writes in
-      let writes = subst (λ q. WritesFirstPage h.planned q true h.count h.end c.out c.out₁ h.session h.session₁) request kept in
-      let texts = first_texts h.planned r h.count h.end c.out c.out₁ h.session h.session₁ (sym h.ends) writes in
-      let has = opened_text files _ at text h.plan a.plan there h.opens in (
-        run_of text files c h.plan h.planned h.plan₁ h.end h.session h.session₁ texts h.count,
-        (run_done text files c h.plan h.planned h.plan₁ h.end h.session h.session₁ texts h.count has h.reads (sym h.ends), writes),
-        is_run text files c h.plan h.planned h.plan₁ h.end h.session h.session₁ texts h.count count made leaves,
+      let kept = subst (λ kept. WritesFirstPage run.planned h.request (is_some kept) h.count run.end c.out c.out₁ h.session h.session₁) a.kept run.does in
+      let writes = subst (λ q. WritesFirstPage run.planned q true h.count run.end c.out c.out₁ h.session h.session₁) request kept in
+      let texts = first_texts run.planned r h.count run.end c.out c.out₁ h.session h.session₁ (sym run.ends) writes in
+      let has = opened_text files _ at text run.plan a.plan there run.opens in (
+        run_of text files c run.plan run.planned run.plan₁ run.end h.session h.session₁ texts h.count,
+        (run_done text files c run.plan run.planned run.plan₁ run.end h.session h.session₁ texts h.count has run.reads (sym run.ends), writes),
+        is_run text files c run.plan run.planned run.plan₁ run.end h.session h.session₁ texts h.count count made leaves,
       )
 
   next_run : (files : Files) (at old before : List ℕ) (c : Call) → files at ≡ Some text → files old ≡ Some before → Asks command.Next c.words (AsksNext at old c) → IsDoneCall files c
@@ -178,24 +180,26 @@ module _ (text : List ℕ) where
   unfolding run_done ran
   next_run files at old before c there stored asks done =
       let (found, a, h) = ran command.Next (AsksNext at old c) files c asks done in
+      let run = h.runs in
+      let second = run.does in
       let values : h.values ≡ record { request = None; count = Some c.count; contacts = [] } = ok_same _ _ (sym h.given ∙ a.values) in
       let count : h.count ≡ c.count = some_same _ _ (sym h.counted ∙ ap (λ v. v.count) values) in
       let made = subst (λ kept. IsMadeWhereKept (over files) kept h.session) a.kept h.makes in
       let leaves = subst (λ kept. LeavesFile (over files) kept status.Done h.session₁ [] c.left) a.kept h.leaves in
-      let writes = subst (λ kept. WritesNextPage h.planned (place_of h.resumed) (is_some kept) h.count h.end c.out c.out₁ h.session h.session₁) a.kept h.writes in
-      let texts = next_texts h.planned (place_of h.resumed) h.count h.end c.out c.out₁ h.session h.session₁ (sym h.ends) writes in
-      let has = opened_text files _ at text h.plan a.plan there h.opens in (
-        run_of text files c h.plan h.planned h.plan₁ h.end h.session h.session₁ texts h.count,
+      let writes = subst (λ kept. WritesNextPage run.planned (place_of second.answer) (is_some kept) h.count run.end c.out c.out₁ h.session h.session₁) a.kept second.writes in
+      let texts = next_texts run.planned (place_of second.answer) h.count run.end c.out c.out₁ h.session h.session₁ (sym run.ends) writes in
+      let has = opened_text files _ at text run.plan a.plan there run.opens in (
+        run_of text files c run.plan run.planned run.plan₁ run.end h.session h.session₁ texts h.count,
         record {
-          is_done = run_done text files c h.plan h.planned h.plan₁ h.end h.session h.session₁ texts h.count has h.reads (sym h.ends);
-          reader = h.old;
-          resumed = h.resumed;
-          reader₁ = h.old₁;
-          has = inl (opened_text files _ old before h.old a.session stored h.opens_old);
-          reads = h.reads_old;
+          is_done = run_done text files c run.plan run.planned run.plan₁ run.end h.session h.session₁ texts h.count has run.reads (sym run.ends);
+          reader = second.file;
+          resumed = second.answer;
+          reader₁ = second.file₁;
+          has = inl (opened_text files _ old before second.file a.session stored second.opens);
+          reads = second.reads;
           writes = writes;
         },
-        is_run text files c h.plan h.planned h.plan₁ h.end h.session h.session₁ texts h.count count made leaves,
+        is_run text files c run.plan run.planned run.plan₁ run.end h.session h.session₁ texts h.count count made leaves,
       )
 
   -- calls are these runs, one after the other

@@ -21,8 +21,7 @@ use Rattle.commands.specs.declared.runs.answering.AnswerKind.{AnswerKind}
 use Rattle.commands.specs.words.Lines.{Asked, HasLines, AskedLine, asked_at, asked_in, fault_of, lines_in, most_lines, put_first, asked_from}
 use Rattle.commands.specs.runs.Many.{IsFirstPage, LeavesAnswer, LeavesAnswers, StopsAtLine, WritesAll, WritesAnswers, answer_text, answers_text, form_of, has_broken}
 use Rattle.commands.specs.texts.Messages.{failure_of_lines}
-use Rattle.commands.specs.runs.Runs.{first_report}
-use Rattle.commands.specs.runs.SessionRuns.{next_report}
+use Rattle.commands.specs.runs.SessionRuns.{next_report, report_from}
 use Rattle.commands.proofs.RunLemmas.PageTexts.{flush_failed, report_of_page}
 use Rattle.commands.proofs.RunLemmas.SessionPages.{first_report_is}
 use Rattle.std.specs.Prelude.{All, IfOk, IsTrue, is_some, nat_lt}
@@ -138,12 +137,12 @@ all_answered p kind requested lines old new h e =
     let left : h.left ≡ [] = cc in
     (h.done, h.parts ∙ ap (λ xs. Ok (h.done ++ xs)) left ∙ ap Ok (append-nil h.done), h.written)
 
--- the report of a page of a session just started is that of the first page
+-- the report of a page of a session just started is that of the page from place 0 on
 pub first_of_page : (p : TabledPlan) (r : RouteRequest) (s : Seen) (k : ℕ) (routes : List RouteRecord) (rank : ℕ) (more : Bool) → IsPlan p.plan
     → (s.plan ≡ p) × (s.request ≡ r) × (s.state ≡ state_at p.plan r 0)
     → routes ≡ map (record_of s.plan.plan s.request) (steps s.plan.plan s.request k s.state).0
     → rank ≡ s.state.emitted → more ≡ is_some (next_route s.plan.plan s.request (steps s.plan.plan s.request k s.state).1)
-    → report_text routes (rank + 1) more ≡ first_report p.plan r k
+    → report_text routes (rank + 1) more ≡ report_from p.plan r 0 k
 first_of_page p r s k routes rank more rules (plan, request, state) given count goes_on =
     report_of_page s k routes rank more given count goes_on
     ∙ (λ i. next_report (plan i).plan (request i) (state i) k)

@@ -16,8 +16,8 @@ use Rattle.commands.specs.declared.words.lines.LineForm.{LineForm}
 use Rattle.commands.specs.declared.words.lines_fault.LinesFault.{LinesFault}
 use Rattle.commands.specs.texts.Explanation.{WritesExplanation, explanation_text}
 use Rattle.commands.specs.words.Lines.{ReadsLines, AskedLine, asked_by}
-use Rattle.commands.specs.runs.Runs.{first_report, status_at}
-use Rattle.commands.specs.runs.SessionRuns.{WritesFirstPage, WritesPage}
+use Rattle.commands.specs.texts.Messages.{status_at}
+use Rattle.commands.specs.runs.SessionRuns.{WritesFirstPage, WritesPage, report_from}
 use Rattle.commands.specs.runs.Many.{ReadsLinesOver, WritesAll, WritesAnswers, answers_text, body_text, form_of, heading}
 use Rattle.commands.specs.runs.ManyAsFirst.{IsFirstReport, IsExplained, IsReport, AreReports, IsMany, AnswersAsAlone, ManyAnswersAsFirst, FollowAnswersAsExplain, reports_of}
 use Rattle.commands.proofs.RunLemmas.RunsInTurn.{never_done, plan_read, taken}
@@ -25,13 +25,12 @@ use Rattle.commands.proofs.RunLemmas.RunsInTurn.{never_done, plan_read, taken}
 -- of a reader that has the text of lines, these are read
 lines_are : (form : LineForm) (text : List ℕ) (xs ys : List AskedLine) (reader reader₁ : Input) → asked_by form text ≡ Ok xs → IsTextOf reader text reader₁ → ReadsLines form reader (Ok ys) reader₁ → ys ≡ xs
 lines_are form text xs ys reader reader₁ spelled has h = elim h.told [
-  | inl (end, fine, answer) ↦
+  | inl bad ↦ absurd bad
+  | inr (fine, inl (end, answer)) ↦
       let all = (begins_with reader reader₁ text h.given has h.gives).all end in
       let told : asked_by form text ≡ Ok ys = subst (λ b. asked_by form b ≡ Ok ys) all answer in
       cc
-  | inr (inl (count, bad)) ↦ cc (bad)
-  | inr (inr (fine, inl bad)) ↦ cc (bad)
-  | inr (inr (fine, inr answer)) ↦
+  | inr (fine, inr answer) ↦
       let more = begins_with reader reader₁ text h.given has h.gives in
       let told : asked_by form text ≡ Ok ys = subst (λ b. asked_by form b ≡ Ok ys) more.parts (answer more.rest) in
       cc
@@ -45,12 +44,12 @@ module _ (plan : List ℕ) (p : ContactPlan) (spelled : plan_of plan true ≡ Ok
   page_taken q keep written report place (Ok u) out out₁ session session₁ done takes w = taken out written report out₁ w.0.0 takes
 
   first_told : (r : RouteRequest) (count : ℕ) (report : List ℕ) (x : IsFirstReport plan r count report) (planned : Result TabledPlan PlanFault) → ReadsPlan x.alone.reader planned x.alone.reader₁
-      → WritesFirstPage planned r x.keep count x.end x.alone.out x.alone.out₁ x.session x.session₁ → report ≡ first_report p r count
+      → WritesFirstPage planned r x.keep count x.end x.alone.out x.alone.out₁ x.session x.session₁ → report ≡ report_from p r 0 count
   first_told r count report x (Err fault) reads w = absurd (never_done _ (sym (ap status_at w.0) ∙ x.done))
   first_told r count report x (Ok t) reads w =
       let y = x.alone in
-      subst (λ q. report ≡ first_report q r count) (plan_read plan p y.reader t y.reader₁ spelled y.has reads)
-      (page_taken t.plan x.keep (first_report t.plan r count) report _ x.end y.out y.out₁ x.session x.session₁ x.done y.takes w)
+      subst (λ q. report ≡ report_from q r 0 count) (plan_read plan p y.reader t y.reader₁ spelled y.has reads)
+      (page_taken t.plan x.keep (report_from t.plan r 0 count) report _ x.end y.out y.out₁ x.session x.session₁ x.done y.takes w)
 
   -- an explain run that answers writes the explanation
   explanation_told : (r : RouteRequest) (contacts report : List ℕ) (x : IsExplained plan r contacts report) (planned : Result TabledPlan PlanFault) → ReadsPlan x.alone.reader planned x.alone.reader₁
@@ -76,22 +75,22 @@ module _ (plan : List ℕ) (p : ContactPlan) (spelled : plan_of plan true ≡ Ok
         ∙ ap (λ t. (heading kind x.line ++ report) ++ t) (reports_told xs reports others)
 
     module _ (text : List ℕ) (xs : List AskedLine) (bytes : List ℕ) (many : IsMany plan text kind bytes) (requests : asked_by (form_of kind) text ≡ Ok xs) where
-      all_taken : (q : ContactPlan) (ys : List AskedLine) (end : Result (Unit {0}) Failure) → status_at end ≡ status.Done → WritesAll q ys kind end many.out many.out₁ → bytes ≡ answers_text q ys kind
+      all_taken : (q : ContactPlan) (ys : List AskedLine) (end : Result (Unit {0}) Failure) → status_at end ≡ status.Done → WritesAll q ys kind end many.alone.out many.alone.out₁ → bytes ≡ answers_text q ys kind
       all_taken q ys (Err f) done w = absurd (never_done f done)
-      all_taken q ys (Ok u) done w = taken many.out (answers_text q ys kind) bytes many.out₁ w.0 many.takes
+      all_taken q ys (Ok u) done w = taken many.alone.out (answers_text q ys kind) bytes many.alone.out₁ w.0 many.alone.takes
 
-      answers_told : (planned : Result TabledPlan PlanFault) (requested : Result (List AskedLine) LinesFault) → ReadsPlan many.reader planned many.reader₁
-          → ReadsLinesOver (form_of kind) planned many.asked requested many.asked₁ → WritesAnswers planned requested kind many.end many.out many.out₁ → bytes ≡ answers_text p xs kind
+      answers_told : (planned : Result TabledPlan PlanFault) (requested : Result (List AskedLine) LinesFault) → ReadsPlan many.alone.reader planned many.alone.reader₁
+          → ReadsLinesOver (form_of kind) planned many.asked requested many.asked₁ → WritesAnswers planned requested kind many.end many.alone.out many.alone.out₁ → bytes ≡ answers_text p xs kind
       answers_told (Err fault) requested reads asked w = absurd (never_done _ (sym (ap status_at w.0) ∙ many.done))
       answers_told (Ok t) (Err fault) reads asked w = absurd (never_done _ (sym (ap status_at w.0) ∙ many.done))
       answers_told (Ok t) (Ok ys) reads asked w =
           let same = lines_are (form_of kind) text xs ys many.asked many.asked₁ requests many.asks asked in
-          subst (λ q. bytes ≡ answers_text q xs kind) (plan_read plan p many.reader t many.reader₁ spelled many.has reads)
+          subst (λ q. bytes ≡ answers_text q xs kind) (plan_read plan p many.alone.reader t many.alone.reader₁ spelled many.alone.has reads)
           (subst (λ zs. bytes ≡ answers_text t.plan zs kind) same (all_taken t.plan ys many.end many.done w))
 
 answers_as_alone : (kind : AnswerKind) → AnswersAsAlone kind
 answers_as_alone kind plan text p xs bytes reports spelled requests many are =
-    answers_told plan p spelled kind text xs bytes many requests many.planned many.requested many.reads many.reads_asked many.writes
+    answers_told plan p spelled kind text xs bytes many requests many.alone.planned many.requested many.alone.reads many.reads_asked many.writes
     ∙ reports_told plan p spelled kind xs reports are
 
 pub many_answers_as_first : ManyAnswersAsFirst

@@ -23,8 +23,8 @@ use Rattle.sabr_session.proofs.TextLemmas.OneAnswer.{answers_once}
 use Rattle.commands.specs.declared.failure.Failure.{Failure}
 use Rattle.commands.specs.declared.failure.Failure.TheVariants as failure
 use Rattle.commands.specs.texts.Messages.{failure_of_session}
-use Rattle.commands.specs.runs.SessionRuns.{WritesNextPage, WritesPage, next_report, report_after, place_of}
-use Rattle.commands.specs.runs.NextPage.{place_after, report_from, KeepsPlace, WritesPageFrom, NextGoesOn}
+use Rattle.commands.specs.runs.SessionRuns.{WritesNextPage, WritesPage, next_report, report_after, place_of, place_after, report_from}
+use Rattle.commands.specs.runs.NextPage.{KeepsPlace, WritesPageFrom, NextGoesOn}
 use Rattle.commands.proofs.RunLemmas.RunsFollow.{next_within, text_begins}
 
 -- a session that was read over a plan is over that plan

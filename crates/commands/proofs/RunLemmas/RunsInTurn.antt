@@ -10,20 +10,16 @@ use Rattle.sabr_plan.specs.Reading.{plan_of}
 use Rattle.sabr_plan.specs.PlanRead.{ReadsPlan}
 use Rattle.sabr_plan.specs.declared.fault.PlanFault.{PlanFault}
 use Rattle.sabr_plan.proofs.SpelledPlans.{plan_is}
-use Rattle.sabr_frontier.specs.listing.Listing.{state_at}
 use Rattle.sabr_session.specs.SessionText.{session_text}
 use Rattle.commands.specs.declared.failure.Failure.{Failure}
 use Rattle.commands.specs.declared.failure.Failure.TheVariants as failure
 use Rattle.commands.specs.declared.status.Status.TheVariants as status
-use Rattle.commands.specs.texts.Messages.{status_of}
-use Rattle.commands.specs.runs.Runs.{status_at}
-use Rattle.commands.specs.runs.SessionRuns.{ReadsOldSession, WritesFirstPage, WritesNextPage, WritesPage, place_of}
+use Rattle.commands.specs.texts.Messages.{status_of, status_at}
+use Rattle.commands.specs.runs.SessionRuns.{ReadsOldSession, WritesFirstPage, WritesNextPage, place_of, place_after, report_from}
 use Rattle.commands.specs.runs.EveryRun.{IsAt, from_text}
-use Rattle.commands.specs.runs.NextPage.{place_after, report_from, WritesPageFrom, GoesOnFrom}
-use Rattle.commands.specs.runs.RunsInTurn.{Run, IsDone, IsFirst, IsNext, AreNext, IsPage, ArePages, RunsInTurn}
-use Rattle.commands.specs.runs.RunsGoOn.{asked_of, text_left, pages_given, GoOnFrom, RunsGoOn}
+use Rattle.commands.specs.runs.NextPage.{WritesPageFrom, GoesOnFrom}
+use Rattle.commands.specs.runs.RunsInTurn.{Run, IsDone, IsFirst, IsNext, AreNext, IsPage, ArePages, RunsInTurn, asked_of, text_left, pages_given, GoOnFrom, RunsGoOn}
 use Rattle.commands.proofs.RunLemmas.RunsFollow.{next_within, pages_joined}
-use Rattle.commands.proofs.RunLemmas.SessionPages.{none_before, first_from}
 use Rattle.commands.proofs.RunLemmas.NextPages.{place_kept, next_goes_on}
 
 -- no failure ends as done
@@ -73,22 +69,20 @@ module _ (plan : List ℕ) (p : ContactPlan) (r : RouteRequest) (spelled : plan_
       (run.report ≡ report_from q r i run.count) × (run.text ≡ session_text q r (place_after q r i run.count)) × IsAt q r (place_after q r i run.count) (from_text (session_text q r (place_after q r i run.count)))
 
   page_from : (q : ContactPlan) (i : ℕ) (run : Run) (x : IsDone plan run) → (end : Result (Unit {0}) Failure) → status_at end ≡ status.Done
-      → WritesPageFrom true q r i run.count end x.out x.out₁ x.session x.session₁ → IsPageFrom q i run
+      → WritesPageFrom true q r i run.count end x.alone.out x.alone.out₁ x.session x.session₁ → IsPageFrom q i run
   page_from q i run x (Err f) done w = absurd (never_done f done)
   page_from q i run x (Ok u) done (page, keeps) =
-      (taken x.out _ run.report x.out₁ page.0.0 x.takes_report, taken x.session _ run.text x.session₁ page.1.1.0 x.takes_text, keeps refl)
+      (taken x.alone.out _ run.report x.alone.out₁ page.0.0 x.alone.takes, taken x.session _ run.text x.session₁ page.1.1.0 x.takes_text, keeps refl)
 
   -- the first run
-  first_page : (run : Run) (x : IsDone plan run) (planned : Result TabledPlan PlanFault) → ReadsPlan x.reader planned x.reader₁
-      → WritesFirstPage planned r true run.count x.end x.out x.out₁ x.session x.session₁ → IsPageFrom p 0 run
+  first_page : (run : Run) (x : IsDone plan run) (planned : Result TabledPlan PlanFault) → ReadsPlan x.alone.reader planned x.alone.reader₁
+      → WritesFirstPage planned r true run.count x.end x.alone.out x.alone.out₁ x.session x.session₁ → IsPageFrom p 0 run
   first_page run x (Err fault) reads w = absurd (never_done _ (sym (ap status_at w.0) ∙ x.done))
   first_page run x (Ok t) reads w =
-      let e = plan_read plan p x.reader t x.reader₁ spelled x.has reads in
+      let e = plan_read plan p x.alone.reader t x.alone.reader₁ spelled x.alone.has reads in
       let q = t.plan in
       let within = next_within q r (subst IsPlan (sym e) good) accepted 0 run.count (omega arith) in
-      let reported = subst (λ report. WritesPage true q report (r, state_at q r (length (page_of q r 0 run.count))) x.end x.out x.out₁ x.session x.session₁) (first_from q r run.count) w in
-      let page = subst (λ n. WritesPage true q (report_from q r 0 run.count) (r, state_at q r n) x.end x.out x.out₁ x.session x.session₁) (sym (none_before (length (page_of q r 0 run.count)))) reported in
-      let from = page_from q 0 run x x.end x.done (page, place_kept q r (place_after q r 0 run.count) accepted within true _ x.end x.out x.out₁ x.session x.session₁ page) in
+      let from = page_from q 0 run x x.end x.done (w, place_kept q r (place_after q r 0 run.count) accepted within true _ x.end x.alone.out x.alone.out₁ x.session x.session₁ w) in
       subst (λ q. IsPageFrom q 0 run) e from
 
   -- a next run over the text of place i
@@ -97,20 +91,20 @@ module _ (plan : List ℕ) (p : ContactPlan) (r : RouteRequest) (spelled : plan_
       let same : ◌≡◌ {A = RouteRequest × ℕ} (is.request, is.place) (r, i) = λ j. (of_request j, of_place j) in
       subst (λ (w : RouteRequest × ℕ). GoesOnFrom t w.0 w.1 text) same (next_goes_on t text rules is)
 
-  next_left : (keep : Bool) (i : ℕ) (text : List ℕ) (run : Run) (x : IsNext plan text keep run) (planned : Result TabledPlan PlanFault) → x.is_done.planned ≡ planned → IsAt p r i (from_text text)
-      → (q : ContactPlan) × (q ≡ p) × WritesPageFrom keep q r i run.count x.is_done.end x.is_done.out x.is_done.out₁ x.is_done.session x.is_done.session₁
+  next_left : (keep : Bool) (i : ℕ) (text : List ℕ) (run : Run) (x : IsNext plan text keep run) (planned : Result TabledPlan PlanFault) → x.is_done.alone.planned ≡ planned → IsAt p r i (from_text text)
+      → (q : ContactPlan) × (q ≡ p) × WritesPageFrom keep q r i run.count x.is_done.end x.is_done.alone.out x.is_done.alone.out₁ x.is_done.session x.is_done.session₁
   next_left keep i text run x (Err fault) is at =
       let d = x.is_done in
-      let w = subst (λ q. WritesNextPage q (place_of x.resumed) keep run.count d.end d.out d.out₁ d.session d.session₁) is x.writes in
+      let w = subst (λ q. WritesNextPage q (place_of x.resumed) keep run.count d.end d.alone.out d.alone.out₁ d.session d.session₁) is x.writes in
       absurd (never_done _ (sym (ap status_at w.0) ∙ d.done))
   next_left keep i text run x (Ok t) is at =
       let d = x.is_done in
-      let e = plan_read plan p d.reader t d.reader₁ spelled d.has (subst (λ q. ReadsPlan d.reader q d.reader₁) is d.reads) in
+      let e = plan_read plan p d.alone.reader t d.alone.reader₁ spelled d.alone.has (subst (λ q. ReadsPlan d.alone.reader q d.alone.reader₁) is d.alone.reads) in
       let goes_on = text_goes_on t i text (subst IsPlan (sym e) good) (subst (λ q. IsAt q r i (from_text text)) (sym e) at) in
       let left = goes_on x.reader x.resumed x.reader₁ x.has (subst (λ q. ReadsOldSession q x.reader x.resumed x.reader₁) is x.reads)
-      keep run.count d.end d.out d.out₁ d.session d.session₁
-      (subst (λ q. WritesNextPage q (place_of x.resumed) keep run.count d.end d.out d.out₁ d.session d.session₁) is x.writes) in
-      let from : WritesPageFrom keep t.plan r i run.count d.end d.out d.out₁ d.session d.session₁ = elim left [
+      keep run.count d.end d.alone.out d.alone.out₁ d.session d.session₁
+      (subst (λ q. WritesNextPage q (place_of x.resumed) keep run.count d.end d.alone.out d.alone.out₁ d.session d.session₁) is x.writes) in
+      let from : WritesPageFrom keep t.plan r i run.count d.end d.alone.out d.alone.out₁ d.session d.session₁ = elim left [
         | inl w ↦ w
         | inr w ↦ absurd (never_done failure.SessionRead (sym (ap status_at w.1) ∙ d.done))
       ]
@@ -119,18 +113,18 @@ module _ (plan : List ℕ) (p : ContactPlan) (r : RouteRequest) (spelled : plan_
 
   next_page : (i : ℕ) (text : List ℕ) (run : Run) → IsNext plan text true run → IsAt p r i (from_text text) → IsPageFrom p i run
   next_page i text run x at =
-      let (q, e, w) = next_left true i text run x x.is_done.planned refl at in
+      let (q, e, w) = next_left true i text run x x.is_done.alone.planned refl at in
       subst (λ t. IsPageFrom t i run) e (page_from q i run x.is_done x.is_done.end x.is_done.done w)
 
   -- whether it keeps its session or not, it reported that page
   report_taken : (keep : Bool) (q : ContactPlan) (i : ℕ) (run : Run) (x : IsDone plan run) (end : Result (Unit {0}) Failure) → status_at end ≡ status.Done
-      → WritesPageFrom keep q r i run.count end x.out x.out₁ x.session x.session₁ → run.report ≡ report_from q r i run.count
+      → WritesPageFrom keep q r i run.count end x.alone.out x.alone.out₁ x.session x.session₁ → run.report ≡ report_from q r i run.count
   report_taken keep q i run x (Err f) done w = absurd (never_done f done)
-  report_taken keep q i run x (Ok u) done w = taken x.out _ run.report x.out₁ w.0.0.0 x.takes_report
+  report_taken keep q i run x (Ok u) done w = taken x.alone.out _ run.report x.alone.out₁ w.0.0.0 x.alone.takes
 
   last_report : (i : ℕ) (text : List ℕ) (run : Run) → IsNext plan text false run → IsAt p r i (from_text text) → run.report ≡ report_from p r i run.count
   last_report i text run x at =
-      let (q, e, w) = next_left false i text run x x.is_done.planned refl at in
+      let (q, e, w) = next_left false i text run x x.is_done.alone.planned refl at in
       subst (λ t. run.report ≡ report_from t r i run.count) e (report_taken false q i run x.is_done x.is_done.end x.is_done.done w)
 
   -- the place after pages from place i on that were asked for so many routes, and then one more
@@ -170,7 +164,7 @@ module _ (plan : List ℕ) (p : ContactPlan) (r : RouteRequest) (spelled : plan_
 
   all_pages : (first : Run) (runs : List Run) → IsFirst plan r first → AreNext plan first.text runs → ArePages p r 0 0 (first ∷ runs)
   all_pages first runs (x, writes) others =
-      let page = is_page 0 0 first (first_page first x x.planned x.reads writes) in
+      let page = is_page 0 0 first (first_page first x x.alone.planned x.alone.reads writes) in
       (page, (pages_after 0 (0 + first.count) first.text runs page.there others).0)
 
   all_after : (i : ℕ) (text : List ℕ) (runs : List Run) → IsAt p r i (from_text text) → AreNext plan text runs → GoOnFrom plan text p r i runs

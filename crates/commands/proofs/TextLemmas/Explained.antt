@@ -22,8 +22,7 @@ use Rattle.sabr_model.proofs.RouteLemmas.Prefixes.{empty_is_path}
 use Rattle.sabr_model.proofs.RouteLemmas.Faults.{hop_is_good, good_is_path, path_is_good, route_has_no_fault, fault_is_no_route}
 use Rattle.sabr_plan.specs.Times.{last_spelled}
 use Rattle.sabr_session.specs.ReportText.{route_line}
-use Rattle.commands.specs.texts.Explanation.{hop_line, line_after, hop_lines, fault_line, ending_line}
-use Rattle.commands.specs.texts.Followed.{hops_before, Follows}
+use Rattle.commands.specs.texts.Explanation.{hop_line, line_after, hop_lines, fault_line, ending_line, hops_before, Follows}
 use Rattle.commands.proofs.TextLemmas.SpelledTimes.{record_spelled}
 
 -- ---- a list in two parts

@@ -3,16 +3,14 @@ use Rattle.std.proofs.Common.{◌≡◌, ℕ, ◌≤◌, List, length, take, ref
 use Rattle.std.proofs.lemmas.List.{take-append-le}
 use Rattle.sabr_model.specs.Devices.{Input, Gives, HasEnded}
 use Rattle.commands.specs.declared.words.lines_fault.LinesFault.{LinesFault}
-use Rattle.commands.specs.declared.words.lines_fault.LinesFault.TheVariants.{Line, Read, NoMemory}
+use Rattle.commands.specs.declared.words.lines_fault.LinesFault.TheVariants.{Line}
 use Rattle.commands.specs.declared.words.lines.LineForm.{LineForm}
 use Rattle.commands.specs.declared.words.lines_fault.LineKind.{LineKind}
 use Rattle.commands.specs.words.Lines.{Asked, AskedLine, ReadsLines, StopsReading, fault_of, lines_in, most_bytes, put_first, asked_from, asked_by}
 
 -- a reader failed, or memory was refused
 pub not_read : (form : LineForm) (old new : Input) (given : List ℕ) (f : LinesFault) → Gives old given new → StopsReading old f new → ReadsLines form old (Err f) new
-not_read form old new given (Line n kind) gives h = absurd h
-not_read form old new given Read gives h = record { given = given; gives = gives; told = inr (inl (h, refl)) }
-not_read form old new given NoMemory gives h = record { given = given; gives = gives; told = inr (inr (h, inl refl)) }
+not_read form old new given f gives h = record { given = given; gives = gives; told = inl h }
 
 -- the lines that were read are those of the text
 pub lines_read : (form : LineForm) (old new : Input) (given text : List ℕ) → Gives old given new → text ≡ take (most_bytes form) given → new.failures ≡ old.failures
@@ -21,12 +19,12 @@ unfolding asked_by
 lines_read form old new given text gives is fine (inl end) = record {
   given = given;
   gives = gives;
-  told = inl (end, fine, ap (λ t. asked_from form 1 (lines_in t)) (sym is));
+  told = inr (fine, inl (end, ap (λ t. asked_from form 1 (lines_in t)) (sym is)));
 }
 lines_read form old new given text gives is fine (inr long) = record {
   given = given;
   gives = gives;
-  told = inr (inr (fine, inr (λ more. ap (λ t. asked_from form 1 (lines_in t)) (take-append-le (most_bytes form) given more long ∙ sym is))));
+  told = inr (fine, inr (λ more. ap (λ t. asked_from form 1 (lines_in t)) (take-append-le (most_bytes form) given more long ∙ sym is)));
 }
 
 -- the answer that has a fault is that fault

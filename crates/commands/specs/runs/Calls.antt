@@ -1,5 +1,5 @@
 -- What a call of a command leaves: over the files that its words name, the run of their values.
-use Rattle.std.specs.Prelude.{◌≡◌, ℕ, ◌⊎◌, Bool, IsTrue, List, is_some, Result, Ok, Err, if◌then◌else◌}
+use Rattle.std.specs.Prelude.{◌≡◌, ℕ, ◌⊎◌, IsTrue, List, is_some, Result, Ok, Err}
 use Rattle.std.specs.declared.option.Option.{Option}
 use Rattle.std.specs.declared.option.Option.TheVariants.{Some, None}
 use Rattle.clap.specs.Matches.{first_value}
@@ -9,36 +9,53 @@ use Rattle.sabr_model.specs.plan.Plan.{TabledPlan}
 use Rattle.sabr_model.specs.routes.Arrival.{RouteRequest}
 use Rattle.sabr_plan.specs.PlanRead.{ReadsPlan}
 use Rattle.sabr_plan.specs.declared.fault.PlanFault.{PlanFault}
-use Rattle.sabr_frontier.specs.session.Session.{Seen}
-use Rattle.sabr_session.specs.declared.session_fault.SessionFault.{SessionFault}
 use Rattle.commands.specs.declared.command.CommandName.{CommandName}
 use Rattle.commands.specs.declared.command.CommandName.TheVariants as command
 use Rattle.commands.specs.declared.failure.Failure.{Failure}
 use Rattle.commands.specs.declared.failure.Failure.TheVariants as failure
 use Rattle.commands.specs.declared.status.Status.{Status}
+use Rattle.commands.specs.declared.runs.answering.AnswerKind.{AnswerKind}
 use Rattle.commands.specs.declared.runs.answering.AnswerKind.TheVariants.{FirstRoutes, Explanation}
-use Rattle.commands.specs.declared.words.lines.LineForm.TheVariants.{Requests, Lists}
-use Rattle.commands.specs.declared.words.lines_fault.LinesFault.{LinesFault}
 use Rattle.commands.specs.declared.words.value_fault.ValueFault.{ValueFault}
 use Rattle.commands.specs.texts.CheckText.{WritesCheck}
 use Rattle.commands.specs.texts.Explanation.{WritesExplanation}
-use Rattle.commands.specs.texts.Messages.{failure_of_value}
-use Rattle.commands.specs.words.Paths.{path_under, plan_word, session_word, requests_word, lists_word, session_out_word}
-use Rattle.commands.specs.words.Lines.{AskedLine}
-use Rattle.commands.specs.words.Values.{ValuesRead, values_of, has_contacts, has_lists, has_requests, has_session, keeps_session}
+use Rattle.commands.specs.texts.Messages.{failure_of_value, TellsEnd, status_at, status_of_answer}
+use Rattle.commands.specs.words.Values.{ValuesRead, values_of, has_contacts, has_session, path_under, plan_word, session_word, requests_word, lists_word, session_out_word}
 use Rattle.commands.specs.runs.Files.{FileRules, Left, LeavesFile}
-use Rattle.commands.specs.runs.Runs.{TellsEnd, status_at, status_of_answer}
-use Rattle.commands.specs.runs.Many.{ReadsLinesOver, WritesAnswers}
+use Rattle.commands.specs.runs.Many.{ReadsLinesOver, WritesAnswers, form_of}
 use Rattle.commands.specs.runs.SessionRuns.{ReadsOldSession, VerifiesOldSession, WritesAnswer, WritesFirstPage, WritesNextPage, place_of}
 
 -- where the words keep the session after a page, if they do
 abbrev pub kept_path : CommandName → Found → Option (List ℕ)
-kept_path name found = if keeps_session name then first_value found session_out_word else None
+kept_path command.First found = first_value found session_out_word
+kept_path command.Next found = first_value found session_out_word
+kept_path _ found = None
 
 -- the session's writer is that of the file made at its path, if there is one
 abbrev pub IsMadeWhereKept : FileRules → Option (List ℕ) → Output → Type 0
 IsMadeWhereKept rules None session = Unit {0}
 IsMadeWhereKept rules (Some path) session = rules.made path session
+
+-- a run over the plan that the words name: what it reads and writes over it, and how it ends
+pub record RunsOver {A : Type 0} (rules : FileRules) (found : Found) (status : Result A Failure → Status) (Does : Result TabledPlan PlanFault → Result A Failure → Type 0) (err err₁ : Output) (ended : Status) : Type 0 where
+  pub plan : Input
+  pub plan₁ : Input
+  pub planned : Result TabledPlan PlanFault
+  pub end : Result A Failure
+  pub opens : rules.opened (path_under found plan_word) plan
+  pub reads : ReadsPlan plan planned plan₁
+  pub does : Does planned end
+  pub tells : TellsEnd end err err₁
+  pub ends : ended ≡ status end
+
+-- what it does if it reads another file of the words: what is read there, and what it writes over that
+pub record ReadsToo {T : Type 0} (rules : FileRules) (found : Found) (word : List ℕ) (Reads : Input → T → Input → Type 0) (Writes : T → Type 0) : Type 0 where
+  pub file : Input
+  pub file₁ : Input
+  pub answer : T
+  pub opens : rules.opened (path_under found word) file
+  pub reads : Reads file answer file₁
+  pub writes : Writes answer
 
 -- a first run
 pub record RunsFirst (rules : FileRules) (found : Found) (left left₁ : Left) (out out₁ err err₁ : Output) (ended : Status) : Type 0 where
@@ -48,19 +65,11 @@ pub record RunsFirst (rules : FileRules) (found : Found) (left left₁ : Left) (
   pub given : values_of command.First found ≡ Ok values
   pub asked : values.request ≡ Some request
   pub counted : values.count ≡ Some count
-  pub plan : Input
-  pub plan₁ : Input
   pub session : Output
   pub session₁ : Output
-  pub planned : Result TabledPlan PlanFault
-  pub end : Result (Unit {0}) Failure
-  pub opens : rules.opened (path_under found plan_word) plan
   pub makes : IsMadeWhereKept rules (kept_path command.First found) session
-  pub reads : ReadsPlan plan planned plan₁
-  pub writes : WritesFirstPage planned request (is_some (kept_path command.First found)) count end out out₁ session session₁
+  pub runs : RunsOver rules found status_at (λ planned end. WritesFirstPage planned request (is_some (kept_path command.First found)) count end out out₁ session session₁) err err₁ ended
   pub leaves : LeavesFile rules (kept_path command.First found) ended session₁ left left₁
-  pub tells : TellsEnd end err err₁
-  pub ends : ended ≡ status_at end
 
 -- a next run
 pub record RunsNext (rules : FileRules) (found : Found) (left left₁ : Left) (out out₁ err err₁ : Output) (ended : Status) : Type 0 where
@@ -68,53 +77,21 @@ pub record RunsNext (rules : FileRules) (found : Found) (left left₁ : Left) (o
   pub count : ℕ
   pub given : values_of command.Next found ≡ Ok values
   pub counted : values.count ≡ Some count
-  pub plan : Input
-  pub plan₁ : Input
-  pub old : Input
-  pub old₁ : Input
   pub session : Output
   pub session₁ : Output
-  pub planned : Result TabledPlan PlanFault
-  pub resumed : Result Seen SessionFault
-  pub end : Result (Unit {0}) Failure
-  pub opens : rules.opened (path_under found plan_word) plan
-  pub opens_old : rules.opened (path_under found session_word) old
   pub makes : IsMadeWhereKept rules (kept_path command.Next found) session
-  pub reads : ReadsPlan plan planned plan₁
-  pub reads_old : ReadsOldSession planned old resumed old₁
-  pub writes : WritesNextPage planned (place_of resumed) (is_some (kept_path command.Next found)) count end out out₁ session session₁
+  pub runs : RunsOver rules found status_at (λ planned end. ReadsToo rules found session_word (ReadsOldSession planned) (λ resumed.
+      WritesNextPage planned (place_of resumed) (is_some (kept_path command.Next found)) count end out out₁ session session₁)) err err₁ ended
   pub leaves : LeavesFile rules (kept_path command.Next found) ended session₁ left left₁
-  pub tells : TellsEnd end err err₁
-  pub ends : ended ≡ status_at end
 
 -- a run that verifies a session
-pub record RunsVerify (rules : FileRules) (found : Found) (out out₁ err err₁ : Output) (ended : Status) : Type 0 where
-  pub plan : Input
-  pub plan₁ : Input
-  pub old : Input
-  pub old₁ : Input
-  pub planned : Result TabledPlan PlanFault
-  pub verified : Result Bool SessionFault
-  pub end : Result Bool Failure
-  pub opens : rules.opened (path_under found plan_word) plan
-  pub opens_old : rules.opened (path_under found session_word) old
-  pub reads : ReadsPlan plan planned plan₁
-  pub verifies : VerifiesOldSession planned old verified old₁
-  pub writes : WritesAnswer planned verified end out out₁
-  pub tells : TellsEnd end err err₁
-  pub ends : ended ≡ status_of_answer end
+abbrev pub RunsVerify : FileRules → Found → Output → Output → Output → Output → Status → Type 0
+RunsVerify rules found out out₁ err err₁ ended =
+    RunsOver rules found status_of_answer (λ planned end. ReadsToo rules found session_word (VerifiesOldSession planned) (λ verified. WritesAnswer planned verified end out out₁)) err err₁ ended
 
 -- a run that checks a plan
-pub record RunsCheck (rules : FileRules) (found : Found) (out out₁ err err₁ : Output) (ended : Status) : Type 0 where
-  pub plan : Input
-  pub plan₁ : Input
-  pub planned : Result TabledPlan PlanFault
-  pub end : Result (Unit {0}) Failure
-  pub opens : rules.opened (path_under found plan_word) plan
-  pub reads : ReadsPlan plan planned plan₁
-  pub writes : WritesCheck planned end out out₁
-  pub tells : TellsEnd end err err₁
-  pub ends : ended ≡ status_at end
+abbrev pub RunsCheck : FileRules → Found → Output → Output → Output → Output → Status → Type 0
+RunsCheck rules found out out₁ err err₁ ended = RunsOver rules found status_at (λ planned end. WritesCheck planned end out out₁) err err₁ ended
 
 -- a run that explains contacts
 pub record RunsExplain (rules : FileRules) (found : Found) (out out₁ err err₁ : Output) (ended : Status) : Type 0 where
@@ -122,15 +99,12 @@ pub record RunsExplain (rules : FileRules) (found : Found) (out out₁ err err�
   pub request : RouteRequest
   pub given : values_of command.Explain found ≡ Ok values
   pub asked : values.request ≡ Some request
-  pub plan : Input
-  pub plan₁ : Input
-  pub planned : Result TabledPlan PlanFault
-  pub end : Result Bool Failure
-  pub opens : rules.opened (path_under found plan_word) plan
-  pub reads : ReadsPlan plan planned plan₁
-  pub writes : WritesExplanation planned request values.contacts end out out₁
-  pub tells : TellsEnd end err err₁
-  pub ends : ended ≡ status_of_answer end
+  pub runs : RunsOver rules found status_of_answer (λ planned end. WritesExplanation planned request values.contacts end out out₁) err err₁ ended
+
+-- a run over the lines of the file that a word names, which are answered so
+abbrev pub RunsLines : List ℕ → AnswerKind → FileRules → Found → Output → Output → Output → Output → Status → Type 0
+RunsLines word kind rules found out out₁ err err₁ ended =
+    RunsOver rules found status_at (λ planned end. ReadsToo rules found word (ReadsLinesOver (form_of kind) planned) (λ requested. WritesAnswers planned requested kind end out out₁)) err err₁ ended
 
 -- a run that answers many requests
 pub record RunsMany (rules : FileRules) (found : Found) (out out₁ err err₁ : Output) (ended : Status) : Type 0 where
@@ -138,37 +112,11 @@ pub record RunsMany (rules : FileRules) (found : Found) (out out₁ err err₁ :
   pub count : ℕ
   pub given : values_of command.Many found ≡ Ok values
   pub counted : values.count ≡ Some count
-  pub plan : Input
-  pub plan₁ : Input
-  pub asked : Input
-  pub asked₁ : Input
-  pub planned : Result TabledPlan PlanFault
-  pub requested : Result (List AskedLine) LinesFault
-  pub end : Result (Unit {0}) Failure
-  pub opens : rules.opened (path_under found plan_word) plan
-  pub opens_requests : rules.opened (path_under found requests_word) asked
-  pub reads : ReadsPlan plan planned plan₁
-  pub reads_requests : ReadsLinesOver Requests planned asked requested asked₁
-  pub writes : WritesAnswers planned requested (FirstRoutes count) end out out₁
-  pub tells : TellsEnd end err err₁
-  pub ends : ended ≡ status_at end
+  pub runs : RunsLines requests_word (FirstRoutes count) rules found out out₁ err err₁ ended
 
 -- a run that explains many lists
-pub record RunsFollow (rules : FileRules) (found : Found) (out out₁ err err₁ : Output) (ended : Status) : Type 0 where
-  pub plan : Input
-  pub plan₁ : Input
-  pub asked : Input
-  pub asked₁ : Input
-  pub planned : Result TabledPlan PlanFault
-  pub requested : Result (List AskedLine) LinesFault
-  pub end : Result (Unit {0}) Failure
-  pub opens : rules.opened (path_under found plan_word) plan
-  pub opens_lists : rules.opened (path_under found lists_word) asked
-  pub reads : ReadsPlan plan planned plan₁
-  pub reads_lists : ReadsLinesOver Lists planned asked requested asked₁
-  pub writes : WritesAnswers planned requested Explanation end out out₁
-  pub tells : TellsEnd end err err₁
-  pub ends : ended ≡ status_at end
+abbrev pub RunsFollow : FileRules → Found → Output → Output → Output → Output → Status → Type 0
+RunsFollow rules found out out₁ err err₁ ended = RunsLines lists_word Explanation rules found out out₁ err err₁ ended
 
 -- the run of a command, and what is left after it: if it keeps no session, no file is made or removed
 abbrev pub RunsCommand : CommandName → FileRules → Found → Left → Left → Output → Output → Output → Output → Status → Type 0
@@ -193,21 +141,15 @@ IsUnopened rules found word = rules.unopened (path_under found word)
 abbrev pub FailsAtFile : FileRules → CommandName → Found → Failure → Type 0
 FailsAtFile rules name found failure.CannotOpenPlan = IsUnopened rules found plan_word
 FailsAtFile rules name found failure.CannotOpenSession = IsTrue (has_session name) × Opens rules found plan_word × IsUnopened rules found session_word
-FailsAtFile rules name found failure.CannotOpenRequests = IsTrue (has_requests name) × Opens rules found plan_word × IsUnopened rules found requests_word
-FailsAtFile rules name found failure.CannotOpenLists = IsTrue (has_lists name) × Opens rules found plan_word × IsUnopened rules found lists_word
+FailsAtFile rules name found failure.CannotOpenRequests = (name ≡ command.Many) × Opens rules found plan_word × IsUnopened rules found requests_word
+FailsAtFile rules name found failure.CannotOpenLists = (name ≡ command.Follow) × Opens rules found plan_word × IsUnopened rules found lists_word
 FailsAtFile rules name found failure.CannotMakeSession =
     (path : List ℕ) × (kept_path name found ≡ Some path) × Opens rules found plan_word × (IsTrue (has_session name) → Opens rules found session_word) × rules.unmade path
 FailsAtFile rules name found _ = ⊥
 
--- the values of a command's words are refused
-abbrev pub RefusesValues : CommandName → Found → Failure → Type 0
-RefusesValues name found f = (fault : ValueFault) × (values_of name found ≡ Err fault) × (f ≡ failure_of_value fault)
-
--- they aren't, and a file is
-abbrev pub RefusesFile : FileRules → CommandName → Found → Failure → Type 0
-RefusesFile rules name found f = (values : ValuesRead) × (values_of name found ≡ Ok values) × FailsAtFile rules name found f
-
 -- why a command ends before its run: its values are refused, memory for its contacts is, or one of its files is
 abbrev pub StopsBefore : FileRules → CommandName → Found → Failure → Type 0
 StopsBefore rules name found f =
-    RefusesValues name found f ⊎ (((f ≡ failure.NoMemory) × IsTrue (has_contacts name)) ⊎ RefusesFile rules name found f)
+    ((fault : ValueFault) × (values_of name found ≡ Err fault) × (f ≡ failure_of_value fault))
+    ⊎ (((f ≡ failure.NoMemory) × IsTrue (has_contacts name))
+    ⊎ ((values : ValuesRead) × (values_of name found ≡ Ok values) × FailsAtFile rules name found f))

@@ -15,10 +15,9 @@ use Rattle.commands.specs.declared.command.CommandName.{CommandName}
 use Rattle.commands.specs.declared.command.CommandName.TheVariants as command
 use Rattle.commands.specs.declared.status.Status.TheVariants as status
 use Rattle.commands.specs.words.CommandLine.{given_by}
-use Rattle.commands.specs.words.Paths.{path_under, plan_word, session_word, session_out_word}
-use Rattle.commands.specs.words.Values.{values_of}
+use Rattle.commands.specs.words.Values.{values_of, path_under, plan_word, session_word, session_out_word}
 use Rattle.commands.specs.runs.Files.{FileRules, Left}
-use Rattle.commands.specs.runs.NextPage.{place_after, report_from}
+use Rattle.commands.specs.runs.SessionRuns.{place_after, report_from}
 use Rattle.commands.specs.runs.Program.{EndsWords, named_in, rows_in}
 
 -- the text of the file at each path, if there is one

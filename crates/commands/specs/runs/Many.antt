@@ -18,7 +18,7 @@ use Rattle.commands.specs.declared.runs.answering.AnswerKind.TheVariants.{FirstR
 use Rattle.commands.specs.texts.Messages.{failure_of_plan, failure_of_lines}
 use Rattle.commands.specs.texts.Explanation.{explanation_text}
 use Rattle.commands.specs.words.Lines.{AskedLine, ReadsLines}
-use Rattle.commands.specs.runs.Runs.{first_report}
+use Rattle.commands.specs.runs.SessionRuns.{report_from}
 
 -- the form of the lines that are answered so: the first routes of requests, and the explanations of lists
 abbrev pub form_of : AnswerKind → LineForm
@@ -41,7 +41,7 @@ heading kind line = concat (word_of kind ∷ line ∷ codes "\n" ∷ [])
 
 -- what is written of a line after that: the report of the first page of its request, or the explanation of its contacts
 abbrev pub body_text : ContactPlan → AnswerKind → AskedLine → List ℕ
-body_text p (FirstRoutes count) x = first_report p x.asked.request count
+body_text p (FirstRoutes count) x = report_from p x.asked.request 0 count
 body_text p Explanation x = explanation_text p x.asked.request x.asked.contacts
 
 -- the answer to a line
@@ -52,7 +52,7 @@ answer_text p kind x = heading kind x.line ++ body_text p kind x
 pub record IsFirstPage (p : TabledPlan) (r : RouteRequest) (count : ℕ) (l : LastSeen) : Type 0 where
   pub plan : l.plan ≡ p
   pub times : All HasSpelledTimes l.routes
-  pub report : report_text l.routes 1 l.more ≡ first_report p.plan r count
+  pub report : report_text l.routes 1 l.more ≡ report_from p.plan r 0 count
 
 -- the answers to lines, one after the other
 abbrev pub answers_text : ContactPlan → List AskedLine → AnswerKind → List ℕ

@@ -1,54 +1,34 @@
 -- Many lines answered in one run, beside a run of its own for each of them.
 use Rattle.std.specs.Prelude.{◌≡◌, ℕ, Bool, true, List, [], ◌∷◌, ◌++◌, Result, Ok}
-use Rattle.sabr_model.specs.Devices.{Input, Output, IsTextOf, TakesAll}
-use Rattle.sabr_model.specs.plan.Plan.{ContactPlan, TabledPlan}
+use Rattle.sabr_model.specs.Devices.{Input, Output, IsTextOf}
+use Rattle.sabr_model.specs.plan.Plan.{ContactPlan}
 use Rattle.sabr_model.specs.routes.Arrival.{RouteRequest}
 use Rattle.sabr_plan.specs.Reading.{plan_of}
-use Rattle.sabr_plan.specs.PlanRead.{ReadsPlan}
-use Rattle.sabr_plan.specs.declared.fault.PlanFault.{PlanFault}
 use Rattle.commands.specs.declared.failure.Failure.{Failure}
 use Rattle.commands.specs.declared.runs.answering.AnswerKind.{AnswerKind}
 use Rattle.commands.specs.declared.runs.answering.AnswerKind.TheVariants.{FirstRoutes, Explanation}
 use Rattle.commands.specs.declared.status.Status.TheVariants as status
 use Rattle.commands.specs.declared.words.lines_fault.LinesFault.{LinesFault}
 use Rattle.commands.specs.texts.Explanation.{WritesExplanation}
+use Rattle.commands.specs.texts.Messages.{status_at}
 use Rattle.commands.specs.words.Lines.{AskedLine, asked_by}
-use Rattle.commands.specs.runs.Runs.{status_at}
 use Rattle.commands.specs.runs.Many.{ReadsLinesOver, WritesAnswers, form_of, heading}
 use Rattle.commands.specs.runs.SessionRuns.{WritesFirstPage}
+use Rattle.commands.specs.runs.RunsInTurn.{IsAlone}
 
--- the run over readers of these texts, of a plan and of lines, where it did what was asked of it, and its writer took
--- these bytes
+-- a run that is over a reader of this text of lines, too, did what was asked of it, and wrote these bytes
 pub record IsMany (plan text : List ℕ) (kind : AnswerKind) (bytes : List ℕ) : Type 0 where
-  pub reader : Input
-  pub planned : Result TabledPlan PlanFault
-  pub reader₁ : Input
-  pub has : IsTextOf reader plan reader₁
-  pub reads : ReadsPlan reader planned reader₁
+  pub alone : IsAlone plan bytes
   pub asked : Input
   pub requested : Result (List AskedLine) LinesFault
   pub asked₁ : Input
   pub asks : IsTextOf asked text asked₁
-  pub reads_asked : ReadsLinesOver (form_of kind) planned asked requested asked₁
+  pub reads_asked : ReadsLinesOver (form_of kind) alone.planned asked requested asked₁
   pub end : Result (Unit {0}) Failure
   pub done : status_at end ≡ status.Done
-  pub out : Output
-  pub out₁ : Output
-  pub takes : TakesAll out bytes out₁
-  pub writes : WritesAnswers planned requested kind end out out₁
+  pub writes : WritesAnswers alone.planned requested kind end alone.out alone.out₁
 
--- a run over a reader of this plan text, of which the writer took this report and nothing else
-pub record IsAlone (plan report : List ℕ) : Type 0 where
-  pub reader : Input
-  pub planned : Result TabledPlan PlanFault
-  pub reader₁ : Input
-  pub has : IsTextOf reader plan reader₁
-  pub reads : ReadsPlan reader planned reader₁
-  pub out : Output
-  pub out₁ : Output
-  pub takes : TakesAll out report out₁
-
--- it is a first run for this request, with this count, that ends with status 0; it keeps its session or not
+-- a run is a first one for this request, with this count, that ends with status 0; it keeps its session or not
 pub record IsFirstReport (plan : List ℕ) (r : RouteRequest) (count : ℕ) (report : List ℕ) : Type 0 where
   pub alone : IsAlone plan report
   pub keep : Bool

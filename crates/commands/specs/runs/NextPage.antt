@@ -1,29 +1,17 @@
 -- What a run `next` leaves over the session text of a place of the listing.
-use Rattle.std.specs.Prelude.{◌≡◌, ℕ, ◌+◌, nat_lt, Bool, IsTrue, ◌⊎◌, List, length, map, Result, Ok, Err, IfOk}
+use Rattle.std.specs.Prelude.{◌≡◌, ℕ, ◌+◌, Bool, IsTrue, ◌⊎◌, List, Result, Ok, Err, IfOk}
 use Rattle.sabr_model.specs.Devices.{Input, Output, IsTextOf}
 use Rattle.sabr_model.specs.plan.Plan.{ContactPlan, TabledPlan, IsPlan}
 use Rattle.sabr_model.specs.routes.Arrival.{RouteRequest}
-use Rattle.sabr_model.specs.routes.Listing.{routes, page_of}
-use Rattle.sabr_model.specs.routes.Record.{record_of}
 use Rattle.sabr_frontier.specs.session.Session.{Seen}
 use Rattle.sabr_frontier.specs.listing.Listing.{state_at}
-use Rattle.sabr_session.specs.ReportText.{report_text}
 use Rattle.sabr_session.specs.SessionText.{session_text}
 use Rattle.sabr_session.specs.Verifying.{IsSessionText}
 use Rattle.sabr_session.specs.declared.session_fault.SessionFault.{SessionFault}
 use Rattle.commands.specs.declared.failure.Failure.{Failure}
 use Rattle.commands.specs.declared.failure.Failure.TheVariants as failure
 use Rattle.commands.specs.runs.EveryRun.{IsAt, from_text}
-use Rattle.commands.specs.runs.SessionRuns.{ReadsOldSession, WritesNextPage, WritesPage, place_of}
-
--- the place after the page of that many routes from place i on
-abbrev pub place_after : ContactPlan → RouteRequest → ℕ → ℕ → ℕ
-place_after p r i count = i + length (page_of p r i count)
-
--- the report of the page from place i on: ranked from i + 1, and whether the listing goes on after it
-abbrev pub report_from : ContactPlan → RouteRequest → ℕ → ℕ → List ℕ
-report_from p r i count =
-    report_text (map (record_of p r) (page_of p r i count)) (i + 1) (nat_lt (place_after p r i count) (length (routes p r)))
+use Rattle.commands.specs.runs.SessionRuns.{ReadsOldSession, WritesNextPage, WritesPage, place_after, place_of, report_from}
 
 -- if a run ended well and kept its session, that is the text of place i, from which a run can go on
 abbrev pub KeepsPlace : Bool → ContactPlan → RouteRequest → ℕ → Result (Unit {0}) Failure → Type 0

@@ -4,8 +4,6 @@ use Rattle.std.specs.declared.option.Option.{Option}
 use Rattle.std.specs.declared.option.Option.TheVariants.{Some}
 use Rattle.clap.specs.Faults.{fault_of}
 use Rattle.clap.specs.Walk.{Row, rows_of}
-use Rattle.clap.specs.declared.error.kind.ErrorKind.{ErrorKind}
-use Rattle.clap.specs.declared.error.kind.ErrorKind.TheVariants as kind
 use Rattle.clap.specs.declared.parser.matches.Found.{Found}
 use Rattle.sabr_model.specs.Devices.{Output}
 use Rattle.commands.specs.declared.command.CommandName.{CommandName}
@@ -40,43 +38,23 @@ pub record EndsBefore (rules : FileRules) (name : CommandName) (found : Found) (
   pub tells : TellsText err (message_text why) err₁
   pub ends : ended ≡ status_of why
 
--- a command was run, or it ended before its run
-abbrev pub EndsCommand : FileRules → CommandName → Found → Left → Left → Output → Output → Output → Output → Status → Type 0
-EndsCommand rules name found left left₁ out out₁ err err₁ ended =
-    RunsCommand name rules found left left₁ out out₁ err err₁ ended ⊎ EndsBefore rules name found left left₁ out out₁ err err₁ ended
-
--- the command that was named ended, over what was given to it
+-- the command that was named was run over what was given to it, or it ended before its run
 pub record EndsNamed (rules : FileRules) (given : Given) (left left₁ : Left) (out out₁ err err₁ : Output) (ended : Status) : Type 0 where
   pub name : CommandName
   pub found : Found
   pub named : named_in given ≡ Some name
   pub rows : rows_in given ≡ Some (rows_of found)
-  pub does : EndsCommand rules name found left left₁ out out₁ err err₁ ended
+  pub does : RunsCommand name rules found left left₁ out out₁ err err₁ ended ⊎ EndsBefore rules name found left left₁ out out₁ err err₁ ended
 
--- a text is told and the status is Usage, or memory was refused
-abbrev pub TellsRefusal : ErrorKind → Output → Output → Status → Type 0
-TellsRefusal why err err₁ ended =
-    ((text : List ℕ) × (why ≢ kind.OutOfMemory) × TellsText err text err₁ × (ended ≡ status.Usage))
+-- the words were refused: for this reason, and then a text is told and the status is Usage; or memory was
+abbrev pub TellsRefusal : Type 0 → Output → Output → Status → Type 0
+TellsRefusal Why err err₁ ended =
+    ((text : List ℕ) × Why × TellsText err text err₁ × (ended ≡ status.Usage))
     ⊎ (TellsText err (message_text failure.NoMemory) err₁ × (ended ≡ status.Memory))
 
--- the words have a fault or ask for help, and clap's own account names the kinds; or memory for them was refused
-abbrev pub RefusesWords : List (List ℕ) → Output → Output → Status → Type 0
-RefusesWords words err err₁ ended =
-    ((text : List ℕ) × (fault_of program_app words ≢ []) × TellsText err text err₁ × (ended ≡ status.Usage))
-    ⊎ (TellsText err (message_text failure.NoMemory) err₁ × (ended ≡ status.Memory))
-
--- no command was begun
-pub record EndsUnread (words : List (List ℕ)) (left left₁ : Left) (out out₁ err err₁ : Output) (ended : Status) : Type 0 where
-  pub refuses : RefusesWords words err err₁ ended
-  pub writes_nothing : out₁ ≡ out
-  pub makes_nothing : left₁ ≡ left
-
--- the words have no fault and don't ask for help, and the command that they name ended
-pub record EndsRead (rules : FileRules) (words : List (List ℕ)) (left left₁ : Left) (out out₁ err err₁ : Output) (ended : Status) : Type 0 where
-  pub good : fault_of program_app words ≡ []
-  pub does : EndsNamed rules (given_by words) left left₁ out out₁ err err₁ ended
-
--- what the program leaves over these words
+-- what the program leaves over these words: if they have a fault or ask for help, and clap's own account names the
+-- kinds, or if memory for them was refused, no command is begun; else the command that they name ended
 abbrev pub EndsWords : FileRules → List (List ℕ) → Left → Left → Output → Output → Output → Output → Status → Type 0
 EndsWords rules words left left₁ out out₁ err err₁ ended =
-    EndsUnread words left left₁ out out₁ err err₁ ended ⊎ EndsRead rules words left left₁ out out₁ err err₁ ended
+    (TellsRefusal (fault_of program_app words ≢ []) err err₁ ended × (out₁ ≡ out) × (left₁ ≡ left))
+    ⊎ ((fault_of program_app words ≡ []) × EndsNamed rules (given_by words) left left₁ out out₁ err err₁ ended)

@@ -1,9 +1,11 @@
--- Runs of the program in turn: a first run, and then next runs, each over the session text that the one before wrote.
-use Rattle.std.specs.Prelude.{◌≡◌, ℕ, ◌+◌, Bool, true, List, [], ◌∷◌, Result, Ok}
+-- Runs of the program in turn: a first run, and then next runs, each over the session text that the one before wrote;
+-- and next runs from any session text of a place, at last one that keeps no session.
+use Rattle.std.specs.Prelude.{◌≡◌, ℕ, ◌+◌, Bool, true, false, List, [], ◌∷◌, ◌++◌, Result, Ok}
 use Rattle.sabr_model.specs.Devices.{Input, Output, IsTextOf, TakesAll}
 use Rattle.sabr_model.specs.plan.Plan.{ContactPlan, TabledPlan}
 use Rattle.sabr_model.specs.routes.Arrival.{RouteRequest}
 use Rattle.sabr_model.specs.routes.Asking.{IsRequest}
+use Rattle.sabr_model.specs.routes.Listing.{page_of}
 use Rattle.sabr_plan.specs.Reading.{plan_of}
 use Rattle.sabr_plan.specs.PlanRead.{ReadsPlan}
 use Rattle.sabr_plan.specs.declared.fault.PlanFault.{PlanFault}
@@ -12,10 +14,9 @@ use Rattle.sabr_session.specs.SessionText.{session_text}
 use Rattle.sabr_session.specs.declared.session_fault.SessionFault.{SessionFault}
 use Rattle.commands.specs.declared.failure.Failure.{Failure}
 use Rattle.commands.specs.declared.status.Status.TheVariants as status
-use Rattle.commands.specs.runs.Runs.{status_at}
-use Rattle.commands.specs.runs.SessionRuns.{ReadsOldSession, WritesFirstPage, WritesNextPage, place_of}
+use Rattle.commands.specs.texts.Messages.{status_at}
+use Rattle.commands.specs.runs.SessionRuns.{ReadsOldSession, WritesFirstPage, WritesNextPage, place_after, place_of, report_from}
 use Rattle.commands.specs.runs.EveryRun.{IsAt, from_text}
-use Rattle.commands.specs.runs.NextPage.{place_after, report_from}
 
 -- a run: how many routes it is asked for, and the texts that its writers take
 pub record Run : Type 0 where
@@ -23,25 +24,29 @@ pub record Run : Type 0 where
   pub report : List ℕ
   pub text : List ℕ
 
--- the run over a reader of this plan text and over two writers, where it did what was asked of it
-pub record IsDone (plan : List ℕ) (run : Run) : Type 0 where
+-- a run over a reader of this plan text, of which a writer took this report and nothing else
+pub record IsAlone (plan report : List ℕ) : Type 0 where
   pub reader : Input
   pub planned : Result TabledPlan PlanFault
   pub reader₁ : Input
   pub has : IsTextOf reader plan reader₁
   pub reads : ReadsPlan reader planned reader₁
-  pub end : Result (Unit {0}) Failure
-  pub done : status_at end ≡ status.Done
   pub out : Output
   pub out₁ : Output
-  pub takes_report : TakesAll out run.report out₁
+  pub takes : TakesAll out report out₁
+
+-- it did what was asked of it, and the session's writer took the run's text
+pub record IsDone (plan : List ℕ) (run : Run) : Type 0 where
+  pub alone : IsAlone plan run.report
+  pub end : Result (Unit {0}) Failure
+  pub done : status_at end ≡ status.Done
   pub session : Output
   pub session₁ : Output
   pub takes_text : TakesAll session run.text session₁
 
 -- it is a first run for this request that keeps its session
 abbrev pub IsFirst : List ℕ → RouteRequest → Run → Type 0
-IsFirst plan r run = (x : IsDone plan run) × WritesFirstPage x.planned r true run.count x.end x.out x.out₁ x.session x.session₁
+IsFirst plan r run = (x : IsDone plan run) × WritesFirstPage x.alone.planned r true run.count x.end x.alone.out x.alone.out₁ x.session x.session₁
 
 -- it is a next run over a reader of this session text, which keeps its session or not
 pub record IsNext (plan text : List ℕ) (keep : Bool) (run : Run) : Type 0 where
@@ -50,8 +55,8 @@ pub record IsNext (plan text : List ℕ) (keep : Bool) (run : Run) : Type 0 wher
   pub resumed : Result Seen SessionFault
   pub reader₁ : Input
   pub has : IsTextOf reader text reader₁
-  pub reads : ReadsOldSession is_done.planned reader resumed reader₁
-  pub writes : WritesNextPage is_done.planned (place_of resumed) keep run.count is_done.end is_done.out is_done.out₁ is_done.session is_done.session₁
+  pub reads : ReadsOldSession is_done.alone.planned reader resumed reader₁
+  pub writes : WritesNextPage is_done.alone.planned (place_of resumed) keep run.count is_done.end is_done.alone.out is_done.alone.out₁ is_done.session is_done.session₁
 
 -- next runs that keep their sessions, the first over this session text, and each other one over that of the run before
 abbrev pub AreNext : List ℕ → List ℕ → List Run → Type 0
@@ -75,3 +80,32 @@ abbrev pub RunsInTurn : Type 0
 RunsInTurn =
     (plan : List ℕ) (p : ContactPlan) (r : RouteRequest) (first : Run) (runs : List Run) → plan_of plan true ≡ Ok p → IsRequest r
     → IsFirst plan r first → AreNext plan first.text runs → ArePages p r 0 0 (first ∷ runs)
+
+-- how many routes the runs were asked for together
+abbrev pub asked_of : List Run → ℕ
+asked_of [] = 0
+asked_of (run ∷ runs) = run.count + asked_of runs
+
+-- the session text that the last of them wrote
+abbrev pub text_left : List ℕ → List Run → List ℕ
+text_left text [] = text
+text_left text (run ∷ runs) = text_left run.text runs
+
+-- the pages of the runs, joined, after pages from place i on that were asked for that many routes
+abbrev pub pages_given : ContactPlan → RouteRequest → ℕ → ℕ → List Run → List (List ℕ)
+pages_given p r i asked [] = []
+pages_given p r i asked (run ∷ runs) = page_of p r (place_after p r i asked) run.count ++ pages_given p r i (asked + run.count) runs
+
+-- the runs report page by page; these pages joined are the next routes of the listing; the text left is that of the
+-- place after them; and a run over it that keeps no session reports the page from there
+pub record GoOnFrom (plan text : List ℕ) (p : ContactPlan) (r : RouteRequest) (i : ℕ) (runs : List Run) : Type 0 where
+  pub each : ArePages p r i 0 runs
+  pub joined : pages_given p r i 0 runs ≡ page_of p r i (asked_of runs)
+  pub left : IsAt p r (place_after p r i (asked_of runs)) (from_text (text_left text runs))
+  pub last : (run : Run) → IsNext plan (text_left text runs) false run → run.report ≡ report_from p r (place_after p r i (asked_of runs)) run.count
+
+-- over the text of a plan, from any text that verifying accepts
+abbrev pub RunsGoOn : Type 0
+RunsGoOn =
+    (plan text : List ℕ) (p : ContactPlan) (r : RouteRequest) (i : ℕ) (runs : List Run) → plan_of plan true ≡ Ok p
+    → IsAt p r i (from_text text) → AreNext plan text runs → GoOnFrom plan text p r i runs

@@ -1,8 +1,8 @@
 -- What a run leaves on its writers that keeps a session, goes on from one, or verifies one.
-use Rattle.std.specs.Prelude.{◌≡◌, ℕ, ◌+◌, ◌⊎◌, Bool, true, false, is_some, IsTrue, List, Result, Ok, Err, map, length, codes, if◌then◌else◌}
+use Rattle.std.specs.Prelude.{◌≡◌, ℕ, ◌+◌, ◌⊎◌, nat_lt, Bool, true, false, is_some, IsTrue, List, Result, Ok, Err, map, length, codes, if◌then◌else◌}
 use Rattle.sabr_model.specs.plan.Plan.{ContactPlan, TabledPlan}
 use Rattle.sabr_model.specs.routes.Arrival.{RouteRequest}
-use Rattle.sabr_model.specs.routes.Listing.{page_of}
+use Rattle.sabr_model.specs.routes.Listing.{routes, page_of}
 use Rattle.sabr_model.specs.routes.Record.{record_of}
 use Rattle.sabr_model.specs.Devices.{Input, Output, WrittenAndFlushed, WrittenInPart}
 use Rattle.sabr_plan.specs.declared.fault.PlanFault.{PlanFault}
@@ -18,7 +18,15 @@ use Rattle.sabr_session.specs.declared.session_fault.SessionFault.{SessionFault}
 use Rattle.commands.specs.declared.failure.Failure.{Failure}
 use Rattle.commands.specs.declared.failure.Failure.TheVariants as failure
 use Rattle.commands.specs.texts.Messages.{failure_of_plan, failure_of_session}
-use Rattle.commands.specs.runs.Runs.{first_report}
+
+-- the place after the page of that many routes from place i on
+abbrev pub place_after : ContactPlan → RouteRequest → ℕ → ℕ → ℕ
+place_after p r i count = i + length (page_of p r i count)
+
+-- the report of the page from place i on: ranked from i + 1, and whether the listing goes on after it
+abbrev pub report_from : ContactPlan → RouteRequest → ℕ → ℕ → List ℕ
+report_from p r i count =
+    report_text (map (record_of p r) (page_of p r i count)) (i + 1) (nat_lt (place_after p r i count) (length (routes p r)))
 
 -- the report of a page that begins after that many routes, and whether a route is left after it
 abbrev pub report_after : ContactPlan → RouteRequest → ℕ → List (List ℕ) × State → List ℕ
@@ -57,7 +65,7 @@ abbrev pub WritesFirstPage : Result TabledPlan PlanFault → RouteRequest → Bo
 WritesFirstPage (Err fault) r keep count end old new old₁ new₁ =
     (end ≡ Err (failure_of_plan fault)) × (new ≡ old) × (new₁ ≡ old₁)
 WritesFirstPage (Ok p) r keep count end old new old₁ new₁ =
-    WritesPage keep p.plan (first_report p.plan r count) (r, state_at p.plan r (length (page_of p.plan r 0 count))) end old new old₁ new₁
+    WritesPage keep p.plan (report_from p.plan r 0 count) (r, state_at p.plan r (place_after p.plan r 0 count)) end old new old₁ new₁
 
 -- the request and the state of an old session
 abbrev pub place_of : Result Seen SessionFault → Result (RouteRequest × State) SessionFault

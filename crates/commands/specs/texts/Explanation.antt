@@ -1,12 +1,12 @@
--- The explanation of a list of contacts: its hops up to the first fault, and how it ends.
-use Rattle.std.specs.Prelude.{◌≡◌, ℕ, ◌+◌, max, Bool, is_none, List, [], ◌∷◌, ◌++◌, length, decimal, codes, Result, Ok, Err, if◌then◌else◌}
+-- The explanation of a list of contacts: its hops up to the first fault, and how it ends; and what following answers.
+use Rattle.std.specs.Prelude.{◌≡◌, ℕ, ◌+◌, ◌-◌, max, Bool, IsTrue, is_none, Some, List, [], ◌∷◌, ◌++◌, length, decimal, codes, Result, Ok, Err, if◌then◌else◌}
 use Rattle.std.specs.List.{concat}
 use Rattle.std.specs.Option.{option_map_or}
 use Rattle.sabr_model.specs.declared.contact.Contact.{Contact}
 use Rattle.sabr_model.specs.declared.fault.HopFault.{HopFault}
 use Rattle.sabr_model.specs.declared.fault.HopFault.TheVariants.{Empty, NoSuchContact, NotChained, NodeAgain, NoLight, TooLate, WrongEnd, AvoidedNode, TooManyHops}
 use Rattle.sabr_model.specs.plan.Plan.{ContactPlan, TabledPlan, contact_named}
-use Rattle.sabr_model.specs.routes.Arrival.{RouteRequest}
+use Rattle.sabr_model.specs.routes.Arrival.{RouteRequest, arrival_after}
 use Rattle.sabr_model.specs.routes.Route.{delivery_of, is_route}
 use Rattle.sabr_model.specs.routes.Record.{record_of}
 use Rattle.sabr_model.specs.routes.Fault.{fault_at, fault_of}
@@ -73,3 +73,20 @@ WritesExplanation (Err fault) r s end old new = (end ≡ Err (failure_of_plan fa
 WritesExplanation (Ok p) r s (Ok answer) old new = (answer ≡ is_route p.plan r s) × WrittenAndFlushed old (explanation_text p.plan r s) new
 WritesExplanation (Ok p) r s (Err failure.Write) old new = WrittenInPart old (explanation_text p.plan r s) new
 WritesExplanation (Ok p) r s (Err _) old new = ⊥
+
+-- the delivery of a route, or the fault of another list
+abbrev pub Follows : ContactPlan → RouteRequest → List ℕ → Result ℕ HopFault → Type 0
+Follows p r s (Ok d) = IsTrue (is_route p r s) × (arrival_after p r r.at s ≡ Some d)
+Follows p r s (Err f) = fault_of p r s ≡ Some f
+
+-- how many of that many hops come before a fault: all of them if it is no hop's
+abbrev pub hops_before : HopFault → ℕ → ℕ
+hops_before Empty hops = hops
+hops_before (NoSuchContact place) hops = place - 1
+hops_before (NotChained place) hops = place - 1
+hops_before (NodeAgain place) hops = place - 1
+hops_before (NoLight place) hops = place - 1
+hops_before (TooLate place) hops = place - 1
+hops_before WrongEnd hops = hops
+hops_before (AvoidedNode place) hops = place - 1
+hops_before (TooManyHops place) hops = place - 1

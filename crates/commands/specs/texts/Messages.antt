@@ -1,5 +1,5 @@
 -- The messages on standard error of runs that end early, the statuses that they end with, and the numbers of these.
-use Rattle.std.specs.Prelude.{ℕ, ◌⊎◌, List, [], ◌∷◌, Option, Some, None, decimal, codes}
+use Rattle.std.specs.Prelude.{◌≡◌, ℕ, ◌⊎◌, Bool, List, [], ◌∷◌, Option, Some, None, Result, Ok, Err, decimal, codes, if◌then◌else◌}
 use Rattle.std.specs.List.{concat}
 use Rattle.std.specs.Option.{option_map_or}
 use Rattle.sabr_model.specs.Devices.{Output, Written, WrittenInPart}
@@ -134,27 +134,18 @@ message_text failure.Write = codes "cgrlist: write failed\n"
 message_text failure.NoMemory = codes "cgrlist: no memory\n"
 message_text failure.NotUtf8 = codes "cgrlist: a word of the command line is not UTF-8\n"
 
--- the status that a failure ends with
+-- the status that a failure ends with: that of input and output, if it is of none of the others
 abbrev pub status_of : Failure → Status
 status_of (failure.BadValue name) = status.Usage
 status_of failure.SameNode = status.Usage
 status_of failure.BadAvoid = status.Usage
-status_of failure.CannotOpenPlan = status.Io
-status_of failure.CannotOpenSession = status.Io
-status_of failure.CannotMakeSession = status.Io
-status_of (failure.PlanLine fault) = status.Plan
-status_of failure.PlanRead = status.Io
-status_of (failure.Session fault) = status.Session
-status_of failure.SessionRead = status.Io
-status_of failure.CannotOpenRequests = status.Io
-status_of (failure.RequestsLine line kind) = status.Session
-status_of failure.LinesRead = status.Io
-status_of failure.CannotOpenLists = status.Io
-status_of (failure.ListsLine line kind) = status.Session
-status_of failure.ListsRead = status.Io
-status_of failure.Write = status.Io
-status_of failure.NoMemory = status.Memory
 status_of failure.NotUtf8 = status.Usage
+status_of (failure.PlanLine fault) = status.Plan
+status_of (failure.Session fault) = status.Session
+status_of (failure.RequestsLine line kind) = status.Session
+status_of (failure.ListsLine line kind) = status.Session
+status_of failure.NoMemory = status.Memory
+status_of _ = status.Io
 
 -- the program's exit status
 abbrev pub number_of : Status → ℕ
@@ -169,3 +160,18 @@ number_of status.Memory = 6
 -- the text was taken, or a beginning of it by a writer that failed
 abbrev pub TellsText : Output → List ℕ → Output → Type 0
 TellsText old text new = Written old text new ⊎ WrittenInPart old text new
+
+-- the status of a run that ended so
+abbrev pub status_at : Result (Unit {0}) Failure → Status
+status_at (Ok _) = status.Done
+status_at (Err f) = status_of f
+
+-- the status of a run that ended with yes or no
+abbrev pub status_of_answer : Result Bool Failure → Status
+status_of_answer (Ok answer) = if answer then status.Done else status.No
+status_of_answer (Err f) = status_of f
+
+-- no message for a run that did what was asked of it, and else that of its failure
+abbrev pub TellsEnd : {A : Type 0} → Result A Failure → Output → Output → Type 0
+TellsEnd (Ok _) old new = new ≡ old
+TellsEnd (Err f) old new = TellsText old (message_text f) new

@@ -1,5 +1,5 @@
 -- The command line, in the words of clap's definitions.
-use Rattle.std.specs.Prelude.{◌≡◌, ℕ, Bool, true, false, List, [], ◌∷◌, ◌++◌, codes, if◌then◌else◌}
+use Rattle.std.specs.Prelude.{◌≡◌, ℕ, true, false, List, [], ◌∷◌, ◌++◌, codes}
 use Rattle.std.specs.declared.option.Option.{Option}
 use Rattle.std.specs.declared.option.Option.TheVariants.{Some}
 use Rattle.clap.specs.Simple.{App, Shape, app_of, new_rule, new_shape, subcommand_of}
@@ -11,8 +11,7 @@ use Rattle.clap.specs.declared.builder.command.Command.TheViews.{out-Command}
 use Rattle.commands.specs.declared.command.CommandName.{CommandName}
 use Rattle.commands.specs.declared.command.CommandName.TheVariants as command
 use Rattle.commands.specs.declared.words.value_fault.ValueName.TheVariants as name
-use Rattle.commands.specs.words.Paths.{lists_word, plan_word, requests_word, session_out_word, session_word}
-use Rattle.commands.specs.words.Values.{has_contacts, has_count, has_lists, has_request, has_requests, has_session, keeps_session, name_text}
+use Rattle.commands.specs.words.Values.{name_text, lists_word, plan_word, requests_word, session_out_word, session_word}
 
 -- a word with a value
 abbrev pub option_rule : List ℕ → Rule
@@ -23,27 +22,20 @@ abbrev pub required_rule : List ℕ → Rule
 required_rule word = record (option_rule word) { required = true }
 
 -- the words for the ends of a request, and for its limits
-abbrev pub end_rules : List Rule
-end_rules = required_rule (name_text name.From) ∷ required_rule (name_text name.To) ∷ required_rule (name_text name.At) ∷ []
-
-abbrev pub limit_rules : List Rule
-limit_rules = option_rule (name_text name.MarginPpm) ∷ option_rule (name_text name.MaxHops) ∷ option_rule (name_text name.Avoid) ∷ []
-
--- these words, if the command has them
-abbrev pub rules_where : Bool → List Rule → List Rule
-rules_where asked rules = if asked then rules else []
+abbrev pub request_rules : List Rule
+request_rules =
+    required_rule (name_text name.From) ∷ required_rule (name_text name.To) ∷ required_rule (name_text name.At)
+    ∷ option_rule (name_text name.MarginPpm) ∷ option_rule (name_text name.MaxHops) ∷ option_rule (name_text name.Avoid) ∷ []
 
 -- the words of a command, in their order
 abbrev pub rules_for : CommandName → List Rule
-rules_for c =
-    (required_rule plan_word ∷ [])
-    ++ rules_where (has_request c) (end_rules ++ limit_rules)
-    ++ rules_where (has_session c) (required_rule session_word ∷ [])
-    ++ rules_where (has_requests c) (required_rule requests_word ∷ [])
-    ++ rules_where (has_lists c) (required_rule lists_word ∷ [])
-    ++ rules_where (has_count c) (required_rule (name_text name.Count) ∷ [])
-    ++ rules_where (keeps_session c) (option_rule session_out_word ∷ [])
-    ++ rules_where (has_contacts c) (required_rule (name_text name.Contacts) ∷ [])
+rules_for command.First = required_rule plan_word ∷ (request_rules ++ required_rule (name_text name.Count) ∷ option_rule session_out_word ∷ [])
+rules_for command.Next = required_rule plan_word ∷ required_rule session_word ∷ required_rule (name_text name.Count) ∷ option_rule session_out_word ∷ []
+rules_for command.Verify = required_rule plan_word ∷ required_rule session_word ∷ []
+rules_for command.Check = required_rule plan_word ∷ []
+rules_for command.Explain = required_rule plan_word ∷ (request_rules ++ required_rule (name_text name.Contacts) ∷ [])
+rules_for command.Many = required_rule plan_word ∷ required_rule requests_word ∷ required_rule (name_text name.Count) ∷ []
+rules_for command.Follow = required_rule plan_word ∷ required_rule lists_word ∷ []
 
 -- the name of a command
 abbrev pub command_text : CommandName → List ℕ

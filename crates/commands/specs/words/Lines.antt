@@ -1,5 +1,5 @@
 -- What a text of requests or of lists says: one a line, each word read as strictly as the option of its name.
-use Rattle.std.specs.Prelude.{◌≡◌, ℕ, ◌+◌, ◌≤◌, nat_lt, ◌⊎◌, List, [], ◌∷◌, ◌++◌, length, take, option_map, Result, Ok, Err, if◌then◌else◌}
+use Rattle.std.specs.Prelude.{◌≡◌, ℕ, ◌+◌, ◌≤◌, nat_lt, ◌⊎◌, List, [], ◌∷◌, ◌++◌, length, take, option_map, Result, Ok, Err, IsErrAnd, if◌then◌else◌}
 use Rattle.sabr_model.specs.Devices.{Input, Gives, HasEnded}
 use Rattle.std.specs.declared.option.Option.{Option}
 use Rattle.std.specs.declared.option.Option.TheVariants.{Some, None}
@@ -159,30 +159,23 @@ abbrev pub fault_of : {A E : Type 0} → Result A E → Option E
 fault_of (Ok _) = None
 fault_of (Err fault) = Some fault
 
--- what reading a text of such lines leaves: the reader ended after these bytes, and they are the text
-abbrev pub EndsLines : LineForm → Input → List ℕ → Result (List AskedLine) LinesFault → Input → Type 0
-EndsLines form old given answer new = HasEnded new × (new.failures ≡ old.failures) × (asked_by form given ≡ answer)
-
--- the reader failed after these bytes
-abbrev pub BreaksLines : Input → List ℕ → Result (List AskedLine) LinesFault → Input → Type 0
-BreaksLines old given answer new = (new.failures ≡ old.failures + 1) × (answer ≡ Err Read)
-
--- these bytes have the answer whatever follows them, or memory was refused
-abbrev pub RefusesLines : LineForm → Input → List ℕ → Result (List AskedLine) LinesFault → Input → Type 0
-RefusesLines form old given answer new =
-    (new.failures ≡ old.failures) × ((answer ≡ Err NoMemory) ⊎ ((more : List ℕ) → asked_by form (given ++ more) ≡ answer))
-
--- these bytes were read, and the answer is that of their text
-pub record ReadsLines (form : LineForm) (old : Input) (answer : Result (List AskedLine) LinesFault) (new : Input) : Type 0 where
-  pub given : List ℕ
-  pub gives : Gives old given new
-  pub told : EndsLines form old given answer new ⊎ (BreaksLines old given answer new ⊎ RefusesLines form old given answer new)
-
 -- bytes aren't read to their end: the reader failed, or memory was refused
 abbrev pub StopsReading : Input → LinesFault → Input → Type 0
 StopsReading old Read new = new.failures ≡ old.failures + 1
 StopsReading old NoMemory new = new.failures ≡ old.failures
 StopsReading old (Line n kind) new = ⊥
+
+-- these bytes tell the answer: the reader ended after them, and they are the text; or it is the same whatever follows
+-- them
+abbrev pub TellsLines : LineForm → Input → List ℕ → Result (List AskedLine) LinesFault → Input → Type 0
+TellsLines form old given answer new =
+    (new.failures ≡ old.failures) × ((HasEnded new × (asked_by form given ≡ answer)) ⊎ ((more : List ℕ) → asked_by form (given ++ more) ≡ answer))
+
+-- these bytes were read of a text of such lines
+pub record ReadsLines (form : LineForm) (old : Input) (answer : Result (List AskedLine) LinesFault) (new : Input) : Type 0 where
+  pub given : List ℕ
+  pub gives : Gives old given new
+  pub told : IsErrAnd answer (λ fault. StopsReading old fault new) ⊎ TellsLines form old given answer new
 
 -- what reading bytes leaves: all that there are, or as many as are looked at
 abbrev pub GivesText : {T : Type 0} → ℕ → (T → List ℕ) → Input → List ℕ → Result T LinesFault → Input → Type 0

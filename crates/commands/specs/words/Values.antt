@@ -1,7 +1,8 @@
--- The strict reading of a command's texts. The order in which bad ones are reported is this project's own.
-use Rattle.std.specs.Prelude.{ℕ, ◌<◌, ◌≤◌, Bool, true, false, not, ◌==◌, List, [], Result, Ok, Err, codes, if◌then◌else◌}
+-- The words of a command, and the strict reading of their texts. The order in which bad ones are reported is this
+-- project's own.
+use Rattle.std.specs.Prelude.{ℕ, ◌<◌, ◌≤◌, Bool, true, false, not, ◌==◌, List, [], Result, Ok, Err, codes, ok_or, option_and_then, unwrap_or, if◌then◌else◌}
 use Rattle.std.specs.Str.{bytes_eq}
-use Rattle.std.specs.Option.{option_copied}
+use Rattle.std.specs.Option.{option_copied, option_map_or}
 use Rattle.std.specs.declared.option.Option.{Option}
 use Rattle.std.specs.declared.option.Option.TheVariants.{Some, None}
 use Rattle.clap.specs.declared.parser.matches.Found.{Found}
@@ -39,33 +40,42 @@ name_text Contacts = codes "contacts"
 abbrev pub text_under : Found → ValueName → Option (List ℕ)
 text_under found name = first_value found (name_text name)
 
--- a value, or its name as a bad one
-abbrev pub or_bad : {A : Type 0} → ValueName → Option A → Result A ValueFault
-or_bad name None = Err (Bad name)
-or_bad name (Some a) = Ok a
+-- the word for the plan, without its two dashes
+abbrev pub plan_word : List ℕ
+plan_word = codes "plan"
 
--- what a required text says
-abbrev pub needed : {A : Type 0} → (List ℕ → Option A) → Option (List ℕ) → Option A
-needed reads None = None
-needed reads (Some text) = reads text
+-- that for the old session
+abbrev pub session_word : List ℕ
+session_word = codes "session"
 
--- what an optional text says, or the default
-abbrev pub given_or : {A : Type 0} → A → (List ℕ → Option A) → Option (List ℕ) → Option A
-given_or otherwise reads None = Some otherwise
-given_or otherwise reads (Some text) = reads text
+-- that for the file of requests
+abbrev pub requests_word : List ℕ
+requests_word = codes "requests"
+
+-- that for the file of lists
+abbrev pub lists_word : List ℕ
+lists_word = codes "lists"
+
+-- that for the new session
+abbrev pub session_out_word : List ℕ
+session_out_word = codes "session-out"
+
+-- the path that was given under a word, or an empty one
+abbrev pub path_under : Found → List ℕ → List ℕ
+path_under found word = unwrap_or (first_value found word) []
 
 -- goes on if nothing was refused
 abbrev pub and_then : {A B : Type 0} → Result A ValueFault → (A → Result B ValueFault) → Result B ValueFault
 and_then (Ok a) k = k a
 and_then (Err e) k = Err e
 
--- a required value
+-- what a required text says, or the name of the value as a bad one
 abbrev pub value_of : {A : Type 0} → (List ℕ → Option A) → ValueName → Option (List ℕ) → Result A ValueFault
-value_of reads name text = or_bad name (needed reads text)
+value_of reads name text = ok_or (option_and_then reads text) (Bad name)
 
--- an optional value
+-- what an optional text says, or the default
 abbrev pub value_or : {A : Type 0} → A → (List ℕ → Option A) → ValueName → Option (List ℕ) → Result A ValueFault
-value_or otherwise reads name text = or_bad name (given_or otherwise reads text)
+value_or otherwise reads name text = ok_or (option_map_or reads text (Some otherwise)) (Bad name)
 
 -- the texts that are given for a request
 pub record TextsGiven : Type 0 where
@@ -156,22 +166,6 @@ abbrev pub has_session : CommandName → Bool
 has_session command.Next = true
 has_session command.Verify = true
 has_session _ = false
-
--- commands with a file of requests
-abbrev pub has_requests : CommandName → Bool
-has_requests command.Many = true
-has_requests _ = false
-
--- commands with a file of lists
-abbrev pub has_lists : CommandName → Bool
-has_lists command.Follow = true
-has_lists _ = false
-
--- commands that can keep the session after their page
-abbrev pub keeps_session : CommandName → Bool
-keeps_session command.First = true
-keeps_session command.Next = true
-keeps_session _ = false
 
 -- the values of a command; what it doesn't have is none or empty
 pub record ValuesRead : Type 0 where

@@ -1,7 +1,7 @@
 //! How a run ends: its status, and a failure's message.
 
 ghost use Rattle.std.specs.Prelude.{◌≡◌};
-ghost use Rattle.commands.specs.runs.Runs.{TellsEnd, status_at, status_of_answer};
+ghost use Rattle.commands.specs.texts.Messages.{TellsEnd, status_at, status_of_answer};
 
 use crate::failure::Failure;
 use crate::status::Status;

@@ -5,7 +5,7 @@ ghost use Rattle.sabr_model.specs.plan.Plan.{TabledPlan};
 ghost use Rattle.sabr_plan.specs.PlanRead.{ReadsPlan};
 ghost use Rattle.sabr_plan.specs.declared.fault.PlanFault.{PlanFault};
 ghost use Rattle.commands.specs.declared.failure.Failure.{Failure};
-ghost use Rattle.commands.specs.runs.Runs.{TellsEnd, status_of_answer};
+ghost use Rattle.commands.specs.texts.Messages.{TellsEnd, status_of_answer};
 ghost use Rattle.commands.specs.texts.Explanation.{WritesExplanation};
 
 use crate::failure::Failure;

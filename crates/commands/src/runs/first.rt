@@ -6,7 +6,7 @@ ghost use Rattle.sabr_plan.specs.PlanRead.{ReadsPlan};
 ghost use Rattle.sabr_plan.specs.declared.fault.PlanFault.{PlanFault};
 ghost use Rattle.sabr_frontier.specs.listing.Listing.{most_routes};
 ghost use Rattle.commands.specs.declared.failure.Failure.{Failure};
-ghost use Rattle.commands.specs.runs.Runs.{TellsEnd, status_at};
+ghost use Rattle.commands.specs.texts.Messages.{TellsEnd, status_at};
 ghost use Rattle.commands.specs.words.Values.{IsCount};
 ghost use Rattle.commands.specs.runs.SessionRuns.{WritesFirstPage};
 

@@ -8,7 +8,7 @@ ghost use Rattle.commands.specs.declared.failure.Failure.{Failure};
 ghost use Rattle.commands.specs.declared.runs.answering.AnswerKind.TheVariants.{Explanation, FirstRoutes};
 ghost use Rattle.commands.specs.declared.words.lines.LineForm.TheVariants.{Lists, Requests};
 ghost use Rattle.commands.specs.declared.words.lines_fault.LinesFault.{LinesFault};
-ghost use Rattle.commands.specs.runs.Runs.{TellsEnd, status_at};
+ghost use Rattle.commands.specs.texts.Messages.{TellsEnd, status_at};
 ghost use Rattle.commands.specs.runs.Many.{IsWithin, LeavesAnswers, ReadsLinesOver, WritesAll, WritesAnswers, form_of, has_broken};
 ghost use Rattle.commands.specs.words.Lines.{AskedLine, fault_of, lines_in, asked_from};
 ghost use Rattle.commands.specs.words.Values.{IsCount};

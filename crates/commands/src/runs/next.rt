@@ -8,7 +8,7 @@ ghost use Rattle.sabr_frontier.specs.listing.Listing.{most_routes};
 ghost use Rattle.sabr_frontier.specs.session.Session.{Seen};
 ghost use Rattle.sabr_session.specs.declared.session_fault.SessionFault.{SessionFault};
 ghost use Rattle.commands.specs.declared.failure.Failure.{Failure};
-ghost use Rattle.commands.specs.runs.Runs.{TellsEnd, status_at};
+ghost use Rattle.commands.specs.texts.Messages.{TellsEnd, status_at};
 ghost use Rattle.commands.specs.words.Values.{IsCount};
 ghost use Rattle.commands.specs.runs.SessionRuns.{ReadsOldSession, WritesNextPage, place_of};
 

@@ -6,7 +6,7 @@ ghost use Rattle.sabr_plan.specs.PlanRead.{ReadsPlan};
 ghost use Rattle.sabr_plan.specs.declared.fault.PlanFault.{PlanFault};
 ghost use Rattle.sabr_session.specs.declared.session_fault.SessionFault.{SessionFault};
 ghost use Rattle.commands.specs.declared.failure.Failure.{Failure};
-ghost use Rattle.commands.specs.runs.Runs.{TellsEnd, status_of_answer};
+ghost use Rattle.commands.specs.texts.Messages.{TellsEnd, status_of_answer};
 ghost use Rattle.commands.specs.runs.SessionRuns.{VerifiesOldSession, WritesAnswer, WritesVerified};
 
 use crate::failure::Failure;

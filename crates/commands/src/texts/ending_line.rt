@@ -3,8 +3,7 @@
 ghost use Rattle.sabr_model.specs.plan.Plan.{IsPlan};
 ghost use Rattle.sabr_model.specs.routes.Asking.{IsRequest};
 ghost use Rattle.sabr_session.specs.Gathering.{Puts};
-ghost use Rattle.commands.specs.texts.Explanation.{refused_at, fault_line, ending_line};
-ghost use Rattle.commands.specs.texts.Followed.{Follows};
+ghost use Rattle.commands.specs.texts.Explanation.{refused_at, fault_line, ending_line, Follows};
 
 use itoa::Buffer;
 use sabr_model::{HopFault, Plan, Request, RouteSummary, Write, WriteFault};

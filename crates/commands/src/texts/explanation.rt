@@ -3,8 +3,7 @@
 ghost use Rattle.std.specs.Prelude.{◌≡◌, ◌≤◌, [], IfOk, IsTrue, length};
 ghost use Rattle.sabr_model.specs.routes.Route.{is_path, is_route};
 ghost use Rattle.sabr_model.specs.Devices.{WritesText};
-ghost use Rattle.commands.specs.texts.Explanation.{hop_lines, explanation_text};
-ghost use Rattle.commands.specs.texts.Followed.{hops_before, Follows};
+ghost use Rattle.commands.specs.texts.Explanation.{hop_lines, explanation_text, hops_before, Follows};
 
 use crate::texts::ending_line::put_ending;
 use crate::texts::hop_lines::put_hops;

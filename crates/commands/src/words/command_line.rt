@@ -1,14 +1,13 @@
 //! The words of the command line, as one level of subcommands with texts as values.
 
-ghost use Rattle.std.specs.Prelude.{◌≡◌, ◌++◌, IfOk, IsTrue, is_some, map};
+ghost use Rattle.std.specs.Prelude.{◌≡◌, IfOk, IsTrue, is_some, map};
 ghost use Rattle.clap.specs.Simple.{app_of, subcommand_rows_of};
 ghost use Rattle.clap.specs.Faults.{fault_of};
 ghost use Rattle.clap.specs.Kinds.{FailsBy};
 ghost use Rattle.commands.specs.declared.words.value_fault.ValueName.TheVariants as name;
 ghost use Rattle.commands.specs.runs.Program.{named_in};
-ghost use Rattle.commands.specs.words.CommandLine.{AddsCommand, AddsWords, IsCommand, IsProgram, IsWord, end_rules, given_by, limit_rules, option_rule, program_app, required_rule, rules_for, shape_for};
-ghost use Rattle.commands.specs.words.Paths.{lists_word, plan_word, requests_word, session_out_word, session_word};
-ghost use Rattle.commands.specs.words.Values.{name_text};
+ghost use Rattle.commands.specs.words.CommandLine.{AddsCommand, AddsWords, IsCommand, IsProgram, IsWord, given_by, option_rule, program_app, request_rules, required_rule, rules_for, shape_for};
+ghost use Rattle.commands.specs.words.Values.{name_text, lists_word, plan_word, requests_word, session_out_word, session_word};
 
 use crate::command::CommandName;
 use crate::files::{LISTS, PLAN, REQUESTS, SESSION, SESSION_OUT};
@@ -142,7 +141,7 @@ fn contacts<'a>(alloc: Global) -> Arg<'a>
 
 /// Adds the words of a request.
 fn with_request<'a>(alloc: Global, command: Command<'a>) -> Result<Command<'a>, AllocError>
-    ensures { IfOk result (AddsWords command.entry (end_rules ++ limit_rules)) }
+    ensures { IfOk result (AddsWords command.entry request_rules) }
 {
     command
         .arg(from(alloc))?

@@ -4,11 +4,11 @@ use Rattle.commands.proofs.program.run_words.Goals as goal
 
 pub returns-in-Err : goal.returns-in-Err
 returns-in-Err g c =
-    inl (record {
-      refuses = elim c.tell_usage.ensures [
+    inl (
+      elim c.tell_usage.ensures [
         | inl (text, other, tells, ends) ↦ inl (text, has_fault c.in-Err.refusal _ c.in-Err.ensures.fault other, tells, ends)
         | inr memory ↦ inr memory
-      ];
-      writes_nothing = refl;
-      makes_nothing = refl;
-    })
+      ],
+      refl,
+      refl,
+    )

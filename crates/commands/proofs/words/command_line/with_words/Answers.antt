@@ -1,12 +1,11 @@
-use Rattle.std.proofs.Common.{◌++◌}
-use Rattle.commands.specs.words.CommandLine.{end_rules, limit_rules}
+use Rattle.commands.specs.words.CommandLine.{request_rules}
 use Rattle.commands.proofs.WordLemmas.BuiltWords.{add_word, then_word, word_in, words_in}
 use Rattle.commands.proofs.words.command_line.with_words.Goals as goal
 
 pub returns-in_ok-arg-in-First : goal.returns-in_ok-arg-in-First
 returns-in_ok-arg-in-First c =
     let r = c.arg-in-First-2.result in
-    rw c.in-First.is (then_word r _ _ _ _ _ c.in_ok-made.ensures c.plan.ensures (words_in r _ _ (end_rules ++ limit_rules) _ c.in_ok-with_request-in-First.ensures
+    rw c.in-First.is (then_word r _ _ _ _ _ c.in_ok-made.ensures c.plan.ensures (words_in r _ _ request_rules _ c.in_ok-with_request-in-First.ensures
     (then_word r _ _ _ _ _ c.in_ok-arg-in-First.ensures c.count.ensures (word_in r _ _ _ c.session_out.ensures c.arg-in-First-2.ensures))))
 
 pub returns-in_ok-arg-in-Next-2 : goal.returns-in_ok-arg-in-Next-2
@@ -26,7 +25,7 @@ returns-in-Check c = rw c.in-Check.is (add_word _ _ _ _ c.in_ok-made.ensures c.p
 pub returns-in_ok-with_request-in-Explain : goal.returns-in_ok-with_request-in-Explain
 returns-in_ok-with_request-in-Explain c =
     let r = c.arg-in-Explain.result in
-    rw c.in-Explain.is (then_word r _ _ _ _ _ c.in_ok-made.ensures c.plan.ensures (words_in r _ _ (end_rules ++ limit_rules) _ c.in_ok-with_request-in-Explain.ensures
+    rw c.in-Explain.is (then_word r _ _ _ _ _ c.in_ok-made.ensures c.plan.ensures (words_in r _ _ request_rules _ c.in_ok-with_request-in-Explain.ensures
     (word_in r _ _ _ c.contacts.ensures c.arg-in-Explain.ensures)))
 
 pub returns-in_ok-arg-in-Many : goal.returns-in_ok-arg-in-Many
