@@ -16,7 +16,7 @@ pub record IsPlaced (s : Seen) (i : ℕ) : Type 0 where
   pub within : i ≤ length (routes s.plan.plan s.request)
   pub state : s.state ≡ state_at s.plan.plan s.request i
 
--- its next page has the next routes, tells whether the list goes on after them, and leaves it there
+-- its next page has the next routes and says whether more follow, and the listing is after these routes then
 pub record IsNextPage (s : Seen) (i count : ℕ) : Type 0 where
   pub records : next_records s count ≡ map (record_of s.plan.plan s.request) (page_of s.plan.plan s.request i count)
   pub more : goes_on s count ≡ nat_lt (given_after s i count) (length (routes s.plan.plan s.request))
