@@ -2,7 +2,6 @@ mod FirstLemmas
 mod JoinedLemmas
 mod ListingLemmas
 mod PageLemmas
-mod BufferLemmas
 mod FollowLemmas
 mod HopLemmas
 mod LoadLemmas

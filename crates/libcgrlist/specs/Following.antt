@@ -10,7 +10,7 @@ use Rattle.sabr_model.specs.routes.Arrival.{RouteRequest}
 use Rattle.sabr_model.specs.routes.Fault.{fault_at, fault_of}
 use Rattle.sabr_model.specs.routes.Record.{RouteRecord, record_of}
 use Rattle.sabr_model.specs.routes.Route.{delivery_of, is_route}
-use Rattle.libcgrlist.specs.Buffers.{put_over}
+use Rattle.host.specs.Buffers.{put_over}
 use Rattle.libcgrlist.specs.Status.{done, no, no_room, request_status}
 use Rattle.libcgrlist.specs.declared.follow.Outcome.{Outcome}
 use Rattle.libcgrlist.specs.declared.hops.HopRow.{HopRow}

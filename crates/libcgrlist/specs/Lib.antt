@@ -1,5 +1,4 @@
 pub mod Answers
-pub mod Buffers
 pub mod Changes
 pub mod First
 pub mod Following

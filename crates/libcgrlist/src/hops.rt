@@ -6,7 +6,7 @@ ghost use Rattle.sabr_model.specs.plan.Plan.{contact_named};
 ghost use Rattle.sabr_model.specs.routes.Fault.{fault_at};
 ghost use Rattle.sabr_model.specs.routes.Following.{IsReachedBy};
 ghost use Rattle.sabr_model.specs.routes.Route.{is_path, is_route};
-ghost use Rattle.libcgrlist.specs.Buffers.{put_over};
+ghost use Rattle.host.specs.Buffers.{put_over};
 ghost use Rattle.libcgrlist.specs.Following.{GivesHops, hop_after, hops_of, route_status};
 ghost use Rattle.libcgrlist.specs.Open.{Calls, IsWhole};
 ghost use Rattle.libcgrlist.specs.Request.{asked_request};

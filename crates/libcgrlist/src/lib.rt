@@ -2,7 +2,6 @@
 #![tactic(auto)]
 
 mod best;
-mod bytes;
 mod changes;
 mod first;
 mod follow;

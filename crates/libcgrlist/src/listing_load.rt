@@ -4,10 +4,10 @@ ghost use Rattle.std.specs.Prelude.{◌≡◌, None, IfErr, OnErr, OnOk, IsFalse
 ghost use Rattle.libcgrlist.specs.Loading.{AnswersLoad, IsLoaded, IsRefusal, session_line};
 ghost use Rattle.libcgrlist.specs.Open.{Calls, IsWhole};
 
-use crate::bytes::Bytes;
 use crate::handle::PlanHandle;
 use crate::opened::Opened;
 use crate::status::{CLOSED, DONE, LISTING, of_session};
+use host::Bytes;
 use sabr_search::Settled;
 use sabr_session::{SessionFault, read_session};
 use std::alloc::Global;

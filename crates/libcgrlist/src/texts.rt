@@ -1,7 +1,7 @@
 //! The texts that C gets.
 
 ghost use Rattle.std.specs.Prelude.{◌≡◌, length};
-ghost use Rattle.libcgrlist.specs.Buffers.{put_over};
+ghost use Rattle.host.specs.Buffers.{put_over};
 ghost use Rattle.libcgrlist.specs.Texts.{fault_text, status_text, version};
 
 use crate::status::{
@@ -14,6 +14,7 @@ use crate::status::{
     SESSION_BAD_REQUEST, SESSION_BAD_ROUTE, SESSION_NOT_CLOSED, SESSION_OTHER_PLAN, TOO_MANY,
     VALUE_COUNT, VALUE_LIGHT, VALUE_NODE, VALUE_TIME,
 };
+use host::put_text;
 
 /// The version of the interface: `CGRLIST_ABI`.
 const ABI: u32 = 1;
@@ -90,16 +91,6 @@ fn fault_name(fault: u32) -> &'static str
         9 => "TooManyHops",
         _ => "",
     }
-}
-
-/// Writes as much of a text as there is room for, and returns the text's length.
-fn put_text(text: &[u8], buffer: &mut [u8]) -> usize
-    ensures buffer { buffer.new ≡ put_over buffer.old text.now }
-    ensures length { result ≡ length text.now }
-{
-    let count = text.len().min(buffer.len());
-    buffer[..count].copy_from_slice(&text[..count]);
-    text.len()
 }
 
 /// Writes the name of a status.

@@ -4,10 +4,10 @@ ghost use Rattle.std.specs.Prelude.{◌≡◌};
 ghost use Rattle.libcgrlist.specs.Open.{Calls, IsWhole};
 ghost use Rattle.libcgrlist.specs.Verified.{IsVerified, Verifies};
 
-use crate::bytes::Bytes;
 use crate::handle::PlanHandle;
 use crate::opened::Opened;
 use crate::status::{CLOSED, DONE, MEMORY, NO};
+use host::Bytes;
 use sabr_search::Settled;
 use sabr_session::{SessionFault, verify};
 use std::alloc::Global;

@@ -3,9 +3,9 @@ use Rattle.std.proofs.lemmas.List.{take_more}
 use Rattle.sabr_model.specs.routes.Following.{IsReachedBy}
 use Rattle.sabr_model.specs.routes.Route.{is_path}
 use Rattle.sabr_model.proofs.RouteLemmas.Prefixes.{empty_is_path}
-use Rattle.libcgrlist.specs.Buffers.{put_over}
+use Rattle.host.specs.Buffers.{put_over}
 use Rattle.libcgrlist.specs.Following.{hops_of}
-use Rattle.libcgrlist.proofs.BufferLemmas.{put_over-nothing, put_over-same, put_over-set}
+use Rattle.host.proofs.BufferLemmas.{put_over-nothing, put_over-same, put_over-set}
 use Rattle.libcgrlist.proofs.HopLemmas.{hops_of-one, hops_of-stops}
 use Rattle.libcgrlist.proofs.hops.write_hops.Goals.{else-i-hops, then-i-hops}
 use Rattle.libcgrlist.proofs.hops.write_hops.Goals as goal

@@ -2,7 +2,7 @@ use Rattle.std.proofs.Common.{◌≡◌, take, length}
 use Rattle.std.specs.Prelude.{IsTrue}
 use Rattle.sabr_model.specs.routes.Following.{IsReachedBy}
 use Rattle.sabr_model.specs.routes.Route.{is_path}
-use Rattle.libcgrlist.specs.Buffers.{put_over}
+use Rattle.host.specs.Buffers.{put_over}
 use Rattle.libcgrlist.specs.Following.{hops_of}
 use Rattle.libcgrlist.proofs.hops.write_hops.Given as goal
 

@@ -1,6 +1,6 @@
 use Rattle.std.proofs.Common.{sym}
-use Rattle.libcgrlist.proofs.BufferLemmas.{put_over-at}
-use Rattle.libcgrlist.proofs.texts.put_text.Goals as goal
+use Rattle.host.proofs.BufferLemmas.{put_over-at}
+use Rattle.host.proofs.put.put_text.Goals as goal
 
 pub returns-clause-buffer : goal.returns-clause-buffer
 returns-clause-buffer c =

@@ -1,7 +1,8 @@
 -- Lists written to the front of buffers.
-use Rattle.std.proofs.Common.{◌≡◌, ℕ, zero, suc, min, ◌<◌, ◌≤◌, List, [], ◌∷◌, ◌++◌, length, take, drop, refl, sym, ap, ◌∙◌, arith}
+use Rattle.std.proofs.Common.{◌≡◌, ℕ, zero, suc, min, ◌-◌, ◌<◌, ◌≤◌, List, [], ◌∷◌, ◌++◌, append-nil, length, take, drop, refl, sym, ap, ◌∙◌, arith}
+use Rattle.std.proofs.lemmas.List.{drop_all, length-drop, take_all}
 use Rattle.std.specs.Prelude.{set}
-use Rattle.libcgrlist.specs.Buffers.{put_over}
+use Rattle.host.specs.Buffers.{put_over}
 
 -- a buffer keeps its length
 pub length-put_over : {X : Type 0} (bs xs : List X) → length (put_over bs xs) ≡ length bs
@@ -21,19 +22,6 @@ pub put_over-full : {X : Type 0} (bs xs : List X) (x : X) → length bs ≤ leng
 put_over-full [] xs x h = refl
 put_over-full (b ∷ bs) [] x h = absurd (omega (arith, h))
 put_over-full (b ∷ bs) (y ∷ xs) x h = ap (λ zs. y ∷ zs) (put_over-full bs xs x (omega (arith, h)))
-
--- all of it where it fits
-pub put_over-fits : {X : Type 0} (bs xs : List X) → length xs ≤ length bs → put_over bs xs ≡ xs ++ drop (length xs) bs
-put_over-fits [] [] h = refl
-put_over-fits [] (x ∷ xs) h = absurd (omega (arith, h))
-put_over-fits (b ∷ bs) [] h = refl
-put_over-fits (b ∷ bs) (x ∷ xs) h = ap (λ zs. x ∷ zs) (put_over-fits bs xs (omega (arith, h)))
-
--- as much of it as fits
-pub put_over-take : {X : Type 0} (bs xs : List X) → length bs ≤ length xs → put_over bs xs ≡ take (length bs) xs
-put_over-take [] xs h = refl
-put_over-take (b ∷ bs) [] h = absurd (omega (arith, h))
-put_over-take (b ∷ bs) (x ∷ xs) h = ap (λ zs. x ∷ zs) (put_over-take bs xs (omega (arith, h)))
 
 -- so many elements of it, and the rest of the buffer
 pub put_over-at : {X : Type 0} (bs xs : List X) (k : ℕ) → k ≡ min (length xs) (length bs) → put_over bs xs ≡ take k xs ++ drop k bs
@@ -58,3 +46,21 @@ pub put_over-same : {X : Type 0} (bs xs now : List X) (x : X) (i : ℕ) → now 
 put_over-same bs xs now x i is count full =
     let past : length bs ≤ length xs = (let e = ap length is ∙ length-put_over bs xs in omega (arith, count, full, e)) in
     is ∙ sym (put_over-full bs xs x past)
+
+-- more behind what was written: in the room that is left, where some is
+pub put_over-behind : {X : Type 0} (bs xs ys : List X) (k : ℕ) → k ≡ min (length xs) (length bs) → put_over bs (xs ++ ys) ≡ take k (put_over bs xs) ++ put_over (drop k (put_over bs xs)) ys
+put_over-behind [] xs ys k e = let none : k ≡ 0 = omega (arith, e) in rw none refl
+put_over-behind (b ∷ bs) [] ys k e = let none : k ≡ 0 = omega (arith, e) in rw none refl
+put_over-behind (b ∷ bs) (x ∷ xs) ys zero e = absurd (omega (arith, e))
+put_over-behind (b ∷ bs) (x ∷ xs) ys (suc k) e = ap (λ zs. x ∷ zs) (put_over-behind bs xs ys k (omega (arith, e)))
+
+-- a write to the room behind what was written
+pub put_over-write : {X : Type 0} (bs xs ys now : List X) (k : ℕ) → now ≡ put_over bs xs → k ≡ min (length xs) (length now)
+    → take k now ++ (put_over (take (length now - k) (drop k now)) ys ++ drop (length now - k) (drop k now)) ≡ put_over bs (xs ++ ys)
+put_over-write bs xs ys now k is e =
+    let left : length (drop k now) ≡ length now - k = length-drop k now in
+    let all : take (length now - k) (drop k now) ≡ drop k now = take_all (length now - k) (drop k now) (omega (arith, left)) in
+    let none : drop (length now - k) (drop k now) ≡ [] = drop_all (length now - k) (drop k now) (omega (arith, left)) in
+    let count : k ≡ min (length xs) (length bs) = (let same = ap length is ∙ length-put_over bs xs in e ∙ ap (min (length xs)) same) in
+    rw all (rw none (ap (λ zs. take k now ++ zs) (append-nil (put_over (drop k now) ys))
+    ∙ ap (λ zs. take k zs ++ put_over (drop k zs) ys) is ∙ sym (put_over-behind bs xs ys k count)))
