@@ -1,2 +1,3 @@
 pub mod BufferLemmas
+mod LentLemmas
 pub mod WriterLemmas
