@@ -1,0 +1,135 @@
+// The module in a worker of a page, so that nothing of the page waits.
+
+import { CgrlistError, NO_PROGRAM, STOPPED } from "./errors.mjs";
+import { Program, compiled, lack } from "./program.mjs";
+
+/** What the worker does: the first message has the module, each later one a question. */
+function work() {
+  let program;
+  const warmUp = () => {
+    const range = "a range 2030/01/01-00:00:00 2031/01/01-00:00:00 1 2 1\n";
+    const plan = `${range}a contact 2030/01/01-00:00:00 2031/01/01-00:00:00 1 2 1\n`;
+    const asked = { plan, from: "1", to: "2", at: "2030/01/01-00:00:00", count: "1", contacts: "1", keep: true };
+    const { session } = program.ask("first", asked);
+    for (const run of ["next", "verify", "explain", "canonical"]) {
+      program.ask(run, { ...asked, session });
+    }
+  };
+  const answerTo = ({ module, isFirst, run, texts }) => {
+    if (!module) {
+      return program.ask(run, texts);
+    }
+    program = new Program(module);
+    return isFirst ? warmUp() : undefined;
+  };
+  globalThis.onmessage = ({ data }) => {
+    try {
+      globalThis.postMessage({ answer: answerTo(data) });
+    } catch (error) {
+      globalThis.postMessage({ failure: String(error) });
+    }
+  };
+}
+
+/** The module's runs in a worker of a page. One question runs at a time, and those that come meanwhile wait. */
+export class Engine {
+  #module;
+  #source;
+  #worker;
+  #running; // the question that runs, or the start of a worker
+  #waiting = [];
+
+  /** What a page may say: "starting", "ready", or why there is no engine here. */
+  state = "starting";
+
+  /** The state once it is no longer "starting". */
+  started;
+
+  /** @param module the module's bytes, which may be compressed or in base 64, or a promise of them */
+  constructor(module) {
+    this.started = this.#start(module);
+  }
+
+  async #start(module) {
+    try {
+      const without = lack();
+      if (without) {
+        throw new Error(without);
+      }
+      this.#module = await compiled(await module);
+      await this.#employ(true);
+      this.state = "ready";
+    } catch (error) {
+      this.state = error.message;
+    }
+    this.#goOn();
+    return this.state;
+  }
+
+  /** Begins a worker, which first gets the module. */
+  #employ(isFirst) {
+    this.#source ??= URL.createObjectURL(new Blob([`${Program}\n(${work})()`], { type: "text/javascript" }));
+    this.#worker = new Worker(this.#source);
+    this.#worker.onmessage = ({ data }) => this.#end(data);
+    this.#worker.onerror = ({ message }) => this.#replace(new CgrlistError(NO_PROGRAM, message || "the worker ended"));
+    return new Promise((done, refuse) => {
+      this.#running = { done, refuse };
+      this.#worker.postMessage({ module: this.#module, isFirst });
+    });
+  }
+
+  /** Ends the question that runs by its answer, or by what it failed with. */
+  #end({ answer, failure }) {
+    const { done, refuse } = this.#running;
+    this.#running = undefined;
+    if (failure === undefined) {
+      done(answer);
+    } else {
+      refuse(new CgrlistError(NO_PROGRAM, failure));
+    }
+    this.#goOn();
+  }
+
+  /** Ends the worker, and refuses the question that runs. Another worker goes on, unless this was the first one's start. */
+  #replace(error) {
+    const { refuse } = this.#running ?? {};
+    this.#worker.terminate();
+    if (this.state === "ready") {
+      this.#employ(false);
+    }
+    refuse?.(error);
+  }
+
+  /** Asks what waits next, if the worker is idle, or refuses all that wait, if there is none. */
+  #goOn() {
+    while (!["starting", "ready"].includes(this.state) && this.#waiting.length) {
+      this.#waiting.shift().refuse(new CgrlistError(NO_PROGRAM, this.state));
+    }
+    if (this.state === "ready" && !this.#running && this.#waiting.length) {
+      this.#running = this.#waiting.shift();
+      const { run, texts } = this.#running;
+      this.#worker.postMessage({ run, texts });
+    }
+  }
+
+  /**
+   * The answer of a run over texts: `{ status, report, session, message, milliseconds }`, where a text that isn't there is
+   * empty. It is refused with status 125 if there is no engine, and with 130 if it was stopped.
+   */
+  ask(run, texts) {
+    return new Promise((done, refuse) => {
+      this.#waiting.push({ run, texts: { ...texts }, done, refuse });
+      this.#goOn();
+    });
+  }
+
+  /** Stops the question that runs, or the first one that waits. Another worker answers the others and later ones. */
+  stop() {
+    const stopped = new CgrlistError(STOPPED, "stopped");
+    if (this.state === "ready" && this.#running?.run) {
+      this.#replace(stopped);
+    } else {
+      this.#waiting.shift()?.refuse(stopped);
+    }
+  }
+}

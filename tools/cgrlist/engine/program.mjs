@@ -1,0 +1,187 @@
+// The module in the thread that asks: what WebAssembly can't say of itself, and has to be trusted.
+
+/**
+ * The module's runs over texts, in the thread that asks.
+ *
+ * The proofs end at the module's exports. They suppose what `once` does: that all values lie in the module's memory above
+ * its own data, apart from each other, and that the lent memory is of a size that its allocator takes. The class stands
+ * alone, with all that it uses, since its text is also that of the page's worker.
+ */
+export class Program {
+  static #REQUEST = ["from", "to", "at", "marginPpm", "maxHops", "avoid"];
+
+  /** The texts that each run takes after the plan, in the order of its export's parameters, and whether it can leave a session. */
+  static RUNS = {
+    check: { takes: [] },
+    first: { takes: [...Program.#REQUEST, "count"], keeps: true },
+    next: { takes: ["session", "count"], keeps: true },
+    verify: { takes: ["session"] },
+    explain: { takes: [...Program.#REQUEST, "contacts"] },
+    many: { takes: ["requests", "count"] },
+    follow: { takes: ["lists"] },
+    canonical: { takes: [] },
+  };
+
+  static #MEMORY = 6; // the status of a run for which the lent memory or a buffer didn't suffice
+  static #MOST = 2 ** 32; // bytes that are lent at most
+  static #KEPT = 2 ** 28; // bytes of an instance's memory, over which it isn't used again
+  static #WORD = 8; // bytes of an address or a length
+  static #PAGE = 65536; // bytes by which memory grows
+  static #BLOCK = 4096; // the allocator takes memory of any number of blocks, less 16 bytes
+  static #encoder = new TextEncoder();
+  static #decoder = new TextDecoder();
+
+  #module;
+  #exports;
+  #lent;
+  #rooms;
+
+  /** @param module the compiled module */
+  constructor(module) {
+    this.#module = module;
+    this.#begin();
+  }
+
+  /** Begins with a new instance. What it lends at first is seldom too little, and what isn't touched costs nothing. */
+  #begin() {
+    this.#exports = new WebAssembly.Instance(this.#module).exports;
+    this.#lent = 2 ** 25;
+    this.#rooms = { report: 2 ** 22, session: 2 ** 22, message: 2 ** 12 };
+  }
+
+  /** The answer of a run over texts. More memory is lent as long as a run asks for it. */
+  ask(run, texts) {
+    const since = performance.now();
+    let answer;
+    do {
+      answer = this.once(run, texts, this.#lent, this.#rooms);
+    } while (answer.status === Program.#MEMORY && this.#lendMore(answer.lengths));
+    if (this.#exports.memory.buffer.byteLength > Program.#KEPT) {
+      this.#begin();
+    }
+    const { lengths, ...told } = answer;
+    return { ...told, milliseconds: performance.now() - since };
+  }
+
+  /** Makes room for texts of these lengths or, where there is room, doubles the lent memory; false if there is no more. */
+  #lendMore(lengths) {
+    if (!lengths) {
+      return false; // the memory doesn't grow
+    }
+    const short = Object.keys(lengths).filter((name) => lengths[name] > this.#rooms[name]);
+    short.forEach((name) => (this.#rooms[name] = lengths[name]));
+    if (!short.length) {
+      this.#lent *= 2;
+    }
+    return this.#lent <= Program.#MOST;
+  }
+
+  /**
+   * The answer of one call with so much lent memory and room for texts, and the lengths of the texts if it was made. Status 6 says that
+   * this isn't enough. An instance whose call didn't end, or didn't give the memory back, isn't used again.
+   */
+  once(run, texts, lent, rooms) {
+    const given = ["plan", ...Program.RUNS[run].takes].map((name) => Program.#bytesOf(texts[name]));
+    const buffers = Program.RUNS[run].keeps ? ["report", "session", "message"] : ["report", "message"];
+    const layout = this.#layout(given, lent, buffers.map((name) => rooms[name]));
+    if (!this.#growTo(layout.end)) {
+      return { status: Program.#MEMORY, report: "", session: "", message: "cgrlist: no memory\n" };
+    }
+    this.#write(given, layout);
+    let status;
+    try {
+      status = this.#exports[`cgrlist_${run}`](...Program.#parameters(run, texts, layout));
+    } catch (error) {
+      this.#begin();
+      throw error;
+    }
+    return { status, ...this.#read(buffers, layout) };
+  }
+
+  static #bytesOf(value) {
+    return value instanceof Uint8Array ? value : Program.#encoder.encode(value ?? "");
+  }
+
+  /** Where all values of a call lie, each as an address and a size, one after the other from the end of the module's data. */
+  #layout(given, lent, rooms) {
+    let end = Number(this.#exports.__heap_base.value);
+    const place = (size) => {
+      const at = Math.ceil(end / 16) * 16;
+      end = at + size;
+      return { at, size };
+    };
+    const memory = place(2 * Program.#WORD);
+    const lengths = place(3 * Program.#WORD);
+    const texts = given.map((bytes) => place(bytes.length));
+    const buffers = rooms.map(place);
+    const heap = place(lent ? Math.ceil(lent / Program.#BLOCK) * Program.#BLOCK - 16 : 0);
+    return { memory, lengths, texts, buffers, heap, end };
+  }
+
+  /** Makes the memory as large as that; false if it can't be. Some engines count its pages by BigInts, some by numbers. */
+  #growTo(end) {
+    const { memory } = this.#exports;
+    const pages = Math.ceil((end - memory.buffer.byteLength) / Program.#PAGE);
+    const grow = (count) => {
+      try {
+        memory.grow(count);
+        return true;
+      } catch (error) {
+        return error instanceof TypeError && typeof count === "bigint" && grow(Number(count));
+      }
+    };
+    return pages <= 0 || grow(BigInt(pages));
+  }
+
+  /** Writes the texts, and which memory is lent. */
+  #write(given, { memory, heap, texts }) {
+    const bytes = new Uint8Array(this.#exports.memory.buffer);
+    given.forEach((text, place) => bytes.set(text, texts[place].at));
+    this.#words(memory).set([BigInt(heap.at), BigInt(heap.size)]);
+  }
+
+  /** The words that lie at a place, as they are until the memory grows. */
+  #words({ at, size }) {
+    return new BigUint64Array(this.#exports.memory.buffer, at, size / Program.#WORD);
+  }
+
+  static #parameters(run, texts, { memory, lengths, texts: given, buffers }) {
+    const slice = ({ at, size }) => [BigInt(at), BigInt(size)];
+    const keep = Program.RUNS[run].keeps ? [texts.keep ? 1 : 0] : [];
+    return [BigInt(memory.at), ...given.flatMap(slice), ...keep, ...buffers.flatMap(slice), BigInt(lengths.at)];
+  }
+
+  /** The texts in the buffers after a call. */
+  #read(names, { memory, heap, lengths, buffers }) {
+    const told = [...this.#words(lengths)].map(Number);
+    const all = this.#exports.memory.buffer;
+    const answer = { report: "", session: "", message: "", lengths: {} };
+    names.forEach((name, place) => {
+      const { at, size } = buffers[place];
+      answer[name] = Program.#decoder.decode(new Uint8Array(all, at, Math.min(told[place], size)));
+      answer.lengths[name] = told[place];
+    });
+    if (this.#words(memory)[1] !== BigInt(heap.size)) {
+      this.#begin();
+    }
+    return answer;
+  }
+}
+
+/** Why this JavaScript can't run the module; an empty text if it can. */
+export function lack() {
+  if (!globalThis.WebAssembly) {
+    return "no WebAssembly";
+  }
+  // A module that is nothing but a page of 64-bit memory.
+  const smallest = Uint8Array.of(0, 97, 115, 109, 1, 0, 0, 0, 5, 3, 1, 4, 1);
+  return WebAssembly.validate(smallest) ? "" : "no 64-bit memory in WebAssembly";
+}
+
+/** The compiled module of its bytes, which may be compressed or in base 64. */
+export async function compiled(given) {
+  const bytes = typeof given === "string" ? Uint8Array.from(atob(given), (it) => it.charCodeAt(0)) : new Uint8Array(given);
+  const isGzip = bytes[0] === 0x1f && bytes[1] === 0x8b;
+  const plain = isGzip ? new Blob([bytes]).stream().pipeThrough(new DecompressionStream("gzip")) : bytes;
+  return WebAssembly.compile(await new Response(plain).arrayBuffer());
+}
