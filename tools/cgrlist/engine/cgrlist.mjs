@@ -1,184 +1,24 @@
-// The program cgrlist in JavaScript: its proved runs, compiled for WebAssembly, for browsers, Node and Deno.
+// The program cgrlist for JavaScript: a plan's text in, its routes out, as the proved module has them.
 //
 //     import { Plan } from "./cgrlist.mjs";
 //     const plan = await Plan.read(text);
 //     const { routes } = await plan.first({ from: 31, to: 1, at: "2030/01/01-00:45:00", count: 3 });
 //
-// What routes a plan has says the module cgrlist.wasm.gz, which lies beside this file and needs 64-bit memory: Node 20 has
-// that with --experimental-wasm-memory64. Here its texts become objects. Times are seconds since 1970 in UTC, as numbers;
-// contacts and ranks are numbers. Nodes and rates go up to 2 ** 64 - 1, so they are BigInts: 31n.
+// The module cgrlist.wasm.gz lies beside this file. It needs 64-bit memory: browsers, Deno and Node 24 that have it, and
+// Node 20 with --experimental-wasm-memory64. Here its texts become objects. Times are seconds since 1970 in UTC; they,
+// contacts' numbers and ranks are numbers. Nodes and rates go up to 2 ** 64 - 1, so they are BigInts, as 31n; where a node
+// is asked for, a number or a text is taken, too.
 
-// ---- The module in this thread ----------------------------------------------------------------------------------
+import { CgrlistError, NO_PROGRAM } from "./errors.mjs";
+import { Program, compiled, lack } from "./program.mjs";
 
-/**
- * The module's runs over texts, in the thread that asks.
- *
- * The proofs end at the module's exports. They suppose what `once` does: that all values lie in the module's memory above
- * its own data, apart from each other, and that the lent memory is of a size that its allocator takes. The class stands
- * alone, with all that it uses, since its text is also that of the page's worker.
- */
-export class Program {
-  static #REQUEST = ["from", "to", "at", "marginPpm", "maxHops", "avoid"];
+export { Engine } from "./engine.mjs";
+export { CgrlistError, NO_PROGRAM, REPAIRS, STOPPED } from "./errors.mjs";
 
-  /** The texts that each run takes after the plan, in the order of its export's parameters, and whether it can leave a session. */
-  static RUNS = {
-    check: { takes: [] },
-    first: { takes: [...Program.#REQUEST, "count"], keeps: true },
-    next: { takes: ["session", "count"], keeps: true },
-    verify: { takes: ["session"] },
-    explain: { takes: [...Program.#REQUEST, "contacts"] },
-    many: { takes: ["requests", "count"] },
-    follow: { takes: ["lists"] },
-    canonical: { takes: [] },
-  };
-
-  static #MEMORY = 6; // the status of a run for which the lent memory or a buffer didn't suffice
-  static #MOST = 2 ** 32; // bytes that are lent at most
-  static #KEPT = 2 ** 28; // bytes of an instance's memory, over which it isn't used again
-  static #WORD = 8; // bytes of an address or a length
-  static #PAGE = 65536; // bytes by which memory grows
-  static #BLOCK = 4096; // the allocator takes memory of any number of blocks, less 16 bytes
-  static #encoder = new TextEncoder();
-  static #decoder = new TextDecoder();
-
-  #module;
-  #exports;
-  #lent;
-  #rooms;
-
-  /** @param module the compiled module */
-  constructor(module) {
-    this.#module = module;
-    this.#begin();
-  }
-
-  /** Begins with a new instance. What it lends at first is seldom too little, and what isn't touched costs nothing. */
-  #begin() {
-    this.#exports = new WebAssembly.Instance(this.#module).exports;
-    this.#lent = 2 ** 25;
-    this.#rooms = { report: 2 ** 22, session: 2 ** 22, message: 2 ** 12 };
-  }
-
-  /** The answer of a run over texts. More memory is lent as long as a run asks for it. */
-  ask(run, texts) {
-    const since = performance.now();
-    let answer;
-    do {
-      answer = this.once(run, texts, this.#lent, this.#rooms);
-    } while (answer.status === Program.#MEMORY && this.#lendMore(answer.lengths));
-    if (this.#exports.memory.buffer.byteLength > Program.#KEPT) {
-      this.#begin();
-    }
-    const { lengths, ...told } = answer;
-    return { ...told, milliseconds: performance.now() - since };
-  }
-
-  /** Makes room for texts of these lengths or, where there is room, doubles the lent memory; false if there is no more. */
-  #lendMore(lengths) {
-    const short = Object.keys(lengths).filter((name) => lengths[name] > this.#rooms[name]);
-    short.forEach((name) => (this.#rooms[name] = lengths[name]));
-    if (!short.length) {
-      this.#lent *= 2;
-    }
-    return this.#lent <= Program.#MOST;
-  }
-
-  /**
-   * The answer of one call with so much lent memory and room for texts, and the lengths of the texts. Status 6 says that
-   * this isn't enough. An instance whose call didn't end, or didn't give the memory back, isn't used again.
-   */
-  once(run, texts, lent, rooms) {
-    const given = ["plan", ...Program.RUNS[run].takes].map((name) => Program.#bytesOf(texts[name]));
-    const buffers = Program.RUNS[run].keeps ? ["report", "session", "message"] : ["report", "message"];
-    const layout = this.#layout(given, lent, buffers.map((name) => rooms[name]));
-    let status;
-    try {
-      this.#growTo(layout.end);
-      this.#write(given, layout);
-      status = this.#exports[`cgrlist_${run}`](...Program.#parameters(run, texts, layout));
-    } catch (error) {
-      this.#begin();
-      throw error;
-    }
-    return { status, ...this.#read(buffers, layout) };
-  }
-
-  static #bytesOf(value) {
-    return value instanceof Uint8Array ? value : Program.#encoder.encode(value ?? "");
-  }
-
-  /** Where all values of a call lie, each as an address and a size, one after the other from the end of the module's data. */
-  #layout(given, lent, rooms) {
-    let end = Number(this.#exports.__heap_base.value);
-    const place = (size) => {
-      const at = Math.ceil(end / 16) * 16;
-      end = at + size;
-      return { at, size };
-    };
-    const memory = place(2 * Program.#WORD);
-    const lengths = place(3 * Program.#WORD);
-    const texts = given.map((bytes) => place(bytes.length));
-    const buffers = rooms.map(place);
-    const heap = place(lent ? Math.ceil(lent / Program.#BLOCK) * Program.#BLOCK - 16 : 0);
-    return { memory, lengths, texts, buffers, heap, end };
-  }
-
-  /** Makes the memory as large as that. Some engines count its pages by BigInts, some by numbers. */
-  #growTo(end) {
-    const { memory } = this.#exports;
-    const pages = Math.ceil((end - memory.buffer.byteLength) / Program.#PAGE);
-    if (pages <= 0) {
-      return;
-    }
-    try {
-      memory.grow(BigInt(pages));
-    } catch (error) {
-      if (!(error instanceof TypeError)) {
-        throw error;
-      }
-      memory.grow(pages);
-    }
-  }
-
-  /** Writes the texts, and which memory is lent. */
-  #write(given, { memory, heap, texts }) {
-    const bytes = new Uint8Array(this.#exports.memory.buffer);
-    given.forEach((text, place) => bytes.set(text, texts[place].at));
-    this.#words(memory).set([BigInt(heap.at), BigInt(heap.size)]);
-  }
-
-  /** The words that lie at a place, as they are until the memory grows. */
-  #words({ at, size }) {
-    return new BigUint64Array(this.#exports.memory.buffer, at, size / Program.#WORD);
-  }
-
-  static #parameters(run, texts, { memory, lengths, texts: given, buffers }) {
-    const slice = ({ at, size }) => [BigInt(at), BigInt(size)];
-    const keep = Program.RUNS[run].keeps ? [texts.keep ? 1 : 0] : [];
-    return [BigInt(memory.at), ...given.flatMap(slice), ...keep, ...buffers.flatMap(slice), BigInt(lengths.at)];
-  }
-
-  /** The texts in the buffers after a call. */
-  #read(names, { memory, heap, lengths, buffers }) {
-    const told = [...this.#words(lengths)].map(Number);
-    const all = this.#exports.memory.buffer;
-    const answer = { report: "", session: "", message: "", lengths: {} };
-    names.forEach((name, place) => {
-      const { at, size } = buffers[place];
-      answer[name] = Program.#decoder.decode(new Uint8Array(all, at, Math.min(told[place], size)));
-      answer.lengths[name] = told[place];
-    });
-    if (this.#words(memory)[1] !== BigInt(heap.size)) {
-      this.#begin();
-    }
-    return answer;
-  }
-}
-
-// ---- Where the module lies --------------------------------------------------------------------------------------
+// ---- The module -------------------------------------------------------------------------------------------------
 
 /** The bytes of the module beside this file, compressed. */
-async function besideThis() {
+export async function moduleBytes() {
   const place = new URL("cgrlist.wasm.gz", import.meta.url);
   if (globalThis.process?.versions?.node) {
     const { readFile } = await import("node:fs/promises");
@@ -187,146 +27,220 @@ async function besideThis() {
   return (await fetch(place)).arrayBuffer();
 }
 
-/** Why this JavaScript can't run the module; an empty text if it can. */
-function lack() {
-  if (!globalThis.WebAssembly) {
-    return "no WebAssembly";
+/** The module of some bytes in the thread that asks, which waits for each answer. */
+export async function programOf(bytes) {
+  const without = lack();
+  if (without) {
+    throw new CgrlistError(NO_PROGRAM, without);
   }
-  // A module that is nothing but a page of 64-bit memory.
-  const smallest = Uint8Array.of(0, 97, 115, 109, 1, 0, 0, 0, 5, 3, 1, 4, 1);
-  return WebAssembly.validate(smallest) ? "" : "no 64-bit memory in WebAssembly";
+  return new Program(await compiled(await bytes));
 }
 
-/** The compiled module of its bytes, which may be compressed or in base 64. */
-async function compiled(given) {
-  const bytes = typeof given === "string" ? Uint8Array.from(atob(given), (it) => it.charCodeAt(0)) : new Uint8Array(given);
-  const isGzip = bytes[0] === 0x1f && bytes[1] === 0x8b;
-  const plain = isGzip ? new Blob([bytes]).stream().pipeThrough(new DecompressionStream("gzip")) : bytes;
-  return WebAssembly.compile(await new Response(plain).arrayBuffer());
+let program;
+
+/** The answer of a run over texts; status 1, of `verify`, is no refusal. */
+async function asked(engine, run, texts) {
+  const answer = await (await engine).ask(run, texts);
+  if (answer.status > 1) {
+    throw new CgrlistError(answer.status, answer.message);
+  }
+  return answer;
 }
 
-// ---- The module in a worker -------------------------------------------------------------------------------------
+// ---- What is asked ----------------------------------------------------------------------------------------------
 
-const NO_PROGRAM = 125;
-const STOPPED = 130;
+const LAST = 253402300799; // 9999/12/31-23:59:59
 
-/** What the worker does: the first message has the module, each later one a question. */
-function work() {
-  let program;
-  const warmUp = () => {
-    const range = "a range 2030/01/01-00:00:00 2031/01/01-00:00:00 1 2 1\n";
-    const plan = `${range}a contact 2030/01/01-00:00:00 2031/01/01-00:00:00 1 2 1\n`;
-    const asked = { plan, from: "1", to: "2", at: "2030/01/01-00:00:00", count: "1", contacts: "1", keep: true };
-    const { session } = program.ask("first", asked);
-    for (const run of ["next", "verify", "explain", "canonical"]) {
-      program.ask(run, { ...asked, session });
-    }
-  };
-  const answerTo = ({ module, isFirst, run, texts }) => {
-    if (!module) {
-      return program.ask(run, texts);
-    }
-    program = new Program(module);
-    return isFirst ? warmUp() : undefined;
-  };
-  globalThis.onmessage = ({ data }) => {
-    try {
-      globalThis.postMessage({ answer: answerTo(data) });
-    } catch (error) {
-      globalThis.postMessage({ failure: String(error) });
-    }
-  };
+/** A time as the program writes it. */
+export function timeText(seconds) {
+  return new Date(seconds * 1000).toISOString().slice(0, 19).replaceAll("-", "/").replace("T", "-");
 }
 
-/** The module's runs in a worker of a page. One question runs at a time, and those that come meanwhile wait. */
-export class Engine {
-  #module;
-  #worker;
-  #running; // the question that runs, or the start
-  #waiting = [];
-  #source;
+/** The second of a time as the program writes it. */
+export function secondsOf(text) {
+  return Date.parse(`${text.slice(0, 10).replaceAll("/", "-")}T${text.slice(11)}Z`) / 1000;
+}
 
-  /** What the page may say: "starting", "ready", or why there is no engine here. */
-  state = "starting";
+function word(value) {
+  return value === undefined || value === null ? "" : String(value);
+}
 
-  /** The state as soon as it is no longer "starting". */
-  started;
+/** A request's values as texts, which the module judges; empty ones aren't given. */
+function textsOf({ from, to, at, marginPpm, maxHops, avoid }) {
+  const second = at instanceof Date ? Math.floor(at / 1000) : at;
+  const isTime = Number.isInteger(second) && second >= 0 && second <= LAST;
+  const limits = { marginPpm: word(marginPpm), maxHops: word(maxHops), avoid: word(avoid) };
+  return { from: word(from), to: word(to), at: isTime ? timeText(second) : word(second), ...limits };
+}
 
-  /** @param module the module's bytes, which may be compressed or in base 64, or a promise of them; those beside this file if left out */
-  constructor(module) {
-    this.started = this.#start(module);
+/** Requests as lines; each may have contacts in front. */
+function linesOf(requests) {
+  if (typeof requests === "string") {
+    return requests;
   }
+  const lines = requests.map((request) => {
+    const { from, to, at, marginPpm, maxHops, avoid } = textsOf(request);
+    const words = [word(request.contacts), from, to, at, marginPpm || "0", maxHops || "20000", avoid];
+    return `${words.filter((it) => it).join(" ")}\n`;
+  });
+  return lines.join("");
+}
 
-  async #start(module) {
-    try {
-      this.state = lack() || this.state;
-      if (this.state === "starting") {
-        this.#module = await compiled(await (module ?? besideThis()));
-        await this.#employ(true);
-        this.state = "ready";
-      }
-    } catch (error) {
-      this.state = `the engine doesn't start: ${error.message}`;
-    }
-    this.#goOn();
-    return this.state;
-  }
+// ---- What is answered -------------------------------------------------------------------------------------------
 
-  /** Begins a worker, which first gets the module. */
-  #employ(isFirst) {
-    this.#source ??= URL.createObjectURL(new Blob([`${Program}\n(${work})()`], { type: "text/javascript" }));
-    this.#worker = new Worker(this.#source);
-    this.#worker.onmessage = ({ data }) => this.#end(data);
-    this.#worker.onerror = (event) => this.#end({ failure: event.message });
-    return new Promise((done, refuse) => {
-      this.#running = { done, refuse };
-      this.#worker.postMessage({ module: this.#module, isFirst });
-    });
-  }
+/** The lines of a report. */
+function linesIn(report) {
+  return report.split("\n").slice(0, -1);
+}
 
-  /** Ends the question that runs, by its answer or by what the worker failed with. */
-  #end({ answer, failure }) {
-    const { done, refuse } = this.#running;
-    this.#running = undefined;
-    if (failure === undefined) {
-      done(answer);
+/** The answers of a report, each with the line that it answers. */
+function answersIn(report, head) {
+  const answers = [];
+  for (const line of linesIn(report)) {
+    if (line.startsWith(head)) {
+      answers.push({ line: line.slice(head.length), told: [] });
     } else {
-      refuse(new CgrlistError(NO_PROGRAM, failure));
-    }
-    this.#goOn();
-  }
-
-  /** Asks what waits next, if the worker is idle, or refuses all that wait, if there won't be one. */
-  #goOn() {
-    while (!["starting", "ready"].includes(this.state) && this.#waiting.length) {
-      this.#waiting.shift().refuse(new CgrlistError(NO_PROGRAM, this.state));
-    }
-    if (this.state === "ready" && !this.#running && this.#waiting.length) {
-      this.#running = this.#waiting.shift();
-      const { run, texts } = this.#running;
-      this.#worker.postMessage({ run, texts });
+      answers.at(-1).told.push(line);
     }
   }
+  return answers;
+}
 
-  /**
-   * The answer of a run over texts: `{ status, report, session, message, milliseconds }`, where a text that isn't there is
-   * empty. It is refused if there is no engine (status 125) or if it was stopped (130).
-   */
-  ask(run, texts) {
-    return new Promise((done, refuse) => {
-      this.#waiting.push({ run, texts: { ...texts }, done, refuse });
-      this.#goOn();
-    });
+/** The route of a line; its rank is undefined if that isn't told. */
+function routeOf(line) {
+  const words = line.split(" ");
+  const rank = words[0] === "delivery" ? undefined : Number(words.shift());
+  const [, delivery, , , , entry, , until, , ...contacts] = words;
+  const times = { delivery: secondsOf(delivery), until: secondsOf(until) };
+  return { rank, ...times, hops: contacts.length, entry: BigInt(entry), contacts: contacts.map(Number) };
+}
+
+/** The routes of a report's lines, and whether more follow. */
+function pageOf(lines) {
+  return { routes: lines.slice(0, -1).map(routeOf), more: lines.at(-1) === "more" };
+}
+
+/** The hops of an explanation's lines, and then the route or the fault. */
+function explanationOf(lines) {
+  const hops = lines.slice(0, -1).map((line) => {
+    const [, , , contact, , from, , to, , send, , arrive] = line.split(" ");
+    const times = { send: secondsOf(send), arrive: secondsOf(arrive) };
+    return { contact: Number(contact), from: BigInt(from), to: BigInt(to), ...times };
+  });
+  const [, hop, reason] = /^refused(?: hop (\d+))?: (\w+)$/.exec(lines.at(-1)) ?? [];
+  return reason ? { hops, fault: { hop: hop && Number(hop), reason } } : { hops, route: routeOf(lines.at(-1)) };
+}
+
+// ---- Plans ------------------------------------------------------------------------------------------------------
+
+/** The light times of a plan's ranges. */
+class Lights {
+  #ranges = new Map(); // of each ordered pair, by start
+
+  constructor(ranges) {
+    for (const range of ranges) {
+      const pair = `${range.one} ${range.other}`;
+      if (!this.#ranges.has(pair)) {
+        this.#ranges.set(pair, []);
+      }
+      this.#ranges.get(pair).push(range);
+    }
   }
 
-  /** Stops the question that runs, or the first one that waits. A new worker answers those that wait, and later ones. */
-  stop() {
-    if (this.state !== "ready" || !this.#running) {
-      this.#waiting.shift()?.refuse(new CgrlistError(STOPPED, "stopped"));
-      return;
+  /** The light time in a second; null if there is none. A range from the smaller node holds in both directions. */
+  at(from, to, second) {
+    const own = this.#holding(`${from} ${to}`, second);
+    const light = own ?? (from > to ? this.#holding(`${to} ${from}`, second) : undefined);
+    return light?.light ?? null;
+  }
+
+  /** The range of a pair that holds in a second. */
+  #holding(pair, second) {
+    const ranges = this.#ranges.get(pair) ?? [];
+    let [low, high] = [0, ranges.length];
+    while (low < high) {
+      const middle = (low + high) >> 1;
+      [low, high] = ranges[middle].start <= second ? [middle + 1, high] : [low, middle];
     }
-    this.#worker.terminate();
-    this.#running.refuse(new CgrlistError(STOPPED, "stopped"));
-    this.#employ(false).catch((error) => (this.state = `the engine doesn't start: ${error.message}`));
+    return low && second < ranges[low - 1].end ? ranges[low - 1] : undefined;
+  }
+}
+
+/** The contacts and ranges of a plan's canonical text. */
+function standingIn(canonical) {
+  const rows = linesIn(canonical).map((line) => line.split(" "));
+  const ranges = rows.filter(([kind]) => kind === "r").map(([, one, other, start, end, light]) => {
+    return { one: BigInt(one), other: BigInt(other), start: Number(start), end: Number(end), light: Number(light) };
+  });
+  const lights = new Lights(ranges);
+  const contacts = rows.filter(([kind]) => kind === "c").map(([, number, start, end, from, to, rate]) => {
+    const link = { from: BigInt(from), to: BigInt(to) };
+    const light = lights.at(link.from, link.to, Number(start));
+    return { number: Number(number), start: Number(start), end: Number(end), ...link, rate: BigInt(rate), light };
+  });
+  return { contacts, ranges };
+}
+
+/** A contact plan, over which the module is asked. It parses the plan's text for each answer. */
+export class Plan {
+  #engine;
+
+  /** Use `Plan.read`. */
+  constructor(engine, text, canonical, checked) {
+    this.#engine = engine;
+    this.text = text;
+    this.canonical = canonical;
+    Object.assign(this, standingIn(canonical));
+    const nodes = new Set(this.contacts.flatMap(({ from, to }) => [from, to]));
+    this.nodes = [...nodes].sort((one, other) => (one < other ? -1 : 1));
+    const [contacts, ranges, count, withoutLight, digest] = linesIn(checked).map((line) => line.split(" ").at(-1));
+    this.counts = { contacts: +contacts, ranges: +ranges, nodes: +count, withoutLight: +withoutLight };
+    this.digest = digest;
+  }
+
+  /** Reads a plan's text or its bytes; an engine in a worker may be given, or else the module runs in this thread. */
+  static async read(text, engine = (program ??= programOf(moduleBytes()))) {
+    const { report: canonical } = await asked(engine, "canonical", { plan: text });
+    const { report: checked } = await asked(engine, "check", { plan: text });
+    return new Plan(engine, text, canonical, checked);
+  }
+
+  #ask(run, texts) {
+    return asked(this.#engine, run, { plan: this.text, ...texts });
+  }
+
+  /** The first routes of a request; with `keep` also the session text after them. */
+  async first({ count = 10, keep = false, ...request }) {
+    const { report, session } = await this.#ask("first", { ...textsOf(request), count: word(count), keep });
+    return { ...pageOf(linesIn(report)), ...(keep && { session }) };
+  }
+
+  /** The routes after those of a session text. */
+  async next({ session: before, count = 10, keep = false }) {
+    const { report, session } = await this.#ask("next", { session: before, count: word(count), keep });
+    return { ...pageOf(linesIn(report)), ...(keep && { session }) };
+  }
+
+  /** Whether a text is the session text of a rank in the list of its request. */
+  async verify(session) {
+    return (await this.#ask("verify", { session })).status === 0;
+  }
+
+  /** What a list of contacts does for a request, hop by hop, and then the route or the first fault. */
+  async explain(request, contacts) {
+    const { report } = await this.#ask("explain", { ...textsOf(request), contacts: word(contacts) });
+    return explanationOf(linesIn(report));
+  }
+
+  /** The first routes of each of some requests, or of a text of such lines. */
+  async many(requests, count = 10) {
+    const { report } = await this.#ask("many", { requests: linesOf(requests), count: word(count) });
+    return answersIn(report, "request ").map(({ line, told }) => ({ line, ...pageOf(told) }));
+  }
+
+  /** What each of some lists of contacts does for its request, or each of a text of such lines. */
+  async follow(lists) {
+    const { report } = await this.#ask("follow", { lists: linesOf(lists) });
+    return answersIn(report, "list ").map(({ line, told }) => ({ line, ...explanationOf(told) }));
   }
 }
