@@ -10,7 +10,7 @@
 // is asked for, a number or a text is taken, too.
 
 import { CgrlistError, NO_PROGRAM } from "./errors.mjs";
-import { Program, compiled, lack } from "./program.mjs";
+import { Program, compiledModule, engineLack } from "./program.mjs";
 
 export { Engine } from "./engine.mjs";
 export { CgrlistError, NO_PROGRAM, REPAIRS, STOPPED } from "./errors.mjs";
@@ -29,11 +29,11 @@ export async function moduleBytes() {
 
 /** The module of some bytes in the thread that asks, which waits for each answer. */
 export async function programOf(bytes) {
-  const without = lack();
+  const without = engineLack();
   if (without) {
     throw new CgrlistError(NO_PROGRAM, without);
   }
-  return new Program(await compiled(await bytes));
+  return new Program(await compiledModule(await bytes));
 }
 
 let program;

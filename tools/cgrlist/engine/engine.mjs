@@ -1,10 +1,10 @@
 // The module in a worker of a page, so that nothing of the page waits.
 
 import { CgrlistError, NO_PROGRAM, STOPPED } from "./errors.mjs";
-import { Program, compiled, lack } from "./program.mjs";
+import { Program, compiledModule, engineLack } from "./program.mjs";
 
 /** What the worker does: the first message has the module, each later one a question. */
-function work() {
+function workerTask() {
   let program;
   const warmUp = () => {
     const range = "a range 2030/01/01-00:00:00 2031/01/01-00:00:00 1 2 1\n";
@@ -52,11 +52,11 @@ export class Engine {
 
   async #start(module) {
     try {
-      const without = lack();
+      const without = engineLack();
       if (without) {
         throw new Error(without);
       }
-      this.#module = await compiled(await module);
+      this.#module = await compiledModule(await module);
       await this.#employ(true);
       this.state = "ready";
     } catch (error) {
@@ -68,7 +68,7 @@ export class Engine {
 
   /** Begins a worker, which first gets the module. */
   #employ(isFirst) {
-    this.#source ??= URL.createObjectURL(new Blob([`${Program}\n(${work})()`], { type: "text/javascript" }));
+    this.#source ??= URL.createObjectURL(new Blob([`${Program}\n(${workerTask})()`], { type: "text/javascript" }));
     this.#worker = new Worker(this.#source);
     this.#worker.onmessage = ({ data }) => this.#end(data);
     this.#worker.onerror = ({ message }) => this.#replace(new CgrlistError(NO_PROGRAM, message || "the worker ended"));

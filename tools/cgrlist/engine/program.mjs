@@ -169,7 +169,7 @@ export class Program {
 }
 
 /** Why this JavaScript can't run the module; an empty text if it can. */
-export function lack() {
+export function engineLack() {
   if (!globalThis.WebAssembly) {
     return "no WebAssembly";
   }
@@ -179,7 +179,7 @@ export function lack() {
 }
 
 /** The compiled module of its bytes, which may be compressed or in base 64. */
-export async function compiled(given) {
+export async function compiledModule(given) {
   const bytes = typeof given === "string" ? Uint8Array.from(atob(given), (it) => it.charCodeAt(0)) : new Uint8Array(given);
   const isGzip = bytes[0] === 0x1f && bytes[1] === 0x8b;
   const plain = isGzip ? new Blob([bytes]).stream().pipeThrough(new DecompressionStream("gzip")) : bytes;
