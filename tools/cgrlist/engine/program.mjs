@@ -1,26 +1,16 @@
 // The module in the thread that asks: what WebAssembly can't say of itself, and has to be trusted.
 
 /**
- * The module's runs over texts, in the thread that asks.
+ * The module's runs over texts.
  *
  * The proofs end at the module's exports. They suppose what `once` does: that all values lie in the module's memory above
- * its own data, apart from each other, and that the lent memory is of a size that its allocator takes. The class stands
- * alone, with all that it uses, since its text is also that of the page's worker.
+ * its own data, apart from each other, each address at a multiple of 16, and that the size of the lent memory is one that
+ * the allocator takes. The class uses nothing outside it, since its text is also that of the page's worker.
  */
 export class Program {
-  static #REQUEST = ["from", "to", "at", "marginPpm", "maxHops", "avoid"];
-
-  /** The texts that each run takes after the plan, in the order of its export's parameters, and whether it can leave a session. */
-  static RUNS = {
-    check: { takes: [] },
-    first: { takes: [...Program.#REQUEST, "count"], keeps: true },
-    next: { takes: ["session", "count"], keeps: true },
-    verify: { takes: ["session"] },
-    explain: { takes: [...Program.#REQUEST, "contacts"] },
-    many: { takes: ["requests", "count"] },
-    follow: { takes: ["lists"] },
-    canonical: { takes: [] },
-  };
+  // The texts of a call, and those that it answers, in the order of the structs that the exports take.
+  static #GIVEN = ["plan", "session", "requests", "lists", "from", "to", "at", "marginPpm", "maxHops", "avoid", "count", "contacts"];
+  static #TOLD = ["report", "session", "message"];
 
   static #MEMORY = 6; // the status of a run for which the lent memory or a buffer didn't suffice
   static #MOST = 2 ** 32; // bytes that are lent at most
@@ -49,7 +39,7 @@ export class Program {
     this.#rooms = { report: 2 ** 22, session: 2 ** 22, message: 2 ** 12 };
   }
 
-  /** The answer of a run over texts. More memory is lent as long as a run asks for it. */
+  /** The answer of a run over texts. More memory is lent as long as the run asks for it. */
   ask(run, texts) {
     const since = performance.now();
     let answer;
@@ -77,25 +67,25 @@ export class Program {
   }
 
   /**
-   * The answer of one call with so much lent memory and room for texts, and the lengths of the texts if it was made. Status 6 says that
-   * this isn't enough. An instance whose call didn't end, or didn't give the memory back, isn't used again.
+   * The answer of one call with so much lent memory and room for texts, and the lengths of the texts if the call was made.
+   * Status 6 says that this isn't enough. An instance whose call didn't end, or didn't give the memory back, isn't used
+   * again.
    */
   once(run, texts, lent, rooms) {
-    const given = ["plan", ...Program.RUNS[run].takes].map((name) => Program.#bytesOf(texts[name]));
-    const buffers = Program.RUNS[run].keeps ? ["report", "session", "message"] : ["report", "message"];
-    const layout = this.#layout(given, lent, buffers.map((name) => rooms[name]));
+    const given = Program.#GIVEN.map((name) => Program.#bytesOf(texts[name]));
+    const layout = this.#layout(given, lent, rooms);
     if (!this.#growTo(layout.end)) {
       return { status: Program.#MEMORY, report: "", session: "", message: "cgrlist: no memory\n" };
     }
-    this.#write(given, layout);
-    let status;
+    this.#write(given, texts.keep, layout);
     try {
-      status = this.#exports[`cgrlist_${run}`](...Program.#parameters(run, texts, layout));
+      const { memory, asked, outputs } = layout;
+      const status = this.#exports[`cgrlist_${run}`](...[memory, asked, outputs].map(({ at }) => BigInt(at)));
+      return { status, ...this.#read(layout) };
     } catch (error) {
       this.#begin();
       throw error;
     }
-    return { status, ...this.#read(buffers, layout) };
   }
 
   static #bytesOf(value) {
@@ -111,11 +101,12 @@ export class Program {
       return { at, size };
     };
     const memory = place(2 * Program.#WORD);
-    const lengths = place(3 * Program.#WORD);
+    const asked = place((2 * Program.#GIVEN.length + 1) * Program.#WORD);
+    const outputs = place(3 * Program.#TOLD.length * Program.#WORD);
     const texts = given.map((bytes) => place(bytes.length));
-    const buffers = rooms.map(place);
+    const buffers = Program.#TOLD.map((name) => place(rooms[name] ?? 0));
     const heap = place(lent ? Math.ceil(lent / Program.#BLOCK) * Program.#BLOCK - 16 : 0);
-    return { memory, lengths, texts, buffers, heap, end };
+    return { memory, asked, outputs, texts, buffers, heap, end };
   }
 
   /** Makes the memory as large as that; false if it can't be. Some engines count its pages by BigInts, some by numbers. */
@@ -133,33 +124,34 @@ export class Program {
     return pages <= 0 || grow(BigInt(pages));
   }
 
-  /** Writes the texts, and which memory is lent. */
-  #write(given, { memory, heap, texts }) {
+  /** Writes the texts, and the structs that say where they, the buffers and the lent memory lie. */
+  #write(given, keep, { memory, asked, outputs, texts, buffers, heap }) {
     const bytes = new Uint8Array(this.#exports.memory.buffer);
     given.forEach((text, place) => bytes.set(text, texts[place].at));
-    this.#words(memory).set([BigInt(heap.at), BigInt(heap.size)]);
+    const words = ({ at, size }) => [at, size];
+    this.#put(memory, words(heap));
+    this.#put(asked, [...texts.flatMap(words), keep ? 1 : 0]);
+    this.#put(outputs, buffers.flatMap((buffer) => [...words(buffer), 0]));
   }
 
-  /** The words that lie at a place, as they are until the memory grows. */
+  #put(struct, words) {
+    this.#words(struct).set(words.map(BigInt));
+  }
+
+  /** The words of a struct, as they lie there until the memory grows. */
   #words({ at, size }) {
     return new BigUint64Array(this.#exports.memory.buffer, at, size / Program.#WORD);
   }
 
-  static #parameters(run, texts, { memory, lengths, texts: given, buffers }) {
-    const slice = ({ at, size }) => [BigInt(at), BigInt(size)];
-    const keep = Program.RUNS[run].keeps ? [texts.keep ? 1 : 0] : [];
-    return [BigInt(memory.at), ...given.flatMap(slice), ...keep, ...buffers.flatMap(slice), BigInt(lengths.at)];
-  }
-
-  /** The texts in the buffers after a call. */
-  #read(names, { memory, heap, lengths, buffers }) {
-    const told = [...this.#words(lengths)].map(Number);
-    const all = this.#exports.memory.buffer;
-    const answer = { report: "", session: "", message: "", lengths: {} };
-    names.forEach((name, place) => {
+  /** The texts in the buffers after a call, and their lengths, which may be larger. */
+  #read({ memory, outputs, buffers, heap }) {
+    const words = this.#words(outputs);
+    const answer = { lengths: {} };
+    Program.#TOLD.forEach((name, place) => {
       const { at, size } = buffers[place];
-      answer[name] = Program.#decoder.decode(new Uint8Array(all, at, Math.min(told[place], size)));
-      answer.lengths[name] = told[place];
+      const length = Number(words[3 * place + 2]);
+      answer[name] = Program.#decoder.decode(new Uint8Array(this.#exports.memory.buffer, at, Math.min(length, size)));
+      answer.lengths[name] = length;
     });
     if (this.#words(memory)[1] !== BigInt(heap.size)) {
       this.#begin();
