@@ -210,12 +210,34 @@ def lack():
     return None if node() else "there is no node with 64-bit memory"
 
 
-class Engines(Room):
-    """The program, and the engine in node."""
+class Asking(Room):
+    """The program, and an engine beside it that is asked the same."""
 
     def __init__(self, program):
         super().__init__()
-        self.program, self.words = program, [*node(), f"{TOP}/tests/engine/node.mjs", MODULE]
+        self.program, self.known = program, {}
+
+    def by_program(self, question):
+        """What the program answers to a question, which it is asked once."""
+        if question.title not in self.known:
+            self.known[question.title] = by_program(self.program, question)
+        return self.known[question.title]
+
+    def answers(self, questions):
+        """What the engine answers to questions."""
+        return [*map(answer_in, self.asked("runs", questions=[it.told() for it in questions]))]
+
+    def in_steps(self, questions):
+        """What it answers to questions with more and more memory."""
+        return self.asked("steps", questions=questions)
+
+
+class Node(Asking):
+    """The engine in node."""
+
+    def __init__(self, program):
+        super().__init__(program)
+        self.words = [*node(), f"{TOP}/tests/engine/node.mjs", MODULE]
 
     def asked(self, what, **asked):
         """What the engine answers."""
@@ -224,12 +246,6 @@ class Engines(Room):
         if ran.returncode:
             raise RuntimeError(ran.stderr.decode())
         return json.loads(ran.stdout)
-
-    def answers(self, questions):
-        return [*map(answer_in, self.asked("runs", questions=[it.told() for it in questions]))]
-
-    def by_program(self, question):
-        return by_program(self.program, question)
 
 
 def answer_in(told):
@@ -260,7 +276,7 @@ def canonical(room):
         wanted = Answer(0, read(text.encode())[0].canonical(), "", "")
         yield f"canonical text {place}", wanted, lambda place=place: found[place]
     bad = "a contact\n"
-    wanted = room.by_program(Question("", "check", {"plan": bad}))
+    wanted = room.by_program(Question("a bad plan", "check", {"plan": bad}))
     yield "no canonical text of a bad plan", wanted, lambda: room.answers([Question("", "canonical", {"plan": bad})])[0]
 
 
@@ -270,8 +286,8 @@ def sessions(room):
     theirs, ours = [room.by_program(it) for it in asked], room.answers(asked)
     after = [it._replace(run="next").having(session=session.session) for it, session in zip(asked, theirs)]
     for question, found, session in zip(after, room.answers(after), ours):
-        wanted = room.by_program(question.having(session=session.session))
-        yield f"{question.title}, next", wanted, lambda found=found: found
+        question = question.having(session=session.session)._replace(title=f"{question.title}, next")
+        yield question.title, room.by_program(question), lambda found=found: found
 
 
 def refusals(room):
@@ -281,12 +297,12 @@ def refusals(room):
 def memory(room):
     """With too little lent memory or room the status is 6, and else the answer is right."""
     good = {"plan": relay_plan(), **RELAYED}
-    session = room.by_program(Question("", "first", good)).session
+    session = room.by_program(Question("relay, first", "first", good)).session
     lent = {"step": 4096, "most": 1 << 20, "rooms": ALL_ROOM}
     for run in (*TAKEN, "canonical"):
         question = Question(run, run, {**good, "session": session, "keep": run in ("first", "next")})
         wanted = room.answers([question])[0]
-        answers = room.asked("steps", questions=[question.told(**lent)])[0]
+        answers = room.in_steps([question.told(**lent)])[0]
         yield f"{run}, with more and more lent memory", {6}, lambda: {it["status"] for it in answers[:-1]}
         yield f"{run}, with enough", wanted, lambda: answer_in(answers[-1])
         yield f"{run}, the message", {"cgrlist: no memory\n"}, lambda: {it["message"] for it in answers[:-1]}
@@ -303,7 +319,7 @@ def in_rooms(room, question, name, size):
     """The status and the text's length without room for it, with a byte too little, and with enough."""
     lent = {"step": 1 << 22, "most": 1 << 22}
     asked = [question.told(**lent, rooms={**ALL_ROOM, name: it}) for it in (0, size - 1, size)]
-    return [(it[-1]["status"], it[-1]["lengths"][name]) for it in room.asked("steps", questions=asked)]
+    return [(it[-1]["status"], it[-1]["lengths"][name]) for it in room.in_steps(asked)]
 
 
 def chain(hops):
@@ -393,7 +409,7 @@ def check_text(told):
 def objects(room):
     for seed in range(20):
         case = drawn_case(seed)
-        yield from over_objects(room, f"seed {seed}", case.drawing.text(), case.listing.request, case.listing.routes[:1])
+        yield from over_objects(room, f"objects of seed {seed}", case.drawing.text(), case.listing.request, case.listing.routes[:1])
     largest = f"a contact 2030/01/01-00:00:00 2031/01/01-00:00:00 1 {2**64 - 1} {2**64 - 1}\na range 2030/01/01-00:00:00 2031/01/01-00:00:00 1 {2**64 - 1} 1\n"
     found = room.asked("objects", plan=largest, calls=[])
     yield "nodes and rates above 2 ** 53", ([str(1), str(2**64 - 1)], str(2**64 - 1)), lambda: (found["nodes"], found["contacts"][0]["rate"])
@@ -410,7 +426,7 @@ def over_objects(room, title, text, request, routes):
     found = room.asked("objects", plan=text, calls=calls)
     line = " ".join(filter(None, [*(texts[name] for name in REQUEST)]))
     lines = {"requests": f"{line}\n" * 2, "lists": f"{','.join(map(str, numbers))} {line}\n", "contacts": ",".join(map(str, numbers))}
-    wanted = {run: room.by_program(Question("", run, {**texts, **lines})).report for run in ("check", "first", "explain", "many", "follow")}
+    wanted = {run: room.by_program(Question(f"{title}, {run}", run, {**texts, **lines})).report for run in ("check", "first", "explain", "many", "follow")}
     first, explained, many, followed = found["answers"]
     yield f"{title}, the plan", plan.canonical(), lambda: standing_text(found)
     yield f"{title}, its counts", wanted["check"], lambda: check_text(found)
@@ -458,4 +474,4 @@ def checks(asked):
     if lack():
         print(f"note: engine is left out, {lack()}")
         return ()
-    return checks_of("engine", Engines(asked.program("cgrlist")), SECTIONS)
+    return checks_of("engine", Node(asked.program("cgrlist")), SECTIONS)
