@@ -68,6 +68,11 @@ class Plan(plans.Plan):
             self._asked = answering(_program_path, self._text, self.file)
         return self._asked
 
+    @property
+    def text(self) -> bytes:
+        """The bytes of the plan's text."""
+        return self._text
+
     def check(self) -> Counts:
         """What the plan has; it is refused if the program refuses it."""
         return self.asked.counts()

@@ -76,12 +76,17 @@ class Plan:
         return self._ranges.count
 
     @property
-    def digest(self):
-        """The digest of what stands, as `cgrlist check` prints it."""
+    def canonical(self):
+        """The canonical text of what stands."""
         lines = ["cgr-plan 1"]
         lines += (f"c {it.number} {it.start} {it.end} {it.sender} {it.receiver} {it.rate}" for it in self.contacts)
         lines += (f"r {one} {other} {it.start} {it.end} {it.light}" for (one, other), it in self._ranges)
-        return hashlib.sha256("".join(f"{line}\n" for line in [*lines, "end"]).encode()).hexdigest()
+        return "".join(f"{line}\n" for line in [*lines, "end"])
+
+    @property
+    def digest(self):
+        """The digest of what stands, as `cgrlist check` prints it."""
+        return hashlib.sha256(self.canonical.encode()).hexdigest()
 
     def links(self):
         """The contacts of each link by start; the links by sender and receiver."""

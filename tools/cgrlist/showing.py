@@ -2,12 +2,14 @@
 
 import base64
 import os
+from dataclasses import replace
 
 from .drawing.page import Page
 from .drawing.picture import Picture
 from .drawing.scene import Choice, View
-from .drawing.told import Told, answers_of
+from .drawing.told import Told, told_of
 from .errors import Refused
+from .routes import Answer
 from .tables import html_table
 from .times import iso_text
 
@@ -53,14 +55,13 @@ def plan_svg(plan):
 def answer_page(answer):
     """The page of a plan with the routes of an answer, and with what is best if a contact of them is lost."""
     _refuse(_why_not_drawn(answer) or (None if answer.request else "the request of the answer isn't known"))
-    plan, routes = answer.plan, _ranked(answer)
-    told = answers_of(plan.asked, plan, answer.request, routes, ["cgrlist-report", "--plan", _title(plan)])
-    return Page(_view(plan, Choice(used=True, by_route=True)), plan, (), told).html()
+    plan, told = answer.plan, told_of(answer.plan.asked, answer.plan, replace(answer, routes=tuple(_ranked(answer))))
+    return Page(_view(plan, Choice(used=True, by_route=True)), plan, plan.text, told).html()
 
 
 def plan_page(plan):
     """The page of a plan."""
-    return Page(_view(plan, Choice()), plan, (), Told([])).html()
+    return Page(_view(plan, Choice()), plan, plan.text, Told(Answer((), None))).html()
 
 
 def _why_not_drawn(answer):

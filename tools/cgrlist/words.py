@@ -232,15 +232,16 @@ class Asked:
     @functools.cached_property
     def plan(self):
         """The plan without the contacts that are lost. Ask the program first: it says more if it refuses the plan."""
-        return self._whole_plan.without(self.words.without) if getattr(self.words, "without", None) else self._whole_plan
+        return self.whole_plan.without(self.words.without) if getattr(self.words, "without", None) else self.whole_plan
 
     @property
     def lost(self):
         """The contacts that are lost."""
-        return [self._whole_plan.contact(number) for number in self.words.without or ()]
+        return [self.whole_plan.contact(number) for number in self.words.without or ()]
 
     @property
-    def _whole_plan(self):
+    def whole_plan(self):
+        """The plan with the contacts that are lost."""
         return self._reading.result()
 
     @functools.cached_property

@@ -15,8 +15,8 @@
     tools/timeline .. --order link             the links by their nodes, and not as the routes go
     tools/timeline .. --width PX [--all]       how wide the picture is; it is at most 20000 high without --all
     tools/timeline .. --text [--columns N]     the same as text
-    tools/timeline .. --html H                 an interactive page: the file H, which needs no network; `-`
-                                               is standard output
+    tools/timeline .. --html H                 an interactive page, which is the program, too: the file H,
+                                               which needs no network; `-` is standard output
     tools/timeline --plan F --list [--csv|--json]
                                                each contact with its number, one a line
 
@@ -27,17 +27,16 @@ and in its order, and so on, as if --used and --order route were given. --links 
 check` accepts. T is 2031/03/03-01:00:00, 2031-03-03T01:00:00Z, 2031-03-03, now, or now+2h with s, m, h or d.
 All times are UTC. A and B are nodes, by their numbers or by the names of --names. G may be /dev/stdin.
 
-The page has the picture, which mouse, touch and keys zoom and move, and the list of routes; `?` lists the keys. It
-shows what each contact and route is, and finds contacts, nodes, links as 31 > 22, and times by a field. It shows all
-links if there are at most 60, or else those of the routes, and a button the others, under a row for each sender. A
-click on a contact of a shown route, or Enter, shows the best route without that contact, as the program answered when
-the page was made. Further ones, and nodes, can be lost with it; if the page doesn't know the answer, it shows the
-command that does. The timetable below the picture has the best delivery by the second at the source, over the whole
-plan, and its line can be dragged. The program is asked for at most 1024 seconds, and knows from them all between two
-with the same best route and delivery; the line goes to the nearest second that is known. Routes can be saved as CSV,
-and the picture as SVG. A print has all rows that are chosen, and the first 100 routes. The page has at most 1000 routes
-without --all, the first 100 with `send by`, the last second at the source. Its address keeps what is chosen, as
-H#lost=11&theme=dark.
+The page is the program: opened from a disk or a mail, it answers any request over any plan, by the proved program, which
+runs in the browser. It begins with the plan and the question of these words, and their answers, so that a browser without
+64-bit memory in WebAssembly shows these. It has the picture, which mouse, touch and keys zoom and move, and the list of
+routes; `?` lists the keys. It shows what each contact and route is, and finds contacts, nodes, links as 31 > 22, and times
+by a field. It shows all links if there are at most 60, or else those of the routes, and a button the others, under a row for
+each sender. A click on a contact, or Enter, shows the best route without it; further ones, and nodes, can be lost with it.
+The timetable below the picture has the best delivery by the second at the source, over the whole plan, and its line can be
+dragged. At most 1024 seconds are asked for, and all between two with the same best route and delivery follow from them; the
+line goes to the nearest second that is known. A print has all rows that are chosen, and the first 100 routes. The page
+begins with at most 1000 routes without --all. Its address keeps what is chosen, as H#lost=11&theme=dark.
 
 Status 0: done. 1: the routes or the names can't be used, or the routes are not of this plan. 2: the words can't be
 used, or the picture is too high. 3: the plan can't be read. 5: a file can't be read, or writing failed. 125: there is
@@ -45,8 +44,6 @@ no program. Any other status is the program's.
 """
 
 import os
-import shlex
-import sys
 from dataclasses import replace
 
 from ..drawing.axis import Span
@@ -54,12 +51,12 @@ from ..drawing.page import MOST_ROUTES, Page
 from ..drawing.picture import LINE, MOST, Picture
 from ..drawing.scene import Choice, View
 from ..drawing.text import Text
-from ..drawing.told import Told, answers_of, first_start
+from ..drawing.told import Told, told_of
 from ..errors import FILE_STATUS, WORDS_STATUS, Refused
 from ..listing import add_choice_words, added, check_choice_words, listing_of, pages_of, tell_looked
 from ..routes import Answer, explained_routes, report_of
 from ..tables import JSON, NODE, NUMBER, PATH, TEXT, TIME, Table, about
-from ..tool import Tool, lines_of, run_tool
+from ..tool import bytes_of, lines_of, run_tool
 from ..words import Asked, Words, add_form_words, add_plan_words, add_request_words, time_word
 
 NEEDED = ("from", "to", "at")  # the words that a request has to have
@@ -163,11 +160,11 @@ def links_of(asked):
 # ---- The answer -------------------------------------------------------------------------------------------------
 
 
-def routes_of(asked):
+def answer_of(asked):
     """The routes that are asked for, with their hops; None if none are."""
     words = asked.words
     if words.explained is not None:
-        return explained_routes(lines_of(words.explained))
+        return Answer(tuple(explained_routes(lines_of(words.explained))), None)
     if not asks_for_routes(words):
         return None
     request = asked.request()
@@ -177,8 +174,8 @@ def routes_of(asked):
     asked.tell_hints([request])
     tell_looked([listing], words)
     check_count(words, len(routes))
-    (answer,) = asked.router.with_hops([Answer(routes, None, request)])
-    return list(answer.routes)
+    (answer,) = asked.router.with_hops([Answer(routes, listing.is_whole, request)])
+    return answer
 
 
 def ranked(routes):
@@ -237,28 +234,26 @@ def contact_row(it):
     return dict(zip(CONTACT, [it.number, *it.link, it.start, it.end, it.rate, it.light]))
 
 
-def write_page(asked, view, routes):
+def write_page(asked, view, answer):
     """Writes the page into its file."""
-    made_by = shlex.join([command("timeline"), *sys.argv[1:]])
-    text = Page(view, asked.plan, asked.lost, replace(told_of(asked, routes), made_by=made_by)).html()
-    if asked.words.html == "-":
+    words = asked.words
+    for word in ("plan", "names", "report", "explained"):
+        check_apart(word, getattr(words, word), words.html)
+    if answer is None or answer.request is None:
+        told = Told(answer or Answer((), None))
+    else:
+        told = told_of(asked.router, asked.plan, replace(answer, routes=tuple(ranked(answer.routes))))
+    text = Page(view, asked.whole_plan, bytes_of(asked.plan_file), told, asked.lost).html()
+    if words.html == "-":
         return text
-    write_whole(asked.words.html, text)
+    write_whole(words.html, text)
     return ""
 
 
-def told_of(asked, routes):
-    """What a page tells of some routes."""
-    plan = os.path.basename(asked.words.plan)
-    if not asks_for_routes(asked.words):
-        ask = f"--from A --to B --at {asked.time_text(first_start(asked.plan))} --count 3 --html {plan}.html"
-        return Told(ranked(routes or []), command=f"{command('timeline')} --plan {shlex.quote(plan)} {ask}")
-    return answers_of(asked.router, asked.plan, asked.request(), ranked(routes), [command("report"), "--plan", plan])
-
-
-def command(tool):
-    """How a tool of this package is run: by its path in a clone, or else by its name when installed."""
-    return f"cgrlist-{tool}" if Tool.name.startswith("cgrlist-") else f"tools/{tool}"
+def check_apart(word, path, page):
+    """Refuses a page's file that is read, too."""
+    if path is not None and page != "-" and os.path.isfile(page) and os.path.exists(path) and os.path.samefile(path, page):
+        raise Refused(f"--html: {page} is the file of --{word}; it would be lost", WORDS_STATUS)
 
 
 def write_whole(path, text):
@@ -285,10 +280,11 @@ def timeline():
     words = asked.words
     check_words(parser, words)
     view = view_of(asked, parser)
-    routes = routes_of(asked)  # first, since the program says more of a plan that it refuses
+    answer = answer_of(asked)  # first, since the program says more of a plan that it refuses
+    routes = answer and list(answer.routes)
     check_routes(asked.plan, routes or [])
     if words.html is not None:
-        return write_page(asked, view, routes)
+        return write_page(asked, view, answer)
     second = words.at if asks_for_routes(words) else None
     scene = view.scene(asked.plan, routes and ranked(routes), () if words.list else asked.lost, words.list, second)
     if words.list:

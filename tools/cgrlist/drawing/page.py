@@ -1,163 +1,120 @@
-"""The page that tools/timeline writes: one HTML file to touch, which needs no network and no server.
+"""The page that tools/timeline writes: one HTML file that is the program, and opens with a plan and a question.
 
-The files in the folder html/ are put together with what the page knows, as JSON. A content policy with the hashes of
-style and script lets a browser refuse anything else.
+The files in the folder html/ and the engine's are put together with what the page knows, as JSON. A content policy with the
+hashes of style and script lets a browser refuse anything else, and any network.
 """
 
 import base64
 import hashlib
 import html
 import json
+import re
 from pathlib import Path
 
 from ..plans import links_of
-from ..times import iso_text, time_of
 from ..version import VERSION
 from .axis import STEPS
 from .picture import DARK, DASHES, LIGHT
+from .told import explanations, report_text, seeds_of, texts_of
 
 FOLDER = Path(__file__).resolve().parent / "html"
-# In the order in which they run.
-SCRIPTS = ("plan", "times", "view", "svg", "colours", "picture", "traces", "sheets")
-SCRIPTS += ("words", "starts", "hands", "find", "export", "start")
+ENGINE = FOLDER.parent.parent / "engine"
+RUNS = ("errors", "program", "engine")  # of the engine, in the order in which they run
+SCRIPTS = ("plan", "times", "answers", "routes", "view", "svg", "colours", "picture", "traces", "sheets", "words", "starts")
+SCRIPTS += ("timetable", "hands", "find", "ask", "app", "open", "about")
+PANELS = ("panel", "faults", "choices", "judge", "session", "export", "link")
 MOST_ROUTES = 1000  # so many are on a page that isn't asked for twice
-EXACT = 2**53 - 1  # up to here, numbers are exact in JavaScript
 
 
 class Page:
-    """A plan with what is told of it as a page, shown as a view says. Contacts that are lost are crossed out."""
+    """A plan with what is told of it as a page, shown as a view says. `text` has the bytes of the plan's text, and `lost` the
+    contacts that are lost for all answers, and crossed out.
+    """
 
-    def __init__(self, view, plan, lost, told):
-        self._view, self._told = view, told
+    def __init__(self, view, plan, text, told, lost=()):
+        self._view, self._plan, self._text, self._told = view, plan, text, told
         self._lost = [it.number for it in lost]
-        self._links = self._chosen(links_of([*plan.contacts, *lost]))
-        self._contacts = [it for windows in self._links.values() for it in windows]
-        self._base = min((it.start for it in self._contacts), default=0)
-        self._nodes = Places(sorted(self._all_nodes()))
-        self._rates = Places(sorted({it.rate for it in self._contacts}))
-        self._shown = Places(route.contacts for route in told.routes)
 
     def html(self):
         """The whole text."""
-        body, style = (FOLDER.joinpath(name).read_text(encoding="utf-8") for name in ("page.html", "page.css"))
-        scripts = [FOLDER.joinpath(f"{name}.js").read_text(encoding="utf-8") for name in SCRIPTS]
-        script = "\n".join(['"use strict";', *scripts])
-        policy = f"default-src 'none'; style-src {hash_of(style)}; script-src {hash_of(script)}"
+        body, style, script = page_html(), page_style(), page_script()
+        policy = f"default-src 'none'; style-src {hash_of(style)}; script-src {hash_of(script)} 'wasm-unsafe-eval'; worker-src blob:"
+        data = {"look": look_data(), "about": about_data(), "data": self.data()}
         return (
             '<!DOCTYPE html>\n<html lang="en">\n<head>\n<meta charset="utf-8">\n'
             f'<meta http-equiv="Content-Security-Policy" content="{policy}">\n'
             '<meta name="viewport" content="width=device-width, initial-scale=1">\n'
             '<meta name="color-scheme" content="light dark">\n'
-            f"<title>{html.escape(self._view.title)}</title>\n<style>{style}</style>\n</head>\n<body>\n{body}"
-            f'<script type="application/json" id="data">{json_of(self.data())}</script>\n'
-            f"<script>{script}</script>\n</body>\n</html>\n"
+            f"<title>{html.escape(self._view.title)} · cgrlist</title>\n<style>{style}</style>\n</head>\n<body>\n{body}"
+            + "".join(f'<script type="application/json" id="{name}">{json_of(it)}</script>\n' for name, it in data.items())
+            + f'<script type="text/plain" id="module">{module_text()}</script>\n<script>{script}</script>\n</body>\n</html>\n'
         )
 
     def data(self):
-        """What the page knows. The contacts are in columns, by link and start, with times from the first one on."""
-        span = self._view.span
+        """What the page opens with."""
+        view, answer = self._view, self._told.answer
+        request = answer.request and texts_of(answer.request, len(answer.routes) or 1)
+        is_given = bool(answer.routes) and not self._told.is_listed
+        given = {"report": report_text(answer.routes), "explained": explanations(answer.routes)}
         return {
-            "title": self._view.title,
-            "made": self._made(),
-            "iso": self._view.date_sign == "-",
-            "span": span and [self._second(span.first), self._second(span.last)],
-            "linksAtFirst": {None: None, True: "some", False: "all"}[self._view.choice.used],
-            "byRoute": self._view.choice.by_route,
-            "base": self._base,
-            **self._plan_data(),
-            "request": self._request_data(),
-            "routes": [self._route_data(route) for route in self._told.routes],
-            "lost": {number: self._best_data(route) for number, route in self._told.lost.contacts.items()},
-            "gone": {self._nodes.of(node): self._best_data(route) for node, route in self._told.lost.nodes.items()},
-            "begins": [route.rank for route in self._told.routes] == [*range(1, len(self._told.routes) + 1)],
-            "starts": self._starts_data(),
-            "look": look_data(),
-            **self._command_data(),
+            "name": view.title,
+            "remarks": [*view.remarks],
+            "iso": view.date_sign == "-",
+            "span": view.span and [view.span.first, view.span.last],
+            "linksAtFirst": {None: None, True: "some", False: "all"}[view.choice.used],
+            "links": self._links(),
+            "byRoute": view.choice.by_route,
+            "names": self._names(),
+            "plan": text_of(self._text),
+            "lost": self._lost,
+            "request": request,
+            "given": given if is_given else None,
+            "answers": [*seeds_of(self._told, self._plan, self._lost)],
         }
 
-    def _starts_data(self):
-        """The best routes by the second at the source: of each stretch how many seconds are before it and how many follow its
-        first one, the place of its route, how long that takes from the first one, and 1 if it rises.
-        """
-        starts = self._told.starts
-        if starts is None:
-            return None
-        places, rows, end = Places(it.contacts for it in starts.routes), [], starts.stretches[0].first
-        for it in starts.stretches:
-            told = [places.of(it.route.contacts), it.delivery - it.first, int(it.rises)] if it.route else []
-            rows.append([it.first - end, it.last - it.first, *told])
-            end = it.last + 1
-        first, routes = self._second(starts.stretches[0].first), map(self._route_data, starts.routes)
-        return {"first": first, "stretches": rows, "routes": [*routes]}
-
-    def _command_data(self):
-        """The command that asks the program for more."""
-        it = self._told.request
-        if it is None:
-            return {"asks": None, "how": self._told.command}
-        return {"asks": {"words": self._told.command, "avoid": list(map(str, it.avoid))}, "how": ""}
-
-    def _chosen(self, links):
-        """The links that are chosen by name, and those of the routes and the answers."""
-        choice = self._view.choice
+    def _links(self):
+        """The links that are chosen by name, if some are."""
+        choice, links = self._view.choice, links_of(self._plan.contacts)
         choice.check(links)
-        used = {hop.link for route in [*self._told.routes, *self._told.all_others()] for hop in route.hops}
-        return {link: windows for link, windows in links.items() if link in used or choice.has(link)}
+        chosen = [[*map(str, link)] for link in links if choice.has(link)]
+        return chosen if len(chosen) < len(links) else None
 
-    def _all_nodes(self):
-        """The nodes of the links and the request."""
-        request = self._told.request
-        ends = {request.source, request.destination} if request else set()
-        return ends.union(*self._links)
+    def _names(self):
+        """The names of the plan's nodes and of the request's."""
+        request, names = self._told.answer.request, self._view.names
+        nodes = {node for it in self._plan.contacts for node in it.link} | ({request.source, request.destination} if request else set())
+        return {str(node): names.of(node) for node in sorted(nodes) if names.of(node) != str(node)}
 
-    def _made(self):
-        """When and by which command the page was made, and from what the answers are."""
-        by = f": {self._told.made_by}" * bool(self._told.made_by)
-        made = f"Made {iso_text(time_of('now'))} by cgrlist {VERSION}{by}."
-        if self._told.request is None:
-            told = ["The routes are those of an explanation."] if self._told.routes else []
-            return " ".join([*told, *(f"{it}." for it in self._view.remarks), made])
-        return f"{made} The answers are those of cgrlist over the plan with this digest: {self._told.digest}"
 
-    def _plan_data(self):
-        """The nodes, the links and the contacts."""
-        contacts, names = self._contacts, self._view.names
-        return {
-            "nodes": list(map(str, self._nodes.values)),  # texts, as rates are: they may be above what is exact
-            "names": [names.of(node) if names.of(node) != str(node) else "" for node in self._nodes.values],
-            "links": [[*map(self._nodes.of, link), len(windows)] for link, windows in self._links.items()],
-            "rates": list(map(str, self._rates.values)),
-            "number": [it.number for it in contacts],
-            "start": [self._second(it.start) for it in contacts],
-            "length": [it.end - it.start for it in contacts],
-            "rate": [self._rates.of(it.rate) for it in contacts],
-            "light": [it.light if it.light is None or it.light <= EXACT else str(it.light) for it in contacts],
-            "without": [it.number for it in contacts if it.number in self._lost],
-        }
+# ---- Parts of the file ------------------------------------------------------------------------------------------
 
-    def _request_data(self):
-        """The request, if there is one."""
-        it = self._told.request
-        if it is None:
-            return None
-        ends = {"from": self._nodes.of(it.source), "to": self._nodes.of(it.destination)}
-        return {**ends, "at": self._second(it.at), "limits": " ".join(it.words()[6:])}
 
-    def _route_data(self, it):
-        """A route with its hops."""
-        hops = [[hop.contact, self._second(hop.send), self._second(hop.arrive)] for hop in it.hops]
-        send_by = None if it.send_by is None else self._second(it.send_by)
-        return {"rank": it.rank, "delivery": self._second(it.delivery), "sendBy": send_by, "hops": hops}
+def page_html():
+    return read(FOLDER / "page.html")
 
-    def _best_data(self, route):
-        """The best route without a contact: none, the place of one that is shown, or another one."""
-        if route is None:
-            return None
-        place = self._shown.find(route.contacts)
-        return self._route_data(route) if place is None else place
 
-    def _second(self, second):
-        return second - self._base
+def page_style():
+    """The styles of the page and its panels."""
+    return "".join(read(FOLDER / name) for name in ("page.css", "panels.css"))
+
+
+def page_script():
+    """The script: the engine, which is a module elsewhere, and the page's files."""
+    engine = "\n".join(read(ENGINE / f"{name}.mjs") for name in RUNS)
+    engine = re.sub(r"^export ", "", re.sub(r"^import .*\n", "", engine, flags=re.MULTILINE), flags=re.MULTILINE)
+    return "\n".join(['"use strict";', engine, *(read(FOLDER / f"{name}.js") for name in (*SCRIPTS, *PANELS, "start"))])
+
+
+def module_text():
+    """The engine's module, compressed, in base 64; nothing if it isn't built."""
+    module = ENGINE / "cgrlist.wasm.gz"
+    return base64.b64encode(module.read_bytes()).decode() if module.exists() else ""
+
+
+def about_data():
+    """What the page says of itself: the version, and the record of the module."""
+    record = ENGINE / "module.json"
+    return {"version": VERSION, **(json.loads(read(record)) if record.exists() else {})}
 
 
 def look_data():
@@ -166,20 +123,16 @@ def look_data():
     return {"steps": [[it.seconds, it.months] for it in STEPS], "dashes": dashes, "light": LIGHT, "dark": DARK}
 
 
-class Places:
-    """Some values, and at which place each is, from 0."""
+def read(path):
+    return path.read_text(encoding="utf-8") if path.exists() else ""
 
-    def __init__(self, values):
-        self.values = list(values)
-        self._places = {value: place for place, value in enumerate(self.values)}
 
-    def of(self, value):
-        """The place of a value that is among them."""
-        return self._places[value]
-
-    def find(self, value):
-        """The place of a value, or None."""
-        return self._places.get(value)
+def text_of(plan):
+    """The bytes of a plan's text as a text. Those that aren't UTF-8 become others that a plan can't have either."""
+    try:
+        return plan.decode()
+    except UnicodeDecodeError:
+        return re.sub(r"[^\x00-\x7f]", "\x7f", plan.decode("latin-1"))
 
 
 def hash_of(text):

@@ -1,77 +1,134 @@
-"""What a page tells of routes besides the plan, and how the program, or the library, is asked for it."""
+"""What a page knows when it is opened: the program's answers to its first questions, as the texts that it prints."""
 
-import shlex
 from dataclasses import dataclass, replace
-from typing import List, Optional
+from typing import Tuple
 
 from ..lost import Lost, best_without
-from ..routes import Answer, Request, Route
+from ..routes import Answer
+from ..times import time_text
 from ..timetable import Stretch, known_stretches
 
 STARTS = 1024  # seconds at the source that are asked for, at most
-SEND_BY = 100  # routes whose last second at the source is asked for, which takes some fifteen questions for each
-
-
-@dataclass(frozen=True)
-class Starts:
-    """The best routes by the second at the source, as stretches of time, and each of them once with its hops."""
-
-    stretches: List[Stretch]
-    routes: List[Route]
 
 
 @dataclass(frozen=True)
 class Told:
-    """What a page tells, besides the plan: a request with its routes, and the best routes without parts of them.
-
-    Without a request, the routes are some that were explained before. `digest` is that of the plan, as the program tells
-    it. `command` asks for more, and without a request for a page with routes; `made_by` made the page.
+    """The routes that are shown, with their hops, and with their request if there is one; then also the best routes without
+    parts of them, and by the second at the source.
     """
 
-    routes: List[Route]
-    request: Optional[Request] = None
+    answer: Answer
     lost: Lost = Lost()
-    digest: Optional[str] = None
-    starts: Optional[Starts] = None
-    command: str = ""
-    made_by: str = ""
+    starts: Tuple[Stretch, ...] = ()
 
-    def all_others(self):
-        """All routes besides those that are listed."""
-        return [*self.lost.routes(), *(self.starts.routes if self.starts else ())]
-
-
-def answers_of(program, plan, request, routes, report):
-    """What a page tells of the routes of a request, as a program over the plan answers. `report` has the words with which
-    the command of a report over the plan begins.
-    """
-    lost = best_without(program, plan, request, routes)
-    listed, others = with_send_by(program, request, routes, lost.routes())
-    others = iter(others)
-    lost = Lost(*({of: route and next(others) for of, route in found.items()} for found in (lost.contacts, lost.nodes)))
-    command = shlex.join([*report, *replace(request, avoid=()).words()])
-    return Told(listed, request, lost, program.digest(), starts_of(program, plan, request, routes), command)
+    @property
+    def is_listed(self):
+        """Whether the routes begin the list of their request."""
+        ranks = [route.rank for route in self.answer.routes]
+        return self.answer.request is not None and ranks == [*range(1, len(ranks) + 1)]
 
 
-def with_send_by(program, request, *lists):
-    """Lists of routes, the first ones of each with the last second at the source for their contacts. All are asked together."""
-    answers = program.with_send_by([Answer(tuple(routes[:SEND_BY]), None, request) for routes in lists])
-    return [[*answer.routes, *routes[SEND_BY:]] for answer, routes in zip(answers, lists)]
+def told_of(router, plan, answer):
+    """What a page tells of the routes of a request, as the program or the library answers over the plan."""
+    request, routes = answer.request, answer.routes
+    return Told(answer, best_without(router, plan, request, routes), _starts(router, plan, request) if routes else ())
 
 
-def starts_of(program, plan, request, routes):
+def _starts(router, plan, request):
     """The best routes of bundles that are at the source at any second, from the plan's first start, or the request's second,
-    to its last end. None without a route.
+    to its last end; each route with the hops that it has from its stretch's first second on.
     """
-    if not routes:
-        return None
-    span = min(request.at, first_start(plan)), max(it.end for it in plan.contacts)
-    stretches = known_stretches(program, request, span, STARTS)
-    firsts = {it.route.contacts: it for it in reversed(stretches) if it.route}
-    asked = [Answer((it.route,), None, replace(request, at=it.first)) for it in firsts.values()]
-    return Starts(stretches, [route for answer in program.with_hops(asked) for route in answer.routes])
+    span = min(request.at, *(it.start for it in plan.contacts)), max(it.end for it in plan.contacts)
+    stretches = known_stretches(router, request, span, STARTS)
+    asked = [Answer((it.route,), None, replace(request, at=it.first)) for it in stretches if it.route]
+    explained = (answer.routes[0] for answer in router.with_hops(asked))
+    return tuple(replace(it, route=it.route and next(explained)) for it in stretches)
 
 
-def first_start(plan):
-    """When the first contact starts."""
-    return min((it.start for it in plan.contacts), default=0)
+# ---- Texts ------------------------------------------------------------------------------------------------------
+
+
+def report_text(routes, is_whole=None):
+    """The report of routes, without its last line if it isn't known whether further routes follow."""
+    lines = [f"{place if route.rank is None else route.rank} {route.text()}\n" for place, route in enumerate(routes, 1)]
+    return "".join([*lines, {True: "end\n", False: "more\n", None: ""}[is_whole]])
+
+
+def explanations(routes):
+    """The explanations of routes, one after the other."""
+    return "".join(f"{line}\n" for route in routes for line in [*_hop_lines(route), route.text()])
+
+
+def _hop_lines(route):
+    for place, it in enumerate(route.hops, 1):
+        ends = f"from {it.sender} to {it.receiver} send {time_text(it.send)} arrive {time_text(it.arrive)}"
+        yield f"hop {place} contact {it.contact} {ends}"
+
+
+def texts_of(request, count=""):
+    """A request as the page asks it; what isn't given is empty."""
+    margin, hops = ("" if it is None else str(it) for it in (request.margin_ppm, request.max_hops))
+    limits = {"marginPpm": margin, "maxHops": hops, "avoid": request.avoided_text, "count": str(count)}
+    return {"from": str(request.source), "to": str(request.destination), "at": time_text(request.at), **limits}
+
+
+# ---- Questions with their answers -------------------------------------------------------------------------------
+
+
+def _seed(run, texts, report, lost=((), ())):
+    """A question of the page's cache, over the plan without some contacts and nodes, and its answer."""
+    contacts, nodes = lost
+    answer = {"status": 0, "report": report, "session": "", "message": ""}
+    return {"run": run, "lost": {"contacts": sorted(contacts), "nodes": [*map(str, nodes)]}, "texts": texts, "answer": answer}
+
+
+def seeds_of(told, plan, missing):
+    """The questions that a page asks over a plan without some contacts, with their answers."""
+    yield _seed("canonical", {}, plan.canonical)
+    yield _seed("check", {}, _check_text(plan))
+    request, routes = told.answer.request, told.answer.routes
+    if request is None:
+        return
+    if told.is_listed or not routes:
+        yield _seed("first", texts_of(request, len(routes) or 1), report_text(routes, told.answer.is_whole), (missing, ()))
+        yield _followed(routes, request, missing)
+    yield from _seeds_of_losses(told, missing)
+    if told.starts:
+        yield {**_seed("timetable", texts_of(request), "", (missing, ())), "answer": _timetable(told.starts)}
+
+
+def _check_text(plan):
+    """What the program prints of a plan."""
+    contacts, nodes = plan.contacts, {node for it in plan.contacts for node in it.link}
+    dark = sum(it.light is None for it in contacts)
+    counts = {"contacts": len(contacts), "ranges": plan.range_count, "nodes": len(nodes), "without light": dark}
+    return "".join(f"{name} {value}\n" for name, value in {**counts, "digest": plan.digest}.items())
+
+
+def _followed(routes, request, missing):
+    """The explanations of routes."""
+    lists = "".join(f"{','.join(map(str, it.contacts))} {request.line()}\n" for it in routes)
+    return _seed("follow", {"lists": lists}, explanations(routes), (missing, ()))
+
+
+def _seeds_of_losses(told, missing):
+    """What is best without each contact and node, where the page doesn't see that from the routes that it lists."""
+    request = told.answer.request
+    seen = {it.contacts for it in told.answer.routes} if told.is_listed else ()
+    losses = {((*missing, contact), ()): route for contact, route in told.lost.contacts.items()}
+    losses.update({(tuple(missing), (node,)): route for node, route in told.lost.nodes.items()})
+    for lost, route in losses.items():
+        if route is None or route.contacts not in seen:
+            yield _seed("first", texts_of(request, 1), report_text([route.having(rank=1)] if route else [], route is None or None), lost)
+        if route and route.contacts not in seen:
+            yield _followed([route], request, missing)
+
+
+def _timetable(stretches):
+    """The stretches, each with the place of its route among those that are told once, and its first and last delivery."""
+    firsts = {it.route.contacts: it.route for it in reversed(stretches) if it.route}
+    places = {contacts: place for place, contacts in enumerate(firsts)}
+    rows = [
+        [it.first, it.last, *([places[it.route.contacts], it.delivery, it.last_delivery] if it.route else [])] for it in stretches
+    ]
+    return {"status": 0, "rows": rows, "report": report_text(firsts.values()), "explained": explanations(firsts.values())}

@@ -11,7 +11,7 @@ function readColours() {
   const style = getComputedStyle(document.documentElement);
   const colour = (name) => style.getPropertyValue(`--${name}`).trim();
   for (const name of COLOURS) ink[name] = colour(name);
-  ink.routes = known.look[theme.isDark ? "dark" : "light"];
+  ink.routes = look[theme.isDark ? "dark" : "light"];
   ink.faint = ink.routes.map(faintOf);
   ink.faintSoft = faintOf(ink.soft);
 }

@@ -6,7 +6,7 @@ function save(name, kind, text) {
   setTimeout(() => URL.revokeObjectURL(link.getAttribute("href")), 1000);
 }
 
-const fileName = (end) => `${known.title.replace(/\.[^.]*$/, "")}.${end}`;
+const fileName = (end) => `${app.plan.name.replace(/\.[^.]*$/, "")}.${end}`;
 const cell = (value) => (/[",\n]/.test(value) ? `"${value.replaceAll('"', '""')}"` : String(value));
 
 // A line for each hop of each shown route.
@@ -18,7 +18,7 @@ function routesText() {
 
 function hopCells(route, hop, place) {
   const { from, to } = links[linkOf[hop.contact]], times = [hop.send, hop.arrive].map(timeText);
-  const sendBy = route.sendBy === null ? "" : timeText(route.sendBy);
+  const sendBy = timeText(route.sendBy);
   const ends = [known.nodes[from], known.nodes[to]], number = known.number[hop.contact];
   return [route.rank, timeText(route.delivery), sendBy, place + 1, number, ...ends, ...times, String(roomOfHop(hop))];
 }

@@ -24,7 +24,7 @@ function hitsFor(wanted) {
 
 // 2 if a node is just the wanted one, 1 if it is like it, 0 if it isn't.
 function matchOf(node, wanted) {
-  const name = known.names[node].toLowerCase();
+  const name = (names.get(known.nodes[node]) ?? "").toLowerCase();
   if (known.nodes[node] === wanted || name === wanted) return 2;
   return name.includes(wanted) || (wanted.length > 1 && known.nodes[node].startsWith(wanted)) ? 1 : 0;
 }
@@ -45,11 +45,11 @@ function timesFor(wanted) {
   const [isTime, year, month, day, ...clock] = wanted.match(TIME) ?? [];
   if (!isTime || (!year && !clock[0])) return [];
   const [hours, minutes, seconds] = clock.map((part) => Number(part ?? 0)), ofDay = hours * 3600 + minutes * 60 + seconds;
-  if (year) return [{ second: Date.UTC(year, month - 1, day) / 1000 + ofDay - known.base }];
-  const first = Math.floor((earliest + known.base) / DAY), last = Math.floor((latest + known.base) / DAY);
+  if (year) return [{ second: Date.UTC(year, month - 1, day) / 1000 + ofDay }];
+  const first = Math.floor(earliest / DAY), last = Math.floor(latest / DAY);
   const middle = (view.first + view.last) / 2, away = (hit) => Math.abs(hit.second - middle);
   const days = Array.from({ length: last - first + 1 }, (_, place) => first + place);
-  const hits = days.map((it) => ({ second: it * DAY + ofDay - known.base }));
+  const hits = days.map((it) => ({ second: it * DAY + ofDay }));
   return hits.filter(({ second }) => earliest <= second && second <= latest).sort((one, other) => away(one) - away(other));
 }
 
@@ -117,6 +117,11 @@ field.onblur = () => {
   list.hidden = true;
 };
 field.onkeydown = (event) => {
+  if (event.key === "Escape") {
+    event.stopPropagation();
+    closeFound();
+    chart.focus({ preventScroll: true });
+  }
   if (!finding.hits.length) return;
   const step = { ArrowDown: 1, ArrowUp: -1 }[event.key];
   if (event.key === "Enter") takeHit(finding.hits[finding.place]);

@@ -6,19 +6,35 @@
 function change() {
   if (shows.node === null && document.activeElement === byId("one")) byId(shows.links).focus(); // it goes away
   for (const [name, isPressed] of Object.entries(pressedButtons())) byId(name).setAttribute("aria-pressed", isPressed);
-  byId("one").hidden = shows.node === null;
+  byId("one").hidden = byId("none").hidden = shows.node === null;
   byId("crossed").hidden = !isLosing() && !missing.size;
-  if (shows.node !== null) byId("one").textContent = `${fullName(shows.node)} ✕`;
+  if (shows.node !== null) tellNode();
+  tellMissing();
   layOut();
+  if (isLosing() && bestThen() === undefined && !then.told) askThen();
   listRoutes();
   if (starts) tellStart();
   draw();
   remember();
 }
 
+// The buttons of the node whose links are shown.
+function tellNode() {
+  byId("one").textContent = `${fullName(shows.node)} ✕`;
+  byId("none").disabled = !request;
+  byId("none").setAttribute("aria-pressed", chosen.gone.has(shows.node));
+}
+
+// What is lost for all answers, which a button takes back.
+function tellMissing() {
+  byId("without").hidden = !missing.size;
+  byId("without").textContent = `without ${count(missing.size, "contact")} ✕`;
+}
+
 function pressedButtons() {
   const isAny = shows.node === null;
-  return { some: isAny && shows.links === "some", all: isAny && shows.links === "all", one: !isAny };
+  const isOf = (which) => isAny && !shows.chosen && shows.links === which;
+  return { some: isOf("some"), all: isOf("all"), one: !isAny };
 }
 
 function glance(place) {
@@ -40,7 +56,7 @@ function loseNothing() {
   chosen.gone.clear();
 }
 
-// Loses a contact, besides those that are lost, or takes that back.
+// Loses a contact or a node, besides those that are lost, or takes that back.
 const lose = (contact) => turnLost(chosen.lost, contact);
 const loseNode = (node) => turnLost(chosen.gone, node);
 
@@ -51,6 +67,7 @@ function turnLost(lost, it) {
   hideTip();
   change();
   bringIntoView();
+  announce("lost");
 }
 
 // Brings what was chosen into view: the answer or the card beside the picture, and the route in it.
@@ -64,6 +81,7 @@ function bringIntoView() {
 
 function showLinks(which, node = null) {
   [shows.links, shows.node] = [which, node];
+  if (node === null) Object.assign(shows, { chosen: null, isByHand: true });
   scroller.scrollTop = 0;
   change();
 }
@@ -259,12 +277,14 @@ chart.onkeydown = (event) => {
 chart.onblur = hideTip;
 
 document.onkeydown = (event) => {
-  if (event.key === "/" && event.target !== byId("find")) {
+  if (byId("help").open || event.ctrlKey || event.metaKey || event.altKey) return;
+  const isTyping = event.target.matches("input, textarea, select");
+  if (event.key === "/" && !isTyping) {
     event.preventDefault();
     byId("find").focus();
   }
-  if (event.key === "?" && event.target !== byId("find")) byId("help").showModal();
-  if (event.key === "Escape" && !byId("help").open) event.target === byId("find") ? closeFound() : startOver();
+  if (event.key === "?" && !isTyping) byId("help").showModal();
+  if (event.key === "Escape" && !isTyping) startOver();
 };
 
 // Takes back all that was chosen.

@@ -81,7 +81,7 @@ function paintGround(inView, top, ticks, step) {
   for (const row of inView) if (row.isBanded) fillBox(ink.band, 0, top + row.top, size.width, row.height);
   const bottom = Math.min(size.height, top + rows.height);
   for (const tick of ticks) {
-    const isMidnight = step.seconds < DAY && (tick + known.base) % DAY === 0;
+    const isMidnight = step.seconds < DAY && tick % DAY === 0;
     fillBox(isMidnight ? ink.day : ink.grid, Math.round(xOf(tick)), AXIS, 1, bottom - AXIS);
   }
 }
@@ -106,20 +106,20 @@ function paintGroup(row, top) {
   return [];
 }
 
-const spans = new Map();
+const spans = new WeakMap(); // of the links of a group
 
 // The times at which some links have a contact, as spans apart from each other.
-function spansOf({ sender, its }) {
-  if (!spans.has(sender)) {
+function spansOf({ its }) {
+  if (!spans.has(links[its[0]])) {
     const found = [], contacts = its.flatMap((link) => links[link].strips.flat());
     for (const contact of contacts.sort((one, other) => known.start[one] - known.start[other])) {
       const last = found.at(-1);
       if (last && known.start[contact] <= last[1]) last[1] = Math.max(last[1], ends[contact]);
       else found.push([known.start[contact], ends[contact]]);
     }
-    spans.set(sender, found);
+    spans.set(links[its[0]], found);
   }
-  return spans.get(sender);
+  return spans.get(links[its[0]]);
 }
 
 // The contacts of the routes that don't stand back.

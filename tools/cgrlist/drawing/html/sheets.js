@@ -5,7 +5,7 @@ function svgText(scroll, height) {
   const before = size.height;
   [paper, size.height] = [new SvgPaper(size.width, height), height];
   paint(scroll);
-  const text = paper.text(known.title);
+  const text = paper.text(app.plan.name);
   [paper, size.height] = [screen, before];
   return text;
 }

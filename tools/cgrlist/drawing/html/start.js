@@ -17,9 +17,75 @@ function changeTheme(isDark) {
   draw();
 }
 
+function chooseTheme() {
+  theme.isChosen = true;
+  changeTheme(!theme.isDark);
+  remember();
+}
+
+// ---- The head and the buttons ----
+
+function tellHead() {
+  document.title = `${app.plan.name} · cgrlist`;
+  byId("title").textContent = app.plan.name;
+  const limits = Object.entries(request?.texts ?? {}).filter(([name, text]) => LIMITS.includes(name) && text);
+  const told = limits.map(([name, text]) => `, ${LIMIT_WORDS[name]} ${text}`).join("");
+  const asks = () => `${titleOf(request.texts.from)} → ${titleOf(request.texts.to)}, bundle at the source ${timeText(request.at)}`;
+  const size = [count(contactCount, "contact"), count(links.length, "link")];
+  byId("asks").textContent = request ? `${asks()}${data.iso ? "" : " UTC"}${told}` : size[0];
+  byId("size").textContent = size.join(", ");
+  byId("digest").textContent = app.plan.digest;
+  const isAlone = !request && !routes.length;
+  document.body.classList.toggle("alone", isAlone);
+  chart.setAttribute("aria-label", `${[...size, count(routes.length, "route")].join(", ")}. Arrow keys go from contact to contact.`);
+}
+
+const LIMIT_WORDS = { marginPpm: "margin in ppm", maxHops: "at most hops", avoid: "avoiding" };
+
+function prepareButtons() {
+  const passed = new Set(routes.flatMap((route) => route.hops.map((hop) => linkOf[hop.contact]))).size;
+  byId("some").textContent = `Route links (${passed})`;
+  byId("all").textContent = `All links (${links.length})`;
+  byId("some").disabled = byId("fit").disabled = !passed;
+  return passed;
+}
+
+const does = {
+  some: () => showLinks("some"),
+  all: () => showLinks("all"),
+  one: () => showLinks(shows.links),
+  none: () => loseNode(shows.node),
+  without: loseNoneForAll,
+  out: () => zoom(ZOOM),
+  in: () => zoom(1 / ZOOM),
+  fit: showRoutes,
+  whole: showPlan,
+  theme: chooseTheme,
+  csv: saveRoutes,
+  svg: savePicture,
+  print: () => print(),
+  keys: () => byId("help").showModal(),
+};
+
+// Shows another plan, or the routes of another question, as at the beginning.
+function showAnew() {
+  tellHead();
+  const passed = prepareButtons(), isSome = data.linksAtFirst ? data.linksAtFirst === "some" : links.length > MANY;
+  if (!passed) shows.links = "all";
+  else if (!shows.isByHand) shows.links = isSome ? "some" : "all";
+  listed.most = LISTED;
+  pointed.what = pointed.route = null;
+  [view.first, view.last] = spanOfRoutes();
+  view.widest = view.last - view.first;
+  change();
+  fitAll();
+}
+
+// ---- The address ----
+
 // Keeps what is chosen in the address, so that it can be given on. Some browsers refuse that for files.
 function remember() {
-  const state = new URLSearchParams();
+  const state = new URLSearchParams(typeof linkState === "function" ? linkState() : {});
   if (chosen.lost.size) state.set("lost", lostNumbers().join(","));
   if (isStarting()) state.set("at", timeText(chosen.start));
   if (chosen.gone.size) state.set("avoid", [...chosen.gone].map((node) => known.nodes[node]).join(","));
@@ -32,82 +98,68 @@ function remember() {
   }
 }
 
-function tellHead() {
-  byId("title").textContent = known.title;
-  byId("made").textContent = known.made;
-  byId("how").textContent = known.how;
-  byId("below").hidden = !starts;
-  if (!request && !routes.length) document.body.classList.add("alone");
-  const limits = request?.limits ? `, ${request.limits}` : "";
-  const ends = () => `${fullName(request.from)} → ${fullName(request.to)}`;
-  const start = () => `bundle at the source ${timeText(request.at)}${known.iso ? "" : " UTC"}`;
-  byId("asks").textContent = request ? `${ends()}, ${start()}${limits}` : count(contactCount, "contact");
-  const told = [count(contactCount, "contact"), count(links.length, "link"), count(routes.length, "route")].join(", ");
-  chart.setAttribute("aria-label", `${told}. Arrow keys go from contact to contact.`);
-}
-
-function prepareButtons() {
-  const passed = new Set(routes.flatMap((route) => route.hops.map((hop) => linkOf[hop.contact]))).size;
-  byId("some").textContent = `Route links (${passed})`;
-  byId("all").textContent = `All links (${links.length})`;
-  byId("some").disabled = byId("fit").disabled = !passed;
-  const isSome = known.linksAtFirst === "some" || (known.linksAtFirst === null && links.length > MANY);
-  shows.links = passed && isSome ? "some" : "all";
-  const does = {
-    some: () => showLinks("some"),
-    all: () => showLinks("all"),
-    one: () => showLinks(shows.links),
-    out: () => zoom(ZOOM),
-    in: () => zoom(1 / ZOOM),
-    fit: showRoutes,
-    whole: showPlan,
-    theme: chooseTheme,
-    print: () => print(),
-    keys: () => byId("help").showModal(),
-    csv: saveRoutes,
-    svg: savePicture,
-  };
-  for (const [name, action] of Object.entries(does)) byId(name).onclick = action;
-}
-
-function chooseTheme() {
-  theme.isChosen = true;
-  changeTheme(!theme.isDark);
-  remember();
-}
-
 // What the address says is chosen.
-function recall() {
-  const state = opened(), listed = (name) => state.get(name)?.split(",") ?? [];
-  const lost = listed("lost").map((number) => contactWith.get(Number(number))).filter((it) => it !== undefined);
-  const gone = listed("avoid").map((node) => known.nodes.indexOf(node)).filter((node) => node >= 0);
-  const route = routes.find((it) => String(it.rank) === state.get("route"));
-  Object.assign(chosen, { lost: new Set(known.asks ? lost : []), gone: new Set(known.asks ? gone : []), route: null });
-  chosen.start = starts && state.has("at") ? timesFor(state.get("at").toLowerCase())[0]?.second ?? null : null;
+function recall(state) {
+  const listed = (name) => state.get(name)?.split(",") ?? [];
+  const lost = listed("lost").map((number) => contactWith.get(Number(number))).filter((it) => it !== undefined && canBeLost(it));
+  const gone = listed("avoid").map((node) => known.nodes.indexOf(node)).filter((node) => node >= 0 && request);
+  const route = routes.find((it) => it.rank === state.get("route"));
+  Object.assign(chosen, { lost: new Set(lost), gone: new Set(gone), route: null });
+  recallStart(state);
   if (route && !isAsking()) chosen.route = route.place;
   if (state.has("theme")) useTheme(state.get("theme") === "dark");
 }
 
-function start() {
-  useTheme(surroundings.matches);
-  tellHead();
-  prepareButtons();
-  recall();
-  [view.first, view.last] = known.span ?? spanOfRoutes();
-  view.widest = view.last - view.first;
-  change();
-  fitAll();
-  new ResizeObserver(() => isPrinting || fitAll()).observe(scroller);
+// The second at the source that the address says, once the timetable is there.
+function recallStart(state = opened()) {
+  const [found] = starts && state.has("at") && !isLosing() ? timesFor(state.get("at").toLowerCase()) : [];
+  chosen.start = found?.second ?? null;
 }
 
 // The address was changed by hand.
 addEventListener("hashchange", () => {
   theme.isChosen = opened().has("theme");
-  recall();
+  recall(opened());
   change();
   paintMap();
   bringIntoView();
 });
+
+// ---- Opening, light and dark, prints ----
+
+// Shows what stands in the file. It needs no engine.
+async function start() {
+  useTheme(surroundings.matches);
+  for (const [name, action] of Object.entries(does)) byId(name).onclick = action;
+  app.addPanel({ id: "about", title: "About", element: byId("about-page") });
+  app.showPanel("routes");
+  tellAbout();
+  const state = opened();
+  keepAnswers(data.answers);
+  const [canonical, check] = [await askOpening("canonical"), await askOpening("check")];
+  showOpened({ name: data.name, text: data.plan, digest: digestIn(check) }, canonical);
+  if (canonical.status !== 0) tellRefused(messageOf(canonical));
+  missing = new Set(data.lost.map((number) => contactWith.get(number)));
+  if (data.given) takeGiven(data.given);
+  else if (data.request) await setRequest(data.request);
+  if (data.links) shows.chosen = new Set(data.links.map(placeOfLink));
+  recall(state);
+  if (data.span) showSpan(...data.span);
+  view.widest = view.last - view.first;
+  change();
+  if (isAsking()) bringIntoView();
+  new ResizeObserver(() => isPrinting || fitAll()).observe(scroller);
+}
+
+const askOpening = async (run) => keptAnswer(run, noLosses, {}) ?? askEngine(run, { plan: data.plan });
+const placeOfLink = ([from, to]) => links.findIndex((it) => known.nodes[it.from] === from && known.nodes[it.to] === to);
+
+// Shows routes that the file's maker chose.
+function takeGiven({ report, explained: told }) {
+  const hops = explainedIn(told);
+  Object.assign(listing, { report, explained: told, session: "", isGiven: true });
+  takeRoutes(data.request, routesIn(report).map((route, place) => withHops(route, hops[place], place)));
+}
 
 surroundings.onchange = () => theme.isChosen || changeTheme(surroundings.matches);
 
@@ -127,4 +179,8 @@ addEventListener("afterprint", () => {
   changeTheme(theme.before);
 });
 
+engine.started.then(() => {
+  tellEngine();
+  announce("engine");
+});
 start();

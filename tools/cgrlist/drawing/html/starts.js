@@ -3,26 +3,6 @@
 const table = byId("starts");
 const brush = table.getContext("2d");
 const HIGH = 84; // of the timetable
-const starts = readStarts();
-
-// The stretches of time with one best route each, in their order. Of a second between two of them the page doesn't know it.
-function readStarts() {
-  if (!known.starts) return null;
-  const all = known.starts.routes.map((it) => readRoute(it, routes.length, "★"));
-  const hues = all.map((it) => likeRoute(it)?.place);
-  let end = known.starts.first;
-  return known.starts.stretches.map(([gap, length, place, took, rises]) => {
-    const first = end + gap, last = first + length, route = all[place] ?? null;
-    end = last + 1;
-    return { first, last, route, delivery: first + took, lastDelivery: first + took + (rises ? length : 0), hue: hues[place] };
-  });
-}
-
-// The shown route over the same contacts, whose colour a route of the timetable has.
-function likeRoute(route) {
-  const contacts = ({ hops }) => hops.map((hop) => hop.contact).join();
-  return routes.find((it) => contacts(it) === contacts(route));
-}
 
 // The stretch of a second, or else the next one; and the nearest second that is known.
 const stretchFrom = (second) => Math.min(firstOf(starts, (it) => it.last >= second), starts.length - 1);
@@ -53,7 +33,7 @@ function routeOf({ route }, second) {
     return { contact, send: sent, arrive: here };
   });
   const told = (hops) => hops.map((hop) => [hop.contact, hop.send, hop.arrive]).join();
-  return routes.find((it) => told(it.hops) === told(hops)) ?? { ...route, hops, delivery: here, sendBy: null };
+  return routes.find((it) => told(it.hops) === told(hops)) ?? { ...route, hops, delivery: here };
 }
 
 // Moves the line to the nearest second that is known. At the request's own second nothing is chosen. While the line is
@@ -74,11 +54,12 @@ const deliveryAt = ({ route, first, delivery, lastDelivery }, second) =>
   route ? Math.min(delivery + Math.max(second - first, 0), lastDelivery) : null;
 
 function paintStarts() {
-  if (!starts) return;
+  if (byId("below").hidden) return;
   fitCanvas(table, size.width, HIGH, brush);
   brush.fillStyle = ink.back;
   brush.fillRect(0, 0, size.width, HIGH);
   writeBeside(["best delivery,", "by the second", "at the source"]);
+  if (!starts) return;
   brush.save();
   brush.beginPath();
   brush.rect(size.left, 0, size.width - size.left, HIGH);
@@ -144,11 +125,13 @@ function aboutStart() {
   if (!best) return [element("div", { class: "told" }, head), element("div", { class: "told big" }, "No route"), backButton()];
   const later = best.delivery - routes[0].delivery;
   const side = later < 0 ? "earlier" : "later", asked = timeBeside(request.at, chosen.start);
+  const onclick = () => setRequest({ ...request.texts, at: programTime(chosen.start) });
   return [
     element("div", { class: "told" }, head),
     element("div", { class: "told big" }, `Delivery ${timeBeside(best.delivery, chosen.start)}`),
     element("div", { class: "told" }, later ? `${durationText(Math.abs(later))} ${side} than for ${asked}` : `as for ${asked}`),
     element("div", { class: "told soft" }, pathOf(best)),
+    element("button", { class: "small", onclick }, "List the routes from then"),
     backButton(),
   ];
 }
@@ -158,12 +141,14 @@ function aboutStart() {
 const secondUnder = (event) => secondAt(event.offsetX);
 
 table.onpointerdown = (event) => {
+  if (!starts) return;
   table.setPointerCapture(event.pointerId);
   startAt(secondUnder(event));
   table.onpointermove = (moved) => startAt(secondUnder(moved), true);
 };
 
 table.onpointerup = table.onpointercancel = () => {
+  if (!table.onpointermove) return;
   table.onpointermove = null;
   change();
   bringIntoView();
@@ -172,6 +157,7 @@ table.onpointerup = table.onpointercancel = () => {
 // Arrows move the line by a hundredth of the view, and at least to the next known second; Page Up and Page Down move it to
 // the next stretch and the one before, Home and End to the ends.
 table.onkeydown = (event) => {
+  if (!starts) return;
   const second = startSecond(), step = Math.max(Math.round((view.last - view.first) / 100), 1), place = stretchFrom(second);
   const { first, last } = starts[place], before = starts[place - 1], after = starts[place + 1]?.first ?? second;
   const seconds = {

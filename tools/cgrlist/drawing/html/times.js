@@ -1,9 +1,9 @@
 // How times are spelled, and where the ticks of the axis are.
 
 const DAY = 86400;
-const dateOf = (second) => new Date((Math.round(second) + known.base) * 1000);
+const dateOf = (second) => new Date(Math.round(second) * 1000);
 const twoDigits = (number) => String(number).padStart(2, "0");
-const dateSign = known.iso ? "-" : "/";
+const dateSign = data.iso ? "-" : "/";
 
 function monthDay(second) {
   const date = dateOf(second);
@@ -18,7 +18,18 @@ function clockText(second) {
   return [date.getUTCHours(), date.getUTCMinutes(), date.getUTCSeconds()].map(twoDigits).join(":");
 }
 
-const timeText = (second) => `${dayText(second)}${known.iso ? "T" : "-"}${clockText(second)}${known.iso ? "Z" : ""}`;
+const timeText = (second) => `${dayText(second)}${data.iso ? "T" : "-"}${clockText(second)}${data.iso ? "Z" : ""}`;
+
+// A time as the program takes it.
+const programTime = (second) => `${dayText(second).replaceAll("-", "/")}-${clockText(second)}`;
+
+const WHOLE_TIME = /^(\d{4})([-/])(\d\d)\2(\d\d)[-Tt ](\d\d):(\d\d):(\d\d)[Zz]?$/;
+
+// The second of a time in either spelling; NaN if it is none.
+function secondOf(text) {
+  const [isTime, year, , month, ...further] = WHOLE_TIME.exec(text.trim()) ?? [];
+  return isTime ? Date.UTC(Number(year), month - 1, ...further.map(Number)) / 1000 : NaN;
+}
 
 // A time beside another one: without the day if that is the same.
 const timeBeside = (second, other) => (dayText(second) === dayText(other) ? clockText(second) : timeText(second));
@@ -30,13 +41,13 @@ function durationText(seconds) {
     [Math.floor(seconds / 60) % 60, "min"],
     [seconds % 60, "s"],
   ];
-  const told = parts.filter(([count]) => count).map(([count, unit]) => `${count} ${unit}`);
-  return told.join(" ") || "0 s";
+  const told = parts.filter(([count]) => count).map(([count, unit]) => `${count}\u00a0${unit}`);
+  return told.join(" ") || "0\u00a0s";
 }
 
 // ---- Ticks ----
 
-const STEPS = known.look.steps.map(([seconds, months]) => ({ seconds, months }));
+const STEPS = look.steps.map(([seconds, months]) => ({ seconds, months }));
 
 // The least step whose labels have room.
 function stepFor(seconds, width) {
@@ -51,7 +62,7 @@ function ticksIn(first, last, step) {
 function secondTicks(first, last, seconds) {
   const offset = seconds % (7 * DAY) === 0 ? 4 * DAY : 0; // weeks begin with Monday
   const ticks = [];
-  let tick = Math.ceil((first + known.base - offset) / seconds) * seconds + offset - known.base;
+  let tick = Math.ceil((first - offset) / seconds) * seconds + offset;
   for (; tick <= last; tick += seconds) ticks.push(tick);
   return ticks;
 }
@@ -60,7 +71,7 @@ function monthTicks(first, last, months) {
   const date = dateOf(first), ticks = [];
   let month = Math.floor((date.getUTCFullYear() * 12 + date.getUTCMonth()) / months) * months;
   for (; ; month += months) {
-    const tick = Date.UTC(Math.floor(month / 12), month % 12, 1) / 1000 - known.base;
+    const tick = Date.UTC(Math.floor(month / 12), month % 12, 1) / 1000;
     if (tick > last) return ticks;
     if (tick >= first) ticks.push(tick);
   }
@@ -76,5 +87,5 @@ function tickLabel(second, step) {
 function tickPeriod(second, step) {
   if (step.months >= 12) return "";
   if (step.seconds >= DAY) return monthDay(second) === `01${dateSign}01` ? yearText(second) : "";
-  return (second + known.base) % DAY === 0 ? dayText(second) : "";
+  return second % DAY === 0 ? dayText(second) : "";
 }

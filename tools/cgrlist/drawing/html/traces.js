@@ -1,6 +1,6 @@
 // Routes on the canvas: waits, hops, turns, and deliveries.
 
-const DASHES = known.look.dashes;
+const DASHES = look.dashes;
 let traced = []; // the pieces of routes that were drawn, for the mouse
 
 // The line of the second at which the bundle is at the source.

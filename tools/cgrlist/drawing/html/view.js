@@ -1,6 +1,6 @@
 // What is in view: the state, the rows of links, places on the canvas, and how the view moves.
 
-const HUES = known.look.light.length; // so many routes have a colour of their own
+const HUES = look.light.length; // so many routes have a colour of their own
 const AXIS = 46, BAR = 16, STRIP = BAR + 2, LANE = 12, PLAIN = 28, ABOVE = 5; // heights
 const SIDE = 14; // the right margin
 const SHORTEST = 10; // seconds of the shortest span in view
@@ -9,7 +9,8 @@ const scroller = byId("scroll");
 const chart = byId("chart");
 const size = { width: 0, height: 0, left: 120 }; // of the canvas, and the width of the rows' names
 const view = { first: 0, last: 1, widest: 0 }; // the span in view
-const shows = { links: "all", node: null, open: new Set() }; // the links of routes alone, all, or those of a node
+// The links of routes alone, all of them or those of a node, and those that the file's maker chose.
+const shows = { links: "all", node: null, open: new Set(), chosen: null };
 // What is chosen: a route, lost contacts and nodes, another second at the source, and the contact at the cursor.
 const chosen = { route: null, lost: new Set(), gone: new Set(), start: null, contact: null };
 const pointed = { what: null, route: null }; // what is below the mouse: on the canvas, and in the list
@@ -22,14 +23,13 @@ const isBroken = (route) => (isLosing() && !holds(route)) || (isStarting() && is
 const isMissed = (route) => isShownRoute(route) && route.sendBy !== null && route.sendBy < chosen.start;
 const isGone = (link) => chosen.gone.has(link.from) || chosen.gone.has(link.to);
 const isLost = (contact) => missing.has(contact) || chosen.lost.has(contact) || isGone(links[linkOf[contact]]);
-const then = { of: null, best: null };
+const then = { of: null, best: null, told: "" }; // what is best without what is lost, or what is told where that isn't known
 
-// The best route without what is lost, or from the chosen second on: null if there is none, undefined if the page doesn't
-// know it.
+// The best route without what is lost, or from the chosen second on: null if there is none, undefined if it isn't known.
 function bestThen() {
   if (!isLosing()) return isStarting() ? routeAtStart(chosen.start) : null;
-  const of = [...chosen.lost, "", ...chosen.gone].join();
-  if (of !== then.of) Object.assign(then, { of, best: bestWithout() });
+  const of = JSON.stringify([turn, numbersOf(chosen.lost), ...chosen.gone]);
+  if (of !== then.of) Object.assign(then, { of, best: bestShown(), told: "" });
   return then.best;
 }
 
@@ -82,7 +82,8 @@ function lanesOfRoutes() {
 
 function chosenLinks() {
   const isOf = ({ from, to }) => from === shows.node || to === shows.node;
-  const has = (link) => rows.lanes.has(link) || (shows.node === null ? shows.links === "all" : isOf(links[link]));
+  const isShown = (link) => (shows.chosen ? shows.chosen.has(link) : shows.links === "all");
+  const has = (link) => rows.lanes.has(link) || (shows.node === null ? isShown(link) : isOf(links[link]));
   const found = links.map((_, link) => link).filter(has);
   return found.sort((a, b) => (links[a].rank === links[b].rank ? a - b : links[a].rank - links[b].rank));
 }
@@ -109,17 +110,6 @@ function heightsOf(row) {
   const lanes = rows.lanes.get(row.link)?.size ?? 0;
   const bars = (isOfLink(row) ? links[row.link].strips.length : 1) * STRIP + 8;
   return { bars, height: bars + (lanes ? lanes * LANE + 3 : PLAIN - BAR - 10) };
-}
-
-// The place of the first of some things, in order, for which something holds; it holds for all after that.
-function firstOf(things, holds) {
-  let low = 0, high = things.length;
-  while (low < high) {
-    const middle = (low + high) >> 1;
-    if (holds(things[middle])) high = middle;
-    else low = middle + 1;
-  }
-  return low;
 }
 
 const firstRowAt = (y) => firstOf(rows.list, (row) => row.top + row.height > y);

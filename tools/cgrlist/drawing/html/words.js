@@ -30,9 +30,8 @@ const count = (number, what) => `${number} ${what}${number === 1 ? "" : "s"}`;
 
 // ---- A contact ----
 
-// Contacts of routes that are told, if the program was asked for these.
-const canBeLost = (contact) =>
-  Boolean(known.asks) && (chosen.lost.has(contact) || allRoutes().some((route) => route.uses.has(contact)));
+// Contacts that aren't lost for all answers, if there is a question.
+const canBeLost = (contact) => Boolean(request) && !missing.has(contact);
 
 // What is known of a contact: pairs of a name and a text.
 function aboutContact(contact) {
@@ -44,7 +43,7 @@ function aboutContact(contact) {
     ["start", timeText(start)],
     ["end", timeBeside(ends[contact], start)],
     ["lasts", durationText(known.length[contact])],
-    ["rate", `${known.rates[known.rate[contact]]} bytes/s`],
+    ["rate", `${known.rate[contact]} bytes/s`],
     ["light time", light === null ? "none: in no route" : `${light} s`],
     ["volume", `${volumeText(roomFrom(contact, start))}, ${roomFrom(contact, start)} bytes`],
     ...(through.length ? [["routes", through.join(", ")]] : []),
@@ -67,10 +66,10 @@ function contactTip(contact, act) {
 
 // ---- A route ----
 
-const titleOf = (route) => (isShownRoute(route) ? `Route ${route.rank}` : "Route then");
+const titleOfRoute = (route) => (isShownRoute(route) ? `Route ${route.rank}` : "Route then");
 
 function routeTip({ route, hop, isWait }) {
-  const head = `${titleOf(route)}: ${timeText(route.delivery)}`;
+  const head = `${titleOfRoute(route)}: ${timeText(route.delivery)}`;
   const parts = [element("h3", {}, head), hopTable(route, false)];
   if (isWait) {
     const node = fullName(links[linkOf[hop.contact]].from);
@@ -128,15 +127,30 @@ const PRINTED = 100; // so many routes a print lists, with their hops
 
 function listRoutes() {
   const focused = document.activeElement;
-  byId("count").textContent = headOfList();
+  byId("told-routes").textContent = headOfList();
   const order = (one, other) => (other === bestThen()) - (one === bestThen()) || one.place - other.place;
-  const all = [...allRoutes()].sort(order), shown = all.slice(0, isPrinting ? PRINTED : all.length);
-  const left = all.length - shown.length;
-  byId("routes").replaceChildren(...shown.map(card), left ? element("li", {}, `${count(left, "more route")} not printed`) : "");
+  const all = [...allRoutes()].sort(order), shown = all.slice(0, isPrinting ? PRINTED : listed.most);
+  byId("routes").replaceChildren(...shown.map(card), restOfList(all.length - shown.length));
   byId("lost").replaceChildren(...(isLosing() ? aboutLoss() : isStarting() ? aboutStart() : []));
   byId("lost").classList.toggle("start", isStarting());
-  byId("ask").hidden = Boolean(request || routes.length);
+  byId("empty").hidden = Boolean(request || routes.length);
   if (!focused.isConnected) focusLike(focused.dataset.key);
+}
+
+const LISTED = 500; // so many cards are made at a time
+const listed = { most: LISTED };
+
+// What follows the cards: how many routes aren't shown, or the next page.
+function restOfList(left) {
+  if (isPrinting) return left ? element("li", {}, `${count(left, "more route")} not printed`) : "";
+  const button = (text, key, onclick) => element("li", { class: "rest" }, element("button", { "data-key": key, onclick }, text));
+  if (left) return button(`Show ${Math.min(left, LISTED)} of ${count(left, "more route")}`, "rest", showMore);
+  return request && hasMore() ? button(`Next ${count(Number(request.texts.count), "route")}`, "rest", askMore) : "";
+}
+
+function showMore() {
+  listed.most += LISTED;
+  listRoutes();
 }
 
 // The list was made anew, and keeps the focus: at the same button, or where all is taken back, or at the route's card.
@@ -147,7 +161,7 @@ function focusLike(key) {
 
 function headOfList() {
   if (isAsking()) return bestThen() ? "The best route then, and those before" : "The routes before";
-  if (!routes.length) return request ? "No route" : "The plan alone";
+  if (!routes.length) return request ? "No route" : "";
   const told = count(routes.length, "route");
   return routes.length > HUES ? `${told}; the first ${HUES} are drawn, and one that is singled out` : told;
 }
@@ -157,7 +171,7 @@ function card(route) {
   const classes = [isBroken(route) && "gone", isFaint(route) && "off", isOpen && "on"].filter(Boolean);
   const item = element("li", { class: classes.join(" ") }, cardButton(route, isOpen));
   if (isOpen || isPrinting) {
-    const hasNodes = known.asks && route.nodes.length > 2;
+    const hasNodes = request && route.nodes.length > 2;
     item.append(element("div", { class: "hops" }, hopTable(route, true), hasNodes ? nodeButtons(route) : ""));
   }
   item.style.setProperty("--hue", isBroken(route) ? ink.soft : ink.routes[route.place % HUES]);
@@ -181,12 +195,12 @@ function cardButton(route, isOpen) {
   const onfocus = ({ target }) => target.matches(":focus-visible") && glance(route.place);
   const acts = { onclick: () => single(route.place), onfocus, onblur: () => glance(null) };
   const took = `${count(route.hops.length, "hop")} in ${durationText(route.delivery - startOf(route))}`;
-  const sendBy = route.sendBy === null ? "" : `send by ${timeBeside(route.sendBy, route.delivery)} · `;
+  const sendBy = `send by ${timeBeside(route.sendBy, route.delivery)} · `;
   const last = "the last second at the source for these contacts";
   return element(
     "button",
     { ...about, ...(isShownRoute(route) ? acts : {}) },
-    element("span", { class: "rank", "aria-label": titleOf(route) }, route.label),
+    element("span", { class: "rank", "aria-label": titleOfRoute(route) }, route.label),
     element("span", { class: "delivery" }, timeText(route.delivery)),
     element("span", { class: "late" }, lateText(route)),
     element("span", { class: "wide" }, pathOf(route)),
@@ -203,16 +217,16 @@ function cardButton(route, isOpen) {
 function lateText(route) {
   const later = route.delivery - routes[0].delivery;
   if (isBroken(route)) return isStarting() ? "missed" : "lost";
-  if (route === routes[0]) return route.rank === 1 ? "best" : "first shown";
+  if (route === routes[0]) return route.rank === "1" ? "best" : "first shown";
   return later > 0 ? `+ ${durationText(later)}` : later < 0 ? `- ${durationText(-later)}` : "as good";
 }
 
 // ---- What is lost ----
 
 function aboutLoss() {
-  const best = bestThen();
-  const head = element("div", { class: "told" }, element("b", {}, lostText()), linkOfLost());
-  return [head, ...next(best), ...toCopy(best), backButton()];
+  const best = bestThen(), head = element("div", { class: "told" }, element("b", {}, lostText()), linkOfLost());
+  const forAll = element("button", { class: "small", onclick: loseForAll }, "List the routes without");
+  return [head, ...next(best), ...toCopy(), ...(best ? [forAll] : []), backButton()];
 }
 
 const lostNumbers = () => [...chosen.lost].map((contact) => known.number[contact]);
@@ -227,7 +241,7 @@ function lostText() {
 const linkOfLost = () => (chosen.lost.size === 1 && !chosen.gone.size ? ` ${linkName(linkOf[[...chosen.lost][0]])}` : "");
 
 function next(best) {
-  if (best === undefined) return [element("div", { class: "told big" }, "Not on this page: a command tells")];
+  if (best === undefined) return [element("div", { class: "told" }, then.told)];
   if (best === null) return [element("div", { class: "told big" }, "No route is left")];
   const rank = isShownRoute(best) ? `, route ${best.rank}` : "";
   return [
@@ -237,11 +251,10 @@ function next(best) {
   ];
 }
 
-// The command that tells what the page doesn't know, and the plan's lines that delete the contacts.
-function toCopy(best) {
-  const lines = best === undefined ? [commandThen()] : [...chosen.lost].map(deletionOf);
-  if (!lines.length) return [];
-  const text = element("pre", {}, lines.join("\n"));
+// The plan's lines that delete the contacts.
+function toCopy() {
+  if (!chosen.lost.size) return [];
+  const text = element("pre", {}, [...chosen.lost].map(deletionOf).join("\n"));
   return [text, element("button", { class: "small", onclick: () => copyText(text) }, "Copy")];
 }
 
@@ -249,18 +262,6 @@ function toCopy(best) {
 function copyText(part) {
   getSelection().selectAllChildren(part);
   document.execCommand("copy"); // pages from files have no other way in each browser
-}
-
-function commandThen() {
-  const all = [...known.without, ...lostNumbers()], without = all.length ? ` --without ${all.join(",")}` : "";
-  const avoided = [...known.asks.avoid, ...[...chosen.gone].map((node) => known.nodes[node])];
-  return `${known.asks.words}${without}${avoided.length ? ` --avoid ${avoided.join(",")}` : ""} --count 1`;
-}
-
-function deletionOf(contact) {
-  const { from, to } = links[linkOf[contact]], start = known.start[contact];
-  const time = `${dayText(start).replaceAll("-", "/")}-${clockText(start)}`;
-  return `d contact ${time} ${known.nodes[from]} ${known.nodes[to]}`;
 }
 
 // How much later the best route without what is lost delivers than the first one that is shown.

@@ -1,0 +1,173 @@
+// Asking: the question in the bar, the routes that answer it, further pages, and what is best without what is lost.
+
+const form = byId("question");
+const listing = { report: "", explained: "", session: "", isGiven: false }; // the program's texts of the routes
+let turn = 0; // of questions: what answers an earlier one isn't shown
+
+// ---- The bar ----
+
+const choices = ["from", "to", "at", "marginPpm", "maxHops", "avoid", "count"];
+
+// Puts what the plan has, and the question, into the bar.
+function fillQuestion() {
+  const asked = request?.texts ?? {};
+  for (const name of ["from", "to"]) {
+    const nodes = known.nodes.includes(asked[name]) || !asked[name] ? known.nodes : [...known.nodes, asked[name]];
+    const option = (node) => element("option", { value: node }, titleOf(node));
+    byId(name).replaceChildren(element("option", { value: "" }, "choose"), ...nodes.map(option));
+    byId(name).value = asked[name] ?? "";
+  }
+  const further = known.nodes.map((node) => element("option", { value: node }, titleOf(node)));
+  byId("further").replaceChildren(element("option", { value: "" }, "add a node"), ...further);
+  if (!request) return;
+  byId("at").value = timeText(request.at);
+  byId("count").value = asked.count || FEW;
+  for (const name of LIMITS) byId(name).value = asked[name] ?? "";
+}
+
+const FEW = "3"; // routes that are asked for at first
+
+// The question in the bar, as the program takes it. A time without a day is that of the nearest day in view.
+function questionInBar() {
+  const asked = Object.fromEntries(choices.map((name) => [name, byId(name).value.trim()]));
+  const second = secondOf(asked.at), found = Number.isNaN(second) ? timesFor(asked.at)[0]?.second : second;
+  const avoid = asked.avoid.split(/[\s,]+/).filter(Boolean).sort(byNumber).join(",");
+  return { ...asked, avoid, at: found === undefined ? asked.at : programTime(found) };
+}
+
+form.onsubmit = (event) => {
+  event.preventDefault();
+  if (waiting.size) return stopAsking();
+  return setRequest(questionInBar());
+};
+
+form.onchange = ({ target }) => {
+  if (target.id === "further") {
+    byId("avoid").value = [byId("avoid").value, target.value].filter(Boolean).join(",");
+    target.value = "";
+  }
+  if (byId("from").value && byId("to").value) setRequest(questionInBar());
+};
+
+// Shows that the engine is at work, and that it can be stopped, if that takes longer than a moment.
+function tellBusy() {
+  clearTimeout(tellBusy.due);
+  const show = () => {
+    document.body.classList.toggle("busy", waiting.size > 0);
+    byId("ask").textContent = waiting.size ? "Stop" : "Ask";
+  };
+  tellBusy.due = setTimeout(show, waiting.size ? 150 : 0);
+}
+
+function tellRefused(text, isPlan = false) {
+  const toPlan = element("button", { type: "button", class: "small", onclick: () => app.showPanel("plan") }, "Show the text");
+  byId("refused").replaceChildren(...(text ? [text, isPlan && panels.has("plan") ? toPlan : ""] : []));
+}
+
+// ---- Questions ----
+
+// Asks a question, which then stands in the bar.
+async function setRequest(texts) {
+  stopAsking();
+  const mine = ++turn, below = lossesBelow();
+  const asked = { ...Object.fromEntries(QUESTION.map((name) => [name, texts[name] ?? ""])), count: texts.count || FEW };
+  const answer = keptAnswer("first", below, asked) ?? (await askOver(below, "first", { ...asked, keep: "yes" }));
+  return mine === turn ? showAnswer(answer, asked, []) : answer;
+}
+
+// Shows the routes of an answer after those of the pages before. Why there are none is told.
+async function showAnswer(answer, asked, before) {
+  const mine = turn, told = routesIn(answer.report);
+  const found = answer.status === 0 ? await explained(told, asked) : answer;
+  if (mine !== turn) return answer;
+  tellRefused(found.status === 0 ? "" : messageOf(found));
+  if (found.status !== 0) return found;
+  const pages = before.length ? listing.report.replace(/more\n$/, "") : "";
+  Object.assign(listing, { report: pages + answer.report, session: answer.session, isGiven: false });
+  listing.explained = (before.length ? listing.explained : "") + found.report;
+  takeRoutes(asked, [...before, ...told.map((route, place) => withHops(route, found.hops[place], before.length + place))]);
+  return answer;
+}
+
+// Shows routes of a question.
+function takeRoutes(asked, found) {
+  const isFurther = asked === request?.texts;
+  if (!isFurther) request = asked && { texts: asked, at: secondOf(asked.at) };
+  routes = found;
+  begin.isKnown = routes.every((route, place) => route.rank === String(place + 1));
+  for (const link of links) link.rank = Infinity;
+  if (data.byRoute) rankLinks(routes);
+  loseNothing();
+  if (isFurther) change();
+  else {
+    chosen.route = null;
+    fillQuestion();
+    showAnew();
+    askTimetable();
+  }
+  announce("routes");
+}
+
+const hasMore = () => !listing.isGiven && listing.report.endsWith("more\n");
+
+// The session text after the routes that are shown. If it isn't known, they are asked for again; it is empty if nothing
+// answers.
+async function sessionText() {
+  if (!listing.session && request && begin.isKnown) {
+    const asked = { ...request.texts, count: String(routes.length || 1), keep: "yes" };
+    const of = request, { session } = await askOver(lossesBelow(), "first", asked);
+    if (of === request) listing.session = session;
+  }
+  return listing.session;
+}
+
+// Asks for the next page.
+async function askMore() {
+  const mine = ++turn, of = request, session = await sessionText();
+  if (mine !== turn) return;
+  if (!session) return tellRefused(isLacking() ? whyLacking() : "Stopped.");
+  const answer = await askOver(lossesBelow(), "next", { session, count: of.texts.count, keep: "yes" });
+  if (mine === turn) await showAnswer(answer, of.texts, routes);
+}
+
+// Shows the page that follows a session text.
+async function goOn(session) {
+  stopAsking();
+  const mine = ++turn, count = byId("count").value || FEW;
+  const answer = await askOver(lossesBelow(), "next", { session, count, keep: "yes" });
+  return mine === turn ? showAnswer(answer, { ...requestIn(session), count }, []) : answer;
+}
+
+// The request that a session text is of.
+function requestIn(session) {
+  const [, from, to, at, marginPpm, maxHops, nodes] = /^request (\S+) (\S+) (\S+) (\S+)(?: (\S+) \/ (.+))?$/m.exec(session) ?? [];
+  const avoid = (nodes ?? "-").replace(/^-$/, "").replaceAll(" ", ",");
+  return { from, to, at, marginPpm: marginPpm === "0" ? "" : marginPpm, maxHops: maxHops === "20000" ? "" : maxHops, avoid };
+}
+
+// ---- What is lost ----
+
+// Asks what is best without what is lost, if the page doesn't know it.
+async function askThen() {
+  const { of } = then, below = lossesBelow();
+  then.told = "Asking ..";
+  const answer = await askOver(lossesNow(), "first", { ...request.texts, count: "1" });
+  const [best] = routesIn(answer.report), found = answer.status === 0 ? await explained(best ? [best] : [], request.texts) : answer;
+  if (of !== then.of) return;
+  const route = best && found.status === 0 ? withHops(best, found.hops[0], routes.length, "★") : null;
+  Object.assign(then, found.status === 0 ? { best: route, told: "" } : { told: messageOf(found) });
+  change();
+  bringIntoView();
+}
+
+// Takes what is lost out of the plan for all answers, and asks the question anew.
+function loseForAll() {
+  const ofNodes = [...chosen.gone].flatMap(contactsOfNode);
+  missing = new Set([...missing, ...chosen.lost, ...ofNodes]);
+  return setRequest(request.texts);
+}
+
+function loseNoneForAll() {
+  missing = new Set();
+  return request ? setRequest(request.texts) : change();
+}

@@ -1,0 +1,79 @@
+// Routes: as the program's reports and explanations tell them, and which one is best without what is lost.
+
+let request = null; // the question of the routes: its texts, and when the bundle is at the source
+let routes = []; // those that are shown
+const begin = { isKnown: false }; // whether the routes begin the list of all
+
+// ---- What the program prints ----
+
+const ROUTE = /^(?:(\d+) )?delivery (\S+) hops \d+ entry (\d+) until (\S+) contacts ([\d ]+)$/;
+const HOP = /^hop \d+ contact (\d+) from \d+ to \d+ send (\S+) arrive (\S+)$/;
+
+// The routes of a report, without hops. Ranks may be above what a number holds exactly, and stay texts.
+const routesIn = (text) => text.split("\n").map((line) => ROUTE.exec(line)).filter(Boolean).map(readRoute);
+
+function readRoute([line, rank, delivery, entry, until, contacts]) {
+  const numbers = contacts.split(" ").map(Number);
+  return { line, rank, delivery: secondOf(delivery), entry, until: secondOf(until), contacts: numbers };
+}
+
+// The hops of each explanation; an explanation ends with a route's line.
+function explainedIn(text) {
+  const found = [[]];
+  for (const line of text.split("\n")) {
+    const [, contact, send, arrive] = HOP.exec(line) ?? [];
+    if (contact) found.at(-1).push({ contact: contactWith.get(Number(contact)), send: secondOf(send), arrive: secondOf(arrive) });
+    else if (ROUTE.test(line)) found.push([]);
+  }
+  return found.slice(0, -1);
+}
+
+// A route with its hops, and what follows from these.
+function withHops(route, hops, place, label = route.rank) {
+  const passed = hops.map((hop) => links[linkOf[hop.contact]]);
+  const nodes = [passed[0].from, ...passed.map((link) => link.to)];
+  return { ...route, place, label, hops, nodes, uses: new Set(hops.map((hop) => hop.contact)), sendBy: lastStart(hops) };
+}
+
+// The last second at the source for the contacts of some hops: each has to be sent before its contact ends, and early enough
+// for the next one.
+function lastStart(hops) {
+  return hops.reduceRight((latest, { contact, send, arrive }) => Math.min(ends[contact] - 1, latest - (arrive - send)), Infinity);
+}
+
+// A request's line as `many` takes it, from a second on, and with contacts in front as `follow` does.
+function lineOf({ from, to, marginPpm, maxHops, avoid }, at) {
+  return [from, to, programTime(at), marginPpm || "0", maxHops || "20000", avoid].filter(Boolean).join(" ");
+}
+
+// The hops of routes, as the program explains their contacts, each from a second on; or why it doesn't.
+async function explained(told, asked, seconds = told.map(() => secondOf(asked.at))) {
+  if (!told.length) return { status: 0, report: "", hops: [] };
+  const lists = told.map(({ contacts }, place) => `${contacts.join(",")} ${lineOf(asked, seconds[place])}\n`).join("");
+  const answer = await askOver(lossesBelow(), "follow", { lists });
+  return { ...answer, hops: explainedIn(answer.report) };
+}
+
+// ---- What is best ----
+
+// Links stand in the order in which routes pass them: the first hops of all routes, then the second ones, and so on.
+function rankLinks(routes) {
+  for (const route of routes) {
+    route.hops.forEach((hop, place) => {
+      const link = links[linkOf[hop.contact]];
+      link.rank = Math.min(link.rank, place / route.hops.length + route.place / 1e4);
+    });
+  }
+}
+
+const holds = (route) =>
+  ![...chosen.lost].some((contact) => route.uses.has(contact)) && !route.nodes.some((node) => chosen.gone.has(node));
+
+// The best route without all that is lost, as far as the routes that are shown tell it: where these begin the list of all,
+// they come before all others. Undefined if they don't tell it.
+const bestShown = () => (begin.isKnown ? routes.find(holds) : undefined);
+
+const isShownRoute = (route) => route.place < routes.length;
+const roomOfHop = (hop) => roomFrom(hop.contact, hop.send);
+const roomOfRoute = (route) => route.hops.map(roomOfHop).reduce((least, room) => (room < least ? room : least));
+const pathOf = (route) => route.nodes.map(nameOf).join(" → ");
