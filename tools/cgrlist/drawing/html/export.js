@@ -1,4 +1,4 @@
-// What can be saved: the routes as CSV, and the picture as SVG.
+// What can be saved: the program's report, the routes in the forms of tools/report, the picture as SVG, the plan, and the page.
 
 function save(name, kind, text) {
   const link = element("a", { href: URL.createObjectURL(new Blob([text], { type: kind })), download: name });
@@ -7,21 +7,117 @@ function save(name, kind, text) {
 }
 
 const fileName = (end) => `${app.plan.name.replace(/\.[^.]*$/, "")}.${end}`;
-const cell = (value) => (/[",\n]/.test(value) ? `"${value.replaceAll('"', '""')}"` : String(value));
 
-// A line for each hop of each shown route.
-function routesText() {
-  const head = ["route", "delivery", "send_by", "hop", "contact", "from", "to", "send", "arrive", "volume"];
-  const hops = routes.flatMap((route) => route.hops.map((hop, place) => hopCells(route, hop, place)));
-  return [head, ...hops].map((cells) => `${cells.map(cell).join(",")}\r\n`).join("");
+// ---- Values -----------------------------------------------------------------------------------------------------
+
+// The values of a route and of a hop under the fields of tools/report; times are seconds, nodes places, volumes texts.
+const routeFields = (route) => ({
+  rank: Number(route.rank) || null,
+  delivery: route.delivery,
+  hops: route.hops.length,
+  entry: route.nodes[1],
+  until: route.until,
+  send_by: route.sendBy,
+  contacts: route.contacts,
+  nodes: route.nodes,
+  room: String(roomOfRoute(route)),
+});
+
+function hopFields(hop) {
+  const { from, to } = links[linkOf[hop.contact]], number = known.number[hop.contact];
+  return { contact: number, from, to, send: hop.send, arrive: hop.arrive, room: String(roomOfHop(hop)) };
 }
 
-function hopCells(route, hop, place) {
-  const { from, to } = links[linkOf[hop.contact]], times = [hop.send, hop.arrive].map(timeText);
-  const sendBy = timeText(route.sendBy);
-  const ends = [known.nodes[from], known.nodes[to]], number = known.number[hop.contact];
-  return [route.rank, timeText(route.delivery), sendBy, place + 1, number, ...ends, ...times, String(roomOfHop(hop))];
+const TIMES = ["delivery", "until", "send_by", "send", "arrive"], NODES = ["entry", "from", "to"];
+const isoText = (second) => `${new Date(second * 1000).toISOString().slice(0, 19)}Z`;
+
+// ---- Comma-separated values -------------------------------------------------------------------------------------
+
+const timeOfCsv = (second) => (data.iso ? isoText(second) : isoText(second).slice(0, 19).replace("T", " "));
+
+// A cell. One that a spreadsheet would take for a formula begins with a quote.
+function cell(value) {
+  const text = String(value ?? ""), isFormula = /^[=+\-@\t\r]/.test(text) && Number.isNaN(Number(text));
+  const safe = isFormula ? `'${text}` : text;
+  return /[",\r\n]/.test(safe) ? `"${safe.replaceAll('"', '""')}"` : safe;
 }
 
-const saveRoutes = () => save(fileName("csv"), "text/csv", routesText());
+const csvOf = (rows) => rows.map((cells) => `${cells.map(cell).join(",")}\n`).join("");
+
+function csvValue([field, value]) {
+  if (value === null) return "";
+  if (TIMES.includes(field)) return timeOfCsv(value);
+  if (NODES.includes(field)) return nameOf(value);
+  return field === "nodes" ? value.map(nameOf).join(" > ") : Array.isArray(value) ? value.join(" ") : value;
+}
+
+const csvRow = (fields) => Object.entries(fields).map(csvValue);
+
+// A line for each route, and one for each hop of each route.
+const routesCsv = () => csvOf([Object.keys(routeFields(routes[0])), ...routes.map((it) => csvRow(routeFields(it)))]);
+
+function hopsCsv() {
+  const rows = routes.flatMap((it) => it.hops.map((hop, place) => [it.rank, place + 1, ...csvRow(hopFields(hop))]));
+  return csvOf([["rank", "hop", ...Object.keys(hopFields(routes[0].hops[0]))], ...rows]);
+}
+
+// ---- JSON -------------------------------------------------------------------------------------------------------
+
+// A function that leaves texts of numbers as numbers, or as texts if one of some numbers isn't exact in JSON.
+const exactly = (numbers) => (numbers.every((it) => BigInt(it) <= Number.MAX_SAFE_INTEGER) ? Number : String);
+
+// The routes with their hops as JSON, a route a line.
+async function routesJson() {
+  const node = exactly(known.nodes), amount = exactly(known.number.map((_, contact) => roomFrom(contact, known.start[contact])));
+  const value = (field, it) => {
+    if (it === null) return null;
+    if (TIMES.includes(field)) return isoText(it);
+    if (NODES.includes(field)) return node(known.nodes[it]);
+    return field === "nodes" ? it.map((place) => node(known.nodes[place])) : field === "room" ? amount(it) : it;
+  };
+  const told = (fields) => Object.fromEntries(Object.entries(fields).map(([field, it]) => [field, value(field, it)]));
+  const rows = routes.map((it) => JSON.stringify({ ...told(routeFields(it)), path: it.hops.map((hop) => told(hopFields(hop))) }));
+  const after = { ...(request ? { request: requestJson(node) } : {}), ...(await aboutJson()) };
+  return `{"routes": [\n  ${rows.join(",\n  ")}]${Object.entries(after).map((it) => `,\n ${it.map((part) => JSON.stringify(part)).join(": ")}`).join("")}}\n`;
+}
+
+function requestJson(node) {
+  const { from, to, marginPpm, maxHops, avoid } = request.texts, limit = (text) => (text ? Number(text) : null);
+  const ends = { from: node(from), to: node(to), at: isoText(request.at) };
+  return { ...ends, margin_ppm: limit(marginPpm), max_hops: limit(maxHops), avoid: avoid ? avoid.split(",").map(node) : [] };
+}
+
+async function aboutJson() {
+  const passed = new Set(routes.flatMap((it) => it.nodes.map((place) => known.nodes[place])));
+  const digest = digestIn(await askOver(lossesBelow(), "check", {})), end = app.report ? app.report.endsWith("end\n") : null;
+  return { looked_at: routes.length, end, names: Object.fromEntries([...names].filter(([node]) => passed.has(node))), plan: digest };
+}
+
+// ---- The panel --------------------------------------------------------------------------------------------------
+
+const saveReport = () => save(fileName("report"), "text/plain", app.report);
+const saveRoutes = () => save(fileName("csv"), "text/csv", routesCsv());
+const saveHops = () => save(fileName("hops.csv"), "text/csv", hopsCsv());
+const saveJson = async () => save(fileName("json"), "application/json", await routesJson());
 const savePicture = () => save(fileName("svg"), "image/svg+xml", svgText(0, AXIS + rows.height));
+const savePlan = () => save(app.plan.name, "text/plain", app.planText());
+const savePage = () => save(fileName("html"), "text/html", app.pageText(app.data()));
+
+const needingRoutes = [actButton("Report", saveReport), actButton("CSV", saveRoutes), actButton("CSV of hops", saveHops), actButton("JSON", saveJson)];
+const saving = (label, ...parts) => element("div", { class: "saving", role: "group", "aria-label": label }, element("h3", {}, label), ...parts);
+
+const savePanel = addPanel("save", "Save", [
+  saving("Routes", ...needingRoutes),
+  saving("Picture", actButton("SVG", savePicture), actButton("Print", () => print())),
+  saving("Plan, without what is lost", actButton("Text", savePlan)),
+  saving("This page, with plan, question and answers", actButton("HTML", savePage)),
+], showSaved);
+
+// Shows what can be saved now.
+function showSaved() {
+  for (const button of needingRoutes) button.disabled = !routes.length;
+  needingRoutes[0].disabled = !app.report;
+  showLink();
+}
+
+app.changed(showSaved);

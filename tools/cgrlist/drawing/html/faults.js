@@ -1,0 +1,146 @@
+// The plan's text, which can be changed, and its bad lines: the engine names the first one, and then the next ones over the
+// text without those before.
+
+const MOST_FAULTS = 200; // bad lines that are looked for
+const MOST_SHOWN = 80; // characters of a line
+const LINE_HEIGHT = 18; // pixels, as panels.css has it
+const REST = 400; // milliseconds without a key, after which a changed text is checked
+
+// ---- Bad lines --------------------------------------------------------------------------------------------------
+
+const FORMS = [
+  [/^(\x1f|BZh|PK\x03\x04|.7zXZ|\(.\/.)/, "compressed: unpack it first"],
+  [/^(\ufffd\ufffd|.?\0)/, "text in UTF-16: iconv -f UTF-16 -t UTF-8 FILE makes it UTF-8"],
+  [/^\s*\{/, "JSON: if it is HDTN's, tools/from_ionrc --form hdtn FILE makes a plan of it"],
+  [/^\s*\[/, "JSON, which has no plan's lines"],
+  [/^\s*</, "XML, which has no plan's lines"],
+];
+
+// What a text is that is no plan's, and how it is converted; nothing if it may be one.
+function formOf(text) {
+  const form = FORMS.find(([begin]) => begin.test(text));
+  return form ? `This is ${form[1]}` : "";
+}
+
+// The bad lines of a text, each `{ line, reason, text }`, and the last answer; `isAll` is false if there may be more of them.
+// It is null if it is over before.
+async function faultsOf(ask, text, isOver = () => false) {
+  const lines = text.split("\n"), faults = [];
+  for (;;) {
+    const answer = await ask("check", { plan: lines.join("\n") });
+    if (isOver()) return null;
+    const [, place, reason] = /plan line (\d+): (\w+)/.exec(answer.message) ?? [], line = Number(place);
+    if (!place || lines[line - 1] === "#" || faults.length === MOST_FAULTS) return { faults, answer, isAll: !place };
+    faults.push({ line, reason, text: lines[line - 1] });
+    lines[line - 1] = "#"; // a comment, so that the others keep their numbers
+  }
+}
+
+// ---- The panel --------------------------------------------------------------------------------------------------
+
+// The text in the field: its file's name, as it was given, its bad lines, and whether another one is to be shown.
+const edited = { name: "", given: "", bad: new Set(), turn: 0, timer: 0, isOld: true };
+const gutter = element("pre", { class: "gutter", "aria-hidden": "true" });
+const planField = textField("The plan's text", { id: "planText", wrap: "off", rows: 16 }, () => useText(), gutter);
+const planArea = planField.area;
+const planState = statusLine();
+const faultList = element("ol", { class: "faults", "aria-label": "Bad lines" });
+
+// The numbers of the lines in view, with the bad ones marked.
+function paintGutter() {
+  const first = Math.floor(planArea.scrollTop / LINE_HEIGHT), most = Math.ceil(planArea.clientHeight / LINE_HEIGHT) + 1;
+  const numbers = Array.from({ length: Math.min(most, lineCount() - first) }, (_, place) => first + place + 1);
+  gutter.replaceChildren(...numbers.map((line) => element("span", edited.bad.has(line) ? { class: "bad" } : {}, `${line}\n`)));
+  gutter.style.transform = `translateY(${-(planArea.scrollTop % LINE_HEIGHT)}px)`;
+}
+
+const lineCount = () => planArea.value.split("\n").length;
+
+function goToLine(line) {
+  const lines = planArea.value.split("\n"), start = lines.slice(0, line - 1).reduce((sum, it) => sum + it.length + 1, 0);
+  planArea.focus();
+  planArea.setSelectionRange(start, start + lines[line - 1].length);
+  planArea.scrollTop = (line - 4) * LINE_HEIGHT;
+  paintGutter();
+}
+
+// Shows a text of that name, and checks it.
+function showText(name, text) {
+  Object.assign(edited, { name, given: text, isOld: false });
+  if (planArea.value !== withLineFeeds(text)) planArea.value = text;
+  checkText();
+}
+
+async function checkText() {
+  const turn = ++edited.turn, isOver = () => turn !== edited.turn;
+  clearTimeout(edited.timer);
+  if (isPlanText() || formOf(planArea.value)) return showFaults({ faults: [], isAll: true });
+  planState.textContent = "Checking ..";
+  const found = await faultsOf(app.ask, planArea.value, isOver);
+  if (found) showFaults(found);
+}
+
+// Whether the text is that of the plan that is shown. A field has no CR.
+const isPlanText = () => !app.refused && planArea.value === withLineFeeds(app.plan.text);
+const withLineFeeds = (text) => text.replace(/\r\n?/g, "\n");
+
+function showFaults({ faults, isAll, answer }) {
+  edited.bad = new Set(faults.map((it) => it.line));
+  planState.textContent = aboutText(faults, isAll, answer);
+  planState.classList.toggle("bad", faults.length > 0);
+  const isFirst = ({ reason }, place) => faults.findIndex((it) => it.reason === reason) === place;
+  faultList.replaceChildren(...faults.map((it, place) => faultItem(it, isFirst(it, place))));
+  useButton.disabled = resetButton.disabled = isPlanText();
+  paintGutter();
+}
+
+function aboutText(faults, isAll, answer) {
+  const form = formOf(planArea.value);
+  if (form || isPlanText()) return form || `This is the plan that is shown: ${app.plan.name}`;
+  if (answer.status !== 0 && answer.status !== 3) return answer.message;
+  const ends = /\r/.test(edited.given) ? " Lines that ended with CR end with LF here." : "";
+  const told = isAll ? count(faults.length, "bad line") : `The first ${faults.length} bad lines; there may be more`;
+  return faults.length ? `${told}: each adds nothing, so another may be bad because of it alone.${ends}` : `No bad line.${ends}`;
+}
+
+// A bad line, and the repair of its reason below the first of them.
+function faultItem({ line, reason, text }, isFirst) {
+  const shown = text.length > MOST_SHOWN ? `${text.slice(0, MOST_SHOWN)} ..` : text;
+  const go = actButton(`line ${line}`, () => goToLine(line), { class: "small", "aria-label": `Go to line ${line}, ${reason}` });
+  const repair = isFirst && REPAIRS[reason] ? element("p", { class: "soft" }, `${reason}: ${REPAIRS[reason]}`) : "";
+  return element("li", {}, go, element("b", {}, reason), element("code", {}, shown), repair);
+}
+
+// Opens the text in the page, for the same question.
+async function useText() {
+  const answer = await app.openPlan(edited.name, planArea.value, app.request);
+  if (answer.status === 0) planArea.focus();
+}
+
+// Shows the plan's text, or the one that was refused, if there is another one than before.
+function showPlanText() {
+  const { name, text } = app.refused ?? app.plan;
+  if (edited.isOld) showText(name, text);
+}
+
+planArea.oninput = () => {
+  edited.turn++;
+  clearTimeout(edited.timer);
+  edited.timer = setTimeout(checkText, REST);
+  useButton.disabled = resetButton.disabled = false;
+  paintGutter();
+};
+planArea.onscroll = paintGutter;
+
+const useButton = actButton("Use this text", useText, { title: "Ctrl+Enter" });
+const resetButton = actButton("Take changes back", () => showText(app.plan.name, app.plan.text));
+const saveText = () => save(edited.name || "plan.txt", "text/plain", planArea.value);
+const planButtons = element("div", { class: "acts" }, useButton, resetButton, actButton("Save text", saveText));
+const planPanel = addPanel("plan", "Plan text", [planState, planField.part, planButtons, faultList], showPlanText);
+planPanel.classList.add("wide");
+
+app.changed((what) => {
+  if (what !== "plan" && what !== "refused") return;
+  edited.isOld = true;
+  if (planPanel.offsetParent) showPlanText();
+});

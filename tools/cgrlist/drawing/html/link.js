@@ -1,0 +1,32 @@
+// A link to the question, which the address keeps, if it isn't the one with which the file opens. A link has no plan: the plan's
+// digest shows whether it is the file's.
+
+const linkField = element("input", { class: "link", readonly: "", "aria-label": "Link to this question" });
+linkField.onfocus = () => linkField.select();
+
+const lineNow = () => (request ? lineOf(request.texts, request.at) : "");
+const lineAtFirst = () => (data.request ? lineOf(data.request, secondOf(data.request.at)) : "");
+
+// What the address keeps besides what is chosen.
+function linkState() {
+  const plan = app.plan.text === data.plan ? {} : { plan: app.plan.digest };
+  return lineNow() && lineNow() !== lineAtFirst() ? { ...plan, ask: lineNow() } : plan;
+}
+
+// Asks what an address asks, over the plan that is shown.
+async function recallLink(state) {
+  const ask = state.get("ask") ?? lineAtFirst(), plan = state.get("plan") ?? app.plan.digest;
+  if (plan !== app.plan.digest) app.tell("This link is of another plan than this page has: open that plan, too.");
+  const [from, to, at, marginPpm, maxHops, avoid] = ask.split(" ");
+  if (ask && ask !== lineNow()) await setRequest({ from, to, at, marginPpm, maxHops, avoid });
+}
+
+const showLink = () => (linkField.value = location.href);
+
+function copyLink() {
+  linkField.select();
+  document.execCommand("copy"); // pages from files have no other way in each browser
+  app.tell("The link is copied.");
+}
+
+savePanel.append(saving("Link to this question, for this page and plan", linkField, actButton("Copy", copyLink)));

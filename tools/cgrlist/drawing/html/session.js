@@ -1,0 +1,68 @@
+// The panel of sessions: the text of the one after the routes that are shown can be saved; another one can be checked, and the
+// list goes on after it.
+
+// What is wrong with a session text, as docs/formats.md says it.
+const SESSION_FAULTS = {
+  BadHeader: "its first line isn't that of a session text",
+  BadLine: "this line isn't as a session text has it",
+  OtherPlan: "it is of another plan",
+  BadRequest: "its values make no request",
+  BadRoute: "the route of this line is no route of its part",
+  NotClosed: "its parts don't fit together",
+  BadCount: "its count of routes or its last route isn't that of its parts",
+};
+
+const sessionField = textField("A session text", { id: "sessionText", wrap: "off", rows: 8 }, () => checkSession());
+const sessionState = statusLine();
+
+// What a session text says of itself.
+function aboutSession(text) {
+  const { from, to, at } = requestIn(text), [, given] = /^emitted (\d+)$/m.exec(text) ?? [];
+  return given && at ? `after ${given} ${given === "1" ? "route" : "routes"} of ${titleOf(from)} → ${titleOf(to)} at ${at}` : "";
+}
+
+// Checks the text in the field, and tells in words whether it is right.
+async function checkSession() {
+  const session = sessionField.area.value, answer = await app.ask("verify", { session });
+  if (answer.status > 1 || answer.status === UNANSWERED) return tellSession(messageOf(answer));
+  if (answer.status === 1) return tellSession(`No: ${await whyNotSession(session)}.`);
+  return tellSession(`Yes: this is the session ${aboutSession(session)}, its routes are the best ones, and none is left out.`);
+}
+
+// Why `verify` says no: what `next` says of the text.
+async function whyNotSession(session) {
+  const answer = await app.ask("next", { session, count: "1" });
+  if (answer.status === 0) return "its text is sound, but its routes aren't the best ones, or a part has another best route";
+  return sessionFault(messageOf(answer));
+}
+
+function sessionFault(message) {
+  const kind = message.split(" ").at(-1), lost = kind === "OtherPlan" ? withoutLost() : "";
+  return SESSION_FAULTS[kind] ? `${message}: ${SESSION_FAULTS[kind]}${lost && ` than this one${lost}`}` : message;
+}
+
+async function goOnAfter() {
+  const session = sessionField.area.value, answer = await app.goOn(session);
+  tellSession(answer.status === 0 ? `The routes that are shown are those ${aboutSession(session)}.` : sessionFault(messageOf(answer)));
+}
+
+async function saveSession() {
+  const text = await app.sessionText();
+  if (text) save(fileName("session"), "text/plain", text);
+  tellSession(text ? `Saved: the session ${aboutSession(text)}.` : "There is no session: it needs a question, and routes from the first one on.");
+}
+
+const tellSession = (text) => (sessionState.textContent = text);
+
+const openSession = fileButton("Open a file", sessionField.area, (_, text) => {
+  sessionField.area.value = text;
+  checkSession();
+});
+
+addPanel("session", "Session", [
+  element("p", { class: "soft" }, "A session text keeps where a list of routes stands, so that it can go on later, here or by cgrlist next."),
+  element("div", { class: "acts" }, actButton("Save the session after these routes", saveSession)),
+  sessionField.part,
+  element("div", { class: "acts" }, actButton("Check", checkSession, { title: "Ctrl+Enter" }), actButton("Go on after it", goOnAfter), openSession),
+  sessionState,
+]);
