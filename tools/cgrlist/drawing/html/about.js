@@ -5,7 +5,7 @@ const about = jsonIn("about");
 // What the engine of this browser can, in a line.
 function tellEngine() {
   const isHere = engine.state === "ready";
-  app.tell(isHere ? "Answers are computed here, by the proved program. No data leaves this page." : "");
+  app.tell(isHere ? `cgrlist ${about.version}: proved answers, computed in this page. No data leaves it.` : "");
   byId("engine").textContent = isHere ? "It answers in this browser." : `It doesn't answer here (${engine.state}): the page shows what was found when it was made. ${BROWSERS} answer the rest.`;
   document.body.classList.toggle("still", !isHere);
 }

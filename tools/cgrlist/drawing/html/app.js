@@ -114,6 +114,7 @@ async function openPlan(name, text, question = null) {
   if (opened !== turn) return unanswered("Another plan was opened.");
   if (check.status !== 0) return refusePlan({ name, text, message: messageOf(check) }, check);
   app.refused = null;
+  tellRefused("");
   keepAnswers(["canonical", "check"].map((run, place) => ({ run, lost: noLosses, texts: {}, answer: answers[place] })));
   const before = byId("from").value && request?.texts;
   names.clear(); // they are those of the plan before
@@ -139,15 +140,15 @@ const PLAN_STATUS = 3; // the text is no plan
 
 // Shows a plan without routes.
 function showOpened(plan, canonical) {
-  app.plan = plan;
-  usePlan(contactsIn(canonical.report));
-  useTimetable(null);
+  [request, routes, starts] = [null, [], null];
   Object.assign(listing, { report: "", explained: "", session: "", isGiven: false });
-  [request, routes] = [null, []];
   Object.assign(shows, { node: null, open: new Set(), chosen: null, isByHand: false });
   Object.assign(chosen, { route: null, contact: null });
   loseNothing();
+  app.plan = plan;
+  usePlan(contactsIn(canonical.report));
   fillQuestion();
+  byId("below").hidden = true;
   showAnew();
   announce("plan");
 }

@@ -103,8 +103,8 @@ function takeRoutes(asked, found) {
     chosen.route = null;
     fillQuestion();
     showAnew();
-    askTimetable();
   }
+  askTimetable();
   announce("routes");
 }
 

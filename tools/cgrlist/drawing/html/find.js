@@ -57,7 +57,7 @@ function aboutHit(hit) {
   if (hit.second !== undefined) return [timeText(hit.second), "show this time"];
   if (hit.link !== undefined) return [linkName(hit.link), count(contactsOf(hit.link).length, "contact")];
   if (hit.contact === undefined) {
-    const linked = links.filter((link) => link.from === hit.node || link.to === hit.node).length;
+    const linked = links.filter((link) => endsAt(link, hit.node)).length;
     return [`Node ${fullName(hit.node)}`, `show its ${count(linked, "link")}`];
   }
   const { from, to } = links[linkOf[hit.contact]], start = timeText(known.start[hit.contact]);

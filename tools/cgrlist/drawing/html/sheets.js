@@ -10,7 +10,7 @@ function svgText(scroll, height) {
   return text;
 }
 
-const SHEET = { width: 1040, first: 620, height: 690 }; // of a print; the first one has the heading
+const SHEET = { width: 1040, first: 590, height: 690 }; // of a print; the first one has the heading and the legend
 
 // The sheets of a print, as SVGs: all rows, and the axis on each.
 function sheets() {

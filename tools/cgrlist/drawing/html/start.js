@@ -61,9 +61,6 @@ const does = {
   fit: showRoutes,
   whole: showPlan,
   theme: chooseTheme,
-  csv: saveRoutes,
-  svg: savePicture,
-  print: () => print(),
   keys: () => byId("help").showModal(),
 };
 
@@ -85,7 +82,7 @@ function showAnew() {
 
 // Keeps what is chosen in the address, so that it can be given on. Some browsers refuse that for files.
 function remember() {
-  const state = new URLSearchParams(typeof linkState === "function" ? linkState() : {});
+  const state = new URLSearchParams(linkState());
   if (chosen.lost.size) state.set("lost", lostNumbers().join(","));
   if (isStarting()) state.set("at", timeText(chosen.start));
   if (chosen.gone.size) state.set("avoid", [...chosen.gone].map((node) => known.nodes[node]).join(","));
@@ -117,9 +114,11 @@ function recallStart(state = opened()) {
 }
 
 // The address was changed by hand.
-addEventListener("hashchange", () => {
-  theme.isChosen = opened().has("theme");
-  recall(opened());
+addEventListener("hashchange", async () => {
+  const state = opened();
+  theme.isChosen = state.has("theme");
+  await recallLink(state);
+  recall(state);
   change();
   paintMap();
   bringIntoView();
@@ -143,6 +142,7 @@ async function start() {
   if (data.given) takeGiven(data.given);
   else if (data.request) await setRequest(data.request);
   if (data.links) shows.chosen = new Set(data.links.map(placeOfLink));
+  await recallLink(state);
   recall(state);
   if (data.span) showSpan(...data.span);
   view.widest = view.last - view.first;

@@ -116,6 +116,9 @@ function paintLine(yOf) {
   }
   const text = delivery === null ? "no route" : `delivery ${timeBeside(delivery, second)}`, isLeft = x + 160 > size.width;
   brush.textAlign = isLeft ? "right" : "left";
+  brush.strokeStyle = ink.back; // a rim, so that the text stands out from lines
+  brush.lineWidth = 5;
+  brush.strokeText(text, x + (isLeft ? -11 : 11), 9);
   brush.fillText(text, x + (isLeft ? -11 : 11), 9);
 }
 

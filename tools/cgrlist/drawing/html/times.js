@@ -25,14 +25,21 @@ const programTime = (second) => `${dayText(second).replaceAll("-", "/")}-${clock
 
 const WHOLE_TIME = /^(\d{4})([-/])(\d\d)\2(\d\d)[-Tt ](\d\d):(\d\d):(\d\d)[Zz]?$/;
 
-// The second of a time in either spelling; NaN if it is none.
+// The second of a time in either spelling; NaN if it is none, as of a day that its month doesn't have.
 function secondOf(text) {
-  const [isTime, year, , month, ...further] = WHOLE_TIME.exec(text.trim()) ?? [];
-  return isTime ? Date.UTC(Number(year), month - 1, ...further.map(Number)) / 1000 : NaN;
+  const [isTime, year, , month, day, ...clock] = WHOLE_TIME.exec(text.trim()) ?? [];
+  const date = new Date(isTime ? Date.UTC(Number(year), month - 1, day, ...clock) : NaN);
+  return date.getUTCDate() === Number(day) && date.getUTCSeconds() === Number(clock[2]) ? date.getTime() / 1000 : NaN;
 }
 
 // A time beside another one: without the day if that is the same.
 const timeBeside = (second, other) => (dayText(second) === dayText(other) ? clockText(second) : timeText(second));
+
+// The same, which may be broken before the clock.
+function timeParts(second, other) {
+  const text = timeBeside(second, other), clock = clockText(second) + (data.iso && text.endsWith("Z") ? "Z" : "");
+  return text === clockText(second) ? [text] : [text.slice(0, -clock.length), element("wbr"), clock];
+}
 
 function durationText(seconds) {
   const parts = [

@@ -7,9 +7,9 @@ let starts = null; // its stretches of time with one best route each, in their o
 // Asks for the timetable of the routes that are shown.
 async function askTimetable() {
   const of = request;
-  useTimetable(null);
-  if (!of || !routes.length) return;
+  if (!of || !routes.length) return useTimetable(null);
   const texts = { ...of.texts, count: "" }, kept = keptAnswer("timetable", lossesBelow(), texts);
+  if (!kept) useTimetable(null);
   const answer = kept ?? (await timetableOf(of));
   if (of !== request || !answer) return;
   if (!kept) keepAnswer("timetable", lossesBelow(), texts, answer);

@@ -25,13 +25,14 @@ function paintRoutes(top) {
   for (const [route, pieces] of drawn) paintRoute(route, pieces);
 }
 
-// The hops of a route, each with where it lies, and from where the route comes.
+// The hops of a route whose links have rows, each with where it lies, and from where and when the route comes.
 function piecesOf(route, top) {
-  let from = null; // the end of the last hop
-  return route.hops.map((hop) => {
-    const piece = { route, hop, from, ...hopPlace(route, hop, top) };
-    from = { x: piece.arrive, y: piece.y };
-    return piece;
+  let from = null, since = startOf(route); // the end of the hop before, if it has a row
+  return route.hops.flatMap((hop) => {
+    const place = hopPlace(route, hop, top), piece = { route, hop, from, since, ...place };
+    from = place && { x: place.arrive, y: place.y };
+    since = hop.arrive;
+    return place ? [piece] : [];
   });
 }
 
@@ -63,20 +64,21 @@ function paintRoute(route, pieces) {
     paintWait(piece);
     paintHop(piece);
   }
-  const { arrive, y } = pieces.at(-1);
-  paintDelivery(route, { x: arrive, y }, colour);
+  const last = pieces.at(-1);
+  if (last?.hop === route.hops.at(-1)) paintDelivery(route, { x: last.arrive, y: last.y }, colour);
 }
 
 function hopPlace(route, hop, top) {
-  const row = rows.of.get(linkOf[hop.contact]), lane = rows.lanes.get(row.link).get(route);
+  const row = rows.of.get(linkOf[hop.contact]), lane = row && rows.lanes.get(row.link).get(route);
+  if (!row) return null;
   const y = top + row.top + row.bars + lane * LANE + LANE / 2 - 3, send = xOf(hop.send);
   return { y, send, arrive: Math.max(xOf(hop.arrive), send + 0.1) };
 }
 
 function paintWait(piece) {
-  const { route, hop, from, y, send } = piece, start = from ? from.x : xOf(startOf(route));
+  const { route, hop, from, since, y, send } = piece, start = from ? from.x : xOf(since);
   if (from) paintTurn(piece);
-  if (!from && !(request && hop.send > startOf(route))) return;
+  if (!from && hop.send <= since) return;
   paper.lineWidth = isFaint(route) ? 1.2 : 1.6;
   paper.setLineDash(dashesOf(route));
   strokeLine(start, y, send, y);

@@ -81,9 +81,8 @@ function lanesOfRoutes() {
 }
 
 function chosenLinks() {
-  const isOf = ({ from, to }) => from === shows.node || to === shows.node;
-  const isShown = (link) => (shows.chosen ? shows.chosen.has(link) : shows.links === "all");
-  const has = (link) => rows.lanes.has(link) || (shows.node === null ? isShown(link) : isOf(links[link]));
+  const isShown = (link) => rows.lanes.has(link) || (shows.chosen ? shows.chosen.has(link) : shows.links === "all");
+  const has = (link) => (shows.node === null ? isShown(link) : endsAt(links[link], shows.node));
   const found = links.map((_, link) => link).filter(has);
   return found.sort((a, b) => (links[a].rank === links[b].rank ? a - b : links[a].rank - links[b].rank));
 }
@@ -191,8 +190,8 @@ const showPlan = () => flyTo(...spanOfPlan());
 
 // Brings a route into view: its rows and its time, when a contact is lost beside the routes before.
 function revealRoute(route) {
-  const tops = route.hops.map((hop) => rows.of.get(linkOf[hop.contact])).flatMap((row) => [row.top, row.top + row.height]);
-  revealRows(Math.min(...tops), Math.max(...tops));
+  const its = route.hops.map((hop) => rows.of.get(linkOf[hop.contact])).filter(Boolean);
+  if (its.length) revealRows(Math.min(...its.map((row) => row.top)), Math.max(...its.map((row) => row.top + row.height)));
   revealSpan(isStarting() ? chosen.start : route.hops[0].send, route.delivery);
 }
 

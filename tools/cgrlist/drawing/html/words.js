@@ -11,7 +11,7 @@ function element(tag, about = {}, ...parts) {
   return made;
 }
 
-const line = (tag, parts) => element("tr", {}, ...parts.map((part) => element(tag, {}, part)));
+const line = (tag, cells) => element("tr", {}, ...cells.map((cell) => element(tag, {}, ...[cell].flat())));
 const UNITS = ["bytes", "kB", "MB", "GB", "TB", "PB", "EB"];
 
 // A number of bytes with a unit, to four digits, as short as it can be.
@@ -84,7 +84,7 @@ function hopTable(route, withButtons) {
 }
 
 function hopLine(route, hop, withButtons) {
-  const { contact } = hop, times = [hop.send, hop.arrive].map((second) => timeBeside(second, route.delivery));
+  const { contact } = hop, times = [hop.send, hop.arrive].map((second) => timeParts(second, route.delivery));
   const texts = [String(known.number[contact]), nameOf(links[linkOf[contact]].to), ...times];
   if (!withButtons) return line("td", texts);
   const volume = volumePart(roomOfHop(hop), "what the contact can send from then on");
