@@ -22,7 +22,7 @@ ENGINE = FOLDER.parent.parent / "engine"
 RUNS = ("errors", "program", "engine")  # of the engine, in the order in which they run
 SCRIPTS = ("plan", "times", "answers", "routes", "view", "svg", "colours", "picture", "traces", "sheets", "words", "starts")
 SCRIPTS += ("timetable", "hands", "find", "ask", "app", "open", "about")
-PANELS = ("panel", "faults", "choices", "judge", "session", "link", "export")
+PANELS = ("panel", "faults", "choices", "judge", "session", "export", "link")
 MOST_ROUTES = 1000  # so many are on a page that isn't asked for twice
 
 

@@ -5,9 +5,9 @@ const about = jsonIn("about");
 // What the engine of this browser can, in a line.
 function tellEngine() {
   const isHere = engine.state === "ready";
-  app.tell(isHere ? `cgrlist ${about.version}: proved answers, computed in this page. No data leaves it.` : "");
-  byId("engine").textContent = isHere ? "It answers in this browser." : `It doesn't answer here (${engine.state}): the page shows what was found when it was made. ${BROWSERS} answer the rest.`;
-  document.body.classList.toggle("still", !isHere);
+  const here = `cgrlist ${about.version}: proved answers, computed in this page. No data leaves it.`;
+  app.tell(isHere ? here : `This page shows what was found when it was made. ${BROWSERS} answer the rest.`);
+  byId("engine").textContent = isHere ? "It answers in this browser." : `It doesn't answer here: ${engine.state}. ${BROWSERS} have what it needs.`;
 }
 
 // What the record of the module says, and what the file's maker remarks.

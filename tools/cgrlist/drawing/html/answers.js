@@ -19,12 +19,13 @@ const unanswered = (message) => ({ status: UNANSWERED, report: "", session: "", 
 
 const noLosses = { contacts: [], nodes: [] };
 
-// What is lost for all answers, and what is lost now: numbers of contacts and of nodes.
-const lossesBelow = () => ({ contacts: numbersOf(missing), nodes: [] });
-const lossesNow = () => ({
-  contacts: numbersOf([...missing, ...chosen.lost]),
-  nodes: [...chosen.gone].map((node) => known.nodes[node]).sort(byNumber),
+// What is lost for all answers, and some contacts and nodes besides: their numbers.
+const lossesWith = (contacts, nodes) => ({
+  contacts: numbersOf([...missing, ...contacts]),
+  nodes: [...nodes].map((node) => known.nodes[node]).sort(byNumber),
 });
+const lossesBelow = () => lossesWith([], []);
+const lossesNow = () => lossesWith(chosen.lost, chosen.gone);
 const numbersOf = (contacts) => [...contacts].map((contact) => known.number[contact]).sort((one, other) => one - other);
 
 // The plan's text with a line for each contact that is lost; with a node all its contacts are.

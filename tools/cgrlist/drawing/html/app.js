@@ -131,7 +131,8 @@ const isOfPlan = ({ from, to }) => [from, to].every((node) => known.nodes.includ
 
 function refusePlan(refused, check) {
   app.refused = refused;
-  tellRefused(`${refused.name} isn't opened: ${refused.message}`, check.status === PLAN_STATUS);
+  const why = formOf(refused.text) || refused.message;
+  tellRefused(`${refused.name} isn't opened: ${why}`, check.status === PLAN_STATUS);
   announce("refused");
   return check;
 }

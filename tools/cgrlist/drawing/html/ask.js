@@ -17,6 +17,7 @@ function fillQuestion() {
     byId(name).replaceChildren(element("option", { value: "" }, "choose"), ...nodes.map(option));
     byId(name).value = asked[name] ?? "";
   }
+  byId("limits").classList.toggle("set", LIMITS.some((name) => asked[name]));
   const further = known.nodes.map((node) => element("option", { value: node }, titleOf(node)));
   byId("further").replaceChildren(element("option", { value: "" }, "add a node"), ...further);
   if (!request) return;
@@ -35,13 +36,17 @@ function questionInBar() {
   return { ...asked, avoid, at: found === undefined ? asked.at : programTime(found) };
 }
 
+const isBusy = () => document.body.classList.contains("busy");
+
 form.onsubmit = (event) => {
   event.preventDefault();
-  if (waiting.size) return stopAsking();
-  return setRequest(questionInBar());
+  if (isBusy()) stopAsking();
+  else setRequest(questionInBar());
 };
 
+// A choice asks at once, and a text when Enter is pressed.
 form.onchange = ({ target }) => {
+  if (!target.matches("select")) return;
   if (target.id === "further") {
     byId("avoid").value = [byId("avoid").value, target.value].filter(Boolean).join(",");
     target.value = "";
@@ -49,11 +54,22 @@ form.onchange = ({ target }) => {
   if (byId("from").value && byId("to").value) setRequest(questionInBar());
 };
 
+byId("limits").onkeydown = ({ key, currentTarget }) => {
+  if (key !== "Escape") return;
+  currentTarget.open = false;
+  currentTarget.firstElementChild.focus();
+};
+
+document.addEventListener("pointerdown", ({ target }) => {
+  if (!byId("limits").contains(target)) byId("limits").open = false;
+});
+
 // Shows that the engine is at work, and that it can be stopped, if that takes longer than a moment.
 function tellBusy() {
   clearTimeout(tellBusy.due);
   const show = () => {
     document.body.classList.toggle("busy", waiting.size > 0);
+    byId("listing").setAttribute("aria-busy", waiting.size > 0);
     byId("ask").textContent = waiting.size ? "Stop" : "Ask";
   };
   tellBusy.due = setTimeout(show, waiting.size ? 150 : 0);
@@ -105,6 +121,7 @@ function takeRoutes(asked, found) {
     showAnew();
   }
   askTimetable();
+  byId("said").textContent = routes.length ? `${headOfList()}. Best delivery: ${timeText(routes[0].delivery)}` : headOfList();
   announce("routes");
 }
 
@@ -149,15 +166,23 @@ function requestIn(session) {
 
 // Asks what is best without what is lost, if the page doesn't know it.
 async function askThen() {
-  const { of } = then, below = lossesBelow();
+  const { of } = then;
   then.told = "Asking ..";
-  const answer = await askOver(lossesNow(), "first", { ...request.texts, count: "1" });
+  const asked = await askOver(lossesNow(), "first", { ...request.texts, count: "1" });
+  const answer = asked.status === UNANSWERED ? keptWithoutPart() ?? asked : asked;
   const [best] = routesIn(answer.report), found = answer.status === 0 ? await explained(best ? [best] : [], request.texts) : answer;
   if (of !== then.of) return;
   const route = best && found.status === 0 ? withHops(best, found.hops[0], routes.length, "★") : null;
   Object.assign(then, found.status === 0 ? { best: route, told: "" } : { told: messageOf(found) });
   change();
   bringIntoView();
+}
+
+// What is best without a part of what is lost, if the page knows it, and if it holds without all: then it is best without all.
+function keptWithoutPart() {
+  const parts = [...[...chosen.lost].map((it) => [[it], []]), ...[...chosen.gone].map((it) => [[], [it]])];
+  const kept = parts.map((part) => keptAnswer("first", lossesWith(...part), { ...request.texts, count: "1" }));
+  return kept.find((it) => it && routesIn(it.report).every(holds));
 }
 
 // Takes what is lost out of the plan for all answers, and asks the question anew.

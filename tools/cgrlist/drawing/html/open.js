@@ -6,9 +6,15 @@ byId("file").onchange = ({ target }) => {
   target.value = ""; // so that the same file can be opened again
 };
 
-// Each byte of a file that isn't ASCII stays one that a plan can't have.
-async function openFile(file) {
-  openPlan(file.name, await file.text());
+const openFile = async (file) => openPlan(file.name, planText(new Uint8Array(await file.arrayBuffer())));
+
+// The bytes of a plan's text as a text. Those that aren't UTF-8 become others that a plan can't have either.
+function planText(bytes) {
+  try {
+    return new TextDecoder("utf-8", { fatal: true, ignoreBOM: true }).decode(bytes);
+  } catch {
+    return new TextDecoder("latin1").decode(bytes).replace(/[^\0-\x7f]/g, "\x7f");
+  }
 }
 
 document.onpaste = (event) => {

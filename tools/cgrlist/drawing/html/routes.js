@@ -66,8 +66,7 @@ function rankLinks(routes) {
   }
 }
 
-const holds = (route) =>
-  ![...chosen.lost].some((contact) => route.uses.has(contact)) && !route.nodes.some((node) => chosen.gone.has(node));
+const holds = (route) => !route.contacts.some((number) => isLost(contactWith.get(number)));
 
 // The best route without all that is lost, as far as the routes that are shown tell it: where these begin the list of all,
 // they come before all others. Undefined if they don't tell it.

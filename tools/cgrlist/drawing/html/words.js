@@ -46,8 +46,16 @@ function aboutContact(contact) {
     ["rate", `${known.rate[contact]} bytes/s`],
     ["light time", light === null ? "none: in no route" : `${light} s`],
     ["volume", `${volumeText(roomFrom(contact, start))}, ${roomFrom(contact, start)} bytes`],
-    ...(through.length ? [["routes", through.join(", ")]] : []),
+    ...(through.length ? [["routes", firstOnes(through)]] : []),
   ];
+}
+
+const MOST_TOLD = 20;
+
+// Texts as a list, which says how many there are after the first ones.
+function firstOnes(texts) {
+  const left = texts.length - MOST_TOLD;
+  return `${texts.slice(0, MOST_TOLD).join(", ")}${left > 0 ? ` and ${left} more` : ""}`;
 }
 
 function headOfContact(contact) {
