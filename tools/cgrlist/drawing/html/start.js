@@ -29,7 +29,7 @@ function tellHead() {
   document.title = `${app.plan.name} · cgrlist`;
   byId("title").textContent = app.plan.name;
   const limits = Object.entries(request?.texts ?? {}).filter(([name, text]) => LIMITS.includes(name) && text);
-  const told = limits.map(([name, text]) => `, ${LIMIT_WORDS[name]} ${text}`).join("");
+  const told = limits.map(([name, text]) => `, ${LIMIT_WORDS[name](text)}`).join("");
   const asks = () => `${titleOf(request.texts.from)} → ${titleOf(request.texts.to)}, bundle at the source ${timeText(request.at)}`;
   const size = [count(contactCount, "contact"), count(links.length, "link")];
   byId("asks").textContent = request ? `${asks()}${data.iso ? "" : " UTC"}${told}` : size[0];
@@ -40,7 +40,11 @@ function tellHead() {
   chart.setAttribute("aria-label", `${[...size, count(routes.length, "route")].join(", ")}. Arrow keys go from contact to contact.`);
 }
 
-const LIMIT_WORDS = { marginPpm: "margin in ppm", maxHops: "at most hops", avoid: "avoiding" };
+const LIMIT_WORDS = {
+  marginPpm: (text) => `margin ${text} ppm`,
+  maxHops: (text) => `at most ${text} ${text === "1" ? "hop" : "hops"}`,
+  avoid: (text) => `avoiding ${text}`,
+};
 
 function prepareButtons() {
   const passed = new Set(routes.flatMap((route) => route.hops.map((hop) => linkOf[hop.contact]))).size;
