@@ -90,7 +90,8 @@ function requestJson(node) {
 async function aboutJson() {
   const passed = new Set(routes.flatMap((it) => it.nodes.map((place) => known.nodes[place])));
   const digest = digestIn(await askOver(lossesBelow(), "check", {})), end = app.report ? app.report.endsWith("end\n") : null;
-  return { looked_at: routes.length, end, names: Object.fromEntries([...names].filter(([node]) => passed.has(node))), plan: digest };
+  const told = Object.fromEntries([...names].filter(([node]) => passed.has(node)));
+  return { looked_at: routes.length, end, names: told, plan: digest, version: about.version };
 }
 
 // ---- The panel --------------------------------------------------------------------------------------------------
