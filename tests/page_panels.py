@@ -4,8 +4,6 @@ What a panel says is compared with what the program and the tools say of the sam
 engine's module, nothing is tried, and a line says so. The name of a check begins with its section, as those of page do.
 """
 
-import csv
-import io
 import json
 import os
 import time
@@ -101,11 +99,6 @@ def tool(room, *words):
     return room.run([f"{TOP}/tools/{words[0]}", *words[1:]], CGRLIST=room.program).out
 
 
-def cells(text):
-    """The rows of comma-separated values, by their fields."""
-    return [*csv.DictReader(io.StringIO(text, newline=""))]
-
-
 # ---- The plan's text --------------------------------------------------------------------------------------------
 
 FAULTY = """@ 2030/01/01-00:00:00
@@ -198,24 +191,22 @@ CHOSEN = """# chosen
 4,12,2 31 1 2030/01/01-00:45:00
 31>21@2030-01-01T05:04:00Z,21>12@2030-01-01T06:10:00Z,12>1@2030-01-01 31 1 2030-01-01T03:30:00Z
 4,11,2 31 1 2030-01-01T00:45:00Z 0 2
-4,11,2 31 1 2030-01-01T00:45:00Z 100000 20000 12
+4,11,2 31 1 2030-01-01T00:45:00Z 100000 40 12
 7,3 31 1 2030-01-01T00:45:00Z
 4 31 1 2030-01-01T00:45:00Z
 4,99 31 1 2030-01-01T00:45:00Z
 4,11,2 lander control centre 2030-01-01T00:45:00Z
 """
 ROWS = ".judged > table > tr:not(.more)"
-JUDGED = ("line", "from", "to", "at", "rank", "delivery", "later", "contacts", "fault")
 
 
-def judged(it, room, text, shown=JUDGED):
+def judged(it, room, text):
     """What the tool says of choices, and what the panel saves."""
     words = ["--plan", RELAY, "--names", f"{room.path}/names.txt", "--choices", room.file("chosen.txt", text), "--csv"]
     write(it, "choices", text)
     press(it, "judge", "Judge")
     state(it, "judge")
-    found = cells(saved(it, room, "judge", "Save CSV", "relay.choices.csv"))
-    return [[[row[field] for field in shown] for row in rows] for rows in (cells(tool(room, "report", *words)), found)]
+    return tool(room, "report", *words), saved(it, room, "judge", "Save CSV", "relay.choices.csv")
 
 
 def judging(it, room):
@@ -238,7 +229,7 @@ def judging(it, room):
     it.run("onlyWrong.click(); lateAfter.value = 0; lateAfter.onchange()")
     times = "".join(f"6,12,2 31 1 2030-01-01T0{at // 3600}:{at // 60 % 60:02}:{at % 60:02}Z\n" for at in range(3600, 3600 + 120 * 7, 7))
     wanted, found = judged(it, room, times)
-    yield "many requests", (120, wanted), lambda: (len(wanted), found)
+    yield "many requests", (121, wanted), lambda: (len(wanted.splitlines()), found)
 
 
 def judged_alone(it, room):
@@ -258,7 +249,7 @@ def judged_alone(it, room):
     waited(it, "choiceField.area.value.startsWith('4,11,1')")
     state(it, "judge")
     none = "the plan has no such contact, or it is no number"
-    wanted = ["hop 2: NotChained", f"{none}: x", f"{none}: 31>22@2031-01-01", f"{none}: <b>4</b>", "it needs from, to and time after its contacts"]
+    wanted = ["2", f"{none}: x", f"{none}: 31>22@2031-01-01", f"{none}: <b>4</b>", "it needs from, to and time after its contacts"]
     yield "a file of a router that counts from 0", wanted, lambda: [row[1] for row in table_of(it, ROWS)[1:]]
     it.run("firstNumber.value = '1'")
     it.run("lose(contactWith.get(4))")
@@ -378,7 +369,7 @@ def reader(it, _):
         show(it, name)
         nodes = it.command("Accessibility.getFullAXTree")["nodes"]
         found = [(node["role"]["value"], node.get("name", {}).get("value", "")) for node in nodes if not node["ignored"]]
-        kinds = ("button", "combobox", "textbox", "checkbox", "spinbutton", "tab", "group")
+        kinds = ("button", "combobox", "textbox", "checkbox", "spinbutton", "tab")
         yield f"nothing of {name} is without a name", [], lambda found=found: [role for role, text in found if role in kinds and not text]
 
 

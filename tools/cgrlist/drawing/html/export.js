@@ -82,9 +82,9 @@ async function routesJson() {
 }
 
 function requestJson(node) {
-  const { from, to, marginPpm, maxHops, avoid } = request.texts, limit = (text) => (text ? Number(text) : null);
+  const { from, to, marginPpm, maxHops, avoid } = request.texts, limits = { margin_ppm: Number(marginPpm || 0), max_hops: Number(maxHops) || null };
   const ends = { from: node(from), to: node(to), at: isoText(request.at) };
-  return { ...ends, margin_ppm: limit(marginPpm), max_hops: limit(maxHops), avoid: avoid ? avoid.split(",").map(node) : [] };
+  return { ...ends, ...limits, avoid: avoid ? avoid.split(",").map(node) : [] };
 }
 
 async function aboutJson() {
@@ -107,11 +107,12 @@ const savePage = () => save(fileName("html"), "text/html", app.pageText(app.data
 const needingRoutes = [actButton("Report", saveReport), actButton("CSV", saveRoutes), actButton("CSV of hops", saveHops), actButton("JSON", saveJson)];
 const saving = (label, ...parts) => element("div", { class: "saving", role: "group", "aria-label": label }, element("h3", {}, label), ...parts);
 
-const savePanel = addPanel("save", "Save", [
+addPanel("save", "Save", [
   saving("Routes", ...needingRoutes),
   saving("Picture", actButton("SVG", savePicture), actButton("Print", () => print())),
   saving("Plan, without what is lost", actButton("Text", savePlan)),
   saving("This page, with plan, question and answers", actButton("HTML", savePage)),
+  saving("Link to this question, for this page and plan", linkField, actButton("Copy", copyLink)),
 ], showSaved);
 
 // Shows what can be saved now.

@@ -95,10 +95,11 @@ function faultText({ fault, contacts, hops }) {
 // The judged choices as comma-separated values, below the fields of tools/report.
 function judgedCsv(told) {
   const fields = ["line", "from", "to", "at", "margin_ppm", "max_hops", "avoid", "rank", "delivery", "later", "contacts", "fault"];
+  const named = (node) => names.get(node) ?? node, time = (second) => second && timeOfCsv(second);
   const rows = told.map((it) => {
-    const [from, to, at, ...limits] = it.asked?.split(" ") ?? [], ends = [from, to].map((node) => names.get(node) ?? node);
-    const asked = [...ends, at && timeOfCsv(secondOf(at)), ...Array.from({ length: 3 }, (_, place) => limits[place])];
-    return [it.place, ...asked, it.rank, it.delivery && timeOfCsv(it.delivery), it.later, it.contacts?.join(" "), it.fault];
+    const [from, to, at = "", margin, hops, avoid = ""] = it.asked?.split(" ") ?? [], most = hops === "20000" ? "" : hops;
+    const asked = [named(from), named(to), time(secondOf(at)), margin, most, avoid.split(",").map(named).join(",")];
+    return [it.place, ...asked, it.rank, time(it.delivery), it.later, it.contacts?.join(" "), it.fault];
   });
   return csvOf([fields, ...rows]);
 }

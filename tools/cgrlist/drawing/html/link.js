@@ -28,5 +28,3 @@ function copyLink() {
   document.execCommand("copy"); // pages from files have no other way in each browser
   app.tell("The link is copied.");
 }
-
-savePanel.append(saving("Link to this question, for this page and plan", linkField, actButton("Copy", copyLink)));

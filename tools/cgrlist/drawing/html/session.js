@@ -23,6 +23,7 @@ function aboutSession(text) {
 
 // Checks the text in the field, and tells in words whether it is right.
 async function checkSession() {
+  tellSession("Checking ..");
   const session = sessionField.area.value, answer = await app.ask("verify", { session });
   if (answer.status > 1 || answer.status === UNANSWERED) return tellSession(messageOf(answer));
   if (answer.status === 1) return tellSession(`No: ${await whyNotSession(session)}.`);
