@@ -130,10 +130,15 @@ def bad_lines(it, room, text):
     return wanted, it.run(f"return {script}")
 
 
+def facts_of(room, plan):
+    """What the program tells of a plan, but for the digest."""
+    return ", ".join(room.run([room.program, "check", "--plan", plan]).out.splitlines()[:4]) + "."
+
+
 def plan_text(it, room):
     show(it, "plan")
     yield "the text", text_of(RELAY), it.run, "return planArea.value"
-    yield "whose it is", "This is the plan that is shown: relay.txt", state, it, "plan"
+    yield "whose it is", f"This is the plan that is shown, relay.txt: {facts_of(room, RELAY)}", state, it, "plan"
     write(it, "planText", FAULTY)
     told = state(it, "plan")
     yield "the sum", "13 bad lines: each adds nothing, so another may be bad because of it alone.", lambda: told
@@ -155,13 +160,14 @@ def used_text(it, room):
     show(it, "plan")
     text = f"{text_of(RELAY)}\nd contact 2030/01/01-01:00:00 31 22\n"
     write(it, "planText", text)
-    yield "no bad line", "No bad line.", state, it, "plan"
+    path = room.file("changed.txt", text)
+    yield "no bad line", f"No bad line: {facts_of(room, path)}", state, it, "plan"
     it.run("planArea.focus()")
     it.keys(Keys.CONTROL, Keys.ENTER)
     waited(it, "routes.length && app.plan.text === arguments[0] && routes[0].contacts[0] === 5", text)
-    best = room.routes_of(room.file("changed.txt", text), 1)[0]
+    best = room.routes_of(path, 1)[0]
     yield "its best route", [best[0], best[2]], lambda: routes_shown(it)[0][1:]
-    yield "whose it is then", "This is the plan that is shown: relay.txt", state, it, "plan"
+    yield "whose it is then", f"This is the plan that is shown, relay.txt: {facts_of(room, path)}", state, it, "plan"
 
 
 def other_texts(it, room):
@@ -175,10 +181,10 @@ def other_texts(it, room):
     ):
         write(it, "planText", text)
         yield name, wanted, state, it, "plan"
-    path = room.file("ends.txt", text_of(RELAY).replace("\n", "\r\n"))
-    it.part("file").send_keys(path)
+    ends = room.file("ends.txt", text_of(RELAY).replace("\n", "\r\n"))
+    it.part("file").send_keys(ends)
     waited(it, "app.refused")
-    yield "line ends", "No bad line. Lines that ended with CR end with LF here.", state, it, "plan"
+    yield "line ends", f"No bad line: {facts_of(room, RELAY)} Lines that ended with CR end with LF here.", state, it, "plan"
     press(it, "plan", "Use this text")
     yield "written as LF", "ends.txt", waited, it, "app.plan.name === 'ends.txt' && app.plan.name"
 
@@ -220,7 +226,7 @@ def judging(it, room):
     press(it, "judge", "Line 4")
     told = it.run("return document.querySelector('.judged .more:not([hidden])').innerText")
     hops = room.hops_of(RELAY, [4])
-    yield "in words", "Hop 2, contact 12 low relay → south station: the contact's sender isn't the node where the bundle is", lambda: told.split("\n")[0]
+    yield "in words", "Hop 2, contact 12 (low relay → south station): the contact's sender isn't the node where the bundle is", lambda: told.split("\n")[0]
     yield "the hops before", [[str(contact), NAMES[to], send[11:], arrive[11:]] for contact, to, send, arrive in hops], lambda: table_of(it, ".judged .more:not([hidden]) tr")[1:]
     it.run("lateAfter.value = 20000; lateAfter.onchange()")
     yield "late later", "Of 10 choices 6 are no routes, and 0 deliver more than 5 h 33 min 20 s after the best.", lambda: state(it, "judge").replace("\xa0", " ")

@@ -74,10 +74,11 @@ function showText(name, text) {
 async function checkText() {
   const turn = ++edited.turn, isOver = () => turn !== edited.turn;
   clearTimeout(edited.timer);
-  if (isPlanText() || formOf(planArea.value)) return showFaults({ faults: [], isAll: true });
+  if (formOf(planArea.value)) return showFaults({ faults: [], isAll: true });
   planState.textContent = "Checking ..";
-  const found = await faultsOf(app.ask, planArea.value, isOver);
-  if (found) showFaults(found);
+  const known = isPlanText() ? { faults: [], isAll: true, answer: await askOver(noLosses, "check", {}) } : null;
+  const found = known ?? (await faultsOf(app.ask, planArea.value, isOver));
+  if (found && !isOver()) showFaults(found);
 }
 
 // Whether the text is that of the plan that is shown. A field has no CR.
@@ -95,12 +96,13 @@ function showFaults({ faults, isAll, answer }) {
 }
 
 function aboutText(faults, isAll, answer) {
-  const form = formOf(planArea.value);
-  if (form || isPlanText()) return form || `This is the plan that is shown: ${app.plan.name}`;
-  if (answer.status !== 0 && answer.status !== 3) return answer.message;
-  const ends = /\r/.test(edited.given) ? " Lines that ended with CR end with LF here." : "";
+  const form = formOf(planArea.value), ends = /\r/.test(edited.given) ? " Lines that ended with CR end with LF here." : "";
+  if (form) return form;
+  if (answer.status !== 0 && answer.status !== PLAN_STATUS) return messageOf(answer);
   const told = isAll ? count(faults.length, "bad line") : `The first ${faults.length} bad lines; there may be more`;
-  return faults.length ? `${told}: each adds nothing, so another may be bad because of it alone.${ends}` : `No bad line.${ends}`;
+  if (faults.length) return `${told}: each adds nothing, so another may be bad because of it alone.${ends}`;
+  const whose = isPlanText() ? `This is the plan that is shown, ${app.plan.name}` : "No bad line";
+  return `${whose}: ${answer.report.split("\n").slice(0, 4).join(", ")}.${isPlanText() ? "" : ends}`;
 }
 
 // A bad line, and the repair of its reason below the first of them.
@@ -132,7 +134,7 @@ planArea.oninput = () => {
 };
 planArea.onscroll = paintGutter;
 
-const useButton = actButton("Use this text", useText, { title: "Ctrl+Enter" });
+const useButton = actButton("Use this text", useText, { class: "main", title: "Ctrl+Enter" });
 const resetButton = actButton("Take changes back", () => showText(app.plan.name, app.plan.text));
 const saveText = () => save(edited.name || "plan.txt", "text/plain", planArea.value);
 const planButtons = element("div", { class: "acts" }, useButton, resetButton, actButton("Save text", saveText));

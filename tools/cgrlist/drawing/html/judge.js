@@ -88,7 +88,7 @@ function verdictOf(it) {
 // What a fault means, and of a hop's fault which contact has it.
 function faultText({ fault, contacts, hops }) {
   const [, hop, kind] = /^(?:hop (\d+): )?(\w+)$/.exec(fault) ?? [], number = contacts?.[hops.length];
-  const link = contactWith.has(number) ? ` ${linkName(linkOf[contactWith.get(number)])}` : "";
+  const link = contactWith.has(number) ? ` (${linkName(linkOf[contactWith.get(number)])})` : "";
   return HOP_FAULTS[kind] ? `${hop ? `Hop ${hop}, contact ${number}${link}: ` : ""}${HOP_FAULTS[kind]}` : fault;
 }
 
@@ -104,7 +104,7 @@ function judgedCsv(told) {
   return csvOf([fields, ...rows]);
 }
 
-const judgeButton = actButton("Judge", judge, { title: "Ctrl+Enter" });
+const judgeButton = actButton("Judge", judge, { class: "main", title: "Ctrl+Enter" });
 const stopButton = actButton("Stop", stopAsking, { hidden: true });
 const saveJudged = actButton("Save CSV", () => save(fileName("choices.csv"), "text/csv", judgedCsv(judgement.told)), { hidden: true });
 const openChoices = fileButton("Open a file", choiceField.area, (_, text) => {

@@ -64,6 +64,6 @@ addPanel("session", "Session", [
   element("p", { class: "soft" }, "A session text keeps where a list of routes stands, so that it can go on later, here or by cgrlist next."),
   element("div", { class: "acts" }, actButton("Save the session after these routes", saveSession)),
   sessionField.part,
-  element("div", { class: "acts" }, actButton("Check", checkSession, { title: "Ctrl+Enter" }), actButton("Go on after it", goOnAfter), openSession),
+  element("div", { class: "acts" }, actButton("Check", checkSession, { class: "main", title: "Ctrl+Enter" }), actButton("Go on after it", goOnAfter), openSession),
   sessionState,
 ]);
