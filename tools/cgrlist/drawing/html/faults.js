@@ -23,12 +23,12 @@ function formOf(text) {
 }
 
 // The bad lines of a text, each `{ line, reason, text }`, and the last answer; `isAll` is false if there may be more of them.
-// It is null if it is over before.
-async function faultsOf(ask, text, isOver = () => false) {
+// `goesOn` is told how many were found, and says whether more are looked for; if not, it is null.
+async function faultsOf(ask, text, goesOn) {
   const lines = text.split("\n"), faults = [];
   for (;;) {
     const answer = await ask("check", { plan: lines.join("\n") });
-    if (isOver()) return null;
+    if (!goesOn(faults.length)) return null;
     const [, place, reason] = /plan line (\d+): (\w+)/.exec(answer.message) ?? [], line = Number(place);
     if (!place || lines[line - 1] === "#" || faults.length === MOST_FAULTS) return { faults, answer, isAll: !place };
     faults.push({ line, reason, text: lines[line - 1] });
@@ -38,8 +38,8 @@ async function faultsOf(ask, text, isOver = () => false) {
 
 // ---- The panel --------------------------------------------------------------------------------------------------
 
-// The text in the field: its file's name, as it was given, its bad lines, and whether another one is to be shown.
-const edited = { name: "", given: "", bad: new Set(), turn: 0, timer: 0, isOld: true };
+// The text in the field: its file's name, as it was given, its lines' number, the bad ones, and whether another is to be shown.
+const edited = { name: "", given: "", lines: 1, bad: new Set(), turn: 0, timer: 0, isOld: true };
 const gutter = element("pre", { class: "gutter", "aria-hidden": "true" });
 const planField = textField("The plan's text", { id: "planText", wrap: "off", rows: 16 }, () => useText(), gutter);
 const planArea = planField.area;
@@ -49,12 +49,10 @@ const faultList = element("ol", { class: "faults", "aria-label": "Bad lines" });
 // The numbers of the lines in view, with the bad ones marked.
 function paintGutter() {
   const first = Math.floor(planArea.scrollTop / LINE_HEIGHT), most = Math.ceil(planArea.clientHeight / LINE_HEIGHT) + 1;
-  const numbers = Array.from({ length: Math.min(most, lineCount() - first) }, (_, place) => first + place + 1);
+  const numbers = Array.from({ length: Math.min(most, edited.lines - first) }, (_, place) => first + place + 1);
   gutter.replaceChildren(...numbers.map((line) => element("span", edited.bad.has(line) ? { class: "bad" } : {}, `${line}\n`)));
   gutter.style.transform = `translateY(${-(planArea.scrollTop % LINE_HEIGHT)}px)`;
 }
-
-const lineCount = () => planArea.value.split("\n").length;
 
 function goToLine(line) {
   const lines = planArea.value.split("\n"), start = lines.slice(0, line - 1).reduce((sum, it) => sum + it.length + 1, 0);
@@ -68,21 +66,26 @@ function goToLine(line) {
 function showText(name, text) {
   Object.assign(edited, { name, given: text, isOld: false });
   if (planArea.value !== withLineFeeds(text)) planArea.value = text;
+  countLines();
   checkText();
 }
 
+const countLines = () => (edited.lines = planArea.value.split("\n").length);
+
 async function checkText() {
-  const turn = ++edited.turn, isOver = () => turn !== edited.turn;
+  const turn = ++edited.turn;
+  const goesOn = (found) => {
+    planState.textContent = found ? `${count(found, "bad line")} so far ..` : "Checking ..";
+    return turn === edited.turn;
+  };
   clearTimeout(edited.timer);
   if (formOf(planArea.value)) return showFaults({ faults: [], isAll: true });
-  planState.textContent = "Checking ..";
-  const known = isPlanText() ? { faults: [], isAll: true, answer: await askOver(noLosses, "check", {}) } : null;
-  const found = known ?? (await faultsOf(app.ask, planArea.value, isOver));
-  if (found && !isOver()) showFaults(found);
+  const found = isPlanText() ? { faults: [], isAll: true, answer: await askOver(noLosses, "check", {}) } : await faultsOf(app.ask, planArea.value, goesOn);
+  if (found && turn === edited.turn) showFaults(found);
 }
 
 // Whether the text is that of the plan that is shown. A field has no CR.
-const isPlanText = () => !app.refused && planArea.value === withLineFeeds(app.plan.text);
+const isPlanText = () => planArea.value === withLineFeeds(app.plan.text);
 const withLineFeeds = (text) => text.replace(/\r\n?/g, "\n");
 
 function showFaults({ faults, isAll, answer }) {
@@ -130,6 +133,7 @@ planArea.oninput = () => {
   clearTimeout(edited.timer);
   edited.timer = setTimeout(checkText, REST);
   useButton.disabled = resetButton.disabled = false;
+  countLines();
   paintGutter();
 };
 planArea.onscroll = paintGutter;
