@@ -344,7 +344,7 @@ def links(it, room):
     """The address keeps the question, and the panel shows it."""
     it.wait_for("setRequest({ ...request.texts, to: '12', maxHops: '4', avoid: '21' }).then(done)")
     show(it, "save")
-    link = it.run("return linkField.value")
+    link = it.run("return byId('link').value")
     before = routes_shown(it)
     yield "a link", "#ask=31+12+2030%2F01%2F01-00%3A45%3A00+0+4+21", lambda: link[link.index("#"):]
     it.open(room.relay, link[link.index("#"):])

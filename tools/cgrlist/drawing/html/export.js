@@ -112,7 +112,7 @@ addPanel("save", "Save", [
   saving("Picture", actButton("SVG", savePicture), actButton("Print", () => print())),
   saving("Plan, without what is lost", actButton("Text", savePlan)),
   saving("This page, with plan, question and answers", actButton("HTML", savePage)),
-  saving("Link to this question, for this page and plan", linkField, actButton("Copy", copyLink)),
+  saving("Link to this question, for this page and plan", ...linkParts()),
 ], showSaved);
 
 // Shows what can be saved now.

@@ -84,8 +84,8 @@ async function checkText() {
   if (found && turn === edited.turn) showFaults(found);
 }
 
-// Whether the text is that of the plan that is shown. A field has no CR.
-const isPlanText = () => planArea.value === withLineFeeds(app.plan.text);
+// Whether the text is that of the plan that is shown, and none that was refused. A field has no CR.
+const isPlanText = () => edited.given !== app.refused?.text && planArea.value === withLineFeeds(app.plan.text);
 const withLineFeeds = (text) => text.replace(/\r\n?/g, "\n");
 
 function showFaults({ faults, isAll, answer }) {

@@ -1,9 +1,6 @@
 // A link to the question, which the address keeps, if it isn't the one with which the file opens. A link has no plan: the plan's
 // digest shows whether it is the file's.
 
-const linkField = element("input", { class: "link", readonly: "", "aria-label": "Link to this question" });
-linkField.onfocus = () => linkField.select();
-
 const lineNow = () => (request ? lineOf(request.texts, request.at) : "");
 const lineAtFirst = () => (data.request ? lineOf(data.request, secondOf(data.request.at)) : "");
 
@@ -21,10 +18,16 @@ async function recallLink(state) {
   if (ask && ask !== lineNow()) await setRequest({ from, to, at, marginPpm, maxHops, avoid });
 }
 
-const showLink = () => (linkField.value = location.href);
+// The field that shows the link, and the button that copies it.
+function linkParts() {
+  const field = element("input", { id: "link", readonly: "", "aria-label": "Link to this question", onfocus: () => field.select() });
+  return [field, actButton("Copy", copyLink)];
+}
+
+const showLink = () => (byId("link").value = location.href);
 
 function copyLink() {
-  linkField.select();
+  byId("link").select();
   document.execCommand("copy"); // pages from files have no other way in each browser
   app.tell("The link is copied.");
 }
