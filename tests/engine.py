@@ -102,7 +102,7 @@ def by_program(program, question):
         words += ["--" + FILES[question.run], FILES[question.run]] if question.run in FILES else []
         given = [(name, question.texts.get(name, "")) for name in TAKEN[question.run]]
         words += [it for name, text in given if text or name not in LIMITS for it in (OPTIONS[name], text)]
-        words += ["--session-out", "out"] if question.texts.get("keep") else []
+        words += ["--session-out", "out"] if question.texts.get("keep") and question.run in ("first", "next") else []
         ran = subprocess.run(words, cwd=folder, capture_output=True, timeout=SECONDS)
         session = ""
         if os.path.exists(f"{folder}/out"):

@@ -122,7 +122,7 @@ def served(room):
 
 # ---- The sections -----------------------------------------------------------------------------------------------
 
-SECTIONS = (engine.drawn, engine.sessions, engine.refusals, engine.memory, engine.long_lists, worker, engine.hostile)
+SECTIONS = (engine.drawn, engine.canonical, engine.sessions, engine.refusals, engine.memory, engine.long_lists, worker, engine.hostile)
 
 
 def over_the_file(room):
@@ -144,7 +144,7 @@ def in_browser(name, room):
 
 def checks(asked):
     if not os.path.exists(PAGE) or not os.path.exists(engine.MODULE):
-        print("note: browsers is left out, there is no page with a module")
+        print("note: engine_browsers is left out, there is no page with a module")
         return ()
     lacks = {name: lack() for name, (_, lack) in BROWSERS.items()}
     for name in filter(lacks.get, lacks):
