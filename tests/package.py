@@ -237,12 +237,14 @@ def in_notebooks(room):
     yield "an answer without hops: the table alone", (1, []), lambda: (
         bare._repr_html_().count("<table>"), images(bare._repr_html_()))
     yield ("it can't be drawn", "the hops of the routes aren't known: first and hops=True tell them [1]", refused, bare.svg)
-    yield "what is lost is told on the page", {"2", "4", "5", "11", "12"}, lambda: set(data_of(answer.page())["lost"])
+    yield "the page knows what is best without contact 2 and node 12, which both routes have", ["2", "12"], lambda: losses_on(answer.page())
 
 
-def data_of(page):
-    """What a page knows."""
-    return json.loads(re.search(r'<script type="application/json" id="data">(.*?)</script>', page)[1])
+def losses_on(page):
+    """What is lost in the questions whose answers a page knows."""
+    data = json.loads(re.search(r'<script type="application/json" id="data">(.*?)</script>', page)[1])
+    lost = [it["lost"] for it in data["answers"] if it["run"] == "first"]
+    return [str(number) for it in lost for number in [*it["contacts"], *it["nodes"]]]
 
 
 def images(text):

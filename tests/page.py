@@ -1014,7 +1014,7 @@ document.body.dispatchEvent(new ClipboardEvent("paste", { clipboardData: data, b
 """
 
 
-def opening(it, room):
+def another_plan(it, room):
     """Another plan is chosen, dropped or pasted, and asked."""
     path = room.file("two.txt", TWO)
     digest = room.run([room.program, "check", "--plan", path]).out.split()[-1]
@@ -1044,7 +1044,7 @@ def opening(it, room):
     it.run(DROPPED, bad, "bad.txt")
     it.settle()
     told = room.run([room.program, "check", "--plan", room.file("bad.txt", bad)]).err.strip().removeprefix("cgrlist: ")
-    yield "a plan that is refused", f"bad.txt isn't opened: {told}", lambda: it.says("refused")[: len(told) + 23]
+    yield "a plan that is refused", f"bad.txt isn't opened: {told}", lambda: it.says("refused")[: len(told) + 22]
     yield "nothing else is changed", ("pasted plan", [delivery]), lambda: (it.says("title"), it.deliveries())
     it.run(PASTED, f"{text_of(RELAY)}\n")
     it.settle()
@@ -1076,8 +1076,8 @@ def questions(it, room):
     it.choose("further", "12")
     yield "a node to avoid", (wanted(at="2030/01/01-04:00:00", avoid="12"), "12"), lambda: (
         it.deliveries(), it.part("avoid").get_property("value"))
-    it.ask("marginPpm", "100000000")
-    yield "a margin", wanted(at="2030/01/01-04:00:00", avoid="12", margin_ppm="100000000"), it.deliveries
+    it.ask("marginPpm", "1000000")
+    yield "a margin", wanted(at="2030/01/01-04:00:00", avoid="12", margin_ppm="1000000"), it.deliveries
     yield "limits are marked", True, lambda: "set" in it.part("limits").get_attribute("class")
     it.part("marginPpm").send_keys(Keys.ESCAPE)
     yield "Escape closes the limits", (None, "SUMMARY"), lambda: (
@@ -1161,14 +1161,14 @@ def stopping(it, room):
     """What takes long shows that it runs, and can be stopped; a later question doesn't wait for it."""
     plan = room.ring_plan(60, 20000, "ring")
     it.open(room.make("ring", "--plan", plan))
-    it.run("""const requests = Array.from({ length: 20000 }, (_, place) => `1 30 ${programTime(earliest + 60 * place)}\\n`).join("");
+    it.run("""const requests = Array.from({ length: 2000 }, (_, place) => `1 30 ${programTime(earliest + 60 * place)}\\n`).join("");
         app.ask("many", { requests, count: "100" }).then((it) => (globalThis.ended = it))""")
-    it.wait_for("const look = () => (isBusy() ? done() : setTimeout(look, 20)); look()")
-    yield "the button says so", "Stop", lambda: it.part("ask").text
-    it.part("ask").click()
+    it.wait_for("const look = () => (byId('stop').hidden ? setTimeout(look, 20) : done()); look()")
+    yield "it shows that it runs", True, lambda: "busy" in it.all("body")[0].get_attribute("class")
+    it.part("stop").click()
     it.settle()
     yield "it is stopped", [None, "Stopped."], it.run, "return [ended.status, ended.message]"
-    yield "the button asks again", "Ask", lambda: it.part("ask").text
+    yield "nothing runs", False, it.part("stop").is_displayed
     for end, node in (("from", "1"), ("to", "5")):
         it.choose(end, node)
     asked = ["--from", "1", "--to", "5", "--at", "2030/01/01-00:00:05"]
@@ -1181,7 +1181,7 @@ def refused(it, room):
     before = it.deliveries()
     for name, option, text in (
         ("at", "at", "noon"), ("at", "at", "2030/02/30-00:00:00"), ("count", "count", "0"), ("count", "count", "10001"),
-        ("marginPpm", "margin-ppm", "1.5"), ("maxHops", "max-hops", "-1"), ("avoid", "avoid", "31"), ("avoid", "avoid", "x"),
+        ("marginPpm", "margin-ppm", "1.5"), ("maxHops", "max-hops", "x"), ("avoid", "avoid", "31"), ("avoid", "avoid", "x"),
     ):
         it.open(room.relay)
         it.run("byId('limits').open = true; form.noValidate = true")
@@ -1282,6 +1282,7 @@ def narrow(room):
         yield "a page isn't wider than its window", 360, it.run, "return document.documentElement.scrollWidth"
         squeezed = it.run(SQUEEZED)
         yield "no name is squeezed", [], lambda: squeezed
+        it.run("chart.scrollIntoView()")
         it.click(11)
         yield "the answer is in view", True, lambda: it.run(
             "const { top, bottom } = byId('lost').getBoundingClientRect(); return 0 <= top && bottom <= innerHeight")
@@ -1302,7 +1303,7 @@ def driven(section, room):
 FILE = (what_stands_there, what_it_knows, example, writing, refusals)
 DRIVEN = (head, tips, losses, mouse, keys, finding, touch, surroundings, prints, in_view, rooms, followed, starts, groups, saving)
 DRIVEN += (reader, others, sizes, without_engine)
-ASKING = (opening, questions, paging, losing, stopping, refused, markup)  # these need the engine
+ASKING = (another_plan, questions, paging, losing, stopping, refused, markup)  # these need the engine
 SECTIONS = {it.__name__.replace("_", " "): it for it in FILE}
 BROWSED = {**{it.__name__.replace("_", " "): partial(driven, it) for it in DRIVEN}, "narrow": narrow}
 ASKED_HERE = {it.__name__.replace("_", " "): partial(driven, it) for it in ASKING}

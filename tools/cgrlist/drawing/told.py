@@ -1,14 +1,24 @@
 """What a page knows when it is opened: the program's answers to its first questions, as the texts that it prints."""
 
 from dataclasses import dataclass, replace
-from typing import Tuple
+from typing import List, Optional
 
 from ..lost import Lost, best_without
-from ..routes import Answer
+from ..routes import Answer, Route
 from ..times import time_text
 from ..timetable import Stretch, known_stretches
 
 STARTS = 1024  # seconds at the source that are asked for, at most
+
+
+@dataclass(frozen=True)
+class Starts:
+    """The best routes by the second at the source, as stretches of time, and each of them once with the hops that it has from
+    the first second of its first stretch on.
+    """
+
+    stretches: List[Stretch]
+    routes: List[Route]
 
 
 @dataclass(frozen=True)
@@ -19,7 +29,7 @@ class Told:
 
     answer: Answer
     lost: Lost = Lost()
-    starts: Tuple[Stretch, ...] = ()
+    starts: Optional[Starts] = None
 
     @property
     def is_listed(self):
@@ -31,18 +41,18 @@ class Told:
 def told_of(router, plan, answer):
     """What a page tells of the routes of a request, as the program or the library answers over the plan."""
     request, routes = answer.request, answer.routes
-    return Told(answer, best_without(router, plan, request, routes), _starts(router, plan, request) if routes else ())
+    return Told(answer, best_without(router, plan, request, routes), _starts(router, plan, request) if routes else None)
 
 
 def _starts(router, plan, request):
     """The best routes of bundles that are at the source at any second, from the plan's first start, or the request's second,
-    to its last end; each route with the hops that it has from its stretch's first second on.
+    to its last end.
     """
     span = min(request.at, *(it.start for it in plan.contacts)), max(it.end for it in plan.contacts)
     stretches = known_stretches(router, request, span, STARTS)
-    asked = [Answer((it.route,), None, replace(request, at=it.first)) for it in stretches if it.route]
-    explained = (answer.routes[0] for answer in router.with_hops(asked))
-    return tuple(replace(it, route=it.route and next(explained)) for it in stretches)
+    firsts = {it.route.contacts: it for it in reversed(stretches) if it.route}
+    asked = [Answer((it.route,), None, replace(request, at=it.first)) for it in firsts.values()]
+    return Starts(stretches, [route for answer in router.with_hops(asked) for route in answer.routes])
 
 
 # ---- Texts ------------------------------------------------------------------------------------------------------
@@ -119,16 +129,17 @@ def _seeds_of_losses(told, missing):
     losses.update({(tuple(missing), (node,)): route for node, route in told.lost.nodes.items()})
     for lost, route in losses.items():
         if route is None or route.contacts not in seen:
-            yield _seed("first", texts_of(request, 1), report_text([route.having(rank=1)] if route else [], route is None or None), lost)
+            report = report_text([route.having(rank=1)]) if route else report_text([], True)
+            yield _seed("first", texts_of(request, 1), report, lost)
         if route and route.contacts not in seen:
             yield _followed([route], request, missing)
 
 
-def _timetable(stretches):
+def _timetable(starts):
     """The stretches, each with the place of its route among those that are told once, and its first and last delivery."""
-    firsts = {it.route.contacts: it.route for it in reversed(stretches) if it.route}
-    places = {contacts: place for place, contacts in enumerate(firsts)}
+    places = {route.contacts: place for place, route in enumerate(starts.routes)}
     rows = [
-        [it.first, it.last, *([places[it.route.contacts], it.delivery, it.last_delivery] if it.route else [])] for it in stretches
+        [it.first, it.last, *([places[it.route.contacts], it.delivery, it.last_delivery] if it.route else [])]
+        for it in starts.stretches
     ]
-    return {"status": 0, "rows": rows, "report": report_text(firsts.values()), "explained": explanations(firsts.values())}
+    return {"status": 0, "rows": rows, "report": report_text(starts.routes), "explained": explanations(starts.routes)}

@@ -1,19 +1,26 @@
 // What the page says of itself: its version, and whether the engine answers here.
 
 const about = jsonIn("about");
+const FACTS = {
+  version: "Version",
+  commit: "Commit",
+  kit: "Kit of the prover",
+  module: "SHA-256 of the module",
+  sources: "SHA-256 of its sources",
+};
 
-// What the engine of this browser can, in a line.
+// What the engine of this browser can.
 function tellEngine() {
   const isHere = engine.state === "ready";
   const here = `cgrlist ${about.version}: proved answers, computed in this page. No data leaves it.`;
   app.tell(isHere ? here : `This page shows what was found when it was made. ${BROWSERS} answer the rest.`);
-  byId("engine").textContent = isHere ? "It answers in this browser." : `It doesn't answer here: ${engine.state}. ${BROWSERS} have what it needs.`;
+  const lack = `It doesn't answer here: ${engine.state}. ${BROWSERS} have what it needs.`;
+  byId("engine").textContent = isHere ? "It answers in this browser." : lack;
 }
 
 // What the record of the module says, and what the file's maker remarks.
 function tellAbout() {
-  const told = { version: "Version", commit: "Commit", kit: "Kit of the prover", module: "SHA-256 of the module", sources: "SHA-256 of its sources" };
-  const facts = Object.entries(told).filter(([name]) => about[name]);
-  byId("facts").replaceChildren(...facts.flatMap(([name, text]) => [element("dt", {}, text), element("dd", {}, about[name])]));
+  const facts = Object.keys(FACTS).filter((name) => about[name]);
+  byId("facts").replaceChildren(...facts.flatMap((name) => [element("dt", {}, FACTS[name]), element("dd", {}, about[name])]));
   byId("remarks").textContent = data.remarks.map((it) => `${it}. `).join("");
 }

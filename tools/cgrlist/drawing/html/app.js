@@ -8,19 +8,6 @@ const app = {
   refused: null, // `name`, `text` and `message` of the last text that was to be opened, if it was no plan
   changed: (listener) => listeners.push(listener),
   tell: (text) => (byId("told").textContent = text),
-  names,
-
-  get nodes() {
-    return known.nodes;
-  },
-
-  get contacts() {
-    return known.number.map((number, contact) => {
-      const { from, to } = links[linkOf[contact]], start = known.start[contact];
-      const about = { start, end: ends[contact], rate: known.rate[contact], light: known.light[contact] };
-      return { number, from: known.nodes[from], to: known.nodes[to], ...about };
-    });
-  },
 
   get request() {
     return request?.texts ?? null;
@@ -31,10 +18,6 @@ const app = {
   },
 
   planText: () => textWithout(lossesNow()),
-
-  get routes() {
-    return routes;
-  },
 
   get report() {
     return listing.report;
@@ -52,7 +35,10 @@ const app = {
   data: () => ({
     ...data,
     name: app.plan.name,
+    names: Object.fromEntries(names),
     plan: app.plan.text,
+    span: null,
+    links: null,
     lost: numbersOf(missing),
     request: app.request,
     given: listing.isGiven ? { report: listing.report, explained: listing.explained } : null,
@@ -103,53 +89,3 @@ byId("tabs").onkeydown = (event) => {
 };
 
 app.addPanel({ id: "routes", title: "Routes", element: byId("listing") });
-
-// ---- Plans ----
-
-// Opens another plan, and asks a question of it, if there is one. What is no plan changes nothing; it is told why.
-async function openPlan(name, text, question = null) {
-  stopAsking();
-  const opened = ++turn, answers = [await askEngine("canonical", { plan: text }), await askEngine("check", { plan: text })];
-  const [canonical, check] = answers;
-  if (opened !== turn) return unanswered("Another plan was opened.");
-  if (check.status !== 0) return refusePlan({ name, text, message: messageOf(check) }, check);
-  app.refused = null;
-  tellRefused("");
-  keepAnswers(["canonical", "check"].map((run, place) => ({ run, lost: noLosses, texts: {}, answer: answers[place] })));
-  const before = byId("from").value && request?.texts;
-  names.clear(); // they are those of the plan before
-  showOpened({ name, text, digest: digestIn(check) }, canonical);
-  const asked = question ?? (before && isOfPlan(before) ? { ...before, at: "" } : null);
-  byId("at").value = timeText(contactCount ? earliest : 0);
-  if (asked) await setRequest({ ...asked, at: asked.at || programTime(earliest) });
-  return check;
-}
-
-const digestIn = (check) => /^digest (\S+)$/m.exec(check.report)?.[1] ?? "";
-const messageOf = ({ message }) => message.replace(/^cgrlist: /, "").trim();
-const isOfPlan = ({ from, to }) => [from, to].every((node) => known.nodes.includes(node));
-
-function refusePlan(refused, check) {
-  app.refused = refused;
-  const why = formOf(refused.text) || refused.message;
-  tellRefused(`${refused.name} isn't opened: ${why}`, check.status === PLAN_STATUS);
-  announce("refused");
-  return check;
-}
-
-const PLAN_STATUS = 3; // the text is no plan
-
-// Shows a plan without routes.
-function showOpened(plan, canonical) {
-  [request, routes, starts] = [null, [], null];
-  Object.assign(listing, { report: "", explained: "", session: "", isGiven: false });
-  Object.assign(shows, { node: null, open: new Set(), chosen: null, isByHand: false });
-  Object.assign(chosen, { route: null, contact: null });
-  loseNothing();
-  app.plan = plan;
-  usePlan(contactsIn(canonical.report));
-  fillQuestion();
-  byId("below").hidden = true;
-  showAnew();
-  announce("plan");
-}

@@ -36,12 +36,9 @@ function questionInBar() {
   return { ...asked, avoid, at: found === undefined ? asked.at : programTime(found) };
 }
 
-const isBusy = () => document.body.classList.contains("busy");
-
 form.onsubmit = (event) => {
   event.preventDefault();
-  if (isBusy()) stopAsking();
-  else setRequest(questionInBar());
+  setRequest(questionInBar());
 };
 
 // A choice asks at once, and a text when Enter is pressed.
@@ -68,9 +65,10 @@ document.addEventListener("pointerdown", ({ target }) => {
 function tellBusy() {
   clearTimeout(tellBusy.due);
   const show = () => {
+    if (!waiting.size && document.activeElement === byId("stop")) byId("ask").focus(); // it goes away
     document.body.classList.toggle("busy", waiting.size > 0);
     byId("listing").setAttribute("aria-busy", waiting.size > 0);
-    byId("ask").textContent = waiting.size ? "Stop" : "Ask";
+    byId("stop").hidden = !waiting.size;
   };
   tellBusy.due = setTimeout(show, waiting.size ? 150 : 0);
 }
@@ -93,15 +91,14 @@ async function setRequest(texts) {
 
 // Shows the routes of an answer after those of the pages before. Why there are none is told.
 async function showAnswer(answer, asked, before) {
-  const mine = turn, told = routesIn(answer.report);
-  const found = answer.status === 0 ? await explained(told, asked) : answer;
+  const mine = turn, found = await routesOf(answer, asked, before.length);
   if (mine !== turn) return answer;
   tellRefused(found.status === 0 ? "" : messageOf(found));
   if (found.status !== 0) return found;
-  const pages = before.length ? listing.report.replace(/more\n$/, "") : "";
-  Object.assign(listing, { report: pages + answer.report, session: answer.session, isGiven: false });
-  listing.explained = (before.length ? listing.explained : "") + found.report;
-  takeRoutes(asked, [...before, ...told.map((route, place) => withHops(route, found.hops[place], before.length + place))]);
+  const [pages, hops] = before.length ? [listing.report.replace(/more\n$/, ""), listing.explained] : ["", ""];
+  const report = pages + answer.report, explained = hops + found.report;
+  Object.assign(listing, { report, explained, session: answer.session, isGiven: false });
+  takeRoutes(asked, [...before, ...found.routes]);
   return answer;
 }
 
@@ -110,7 +107,7 @@ function takeRoutes(asked, found) {
   const isFurther = asked === request?.texts;
   if (!isFurther) request = asked && { texts: asked, at: secondOf(asked.at) };
   routes = found;
-  begin.isKnown = routes.every((route, place) => route.rank === String(place + 1));
+  isFromFirst = routes.every((route, place) => route.rank === String(place + 1));
   for (const link of links) link.rank = Infinity;
   if (data.byRoute) rankLinks(routes);
   loseNothing();
@@ -130,7 +127,7 @@ const hasMore = () => !listing.isGiven && listing.report.endsWith("more\n");
 // The session text after the routes that are shown. If it isn't known, they are asked for again; it is empty if nothing
 // answers.
 async function sessionText() {
-  if (!listing.session && request && begin.isKnown) {
+  if (!listing.session && request && isFromFirst) {
     const asked = { ...request.texts, count: String(routes.length || 1), keep: "yes" };
     const of = request, { session } = await askOver(lossesBelow(), "first", asked);
     if (of === request) listing.session = session;
@@ -170,10 +167,9 @@ async function askThen() {
   then.told = "Asking ..";
   const asked = await askOver(lossesNow(), "first", { ...request.texts, count: "1" });
   const answer = asked.status === UNANSWERED ? keptWithoutPart() ?? asked : asked;
-  const [best] = routesIn(answer.report), found = answer.status === 0 ? await explained(best ? [best] : [], request.texts) : answer;
+  const found = await routesOf(answer, request.texts, routes.length, "★");
   if (of !== then.of) return;
-  const route = best && found.status === 0 ? withHops(best, found.hops[0], routes.length, "★") : null;
-  Object.assign(then, found.status === 0 ? { best: route, told: "" } : { told: messageOf(found) });
+  Object.assign(then, found.status === 0 ? { best: found.routes[0] ?? null, told: "" } : { told: messageOf(found) });
   change();
   bringIntoView();
 }

@@ -45,7 +45,10 @@ function timesFor(wanted) {
   const [isTime, year, month, day, ...clock] = wanted.match(TIME) ?? [];
   if (!isTime || (!year && !clock[0])) return [];
   const [hours, minutes, seconds] = clock.map((part) => Number(part ?? 0)), ofDay = hours * 3600 + minutes * 60 + seconds;
-  if (year) return [{ second: Date.UTC(year, month - 1, day) / 1000 + ofDay }];
+  if (year) {
+    const date = new Date(Date.UTC(year, month - 1, day));
+    return date.getUTCDate() === Number(day) ? [{ second: date / 1000 + ofDay }] : [];
+  }
   const first = Math.floor(earliest / DAY), last = Math.floor(latest / DAY);
   const middle = (view.first + view.last) / 2, away = (hit) => Math.abs(hit.second - middle);
   const days = Array.from({ length: last - first + 1 }, (_, place) => first + place);

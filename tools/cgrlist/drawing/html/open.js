@@ -1,4 +1,54 @@
-// Opening a plan: a file that is chosen or dropped, or a text that is pasted.
+// Opening another plan: a file that is chosen or dropped, or a text that is pasted.
+
+// Opens another plan, and asks a question of it, if there is one. What is no plan changes nothing; it is told why.
+async function openPlan(name, text, question = null) {
+  stopAsking();
+  const opened = ++turn, answers = [await askEngine("canonical", { plan: text }), await askEngine("check", { plan: text })];
+  const [canonical, check] = answers;
+  if (opened !== turn) return unanswered("Another plan was opened.");
+  if (check.status !== 0) return refusePlan({ name, text, message: messageOf(check) }, check);
+  app.refused = null;
+  tellRefused("");
+  keepAnswers(["canonical", "check"].map((run, place) => ({ run, lost: noLosses, texts: {}, answer: answers[place] })));
+  const before = request?.texts;
+  if (name !== app.plan.name) names.clear(); // they are those of another plan
+  showOpened({ name, text, digest: digestIn(check) }, canonical);
+  const asked = question ?? (before && isOfPlan(before) ? { ...before, at: "" } : null);
+  byId("at").value = timeText(contactCount ? earliest : 0);
+  if (asked) await setRequest({ ...asked, at: asked.at || programTime(earliest) });
+  return check;
+}
+
+const digestIn = (check) => /^digest (\S+)$/m.exec(check.report)?.[1] ?? "";
+const messageOf = ({ message }) => message.replace(/^cgrlist: /, "").trim();
+const isOfPlan = ({ from, to }) => [from, to].every((node) => known.nodes.includes(node));
+
+function refusePlan(refused, check) {
+  app.refused = refused;
+  const why = formOf(refused.text) || refused.message;
+  tellRefused(`${refused.name} isn't opened: ${why}`, check.status === PLAN_STATUS);
+  announce("refused");
+  return check;
+}
+
+const PLAN_STATUS = 3; // the text is no plan
+
+// Shows a plan without routes.
+function showOpened(plan, canonical) {
+  [request, routes, starts] = [null, [], null];
+  Object.assign(listing, { report: "", explained: "", session: "", isGiven: false });
+  Object.assign(shows, { node: null, open: new Set(), chosen: null, isByHand: false });
+  Object.assign(chosen, { route: null, contact: null });
+  loseNothing();
+  app.plan = plan;
+  usePlan(contactsIn(canonical.report));
+  fillQuestion();
+  byId("below").hidden = true;
+  showAnew();
+  announce("plan");
+}
+
+// ---- Files and texts ----
 
 byId("open").onclick = () => byId("file").click();
 byId("file").onchange = ({ target }) => {

@@ -2,7 +2,7 @@
 
 let request = null; // the question of the routes: its texts, and when the bundle is at the source
 let routes = []; // those that are shown
-const begin = { isKnown: false }; // whether the routes begin the list of all
+let isFromFirst = false; // whether they begin the list of all
 
 // ---- What the program prints ----
 
@@ -54,6 +54,13 @@ async function explained(told, asked, seconds = told.map(() => secondOf(asked.at
   return { ...answer, hops: explainedIn(answer.report) };
 }
 
+// The routes of an answer to a question, with their hops, from a place on; or what refuses them.
+async function routesOf(answer, asked, place, label) {
+  if (answer.status !== 0) return answer;
+  const told = routesIn(answer.report), found = await explained(told, asked);
+  return { ...found, routes: told.map((route, at) => found.hops[at] && withHops(route, found.hops[at], place + at, label)) };
+}
+
 // ---- What is best ----
 
 // Links stand in the order in which routes pass them: the first hops of all routes, then the second ones, and so on.
@@ -70,7 +77,7 @@ const holds = (route) => !route.contacts.some((number) => isLost(contactWith.get
 
 // The best route without all that is lost, as far as the routes that are shown tell it: where these begin the list of all,
 // they come before all others. Undefined if they don't tell it.
-const bestShown = () => (begin.isKnown ? routes.find(holds) : undefined);
+const bestShown = () => (isFromFirst ? routes.find(holds) : undefined);
 
 const isShownRoute = (route) => route.place < routes.length;
 const roomOfHop = (hop) => roomFrom(hop.contact, hop.send);

@@ -59,6 +59,7 @@ const does = {
   all: () => showLinks("all"),
   one: () => showLinks(shows.links),
   none: () => loseNode(shows.node),
+  stop: stopAsking,
   without: loseNoneForAll,
   out: () => zoom(ZOOM),
   in: () => zoom(1 / ZOOM),

@@ -241,9 +241,9 @@ const lostNumbers = () => [...chosen.lost].map((contact) => known.number[contact
 
 // What is lost, in words.
 function lostText() {
-  const contacts = chosen.lost.size ? [`${chosen.lost.size > 1 ? "Contacts" : "Contact"} ${lostNumbers().join(", ")}`] : [];
-  const nodes = [...chosen.gone].map((node) => `${contacts.length ? "node" : "Node"} ${fullName(node)}`);
-  return `${[...contacts, ...nodes].join(" and ")} lost`;
+  const contacts = chosen.lost.size ? [`${chosen.lost.size > 1 ? "contacts" : "contact"} ${lostNumbers().join(", ")}`] : [];
+  const told = `${[...contacts, ...[...chosen.gone].map((node) => `node ${fullName(node)}`)].join(" and ")} lost`;
+  return told[0].toUpperCase() + told.slice(1);
 }
 
 const linkOfLost = () => (chosen.lost.size === 1 && !chosen.gone.size ? ` ${linkName(linkOf[[...chosen.lost][0]])}` : "");
