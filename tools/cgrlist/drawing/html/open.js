@@ -78,17 +78,18 @@ const hasFile = (event) => [...event.dataTransfer.types].includes("Files");
 
 document.ondragover = (event) => {
   if (!hasFile(event)) return;
+  byId("drop").hidden = event.defaultPrevented; // a panel takes what is dropped on it
   event.preventDefault();
-  byId("drop").hidden = false;
 };
 
 document.ondragleave = ({ relatedTarget }) => {
   if (!relatedTarget) byId("drop").hidden = true;
 };
 
+document.addEventListener("drop", () => (byId("drop").hidden = true), { capture: true });
+
 document.ondrop = (event) => {
   if (!hasFile(event)) return;
   event.preventDefault();
-  byId("drop").hidden = true;
   openFile(event.dataTransfer.files[0]);
 };
