@@ -13,6 +13,7 @@ mod status;
 mod texts;
 mod words;
 
+pub use command::CommandName;
 pub use failure::Failure;
 pub use files::{Disk, FileSystem};
 pub use headline::{
@@ -24,4 +25,4 @@ pub use rows::explanations_of_plan_a;
 pub use runs::{run_check, run_explain, run_first, run_follow, run_many, run_next, run_verify};
 pub use status::Status;
 pub use texts::tell;
-pub use words::{ValueFault, ValueName, Values, read_values};
+pub use words::{RequestTexts, ValueFault, ValueName, ValueTexts, Values, read_values};

@@ -7,6 +7,7 @@ mod lists;
 mod request_line;
 mod request_words;
 mod value_fault;
+mod value_texts;
 mod values;
 
 pub use command_line::parsed;
@@ -14,5 +15,7 @@ pub use lines::{LineForm, first_line, read_lines};
 pub use lines_fault::{LineKind, LinesFault};
 pub use lists::contacts_listed;
 pub use request_line::{Listed, list_in, request_in};
+pub use request_words::RequestTexts;
 pub use value_fault::{ValueFault, ValueName};
+pub use value_texts::ValueTexts;
 pub use values::{Values, read_values, values_of};

@@ -18,6 +18,7 @@ use Rattle.commands.specs.declared.command.CommandName.{CommandName}
 use Rattle.commands.specs.declared.command.CommandName.TheVariants as command
 use Rattle.commands.specs.declared.words.values.Values.{Values}
 use Rattle.commands.specs.declared.words.request_words.RequestTexts.{RequestTexts}
+use Rattle.commands.specs.declared.words.value_texts.ValueTexts.{ValueTexts}
 use Rattle.commands.specs.declared.words.value_fault.ValueFault.{ValueFault}
 use Rattle.commands.specs.declared.words.value_fault.ValueFault.TheVariants.{Bad, SameNode, BadAvoid}
 use Rattle.sabr_model.specs.declared.request_values.RequestValues.{RequestValues}
@@ -36,7 +37,7 @@ name_text Avoid = codes "avoid"
 name_text Count = codes "count"
 name_text Contacts = codes "contacts"
 
--- the text that was given under a name
+-- the text that was given under a name of the command line
 abbrev pub text_under : Found → ValueName → Option (List ℕ)
 text_under found name = first_value found (name_text name)
 
@@ -95,6 +96,20 @@ texts_given t =
 abbrev pub texts_under : Found → TextsGiven
 texts_under found =
     record { from = text_under found From; to = text_under found To; at = text_under found At; margin = text_under found MarginPpm; hops = text_under found MaxHops; avoid = text_under found Avoid }
+
+-- the texts that are given for the values of a command
+pub record ValuesGiven : Type 0 where
+  pub request : TextsGiven
+  pub count : Option (List ℕ)
+  pub contacts : Option (List ℕ)
+
+-- the same, without their places in memory
+abbrev pub values_given : ValueTexts → ValuesGiven
+values_given t = record { request = texts_given t.request; count = option_copied t.count; contacts = option_copied t.contacts }
+
+-- those of a command line
+abbrev pub values_under : Found → ValuesGiven
+values_under found = record { request = texts_under found; count = text_under found Count; contacts = text_under found Contacts }
 
 -- a node
 abbrev pub node_of : List ℕ → Option ℕ
@@ -182,31 +197,35 @@ abbrev pub where_asked : {A : Type 0} → Bool → Result A ValueFault → Resul
 where_asked asked value = if asked then and_then value (λ a. Ok (Some a)) else Ok None
 
 -- the words of a request, if the command has one
-abbrev pub words_where_asked : CommandName → Found → Result (Option RequestValues) ValueFault
-words_where_asked name found = where_asked (has_request name) (request_words (texts_under found))
+abbrev pub words_where_asked : CommandName → TextsGiven → Result (Option RequestValues) ValueFault
+words_where_asked name texts = where_asked (has_request name) (request_words texts)
 
 -- a number of routes that a page may have
 abbrev pub IsCount : ℕ → Type 0
 IsCount n = (1 ≤ n) × (n ≤ most_routes)
 
 -- the count of routes, if the command has one
-abbrev pub count_where_asked : CommandName → Found → Result (Option ℕ) ValueFault
-count_where_asked name found = where_asked (has_count name) (value_of (number_within 1 most_routes) Count (text_under found Count))
+abbrev pub count_where_asked : CommandName → Option (List ℕ) → Result (Option ℕ) ValueFault
+count_where_asked name text = where_asked (has_count name) (value_of (number_within 1 most_routes) Count text)
 
 -- the contacts, if the command has them
-abbrev pub contacts_where_asked : CommandName → Found → Result (List ℕ) ValueFault
-contacts_where_asked name found = if has_contacts name then value_of (numbers_within 1 most_number) Contacts (text_under found Contacts) else Ok []
+abbrev pub contacts_where_asked : CommandName → Option (List ℕ) → Result (List ℕ) ValueFault
+contacts_where_asked name text = if has_contacts name then value_of (numbers_within 1 most_number) Contacts text else Ok []
 
 -- the request of words that are there
 abbrev pub request_where_asked : Option RequestValues → Result (Option RouteRequest) ValueFault
 request_where_asked None = Ok None
 request_where_asked (Some words) = and_then (request_of words) (λ request. Ok (Some request))
 
--- the strict reading of a command's texts
-unfoldable pub values_of : CommandName → Found → Result ValuesRead ValueFault
-values_of name found =
-    and_then (words_where_asked name found) (λ words.
-    and_then (count_where_asked name found) (λ count.
-    and_then (contacts_where_asked name found) (λ contacts.
+-- the strict reading of the texts that are given to a command
+unfoldable pub values_in : CommandName → ValuesGiven → Result ValuesRead ValueFault
+values_in name given =
+    and_then (words_where_asked name given.request) (λ words.
+    and_then (count_where_asked name given.count) (λ count.
+    and_then (contacts_where_asked name given.contacts) (λ contacts.
     and_then (request_where_asked words) (λ request.
     Ok (record { request = request; count = count; contacts = contacts })))))
+
+-- that of a command line
+unfoldable pub values_of : CommandName → Found → Result ValuesRead ValueFault
+values_of name found = values_in name (values_under found)

@@ -1,18 +1,16 @@
 //! The words of a request.
 
-ghost use Rattle.std.specs.Prelude.{◌≡◌, ℕ, ◌≤◌, [], List, Option, option_map, IfOk, IsErrOf};
+ghost use Rattle.std.specs.Prelude.{◌≡◌, ◌≤◌, [], IfOk, IsErrOf};
 ghost use Rattle.std.specs.Option.{option_copied};
-ghost use Rattle.clap.specs.Matches.{found_of};
 ghost use Rattle.sabr_plan.specs.Times.{time_of};
 ghost use Rattle.commands.specs.words.Lists.{nodes_listed};
 ghost use Rattle.sabr_plan.specs.Numbers.{number_within};
-ghost use Rattle.commands.specs.words.Values.{text_under, texts_given, texts_under, value_of, value_or, limits_of, request_words, request_of, IsInRange};
+ghost use Rattle.commands.specs.words.Values.{texts_given, value_of, value_or, limits_of, request_words, request_of, IsInRange};
 ghost use Rattle.sabr_model.specs.plan.Plan.{IsNode, last_time};
 ghost use Rattle.sabr_model.specs.routes.Asking.{most_margin};
 
 use crate::words::lists::nodes_listed;
 use crate::words::value_fault::{ValueFault, ValueName};
-use clap::ArgMatches;
 use sabr_model::{MAX_HOPS, MAX_MARGIN, NodeList, Request, RequestValues};
 use sabr_plan::{number_within, parse_time};
 
@@ -31,30 +29,6 @@ pub struct RequestTexts<'a> {
     pub max_hops: Option<&'a [u8]>,
     /// The nodes to avoid.
     pub avoid: Option<&'a [u8]>,
-}
-
-/// Finds the text that was given under a name.
-pub fn text_under<'a>(matches: &ArgMatches<'a>, name: ValueName) -> Option<&'a [u8]>
-    ensures { option_map (λ s. s.now) result ≡ text_under (found_of matches.now) name }
-{
-    match matches.get_str(name.text()) {
-        Some(text) => Some(text.as_bytes()),
-        None => None,
-    }
-}
-
-/// Finds the texts that were given for a request.
-pub fn texts_under<'a>(matches: &ArgMatches<'a>) -> RequestTexts<'a>
-    ensures { texts_given result ≡ texts_under (found_of matches.now) }
-{
-    RequestTexts {
-        from: text_under(matches, ValueName::From),
-        to: text_under(matches, ValueName::To),
-        at: text_under(matches, ValueName::At),
-        margin_ppm: text_under(matches, ValueName::MarginPpm),
-        max_hops: text_under(matches, ValueName::MaxHops),
-        avoid: text_under(matches, ValueName::Avoid),
-    }
 }
 
 /// Reads a required number from `low` to `high`.
