@@ -149,7 +149,9 @@ def questions_of(seed):
 
 # ---- Refusals ---------------------------------------------------------------------------------------------------
 
+LINE = "31 1 2030/01/01-00:45:00"
 NODES = ",".join(map(str, range(100, 117)))
+SESSIONS = ("", "cgr-session 3\n", "cgr-session 2\nplan x\n", "é", times(700000, "x"))
 # Of each, the run and the values in place of good ones.
 REFUSED = [
     *(("first", {name: value}) for name in ("from", "to") for value in ("", "0", "01", "+1", " 1", "1\n", "é", str(2**64))),
@@ -161,17 +163,15 @@ REFUSED = [
     ("first", {"to": "31"}), ("first", {"to": "31", "at": "x"}), ("first", {"from": "x", "count": "0"}),
     *(("explain", {"contacts": value}) for value in ("", "0", "4,", ",4", "4,,11", "4 11", str(2**32))),
     ("explain", {"to": "x", "contacts": "x"}),
-    *(("many", {"requests": text}) for text in ("\n", "x", "31 1\n", "31 1 2030/01/01-00:45:00\n\n", "31 31 2030/01/01-00:45:00",
-                                                "31 1 2030/01/01-00:45:00 0 0\n", times(412, "x"), "31 1 2030/01/01-00:45:00 0 1 31")),
+    *(("many", {"requests": text}) for text in ("\n", "x", "31 1\n", f"{LINE}\n\n", "31 31 2030/01/01-00:45:00", f"{LINE} 0 0\n")),
+    *(("many", {"requests": text}) for text in (times(412, "x"), f"{LINE} 0 1 31", f"{LINE} 0 20000 2,1", f"{LINE} 0 1 2 3")),
     ("many", {"count": "0"}), ("many", {"requests": ""}),
-    *(("follow", {"lists": text}) for text in ("\n", "4 31 1\n", "x 31 1 2030/01/01-00:45:00\n", "4,11,2 31 1 2030/01/01-00:45:00\nx")),
-    ("follow", {"lists": ""}),
-    *((run, {"session": text}) for run in ("next", "verify") for text in ("", "cgr-session 3\n", "cgr-session 2\nplan x\n", "é", times(700000, "x"))),
+    *(("follow", {"lists": text}) for text in ("", "\n", "4 31 1\n", f"x {LINE}\n", f"4,11,2 {LINE}\nx")),
+    *((run, {"session": text}) for run in ("next", "verify") for text in SESSIONS),
     ("next", {"session": "", "count": "0"}), ("next", {"session": "x", "plan": "x"}), ("first", {"plan": "x", "from": "x"}),
     *((run, {"plan": "@ x\n"}) for run in ("check", "first", "next", "verify", "explain", "many", "follow")),
     ("check", {"plan": ""}), ("check", {"plan": "# é\n\n"}), ("check", {"plan": "\ufeff@ 2030/01/01-00:00:00\n"}),
 ]
-LINE = "31 1 2030/01/01-00:45:00"
 RELAYED = {"from": "31", "to": "1", "at": LINE[5:], "count": "3", "contacts": "4,11,2", "requests": f"{LINE}\n",
            "lists": f"4,11,2 {LINE}\n", "session": "x", "keep": True}
 
@@ -306,25 +306,25 @@ def memory(room):
         yield f"{run}, with more and more lent memory", {6}, lambda: {it["status"] for it in answers[:-1]}
         yield f"{run}, with enough", wanted, lambda: answer_in(answers[-1])
         yield f"{run}, the message", {"cgrlist: no memory\n"}, lambda: {it["message"] for it in answers[:-1]}
-        for name, size in lengths_of(wanted).items():
-            yield f"{run}, room for the {name}", [(6, size), (6, size), (wanted.status, size)], in_rooms, room, question, name, size
+        yield from fitting(room, question, wanted)
+    refused = Question("a refused plan", "check", {"plan": "x"})
+    yield from fitting(room, refused, room.by_program(refused))
 
 
-def lengths_of(answer):
-    """The lengths of the texts that there are."""
-    return {name: len(text) for name, text in answer._asdict().items() if name != "status" and text}
-
-
-def in_rooms(room, question, name, size):
-    """The status and the text's length without room for it, with a byte too little, and with enough."""
-    lent = {"step": 1 << 22, "most": 1 << 22}
-    asked = [question.told(**lent, rooms={**ALL_ROOM, name: it}) for it in (0, size - 1, size)]
-    return [(it[-1]["status"], it[-1]["lengths"][name]) for it in room.in_steps(asked)]
+def fitting(room, question, wanted):
+    """Each text of an answer without room for it, with a byte too little, and with enough: the status, and the length."""
+    lengths = {name: len(text) for name, text in wanted._asdict().items() if name != "status" and text}
+    for name, size in lengths.items():
+        asked = [question.told(step=1 << 22, most=1 << 22, rooms={**ALL_ROOM, name: it}) for it in (0, size - 1, size)]
+        told = [(6, size), (6, size), (wanted.status, size)]
+        yield (f"{question.title}, room for the {name}", told,
+               lambda asked=asked, name=name: [(it[-1]["status"], it[-1]["lengths"][name]) for it in room.in_steps(asked)])
 
 
 def chain(hops):
     """A plan of so many hops one after the other, and the numbers of its contacts."""
-    lines = "".join(f"a range +0 +9000000 {node} {node + 1} 1\na contact +0 +9000000 {node} {node + 1} 1\n" for node in range(1, hops + 1))
+    links = [f"+0 +9000000 {node} {node + 1} 1\n" for node in range(1, hops + 1)]
+    lines = "".join(f"a range {link}a contact {link}" for link in links)
     return f"@ 2030/01/01-00:00:00\n{lines}", ",".join(map(str, range(1, hops + 1)))
 
 
@@ -364,7 +364,8 @@ def long_lists(room):
     """Lists of 1000 and 10000 routes over windows of real satellites, and a session after them."""
     with lzma.open(f"{TOP}/bench/real/iridium.txt.xz", "rt", encoding="ascii") as file:
         texts = {"plan": file.read(), "from": "1", "to": "2", "at": "2018/01/22-00:20:00", "keep": True}
-    yield from compared(room, [Question(f"iridium, {count} routes", "first", {**texts, "count": count}) for count in ("1000", "10000")])
+    counts = ("1000", "10000")
+    yield from compared(room, [Question(f"iridium, {count} routes", "first", {**texts, "count": count}) for count in counts])
 
 
 # ---- Objects ----------------------------------------------------------------------------------------------------
@@ -380,12 +381,15 @@ def page_text(page):
     return "".join(map(route_text, page["routes"])) + ("more\n" if page["more"] else "end\n")
 
 
+def hop_text(place, it):
+    times = f"send {time_text(it['send'])} arrive {time_text(it['arrive'])}"
+    return f"hop {place} contact {it['contact']} from {it['from']} to {it['to']} {times}\n"
+
+
 def explanation_text(told):
-    hops = [f"hop {place} contact {it['contact']} from {it['from']} to {it['to']} send {time_text(it['send'])} arrive {time_text(it['arrive'])}\n"
-            for place, it in enumerate(told["hops"], 1)]
-    fault = told.get("fault")
+    hops, fault = "".join(hop_text(*it) for it in enumerate(told["hops"], 1)), told.get("fault")
     hop = f" hop {fault['hop']}" if fault and "hop" in fault else ""
-    return "".join(hops) + (f"refused{hop}: {fault['reason']}\n" if fault else route_text(told["route"]))
+    return hops + (f"refused{hop}: {fault['reason']}\n" if fault else route_text(told["route"]))
 
 
 def answers_text(head, answers, spelling):
@@ -408,33 +412,35 @@ def check_text(told):
 
 def objects(room):
     for seed in range(20):
-        case = drawn_case(seed)
-        yield from over_objects(room, f"objects of seed {seed}", case.drawing.text(), case.listing.request, case.listing.routes[:1])
-    largest = f"a contact 2030/01/01-00:00:00 2031/01/01-00:00:00 1 {2**64 - 1} {2**64 - 1}\na range 2030/01/01-00:00:00 2031/01/01-00:00:00 1 {2**64 - 1} 1\n"
-    found = room.asked("objects", plan=largest, calls=[])
-    yield "nodes and rates above 2 ** 53", ([str(1), str(2**64 - 1)], str(2**64 - 1)), lambda: (found["nodes"], found["contacts"][0]["rate"])
+        yield from over_objects(room, f"objects of seed {seed}", drawn_case(seed))
+    most, window = 2**64 - 1, "2030/01/01-00:00:00 2031/01/01-00:00:00"
+    found = room.asked("objects", plan=f"a contact {window} 1 {most} {most}\n", calls=[])
+    told = lambda: (found["nodes"], found["contacts"][0]["rate"], found["contacts"][0]["light"])
+    yield "nodes and rates above 2 ** 53", (["1", str(most)], str(most), None), told
 
 
-def over_objects(room, title, text, request, routes):
-    """The objects over a plan, as the program's texts."""
-    plan = read(text.encode())[0]
-    texts = {"plan": text, **of_request(request), "count": "3"}
-    asked = {"from": request.source, "to": request.target, "at": request.at, "marginPpm": request.margin,
-             "maxHops": request.hops, "avoid": list(request.avoided)}
-    numbers = list(routes[0].contacts) if routes else [1]
-    calls = [["first", {**asked, "count": 3}], ["explain", asked, numbers], ["many", [asked, asked], 3], ["follow", [{**asked, "contacts": numbers}]]]
-    found = room.asked("objects", plan=text, calls=calls)
-    line = " ".join(filter(None, [*(texts[name] for name in REQUEST)]))
-    lines = {"requests": f"{line}\n" * 2, "lists": f"{','.join(map(str, numbers))} {line}\n", "contacts": ",".join(map(str, numbers))}
-    wanted = {run: room.by_program(Question(f"{title}, {run}", run, {**texts, **lines})).report for run in ("check", "first", "explain", "many", "follow")}
+def over_objects(room, title, case):
+    """The objects over a drawn plan, as the program's texts."""
+    text, plan, request = case.drawing.text(), case.drawing.plan, case.listing.request
+    numbers = next((list(route.contacts) for route in case.listing.routes), [1])
+    limits = {"marginPpm": request.margin, "maxHops": request.hops, "avoid": list(request.avoided)}
+    asked = {"from": request.source, "to": request.target, "at": request.at, **limits}
+    calls = [["first", {**asked, "count": 3}], ["explain", asked, numbers], ["many", [asked, asked], 3]]
+    found = room.asked("objects", plan=text, calls=[*calls, ["follow", [{**asked, "contacts": numbers}]]])
     first, explained, many, followed = found["answers"]
+    texts = of_request(request, plan=text, count="3", contacts=",".join(map(str, numbers)))
+    line = " ".join(texts[name] for name in REQUEST if texts[name])
+    texts.update(requests=f"{line}\n" * 2, lists=f"{texts['contacts']} {line}\n")
     yield f"{title}, the plan", plan.canonical(), lambda: standing_text(found)
-    yield f"{title}, its counts", wanted["check"], lambda: check_text(found)
-    yield f"{title}, light times", [plan.light(it) for it in plan.contacts.values()], lambda: [it["light"] for it in found["contacts"]]
-    yield f"{title}, routes", wanted["first"], lambda: page_text(first)
-    yield f"{title}, explanation", wanted["explain"], lambda: explanation_text(explained)
-    yield f"{title}, many", wanted["many"], lambda: answers_text("request", many, page_text)
-    yield f"{title}, follow", wanted["follow"], lambda: answers_text("list", followed, explanation_text)
+    yield f"{title}, light times", [*map(plan.light, plan.contacts.values())], lambda: [it["light"] for it in found["contacts"]]
+    for run, told in (
+        ("check", lambda: check_text(found)),
+        ("first", lambda: page_text(first)),
+        ("explain", lambda: explanation_text(explained)),
+        ("many", lambda: answers_text("request", many, page_text)),
+        ("follow", lambda: answers_text("list", followed, explanation_text)),
+    ):
+        yield f"{title}, {run}", room.by_program(Question(f"{title}, {run}", run, texts)).report, told
 
 
 ASKED = {"from": 31, "to": 1, "at": LINE[5:]}
@@ -449,8 +455,9 @@ REFUSED_CALLS = [  # each call, with the status, the message, the line and the h
 
 def refused_objects(room):
     found = room.asked("objects", plan=relay_plan(), calls=[call for call, _ in REFUSED_CALLS])["answers"]
+    told = ("status", "message", "line", "hint")
     for (call, wanted), it in zip(REFUSED_CALLS, found):
-        yield f"refused: {call[0]} {wanted[1]}", wanted, lambda it=it: tuple(it.get(name) for name in ("status", "message", "line", "hint"))
+        yield f"refused: {call[0]} {wanted[1]}", wanted, lambda it=it: tuple(map(it.get, told))
     yield "the repairs are those of the tools", REPAIRS, room.asked, "repairs"
 
 

@@ -105,11 +105,14 @@ def worker(room):
     yield "and the next question", 0, value, 'return (await tested.ask("check", { plan: "" })).status;'
 
 
+class Quiet(http.server.SimpleHTTPRequestHandler):
+    def log_message(self, *_):
+        pass
+
+
 def served(room):
     """The page from a server."""
-    handler = partial(http.server.SimpleHTTPRequestHandler, directory=os.path.dirname(PAGE))
-    handler.log_message = lambda *_: None
-    with http.server.ThreadingHTTPServer(("127.0.0.1", 0), handler) as server:
+    with http.server.ThreadingHTTPServer(("127.0.0.1", 0), partial(Quiet, directory=os.path.dirname(PAGE))) as server:
         threading.Thread(target=server.serve_forever, daemon=True).start()
         address = f"http://127.0.0.1:{server.server_port}/{os.path.basename(PAGE)}"
         yield "the state", "ready", room.begin, address
@@ -122,7 +125,8 @@ def served(room):
 
 # ---- The sections -----------------------------------------------------------------------------------------------
 
-SECTIONS = (engine.drawn, engine.canonical, engine.sessions, engine.refusals, engine.memory, engine.long_lists, worker, engine.hostile)
+SHARED = (engine.drawn, engine.canonical, engine.sessions, engine.refusals, engine.memory, engine.long_lists, engine.hostile)
+SECTIONS = (worker, *SHARED)
 
 
 def over_the_file(room):

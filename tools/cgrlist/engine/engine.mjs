@@ -3,15 +3,21 @@
 import { CgrlistError, NO_PROGRAM, STOPPED } from "./errors.mjs";
 import { Program, compiledModule, engineLack } from "./program.mjs";
 
-/** What the worker does: the first message has the module, each later one a question. */
+/**
+ * What the worker does: the first message has the module, each later one a question. A browser compiles a function when it
+ * is first called, so the first worker calls most of them over a small plan before it says that it is ready.
+ */
 function workerTask() {
   let program;
   const warmUp = () => {
-    const range = "a range 2030/01/01-00:00:00 2031/01/01-00:00:00 1 2 1\n";
-    const plan = `${range}a contact 2030/01/01-00:00:00 2031/01/01-00:00:00 1 2 1\n`;
-    const asked = { plan, from: "1", to: "2", at: "2030/01/01-00:00:00", count: "1", contacts: "1", keep: true };
+    const at = "2030/01/01-00:00:00";
+    const nodes = [1, 2, 3, 4, 5];
+    const pairs = nodes.flatMap((from) => nodes.filter((to) => to !== from).map((to) => `+0 +9000 ${from} ${to} 1`));
+    const plan = `@ ${at}\n${pairs.map((pair) => `a range ${pair}\na contact ${pair}\n`).join("")}`;
+    const lines = { requests: `1 5 ${at}\n`, lists: `4 1 5 ${at}\n` };
+    const asked = { plan, from: "1", to: "5", at, count: "8", contacts: "4", keep: true, ...lines };
     const { session } = program.ask("first", asked);
-    for (const run of ["next", "verify", "explain", "canonical"]) {
+    for (const run of ["check", "next", "verify", "explain", "many", "follow", "canonical"]) {
       program.ask(run, { ...asked, session });
     }
   };
@@ -95,7 +101,7 @@ export class Engine {
     const { refuse } = this.#running ?? {};
     this.#worker.terminate();
     if (this.state === "ready") {
-      this.#employ(false);
+      this.#employ(false).catch(({ message }) => (this.state = message));
     }
     refuse?.(error);
   }
