@@ -6,6 +6,9 @@ export type Node = bigint;
 /** A node where one is asked for. */
 export type GivenNode = bigint | number | string;
 
+/** Bytes of a module, which may be compressed. */
+export type Bytes = ArrayBuffer | Uint8Array;
+
 /** A contact that stands. */
 export interface Contact {
   number: number;
@@ -158,7 +161,7 @@ export class Plan {
 
 /** The module in a worker of a page. */
 export class Engine implements Answering {
-  constructor(module: BufferSource | string | Promise<BufferSource | string>);
+  constructor(module: Bytes | string | Promise<Bytes | string>);
   /** "starting", "ready", or why there is no engine. */
   state: string;
   /** The state once it isn't "starting". */
@@ -184,8 +187,8 @@ export const STOPPED: 130;
 /** Of each reason for which a line of a plan is refused, its repair. */
 export const REPAIRS: Record<string, string>;
 /** The bytes of the module beside this file. */
-export function moduleBytes(): Promise<BufferSource>;
+export function moduleBytes(): Promise<Bytes>;
 /** The module of some bytes in this thread. */
-export function programOf(bytes: BufferSource | string | Promise<BufferSource | string>): Promise<Answering>;
+export function programOf(bytes: Bytes | string | Promise<Bytes | string>): Promise<Answering>;
 export function timeText(seconds: number): string;
 export function secondsOf(text: string): number;
