@@ -181,10 +181,10 @@ def other_texts(it, room):
     ):
         write(it, "planText", text)
         yield name, wanted, state, it, "plan"
-    ends = room.file("ends.txt", text_of(RELAY).replace("\n", "\r\n"))
+    ends = room.file("ends.txt", "\ufeff" + text_of(RELAY).replace("\n", "\r\n"))
     it.part("file").send_keys(ends)
     waited(it, "app.refused")
-    yield "line ends", f"No bad line: {facts_of(room, RELAY)} Lines that ended with CR end with LF here.", state, it, "plan"
+    yield "line ends", f"No bad line: {facts_of(room, RELAY)} Here its lines end with LF, and it has no byte order mark.", state, it, "plan"
     press(it, "plan", "Use this text")
     yield "written as LF", "ends.txt", waited, it, "app.plan.name === 'ends.txt' && app.plan.name"
 

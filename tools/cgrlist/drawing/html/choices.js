@@ -64,9 +64,10 @@ const isTime = (word) => secondOfText(word) !== undefined;
 // The line for what words ask, `from to time` and then a margin, a limit of hops and nodes to avoid; undefined if they are
 // something else. The nodes' names may have blanks.
 function requestOfWords(words) {
-  const time = words.findIndex((word, place) => place > 1 && isTime(word)), [marginPpm, maxHops, ...further] = words.slice(time + 1);
+  const time = words.findIndex((word, place) => place > 1 && isTime(word));
+  const [marginPpm, maxHops, ...further] = words.slice(time + 1);
   if (time < 0 || [marginPpm, maxHops].some((word) => word && !/^\d+$/.test(word))) return undefined;
-  const avoided = further.join(" ").split(",").map((it) => nodeOfText(it.trim()) ?? it), avoid = avoided.sort(byNumber).join(",");
+  const avoid = further.join(" ").split(",").map((it) => nodeOfText(it.trim()) ?? it).sort(byNumber).join(",");
   for (let cut = 1; cut < time; cut++) {
     const [from, to] = [words.slice(0, cut), words.slice(cut, time)].map((it) => nodeOfText(it.join(" ")));
     if (from && to) return lineOf({ from, to, marginPpm, maxHops, avoid }, secondOfText(words[time]));
@@ -87,7 +88,8 @@ async function judged(ask, choices, tell) {
   return choices.map((it) => ({ hops: [], ...it, ...told.get(it), ...rankOf(it, lists, told.get(it)) }));
 }
 
-const cutIn = (all, size) => Array.from({ length: Math.ceil(all.length / size) }, (_, at) => all.slice(at * size, (at + 1) * size));
+const partAt = (all, at, size) => all.slice(at * size, (at + 1) * size);
+const cutIn = (all, size) => Array.from({ length: Math.ceil(all.length / size) }, (_, at) => partAt(all, at, size));
 
 // Some choices, each with what it does. One whose line is refused is left out, and the others are asked for again.
 async function followed(ask, choices) {
@@ -104,13 +106,17 @@ async function followed(ask, choices) {
 }
 
 // The lines of each part of a report; a part begins with a line that begins with a word.
-const answersIn = (report, word) => `\n${report.trimEnd()}`.split(`\n${word}`).slice(1).map((part) => part.split("\n").slice(1));
+function answersIn(report, word) {
+  const parts = `\n${report.trimEnd()}`.split(`\n${word}`).slice(1);
+  return parts.map((part) => part.split("\n").slice(1));
+}
 
 // What lines of an explanation say: hops, and a delivery or a fault.
 function explanationIn(lines) {
   const hops = lines.map((line) => HOP.exec(line)).filter(Boolean), [route] = routesIn(lines.at(-1));
-  const read = ([, contact, send, arrive]) => ({ contact: contactWith.get(Number(contact)), send: secondOf(send), arrive: secondOf(arrive) });
-  return { hops: hops.map(read), ...(route ? { delivery: route.delivery } : { fault: lines.at(-1).replace(/^refused:? /, "") }) };
+  const place = (contact) => contactWith.get(Number(contact)), fault = lines.at(-1).replace(/^refused:? /, "");
+  const read = ([, contact, send, arrive]) => ({ contact: place(contact), send: secondOf(send), arrive: secondOf(arrive) });
+  return { hops: hops.map(read), ...(route ? { delivery: route.delivery } : { fault }) };
 }
 
 // Of the request of each of some choices, which are routes, its first routes: the best delivery, ranks by contacts, and how many
@@ -148,5 +154,6 @@ const isWrong = (it, most) => it.later === undefined || it.later > most;
 function sumOf(told, most) {
   const none = told.filter((it) => it.later === undefined).length, late = told.filter((it) => it.later > most).length;
   const are = none === 1 ? "is no route" : "are no routes", limit = most ? `more than ${durationText(most)} after` : "after";
-  return `Of ${count(told.length, "choice")} ${none} ${are}, and ${late} ${late === 1 ? "delivers" : "deliver"} ${limit} the best`;
+  const deliver = late === 1 ? "delivers" : "deliver";
+  return `Of ${count(told.length, "choice")} ${none} ${are}, and ${late} ${deliver} ${limit} the best`;
 }

@@ -1,4 +1,4 @@
-// What can be saved: the program's report, the routes in the forms of tools/report, the picture as SVG, the plan, and the page.
+// What can be saved: the program's report, the routes in the forms of tools/report, the picture, the plan, and the page.
 
 function save(name, kind, text) {
   const link = element("a", { href: URL.createObjectURL(new Blob([text], { type: kind })), download: name });
@@ -68,7 +68,8 @@ const exactly = (numbers) => (numbers.every((it) => BigInt(it) <= Number.MAX_SAF
 
 // The routes with their hops as JSON, a route a line.
 async function routesJson() {
-  const node = exactly(known.nodes), amount = exactly(known.number.map((_, contact) => roomFrom(contact, known.start[contact])));
+  const node = exactly(known.nodes), rooms = known.number.map((_, contact) => roomFrom(contact, known.start[contact]));
+  const amount = exactly(rooms);
   const value = (field, it) => {
     if (it === null) return null;
     if (TIMES.includes(field)) return isoText(it);
@@ -76,13 +77,15 @@ async function routesJson() {
     return field === "nodes" ? it.map((place) => node(known.nodes[place])) : field === "room" ? amount(it) : it;
   };
   const told = (fields) => Object.fromEntries(Object.entries(fields).map(([field, it]) => [field, value(field, it)]));
-  const rows = routes.map((it) => JSON.stringify({ ...told(routeFields(it)), path: it.hops.map((hop) => told(hopFields(hop))) }));
-  const after = { ...(request ? { request: requestJson(node) } : {}), ...(await aboutJson()) };
-  return `{"routes": [\n  ${rows.join(",\n  ")}]${Object.entries(after).map((it) => `,\n ${it.map((part) => JSON.stringify(part)).join(": ")}`).join("")}}\n`;
+  const path = (route) => route.hops.map((hop) => told(hopFields(hop)));
+  const rows = routes.map((route) => JSON.stringify({ ...told(routeFields(route)), path: path(route) }));
+  const after = JSON.stringify({ ...(request ? { request: requestJson(node) } : {}), ...(await aboutJson()) });
+  return `{"routes": [\n  ${rows.join(",\n  ")}],\n ${after.slice(1)}\n`;
 }
 
 function requestJson(node) {
-  const { from, to, marginPpm, maxHops, avoid } = request.texts, limits = { margin_ppm: Number(marginPpm || 0), max_hops: Number(maxHops) || null };
+  const { from, to, marginPpm, maxHops, avoid } = request.texts;
+  const limits = { margin_ppm: Number(marginPpm || 0), max_hops: Number(maxHops) || null };
   const ends = { from: node(from), to: node(to), at: isoText(request.at) };
   return { ...ends, ...limits, avoid: avoid ? avoid.split(",").map(node) : [] };
 }
@@ -104,8 +107,12 @@ const savePicture = () => save(fileName("svg"), "image/svg+xml", svgText(0, AXIS
 const savePlan = () => save(app.plan.name, "text/plain", app.planText());
 const savePage = () => save(fileName("html"), "text/html", app.pageText(app.data()));
 
-const needingRoutes = [actButton("Report", saveReport), actButton("CSV", saveRoutes), actButton("CSV of hops", saveHops), actButton("JSON", saveJson)];
-const saving = (label, ...parts) => element("div", { class: "saving", role: "group", "aria-label": label }, element("h3", {}, label), ...parts);
+const kinds = { Report: saveReport, CSV: saveRoutes, "CSV of hops": saveHops, JSON: saveJson };
+const needingRoutes = Object.entries(kinds).map(([name, act]) => actButton(name, act));
+
+function saving(label, ...parts) {
+  return element("div", { class: "saving", role: "group", "aria-label": label }, element("h3", {}, label), ...parts);
+}
 
 addPanel("save", "Save", [
   saving("Routes", ...needingRoutes),

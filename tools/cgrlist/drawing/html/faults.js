@@ -10,7 +10,7 @@ const REST = 400; // milliseconds without a key, after which a changed text is c
 
 const FORMS = [
   [/^(\x1f|BZh|PK\x03\x04|.7zXZ|\(.\/.)/, "compressed: unpack it first"],
-  [/^(\ufffd\ufffd|.?\0)/, "text in UTF-16: iconv -f UTF-16 -t UTF-8 FILE makes it UTF-8"],
+  [/^([\x7f\ufffd]{2}|.?\0)/, "text in UTF-16: iconv -f UTF-16 -t UTF-8 FILE makes it UTF-8"],
   [/^\s*\{/, "JSON: if it is HDTN's, tools/from_ionrc --form hdtn FILE makes a plan of it"],
   [/^\s*\[/, "JSON, which has no plan's lines"],
   [/^\s*</, "XML, which has no plan's lines"],
@@ -22,8 +22,8 @@ function formOf(text) {
   return form ? `This is ${form[1]}` : "";
 }
 
-// The bad lines of a text, each `{ line, reason, text }`, and the last answer; `isAll` is false if there may be more of them.
-// `goesOn` is told how many were found, and says whether more are looked for; if not, it is null.
+// The bad lines of a text, each `{ line, reason, text }`, and the last answer; `isAll` is false if there may be more of
+// them. `goesOn` is told how many were found, and says whether more are looked for; if not, it is null.
 async function faultsOf(ask, text, goesOn) {
   const lines = text.split("\n"), faults = [];
   for (;;) {
@@ -38,7 +38,8 @@ async function faultsOf(ask, text, goesOn) {
 
 // ---- The panel --------------------------------------------------------------------------------------------------
 
-// The text in the field: its file's name, as it was given, its lines' number, the bad ones, and whether another is to be shown.
+// The text in the field: its file's name, how it was given, how many lines it has, and the bad ones; and whether another one
+// is to be shown.
 const edited = { name: "", given: "", lines: 1, bad: new Set(), turn: 0, timer: 0, isOld: true };
 const gutter = element("pre", { class: "gutter", "aria-hidden": "true" });
 const planField = textField("The plan's text", { id: "planText", wrap: "off", rows: 16 }, () => useText(), gutter);
@@ -65,7 +66,7 @@ function goToLine(line) {
 // Shows a text of that name, and checks it.
 function showText(name, text) {
   Object.assign(edited, { name, given: text, isOld: false });
-  if (planArea.value !== withLineFeeds(text)) planArea.value = text;
+  if (planArea.value !== asInField(text)) planArea.value = asInField(text);
   countLines();
   checkText();
 }
@@ -80,13 +81,17 @@ async function checkText() {
   };
   clearTimeout(edited.timer);
   if (formOf(planArea.value)) return showFaults({ faults: [], isAll: true });
-  const found = isPlanText() ? { faults: [], isAll: true, answer: await askOver(noLosses, "check", {}) } : await faultsOf(app.ask, planArea.value, goesOn);
+  const ofPlan = async () => ({ faults: [], isAll: true, answer: await askOver(noLosses, "check", {}) });
+  const found = await (isPlanText() ? ofPlan() : faultsOf(app.ask, planArea.value, goesOn));
   if (found && turn === edited.turn) showFaults(found);
 }
 
-// Whether the text is that of the plan that is shown, and none that was refused. A field has no CR.
-const isPlanText = () => edited.given !== app.refused?.text && planArea.value === withLineFeeds(app.plan.text);
-const withLineFeeds = (text) => text.replace(/\r\n?/g, "\n");
+// Whether the text is that of the plan that is shown, and none that was refused.
+const isPlanText = () => edited.given !== app.refused?.text && planArea.value === asInField(app.plan.text);
+
+// A text without what no plan has and a field doesn't show: a byte order mark, and CR at the ends of lines.
+const asInField = (text) => text.replace(/^\ufeff/, "").replace(/\r\n?/g, "\n");
+const REPAIRED = " Here its lines end with LF, and it has no byte order mark.";
 
 function showFaults({ faults, isAll, answer }) {
   edited.bad = new Set(faults.map((it) => it.line));
@@ -99,19 +104,20 @@ function showFaults({ faults, isAll, answer }) {
 }
 
 function aboutText(faults, isAll, answer) {
-  const form = formOf(planArea.value), ends = /\r/.test(edited.given) ? " Lines that ended with CR end with LF here." : "";
+  const form = formOf(planArea.value), repaired = /^\ufeff|\r/.test(edited.given) ? REPAIRED : "";
   if (form) return form;
   if (answer.status !== 0 && answer.status !== PLAN_STATUS) return messageOf(answer);
   const told = isAll ? count(faults.length, "bad line") : `The first ${faults.length} bad lines; there may be more`;
-  if (faults.length) return `${told}: each adds nothing, so another may be bad because of it alone.${ends}`;
+  if (faults.length) return `${told}: each adds nothing, so another may be bad because of it alone.${repaired}`;
   const whose = isPlanText() ? `This is the plan that is shown, ${app.plan.name}` : "No bad line";
-  return `${whose}: ${answer.report.split("\n").slice(0, 4).join(", ")}.${isPlanText() ? "" : ends}`;
+  return `${whose}: ${answer.report.split("\n").slice(0, 4).join(", ")}.${repaired}`;
 }
 
 // A bad line, and the repair of its reason below the first of them.
 function faultItem({ line, reason, text }, isFirst) {
   const shown = text.length > MOST_SHOWN ? `${text.slice(0, MOST_SHOWN)} ..` : text;
-  const go = actButton(`line ${line}`, () => goToLine(line), { class: "small", "aria-label": `Go to line ${line}, ${reason}` });
+  const name = { class: "small", "aria-label": `Go to line ${line}, ${reason}` };
+  const go = actButton(`line ${line}`, () => goToLine(line), name);
   const repair = isFirst && REPAIRS[reason] ? element("p", { class: "soft" }, `${reason}: ${REPAIRS[reason]}`) : "";
   return element("li", {}, go, element("b", {}, reason), element("code", {}, shown), repair);
 }

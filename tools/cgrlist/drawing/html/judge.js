@@ -17,8 +17,8 @@ const HOP_FAULTS = {
 };
 
 const judgement = { told: [], isRunning: false };
-const choiceField = textField("Contacts that a router chose, a line each; a request may follow", { id: "choices" }, () => judge());
-choiceField.area.placeholder = "4,11,2\n5 12 2\n4,12,2 31 1 2030-01-01T00:45:00Z";
+const CHOICES = { id: "choices", placeholder: "4,11,2\n5 12 2\n4,12,2 31 1 2030-01-01T00:45:00Z" };
+const choiceField = textField("Contacts that a router chose, a line each; a request may follow", CHOICES, () => judge());
 const firstNumber = element("select", {}, element("option", {}, "1"), element("option", {}, "0"));
 const lateAfter = element("input", { type: "number", min: 0, value: 0 });
 const onlyWrong = element("input", { type: "checkbox" });
@@ -94,19 +94,20 @@ function faultText({ fault, contacts, hops }) {
 
 // The judged choices as comma-separated values, below the fields of tools/report.
 function judgedCsv(told) {
-  const fields = ["line", "from", "to", "at", "margin_ppm", "max_hops", "avoid", "rank", "delivery", "later", "contacts", "fault"];
+  const ofRequest = ["from", "to", "at", "margin_ppm", "max_hops", "avoid"];
   const named = (node) => names.get(node) ?? node, time = (second) => second && timeOfCsv(second);
   const rows = told.map((it) => {
     const [from, to, at = "", margin, hops, avoid = ""] = it.asked?.split(" ") ?? [], most = hops === "20000" ? "" : hops;
     const asked = [named(from), named(to), time(secondOf(at)), margin, most, avoid.split(",").map(named).join(",")];
     return [it.place, ...asked, it.rank, time(it.delivery), it.later, it.contacts?.join(" "), it.fault];
   });
-  return csvOf([fields, ...rows]);
+  return csvOf([["line", ...ofRequest, "rank", "delivery", "later", "contacts", "fault"], ...rows]);
 }
 
 const judgeButton = actButton("Judge", judge, { class: "main", title: "Ctrl+Enter" });
 const stopButton = actButton("Stop", stopAsking, { hidden: true });
-const saveJudged = actButton("Save CSV", () => save(fileName("choices.csv"), "text/csv", judgedCsv(judgement.told)), { hidden: true });
+const saveChoices = () => save(fileName("choices.csv"), "text/csv", judgedCsv(judgement.told));
+const saveJudged = actButton("Save CSV", saveChoices, { hidden: true });
 const openChoices = fileButton("Open a file", choiceField.area, (_, text) => {
   choiceField.area.value = text;
   judge();
@@ -116,7 +117,13 @@ lateAfter.onchange = onlyWrong.onchange = () => showJudged(judgement.told);
 addPanel("judge", "Judge", [
   choiceField.part,
   element("div", { class: "acts" }, judgeButton, stopButton, openChoices, saveJudged),
-  element("div", { class: "acts soft" }, inLabel("first contact is number ", firstNumber), inLabel("late after ", lateAfter, " s"), inLabel("", onlyWrong, " only wrong ones")),
+  element(
+    "div",
+    { class: "acts soft" },
+    inLabel("first contact is number ", firstNumber),
+    inLabel("late after ", lateAfter, " s"),
+    inLabel("", onlyWrong, " only wrong ones"),
+  ),
   judgeState,
   judgeTable,
 ]).classList.add("wide");

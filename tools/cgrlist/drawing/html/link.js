@@ -1,5 +1,5 @@
-// A link to the question, which the address keeps, if it isn't the one with which the file opens. A link has no plan: the plan's
-// digest shows whether it is the file's.
+// A link to the question, which the address keeps if it isn't the one with which the file opens. It has no plan: where that
+// isn't the file's, its digest tells so.
 
 const lineNow = () => (request ? lineOf(request.texts, request.at) : "");
 const lineAtFirst = () => (data.request ? lineOf(data.request, secondOf(data.request.at)) : "");
@@ -20,7 +20,8 @@ async function recallLink(state) {
 
 // The field that shows the link, and the button that copies it.
 function linkParts() {
-  const field = element("input", { id: "link", readonly: "", "aria-label": "Link to this question", onfocus: () => field.select() });
+  const about = { id: "link", readonly: "", "aria-label": "Link to this question" }, field = element("input", about);
+  field.onfocus = () => field.select();
   return [field, actButton("Copy", copyLink)];
 }
 

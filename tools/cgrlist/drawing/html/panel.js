@@ -6,8 +6,8 @@ function textField(label, about, act, beside = "") {
     if (event.key === "Enter" && (event.ctrlKey || event.metaKey)) act();
   };
   const area = element("textarea", { spellcheck: "false", autocomplete: "off", rows: 5, ...about, onkeydown });
-  const part = element("label", { class: "field" }, element("span", {}, label), element("span", { class: "lines" }, beside, area));
-  return { area, part };
+  const lines = element("span", { class: "lines" }, beside, area);
+  return { area, part: element("label", { class: "field" }, element("span", {}, label), lines) };
 }
 
 // A button that opens a file, which can be dropped on a part, too; its name and text are handed on.
@@ -18,11 +18,12 @@ function fileButton(label, part, take) {
     await taken(input.files);
     input.value = ""; // so that the same file can be opened again
   };
-  part.ondragover = (event) => event.preventDefault();
-  part.ondrop = (event) => {
+  part.ondragover = part.ondrop = (event) => {
+    if (!hasFile(event)) return;
     event.preventDefault();
     event.stopPropagation(); // elsewhere on the page a file is a plan
-    taken(event.dataTransfer.files);
+    byId("drop").hidden = true;
+    if (event.type === "drop") taken(event.dataTransfer.files);
   };
   return element("span", {}, actButton(label, () => input.click()), input);
 }

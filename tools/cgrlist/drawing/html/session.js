@@ -1,5 +1,5 @@
-// The panel of sessions: the text of the one after the routes that are shown can be saved; another one can be checked, and the
-// list goes on after it.
+// The panel of sessions: the text of the one after the routes that are shown can be saved; another one can be checked, and
+// the list goes on after it.
 
 // What is wrong with a session text, as docs/formats.md says it.
 const SESSION_FAULTS = {
@@ -18,7 +18,7 @@ const sessionState = statusLine();
 // What a session text says of itself.
 function aboutSession(text) {
   const { from, to, at } = requestIn(text), [, given] = /^emitted (\d+)$/m.exec(text) ?? [];
-  return given && at ? `after ${given} ${given === "1" ? "route" : "routes"} of ${titleOf(from)} → ${titleOf(to)} at ${at}` : "";
+  return given && at ? `after ${count(Number(given), "route")} of ${titleOf(from)} → ${titleOf(to)} at ${at}` : "";
 }
 
 // Checks the text in the field, and tells in words whether it is right.
@@ -43,14 +43,15 @@ function sessionFault(message) {
 }
 
 async function goOnAfter() {
-  const session = sessionField.area.value, answer = await app.goOn(session);
-  tellSession(answer.status === 0 ? `The routes that are shown are those ${aboutSession(session)}.` : sessionFault(messageOf(answer)));
+  const session = sessionField.area.value, answer = await app.goOn(session), isRight = answer.status === 0;
+  tellSession(isRight ? `The routes that are shown are those ${aboutSession(session)}.` : sessionFault(messageOf(answer)));
 }
 
 async function saveSession() {
   const text = await app.sessionText();
-  if (text) save(fileName("session"), "text/plain", text);
-  tellSession(text ? `Saved: the session ${aboutSession(text)}.` : "There is no session: it needs a question, and routes from the first one on.");
+  if (!text) return tellSession("There is no session: it needs a question, and routes from the first one on.");
+  save(fileName("session"), "text/plain", text);
+  return tellSession(`Saved: the session ${aboutSession(text)}.`);
 }
 
 const tellSession = (text) => (sessionState.textContent = text);
@@ -60,10 +61,13 @@ const openSession = fileButton("Open a file", sessionField.area, (_, text) => {
   checkSession();
 });
 
+const whatItIs = "A session text keeps where a list of routes stands, so that it can go on later, here or by cgrlist next.";
+const checkButton = actButton("Check", checkSession, { class: "main", title: "Ctrl+Enter" });
+
 addPanel("session", "Session", [
-  element("p", { class: "soft" }, "A session text keeps where a list of routes stands, so that it can go on later, here or by cgrlist next."),
+  element("p", { class: "soft" }, whatItIs),
   element("div", { class: "acts" }, actButton("Save the session after these routes", saveSession)),
   sessionField.part,
-  element("div", { class: "acts" }, actButton("Check", checkSession, { class: "main", title: "Ctrl+Enter" }), actButton("Go on after it", goOnAfter), openSession),
+  element("div", { class: "acts" }, checkButton, actButton("Go on after it", goOnAfter), openSession),
   sessionState,
 ]);
