@@ -258,6 +258,11 @@ def judged_alone(it, room):
     wanted = ["2", f"{none}: x", f"{none}: 31>22@2031-01-01", f"{none}: <b>4</b>", "it needs from, to and time after its contacts"]
     yield "a file of a router that counts from 0", wanted, lambda: [row[1] for row in table_of(it, ROWS)[1:]]
     it.run("firstNumber.value = '1'")
+    it.run("""const dropped = new DataTransfer();
+        dropped.items.add(new File(["4,11,2"], "dropped.txt"));
+        choiceField.area.dispatchEvent(new DragEvent("drop", { dataTransfer: dropped, bubbles: true, cancelable: true }))""")
+    yield "a file that is dropped", "4,11,2", waited, it, "choiceField.area.value === '4,11,2' && choiceField.area.value"
+    yield "is no plan", "Of 1 choice 0 are no routes, and 0 deliver after the best.", state, it, "judge"
     it.run("lose(contactWith.get(4))")
     write(it, "choices", "4,11,2\n5,12,2")
     press(it, "judge", "Judge")
