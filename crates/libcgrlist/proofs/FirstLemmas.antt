@@ -57,9 +57,9 @@ first_of p r k (Ok l) rules limits follow listed last =
     }
 
 -- the first of at most one route is the best
-pub best_of : (f : List ℕ → RouteRecord) (L : List (List ℕ)) (xs : List RouteRecord) (status : ℕ) (row : RouteRow) (numbers : List ℕ) → xs ≡ map f (take 1 L) → WritesBest xs status row numbers → WritesBest (map f L) status row numbers
-best_of f [] xs status row numbers is w = subst (λ (ys : List RouteRecord). WritesBest ys status row numbers) is w
-best_of f (s ∷ L) xs status row numbers is w = subst (λ (ys : List RouteRecord). WritesBest ys status row numbers) is w
+pub best_of : (f : List ℕ → RouteRecord) (L : List (List ℕ)) (xs : List RouteRecord) (status : ℕ) (row : RouteRow) (old new : List ℕ) → xs ≡ map f (take 1 L) → WritesBest xs status row old new → WritesBest (map f L) status row old new
+best_of f [] xs status row old new is w = subst (λ (ys : List RouteRecord). WritesBest ys status row old new) is w
+best_of f (s ∷ L) xs status row old new is w = subst (λ (ys : List RouteRecord). WritesBest ys status row old new) is w
 
 -- the routes of a last page are short, and so is a list that equals them
 pub short_of : (p : TabledPlan) (r : RouteRequest) (k : ℕ) (l : LastSeen) (xs : List RouteRecord) → xs ≡ l.routes → IsFirst p r k l → All (λ (a : RouteRecord). length a.contacts ≤ 20000) xs

@@ -1,11 +1,11 @@
 -- Pages, written a route after another.
-use Rattle.std.proofs.Common.{◌≡◌, ℕ, ◌+◌, ◌*◌, ◌<◌, ◌≤◌, List, [], ◌∷◌, ◌++◌, length, take, refl, sym, ap, ◌∙◌, subst, append_assoc, append-nil, length-append, length-take-le, zero-add, arith}
-use Rattle.std.specs.Prelude.{flat_map}
-use Rattle.std.specs.List.{All}
+use Rattle.std.proofs.Common.{◌≡◌, ℕ, zero, suc, ◌+◌, ◌<◌, ◌≤◌, List, [], ◌∷◌, ◌++◌, drop, length, take, refl, sym, ap, ◌∙◌, subst, append-nil, length-append, length-drop, length-take-le, slice_set, zero-add, arith}
 use Rattle.std.proofs.Math.ListN.{get_or}
+use Rattle.std.proofs.Math.Seq.{take-append_seam}
 use Rattle.std.proofs.lemmas.Grind.{flat_map-append, take_at_read}
+use Rattle.std.proofs.lemmas.Slice.{drop-append-drop}
 use Rattle.sabr_model.specs.routes.Record.{RouteRecord}
-use Rattle.libcgrlist.specs.Pages.{HasRoom, IsWritten, contacts_of, row_of, rows_from}
+use Rattle.libcgrlist.specs.Pages.{HasRoom, IsWritten, RouteBuffers, contacts_of, row_of, rows_from}
 use Rattle.libcgrlist.specs.declared.rows.RouteRow.{RouteRow}
 
 -- the contact numbers of one more route
@@ -19,18 +19,65 @@ rows_more first (x ∷ xs) a =
     let place : (first + length x.contacts) + length (contacts_of xs) ≡ first + length (contacts_of (x ∷ xs)) = omega (arith, length-append x.contacts (contacts_of xs)) in
     ap (λ (z : List RouteRow). row_of first x ∷ z) (rows_more (first + length x.contacts) xs a ∙ ap (λ (n : ℕ). rows_from (first + length x.contacts) xs ++ row_of n a ∷ []) place)
 
--- the first n routes were written, and their numbers end at a place
-pub record IsSoFar (given : List RouteRecord) (rows : List RouteRow) (numbers : List ℕ) (n first : ℕ) : Type 0 where
+length-rows_from : (first : ℕ) (xs : List RouteRecord) → length (rows_from first xs) ≡ length xs
+length-rows_from first [] = refl
+length-rows_from first (x ∷ xs) = ap suc (length-rows_from (first + length x.contacts) xs)
+
+-- a row is set
+pub row_set : (rows : List RouteRow) (i : ℕ) (row : RouteRow) → i < length rows → slice_set rows i row ≡ take i rows ++ row ∷ [] ++ drop (suc i) rows
+row_set [] i row there = absurd (omega (arith, there))
+row_set (r ∷ rows) zero row there = refl
+row_set (r ∷ rows) (suc i) row there = ap (λ (z : List RouteRow). r ∷ z) (row_set rows i row (omega (arith, there)))
+
+-- a buffer to whose front n elements were written keeps its length
+same_length : {X : Type 0} (now xs old : List X) (n : ℕ) → now ≡ xs ++ drop n old → length xs ≡ n → n ≤ length old → length now ≡ length old
+same_length {X = X} now xs old n is count fits = omega (arith, ap (λ (z : List X). length z) is, length-append xs (drop n old), length-drop n old, count, fits)
+
+-- and more, written behind them, is at its front, too
+behind : {X : Type 0} (now xs ys old : List X) (n k : ℕ) → now ≡ xs ++ drop n old → length xs ≡ n → take n now ++ ys ++ drop (n + k) now ≡ (xs ++ ys) ++ drop (n + k) old
+behind {X = X} now xs ys old n k is count =
+    let front : take n now ≡ xs = ap (λ (z : List X). take n z) is ∙ ap (λ (j : ℕ). take j (xs ++ drop n old)) (sym count) ∙ take-append_seam xs (drop n old) in
+    let rest : drop (n + k) now ≡ drop (n + k) old = ap (λ (z : List X). drop (n + k) z) is ∙ drop-append-drop n old xs (n + k) (omega arith) count in
+    rw front (rw rest)
+
+-- the first n routes were written, and their numbers end at a place; behind them the buffers are as they were
+pub record IsSoFar (given : List RouteRecord) (old new : RouteBuffers) (n first : ℕ) : Type 0 where
   pub place : first ≡ length (contacts_of (take n given))
   pub within : n ≤ length given
-  pub few : n ≤ length rows
-  pub fits : first ≤ length numbers
-  pub row : take n rows ≡ rows_from 0 (take n given)
-  pub contacts : take first numbers ≡ contacts_of (take n given)
+  pub few : n ≤ length old.rows
+  pub fits : first ≤ length old.contacts
+  pub row : new.rows ≡ rows_from 0 (take n given) ++ drop n old.rows
+  pub contacts : new.contacts ≡ contacts_of (take n given) ++ drop first old.contacts
 
 -- no route was written yet
-pub none_so_far : (given : List RouteRecord) (rows : List RouteRow) (numbers : List ℕ) → IsSoFar given rows numbers 0 0
-none_so_far given rows numbers = record { place = refl; within = omega arith; few = omega arith; fits = omega arith; row = refl; contacts = refl }
+pub none_so_far : (given : List RouteRecord) (b : RouteBuffers) → IsSoFar given b b 0 0
+none_so_far given b = record { place = refl; within = omega arith; few = omega arith; fits = omega arith; row = refl; contacts = refl }
+
+module _ (given : List RouteRecord) (old new : RouteBuffers) (n first : ℕ) (w : IsSoFar given old new n first) where
+  count_rows : length (rows_from 0 (take n given)) ≡ n
+  count_rows = length-rows_from 0 (take n given) ∙ length-take-le n given w.within
+
+  pub rows_len : length new.rows ≡ length old.rows
+  rows_len = same_length new.rows (rows_from 0 (take n given)) old.rows n w.row count_rows w.few
+
+  pub contacts_len : length new.contacts ≡ length old.contacts
+  contacts_len = same_length new.contacts (contacts_of (take n given)) old.contacts first w.contacts (sym w.place) w.fits
+
+  -- no more of them are
+  pub written_so_far : (n < length given → HasRoom given old (n + 1) → ⊥) → IsWritten given old new n
+  written_so_far longest = record {
+    within = w.within;
+    room = (w.few, subst (λ (k : ℕ). k ≤ length old.contacts) w.place w.fits);
+    longest = longest;
+    row = w.row;
+    contacts = subst (λ (k : ℕ). new.contacts ≡ contacts_of (take n given) ++ drop k old.contacts) w.place w.contacts;
+  }
+
+-- all were written
+pub all_written : (given : List RouteRecord) (old new : RouteBuffers) (n first : ℕ) → IsSoFar given old new n first → length given ≤ n → IsWritten given old new (length given)
+all_written given old new n first w all =
+    let same : n ≡ length given = omega (arith, w.within) in
+    subst (λ (k : ℕ). IsWritten given old new k) same (written_so_far given old new n first w (λ more room. absurd (omega (arith, more, all))))
 
 module _ (given : List RouteRecord) (n : ℕ) (a : RouteRecord) (there : n < length given) (is : a ≡ get_or given n a) where
   longer : take (n + 1) given ≡ take n given ++ a ∷ []
@@ -42,50 +89,34 @@ module _ (given : List RouteRecord) (n : ℕ) (a : RouteRecord) (there : n < len
   length_on : length (contacts_of (take (n + 1) given)) ≡ length (contacts_of (take n given)) + length a.contacts
   length_on = ap (λ (z : List ℕ). length z) numbers_on ∙ length-append (contacts_of (take n given)) a.contacts
 
+  rows_on : (first : ℕ) → first ≡ length (contacts_of (take n given)) → rows_from 0 (take n given) ++ row_of first a ∷ [] ≡ rows_from 0 (take (n + 1) given)
+  rows_on first place =
+      ap (λ (k : ℕ). rows_from 0 (take n given) ++ row_of k a ∷ []) (place ∙ sym (zero-add (length (contacts_of (take n given)))))
+      ∙ sym (ap (λ (xs : List RouteRecord). rows_from 0 xs) longer ∙ rows_more 0 (take n given) a)
+
   -- one more was written
-  pub one_so_far : (rows rows₁ : List RouteRow) (numbers numbers₁ : List ℕ) (first : ℕ) → IsSoFar given rows numbers n first
-      → n < length rows → first + length a.contacts ≤ length numbers → length rows₁ ≡ length rows → length numbers₁ ≡ length numbers
-      → take (n + 1) rows₁ ≡ take n rows ++ row_of first a ∷ [] → take (first + length a.contacts) numbers₁ ≡ take first numbers ++ a.contacts
-      → IsSoFar given rows₁ numbers₁ (n + 1) (first + length a.contacts)
-  one_so_far rows rows₁ numbers numbers₁ first w space room longer_rows longer_numbers row contacts = record {
+  pub one_so_far : (old new more : RouteBuffers) (first : ℕ) → IsSoFar given old new n first → n < length new.rows → first + length a.contacts ≤ length new.contacts
+      → more.rows ≡ take n new.rows ++ row_of first a ∷ [] ++ drop (n + 1) new.rows
+      → more.contacts ≡ take first new.contacts ++ a.contacts ++ drop (first + length a.contacts) new.contacts
+      → IsSoFar given old more (n + 1) (first + length a.contacts)
+  one_so_far old new more first w space room row contacts = record {
     place = omega (arith, length_on, w.place);
     within = omega arith;
-    few = omega arith;
-    fits = omega arith;
-    row = row ∙ ap (λ (z : List RouteRow). z ++ row_of first a ∷ []) w.row ∙ ap (λ (k : ℕ). rows_from 0 (take n given) ++ row_of k a ∷ []) (w.place ∙ sym (zero-add (length (contacts_of (take n given))))) ∙ sym (ap (λ (xs : List RouteRecord). rows_from 0 xs) longer ∙ rows_more 0 (take n given) a);
-    contacts = contacts ∙ ap (λ (z : List ℕ). z ++ a.contacts) w.contacts ∙ sym numbers_on;
+    few = omega (arith, space, rows_len given old new n first w);
+    fits = omega (arith, room, contacts_len given old new n first w);
+    row = row ∙ behind new.rows (rows_from 0 (take n given)) (row_of first a ∷ []) old.rows n 1 w.row (count_rows given old new n first w)
+        ∙ ap (λ (z : List RouteRow). z ++ drop (n + 1) old.rows) (rows_on first w.place);
+    contacts = contacts ∙ behind new.contacts (contacts_of (take n given)) a.contacts old.contacts first (length a.contacts) w.contacts (sym w.place)
+        ∙ ap (λ (z : List ℕ). z ++ drop (first + length a.contacts) old.contacts) (sym numbers_on);
   }
 
   -- the next has no row, or its numbers have no room
-  pub no_row_left : (rows : List RouteRow) (numbers : List ℕ) (first : ℕ) → IsSoFar given rows numbers n first → length rows ≤ n → IsWritten given rows numbers n
-  no_row_left rows numbers first w full = record {
-    within = w.within;
-    room = (w.few, subst (λ (k : ℕ). k ≤ length numbers) w.place w.fits);
-    longest = λ more room. absurd (omega (arith, room.0, full));
-    row = w.row;
-    contacts = subst (λ (k : ℕ). take k numbers ≡ contacts_of (take n given)) w.place w.contacts;
-  }
+  pub no_row_left : (old new : RouteBuffers) (first : ℕ) → IsSoFar given old new n first → length new.rows ≤ n → IsWritten given old new n
+  no_row_left old new first w full = written_so_far given old new n first w (λ more room. absurd (omega (arith, room.0, full, rows_len given old new n first w)))
 
-  pub no_numbers_left : (rows : List RouteRow) (numbers : List ℕ) (first : ℕ) → IsSoFar given rows numbers n first → length numbers < first + length a.contacts → IsWritten given rows numbers n
-  no_numbers_left rows numbers first w full = record {
-    within = w.within;
-    room = (w.few, subst (λ (k : ℕ). k ≤ length numbers) w.place w.fits);
-    longest = λ more room. absurd (omega (arith, room.1, full, length_on, w.place));
-    row = w.row;
-    contacts = subst (λ (k : ℕ). take k numbers ≡ contacts_of (take n given)) w.place w.contacts;
-  }
-
--- all were written
-pub all_written : (given : List RouteRecord) (rows : List RouteRow) (numbers : List ℕ) (n first : ℕ) → IsSoFar given rows numbers n first → length given ≤ n → IsWritten given rows numbers (length given)
-all_written given rows numbers n first w all =
-    let same : n ≡ length given = omega (arith, w.within) in
-    subst (λ (k : ℕ). IsWritten given rows numbers k) same (record {
-      within = w.within;
-      room = (w.few, subst (λ (k : ℕ). k ≤ length numbers) w.place w.fits);
-      longest = λ more room. absurd (omega (arith, more, all));
-      row = w.row;
-      contacts = subst (λ (k : ℕ). take k numbers ≡ contacts_of (take n given)) w.place w.contacts;
-    })
+  pub no_numbers_left : (old new : RouteBuffers) (first : ℕ) → IsSoFar given old new n first → length new.contacts < first + length a.contacts → IsWritten given old new n
+  no_numbers_left old new first w full =
+      written_so_far given old new n first w (λ more room. absurd (omega (arith, room.1, full, length_on, w.place, contacts_len given old new n first w)))
 
 -- a sum of contact numbers stays small
 pub counted_so_far : (given : List RouteRecord) (n : ℕ) (a : RouteRecord) (count : ℕ) → n < length given → a ≡ get_or given n a → count ≡ length (contacts_of (take n given))

@@ -17,3 +17,4 @@ pub mod Status
 pub mod Texts
 pub mod Verified
 pub mod Views
+pub mod Whole

@@ -1,15 +1,9 @@
 -- What a call for the session text of a listing's place answers.
-use Rattle.std.specs.Prelude.{◌≡◌, ℕ, ◌<◌, ◌≤◌, ◌⊎◌, List, ◌++◌, drop, length, Option, None, Some}
+use Rattle.std.specs.Prelude.{◌≡◌, ℕ, ◌⊎◌, List, length, Option, None, Some}
 use Rattle.sabr_frontier.specs.session.Session.{Seen}
 use Rattle.sabr_session.specs.SessionText.{text_of_session}
-use Rattle.libcgrlist.specs.Status.{done, no_listing, no_memory, no_room}
-
--- the text is written to the front of the buffer, and the rest stays; or there is no room for all of it, and all of
--- the buffer stays
-abbrev pub PutsText : List ℕ → ℕ → List ℕ → List ℕ → Type 0
-PutsText text status old new =
-    ((status ≡ done) × (length text ≤ length old) × (new ≡ text ++ drop (length text) old))
-    ⊎ ((status ≡ no_room) × (length old < length text) × (new ≡ old))
+use Rattle.libcgrlist.specs.Status.{no_listing, no_memory}
+use Rattle.libcgrlist.specs.Whole.{PutsWhole}
 
 -- no text is given: buffer and length stay
 abbrev pub GivesNoText : List ℕ → List ℕ → ℕ → ℕ → Type 0
@@ -20,4 +14,4 @@ abbrev pub AnswersText : Option Seen → ℕ → List ℕ → List ℕ → ℕ �
 AnswersText None status old new length_old length_new = (status ≡ no_listing) × GivesNoText old new length_old length_new
 AnswersText (Some s) status old new length_old length_new =
     ((status ≡ no_memory) × GivesNoText old new length_old length_new)
-    ⊎ (PutsText (text_of_session s) status old new × (length_new ≡ length (text_of_session s)))
+    ⊎ (PutsWhole (text_of_session s) status old new × (length_new ≡ length (text_of_session s)))

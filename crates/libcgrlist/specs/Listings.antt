@@ -9,11 +9,10 @@ use Rattle.sabr_frontier.specs.session.Paused.{IsPausedOver}
 use Rattle.sabr_frontier.specs.session.Session.{Seen, former_then, next_page, started}
 use Rattle.libcgrlist.specs.Answers.{WritesPage, count_refusal}
 use Rattle.libcgrlist.specs.Opened.{OpenPlan}
-use Rattle.libcgrlist.specs.Pages.{IsPage}
+use Rattle.libcgrlist.specs.Pages.{IsPage, RouteBuffers}
 use Rattle.libcgrlist.specs.Paused.{AreLinksOf, listing_of, listing_over}
 use Rattle.libcgrlist.specs.Status.{done, has_listing, no, no_listing, no_memory}
 use Rattle.libcgrlist.specs.declared.listing.ListingPlace.{ListingPlace}
-use Rattle.libcgrlist.specs.declared.rows.RouteRow.{RouteRow}
 use Rattle.libcgrlist.specs.declared.rows.Page.{Page}
 
 -- the records of the next page of a listing
@@ -58,19 +57,19 @@ second_refusal None = None
 second_refusal (Some s) = Some has_listing
 
 -- a page is given of the listing, or none
-abbrev pub GivesNext : OpenPlan → ℕ → Result Page ℕ → List RouteRow → List ℕ → OpenPlan → Type 0
-GivesNext o count (Err e) rows numbers n = (e ≡ listing_refusal o.listing) × (n ≡ o)
-GivesNext o count (Ok page) rows numbers n = IfOpen o.listing (λ s. IsPage (next_records s count) (goes_on s count) rows numbers page × (n ≡ record o { listing = Some (listing_then s count page) }))
+abbrev pub GivesNext : OpenPlan → ℕ → Result Page ℕ → RouteBuffers → RouteBuffers → OpenPlan → Type 0
+GivesNext o count (Err e) old new n = (e ≡ listing_refusal o.listing) × (new ≡ old) × (n ≡ o)
+GivesNext o count (Ok page) old new n = IfOpen o.listing (λ s. IsPage (next_records s count) (goes_on s count) old new page × (n ≡ record o { listing = Some (listing_then s count page) }))
 
 -- what a call for the next page answers
-abbrev pub AnswersPage : Option ℕ → OpenPlan → Seen → ℕ → ℕ → List RouteRow → List ℕ → Page → OpenPlan → Type 0
-AnswersPage (Some e) o s count status rows numbers page n = (status ≡ e) × (n ≡ o)
-AnswersPage None o s count status rows numbers page n =
-    ((status ≡ no_memory) × (n ≡ o)) ⊎ (WritesPage (next_records s count) (goes_on s count) status rows numbers page × (n ≡ record o { listing = Some (listing_then s count page) }))
+abbrev pub AnswersPage : Option ℕ → OpenPlan → Seen → ℕ → ℕ → RouteBuffers → RouteBuffers → Page → OpenPlan → Type 0
+AnswersPage (Some e) o s count status old new page n = (status ≡ e) × (n ≡ o)
+AnswersPage None o s count status old new page n =
+    ((status ≡ no_memory) × (n ≡ o)) ⊎ (WritesPage (next_records s count) (goes_on s count) status old new page × (n ≡ record o { listing = Some (listing_then s count page) }))
 
-abbrev pub AnswersNext : OpenPlan → Option Seen → ℕ → ℕ → List RouteRow → List ℕ → Page → OpenPlan → Type 0
-AnswersNext o None count status rows numbers page n = (status ≡ no_listing) × (n ≡ o)
-AnswersNext o (Some s) count status rows numbers page n = AnswersPage (count_refusal count) o s count status rows numbers page n
+abbrev pub AnswersNext : OpenPlan → Option Seen → ℕ → ℕ → RouteBuffers → RouteBuffers → Page → OpenPlan → Type 0
+AnswersNext o None count status old new page n = (status ≡ no_listing) × (n ≡ o)
+AnswersNext o (Some s) count status old new page n = AnswersPage (count_refusal count) o s count status old new page n
 
 -- the place of a listing
 pub record IsPlaceOf (s : Seen) (place : ListingPlace) : Type 0 where

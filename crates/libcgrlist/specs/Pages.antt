@@ -1,5 +1,5 @@
 -- How routes stand in the rows and the contact numbers that C gets.
-use Rattle.std.specs.Prelude.{◌≡◌, ℕ, ◌+◌, ◌<◌, ◌≤◌, Bool, List, [], ◌∷◌, length, take}
+use Rattle.std.specs.Prelude.{◌≡◌, ℕ, ◌+◌, ◌<◌, ◌≤◌, Bool, List, [], ◌∷◌, ◌++◌, drop, length, take}
 use Rattle.std.specs.List.{flat_map}
 use Rattle.sabr_model.specs.routes.Record.{RouteRecord}
 use Rattle.libcgrlist.specs.declared.rows.RouteRow.{RouteRow}
@@ -18,21 +18,30 @@ abbrev pub rows_from : ℕ → List RouteRecord → List RouteRow
 rows_from first [] = []
 rows_from first (a ∷ routes) = row_of first a ∷ rows_from (first + length a.contacts) routes
 
--- there is room for the first n routes
-abbrev pub HasRoom : List RouteRecord → List RouteRow → List ℕ → ℕ → Type 0
-HasRoom routes rows numbers n = (n ≤ length rows) × (length (contacts_of (take n routes)) ≤ length numbers)
+-- the buffers that C gives for routes: rows, and contact numbers
+pub record RouteBuffers : Type 0 where
+  pub rows : List RouteRow
+  pub contacts : List ℕ
 
--- the first n of these routes were written, and there is no room for one more
-pub record IsWritten (given : List RouteRecord) (rows : List RouteRow) (numbers : List ℕ) (n : ℕ) : Type 0 where
+abbrev pub buffers : List RouteRow → List ℕ → RouteBuffers
+buffers rows contacts = record { rows = rows; contacts = contacts }
+
+-- there is room for the first n routes
+abbrev pub HasRoom : List RouteRecord → RouteBuffers → ℕ → Type 0
+HasRoom routes b n = (n ≤ length b.rows) × (length (contacts_of (take n routes)) ≤ length b.contacts)
+
+-- the first n of these routes were written to the front of the buffers, and there is no room for one more; what lies
+-- behind them stays
+pub record IsWritten (given : List RouteRecord) (old new : RouteBuffers) (n : ℕ) : Type 0 where
   pub within : n ≤ length given
-  pub room : HasRoom given rows numbers n
-  pub longest : n < length given → HasRoom given rows numbers (n + 1) → ⊥
-  pub row : take n rows ≡ rows_from 0 (take n given)
-  pub contacts : take (length (contacts_of (take n given))) numbers ≡ contacts_of (take n given)
+  pub room : HasRoom given old n
+  pub longest : n < length given → HasRoom given old (n + 1) → ⊥
+  pub row : new.rows ≡ rows_from 0 (take n given) ++ drop n old.rows
+  pub contacts : new.contacts ≡ contacts_of (take n given) ++ drop (length (contacts_of (take n given))) old.contacts
 
 -- a page of these routes: how many they are, how many contact numbers they have, and as many written as there is room for
-pub record IsPage (given : List RouteRecord) (goes_on : Bool) (rows : List RouteRow) (numbers : List ℕ) (page : Page) : Type 0 where
+pub record IsPage (given : List RouteRecord) (goes_on : Bool) (old new : RouteBuffers) (page : Page) : Type 0 where
   pub routes : page.routes ≡ length given
   pub contacts : page.contacts ≡ length (contacts_of given)
   pub more : page.more ≡ goes_on
-  pub written : IsWritten given rows numbers page.written
+  pub written : IsWritten given old new page.written

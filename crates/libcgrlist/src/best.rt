@@ -1,9 +1,9 @@
 //! The best route of a request.
 
-ghost use Rattle.std.specs.Prelude.{◌≡◌, IfOk, map};
+ghost use Rattle.std.specs.Prelude.{◌≡◌, IfOk, OnErr, map};
 ghost use Rattle.sabr_model.specs.routes.Listing.{routes};
 ghost use Rattle.sabr_model.specs.routes.Record.{record_of};
-ghost use Rattle.libcgrlist.specs.Answers.{AnswersBest, WritesBest};
+ghost use Rattle.libcgrlist.specs.Answers.{AnswersBest, UnlessWritten, WritesBest};
 ghost use Rattle.libcgrlist.specs.Open.{Calls, IsWhole};
 ghost use Rattle.libcgrlist.specs.Request.{asked_request};
 
@@ -12,14 +12,16 @@ use crate::listed::listed;
 use crate::opened::Opened;
 use crate::request::Asked;
 use crate::rows::RouteRow;
-use crate::status::{CLOSED, DONE, MEMORY, NO, ROOM, of_request};
+use crate::status::{CLOSED, MEMORY, NO, of_request};
+use crate::whole::put_whole;
 use sabr_index::Index;
 use sabr_model::{NoMemory, Request, Route};
 use std::alloc::Global;
 
 /// Writes the first of some routes, if there is one, and returns the status.
 fn write_first(routes: &[Route<Global>], row: &mut RouteRow, contacts: &mut [u32]) -> u32
-    ensures { WritesBest routes.now result row.new contacts.new }
+    ensures best { WritesBest routes.now result row.new contacts.old contacts.new }
+    ensures kept { UnlessWritten result ((row.new ≡ row.old) × (contacts.new ≡ contacts.old)) }
 {
     let Some(route) = routes.first() else {
         return NO;
@@ -32,11 +34,7 @@ fn write_first(routes: &[Route<Global>], row: &mut RouteRow, contacts: &mut [u32
         first: 0,
         hops: numbers.len(),
     };
-    if contacts.len() < numbers.len() {
-        return ROOM;
-    }
-    contacts[..numbers.len()].copy_from_slice(numbers);
-    DONE
+    put_whole(numbers, contacts)
 }
 
 /// Finds the best route of a request, writes it if there is one, and returns the status.
@@ -48,7 +46,9 @@ fn find_best(
     contacts: &mut [u32],
 ) -> Result<u32, NoMemory>
     ensures same { opened.new ≡ opened.old }
-    ensures best { IfOk result (λ status. WritesBest (map (record_of opened.old.plan.plan request) (routes opened.old.plan.plan request)) status row.new contacts.new) }
+    ensures best { IfOk result (λ status. WritesBest (map (record_of opened.old.plan.plan request) (routes opened.old.plan.plan request)) status row.new contacts.old contacts.new) }
+    ensures kept { IfOk result (λ status. UnlessWritten status ((row.new ≡ row.old) × (contacts.new ≡ contacts.old))) }
+    ensures err { OnErr result ((row.new ≡ row.old) × (contacts.new ≡ contacts.old)) }
 {
     let links = opened.take_links(alloc)?;
     let finder = opened.take_finder(alloc);
@@ -75,7 +75,8 @@ pub extern "C" fn cgrlist_best(
     requires { IsWhole handle.old.is_open handle.old.place.held }
     ensures open { handle.new.is_open ≡ handle.old.is_open }
     ensures whole { IsWhole handle.new.is_open handle.new.place.held }
-    ensures best { Calls handle.old.is_open handle.old.place.held result handle.new.place.held (λ o n. (n ≡ o) × AnswersBest o.plan.plan (asked_request asked.now avoid.now) result row.new contacts.new) }
+    ensures best { Calls handle.old.is_open handle.old.place.held result handle.new.place.held (λ o n. (n ≡ o) × AnswersBest o.plan.plan (asked_request asked.now avoid.now) result row.new contacts.old contacts.new) }
+    ensures kept { UnlessWritten result ((row.new ≡ row.old) × (contacts.new ≡ contacts.old)) }
 {
     if !handle.is_open {
         return CLOSED;

@@ -1,11 +1,11 @@
 //! The first routes of a request.
 
-ghost use Rattle.std.specs.Prelude.{◌≡◌, ◌≤◌, IfOk};
+ghost use Rattle.std.specs.Prelude.{◌≡◌, ◌≤◌, IfOk, OnErr};
 ghost use Rattle.sabr_frontier.specs.listing.Listing.{most_routes};
-ghost use Rattle.libcgrlist.specs.Answers.{AnswersFirst, asked_page, page_status};
+ghost use Rattle.libcgrlist.specs.Answers.{AnswersFirst, UnlessWritten, asked_page, page_status};
 ghost use Rattle.libcgrlist.specs.First.{first_routes, goes_on_after};
 ghost use Rattle.libcgrlist.specs.Open.{Calls, IsWhole};
-ghost use Rattle.libcgrlist.specs.Pages.{IsPage};
+ghost use Rattle.libcgrlist.specs.Pages.{IsPage, buffers};
 ghost use Rattle.libcgrlist.specs.Request.{asked_request};
 
 use crate::handle::PlanHandle;
@@ -49,7 +49,8 @@ fn find_first(
 ) -> Result<Page, NoMemory>
     requires { wanted.count ≤ most_routes }
     ensures same { opened.new ≡ opened.old }
-    ensures page { IfOk result (IsPage (first_routes opened.old.plan.plan wanted.request wanted.count) (goes_on_after opened.old.plan.plan wanted.request wanted.count) rows.new contacts.new) }
+    ensures page { IfOk result (IsPage (first_routes opened.old.plan.plan wanted.request wanted.count) (goes_on_after opened.old.plan.plan wanted.request wanted.count) (buffers rows.old contacts.old) (buffers rows.new contacts.new)) }
+    ensures kept { OnErr result ((rows.new ≡ rows.old) × (contacts.new ≡ contacts.old)) }
 {
     let FirstRoutes { request, count } = wanted;
     let links = opened.take_links(alloc)?;
@@ -79,7 +80,8 @@ pub extern "C" fn cgrlist_first(
     requires { IsWhole handle.old.is_open handle.old.place.held }
     ensures open { handle.new.is_open ≡ handle.old.is_open }
     ensures whole { IsWhole handle.new.is_open handle.new.place.held }
-    ensures first { Calls handle.old.is_open handle.old.place.held result handle.new.place.held (λ o n. (n ≡ o) × AnswersFirst o.plan.plan count (asked_page count (asked_request asked.now avoid.now)) result rows.new contacts.new page.new) }
+    ensures first { Calls handle.old.is_open handle.old.place.held result handle.new.place.held (λ o n. (n ≡ o) × AnswersFirst o.plan.plan count (asked_page count (asked_request asked.now avoid.now)) result (buffers rows.old contacts.old) (buffers rows.new contacts.new) page.new) }
+    ensures kept { UnlessWritten result ((rows.new ≡ rows.old) × (contacts.new ≡ contacts.old) × (page.new ≡ page.old)) }
 {
     if !handle.is_open {
         return CLOSED;

@@ -21,6 +21,7 @@ mod status;
 mod texts;
 mod verify;
 mod views;
+mod whole;
 
 pub use best::cgrlist_best;
 pub use changes::{

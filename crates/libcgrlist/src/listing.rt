@@ -1,12 +1,12 @@
 //! A listing: the list of all routes of a request, page after page.
 
-ghost use Rattle.std.specs.Prelude.{◌≡◌, ◌≤◌, IfErr, IfOk, None, OnErr, OnOk, Some, is_some};
+ghost use Rattle.std.specs.Prelude.{◌≡◌, ◌≢◌, ◌≤◌, IfErr, IfOk, None, OnErr, OnOk, Some, is_some};
 ghost use Rattle.sabr_frontier.specs.listing.Listing.{most_routes};
 ghost use Rattle.sabr_frontier.specs.session.Session.{started};
-ghost use Rattle.libcgrlist.specs.Answers.{asked_status, page_status};
+ghost use Rattle.libcgrlist.specs.Answers.{UnlessWritten, asked_status, page_status};
 ghost use Rattle.libcgrlist.specs.Listings.{AnswersBack, AnswersNext, AnswersPlace, ClosesListing, GivesNext, GivesPlace, GoesBack, IsPlaceOf, OpensListing, TakesUp, goes_on, listing_then, next_records, second_refusal};
 ghost use Rattle.libcgrlist.specs.Open.{Calls, IsWhole};
-ghost use Rattle.libcgrlist.specs.Pages.{IsPage};
+ghost use Rattle.libcgrlist.specs.Pages.{IsPage, buffers};
 ghost use Rattle.libcgrlist.specs.Paused.{listing_of};
 ghost use Rattle.libcgrlist.specs.Request.{asked_request, refused_or};
 
@@ -91,9 +91,10 @@ fn give_page(
 ) -> Result<Page, NoMemory>
     requires { count ≤ most_routes }
     ensures plan { session.new.plan ≡ session.old.plan }
-    ensures page { IfOk result (IsPage (next_records session.old count) (goes_on session.old count) rows.new contacts.new) }
+    ensures page { IfOk result (IsPage (next_records session.old count) (goes_on session.old count) (buffers rows.old contacts.old) (buffers rows.new contacts.new)) }
     ensures listing { IfOk result (λ page. listing_of session.new ≡ listing_then (listing_of session.old) count page) }
     ensures err { OnErr result (listing_of session.new ≡ listing_of session.old) }
+    ensures kept { OnErr result (buffers rows.new contacts.new ≡ buffers rows.old contacts.old) }
 {
     session.request().limits_hold();
     let routes = session.page(count)?;
@@ -113,7 +114,7 @@ fn next_page(
     contacts: &mut [u32],
 ) -> Result<Page, u32>
     requires { count ≤ most_routes }
-    ensures { GivesNext opened.old count result rows.new contacts.new opened.new }
+    ensures { GivesNext opened.old count result (buffers rows.old contacts.old) (buffers rows.new contacts.new) opened.new }
 {
     let (links, paused) = take_up(alloc, opened)?;
     let mut session = paused.resume(Index::from_links(opened.plan(), links));
@@ -216,7 +217,8 @@ pub extern "C" fn cgrlist_listing_next(
     requires { IsWhole handle.old.is_open handle.old.place.held }
     ensures open { handle.new.is_open ≡ handle.old.is_open }
     ensures whole { IsWhole handle.new.is_open handle.new.place.held }
-    ensures next { Calls handle.old.is_open handle.old.place.held result handle.new.place.held (λ o n. AnswersNext o o.listing count result rows.new contacts.new page.new n) }
+    ensures next { Calls handle.old.is_open handle.old.place.held result handle.new.place.held (λ o n. AnswersNext o o.listing count result (buffers rows.old contacts.old) (buffers rows.new contacts.new) page.new n) }
+    ensures kept { UnlessWritten result ((rows.new ≡ rows.old) × (contacts.new ≡ contacts.old) × (page.new ≡ page.old)) }
 {
     if !handle.is_open {
         return CLOSED;
@@ -273,6 +275,7 @@ pub extern "C" fn cgrlist_listing_place(
     ensures open { handle.new.is_open ≡ handle.old.is_open }
     ensures whole { IsWhole handle.new.is_open handle.new.place.held }
     ensures place { Calls handle.old.is_open handle.old.place.held result handle.new.place.held (λ o n. AnswersPlace o o.listing result place.new n) }
+    ensures kept { result ≢ 0 → place.new ≡ place.old }
 {
     if !handle.is_open {
         return CLOSED;

@@ -2,14 +2,15 @@
 
 ghost use Rattle.std.specs.Prelude.{◌≡◌, IfErr, IfOk, IsFalse};
 ghost use Rattle.sabr_session.specs.SessionText.{text_of_session};
-ghost use Rattle.libcgrlist.specs.ListingTexts.{AnswersText, GivesNoText, PutsText};
+ghost use Rattle.libcgrlist.specs.ListingTexts.{AnswersText, GivesNoText};
 ghost use Rattle.libcgrlist.specs.Listings.{IfOpen, listing_refusal};
 ghost use Rattle.libcgrlist.specs.Open.{Calls, IsWhole};
 
 use crate::gathered::Gathered;
 use crate::handle::PlanHandle;
 use crate::opened::Opened;
-use crate::status::{CLOSED, DONE, MEMORY, NO_LISTING, ROOM};
+use crate::status::{CLOSED, MEMORY, NO_LISTING};
+use crate::whole::put_whole;
 use sabr_index::Index;
 use sabr_session::write_session;
 use std::alloc::Global;
@@ -39,18 +40,6 @@ fn text_of_place(alloc: Global, opened: &mut Opened) -> Result<Vec<u8, Global>, 
         Ok(()) => Ok(writer.into_bytes()),
         Err(_failed) => Err(MEMORY),
     }
-}
-
-/// Puts a text to the front of a buffer if there is room for all of it, and returns the status.
-fn put_whole(text: &[u8], buffer: &mut [u8]) -> u32
-    ensures { PutsText text.now result buffer.old buffer.new }
-{
-    let count = text.len();
-    if buffer.len() < count {
-        return ROOM;
-    }
-    buffer[..count].copy_from_slice(text);
-    DONE
 }
 
 /// Writes the session text of the listing's place, and gives its length. If there is no room for all of it, none of it

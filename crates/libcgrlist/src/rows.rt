@@ -1,8 +1,8 @@
 //! Routes, written into the rows and the contact numbers of a caller.
 
-ghost use Rattle.std.specs.Prelude.{◌≡◌, ◌+◌, ◌<◌, ◌≤◌, ◌++◌, ◌∷◌, [], length, take};
+ghost use Rattle.std.specs.Prelude.{◌≡◌, ◌+◌, ◌<◌, ◌≤◌, ◌++◌, ◌∷◌, [], drop, length, take};
 ghost use Rattle.std.specs.List.{All};
-ghost use Rattle.libcgrlist.specs.Pages.{IsPage, IsWritten, contacts_of, row_of};
+ghost use Rattle.libcgrlist.specs.Pages.{IsPage, IsWritten, buffers, contacts_of, row_of};
 
 use sabr_model::Route;
 use std::alloc::Global;
@@ -47,10 +47,8 @@ fn write_route(
 )
     requires row { at < length rows.old }
     requires room { first + length route.now.contacts ≤ length contacts.old }
-    ensures row { take (at + 1) rows.new ≡ take at rows.old ++ row_of first route.now ∷ [] }
-    ensures contacts { take (first + length route.now.contacts) contacts.new ≡ take first contacts.old ++ route.now.contacts }
-    ensures rows_len { length rows.new ≡ length rows.old }
-    ensures contacts_len { length contacts.new ≡ length contacts.old }
+    ensures row { rows.new ≡ take at rows.old ++ row_of first route.now ∷ [] ++ drop (at + 1) rows.old }
+    ensures contacts { contacts.new ≡ take first contacts.old ++ route.now.contacts ++ drop (first + length route.now.contacts) contacts.old }
 {
     let numbers = route.contacts.as_slice();
     rows[at] = RouteRow {
@@ -65,9 +63,7 @@ fn write_route(
 
 /// Writes routes, one after another, up to the first that doesn't fit, and returns how many.
 fn write_fitting(routes: &[Route<Global>], rows: &mut [RouteRow], contacts: &mut [u32]) -> usize
-    ensures written { IsWritten routes.now rows.new contacts.new result }
-    ensures rows_len { length rows.new ≡ length rows.old }
-    ensures contacts_len { length contacts.new ≡ length contacts.old }
+    ensures { IsWritten routes.now (buffers rows.old contacts.old) (buffers rows.new contacts.new) result }
 {
     let mut first = 0;
     for at in 0..routes.len() {
@@ -107,7 +103,7 @@ pub fn write_routes(
 ) -> Page
     requires few { length routes.now ≤ 10000 }
     requires short { All (λ a. length a.contacts ≤ 20000) routes.now }
-    ensures { IsPage routes.now more rows.new contacts.new result }
+    ensures { IsPage routes.now more (buffers rows.old contacts.old) (buffers rows.new contacts.new) result }
 {
     Page {
         routes: routes.len(),

@@ -11,4 +11,4 @@ pub returns-clause-best : goal.returns-clause-best
 returns-clause-best c =
     let plan : c.plan.result.now ≡ c.args.opened.now.plan = c.plan.ensures ∙ ap (λ (o : OpenPlan). o.plan) (c.take_finder-finder.ensures ∙ c.take_links.ensures.same) in
     let first = subst (λ (q : TabledPlan). IsFirst q c.args.request 1 c.in_ok-last.last) (c.from_links-index.ensures ∙ plan) c.in_ok-last.ensures in
-    best_of (record_of c.args.opened.now.plan.plan c.args.request) (routes c.args.opened.now.plan.plan c.args.request) c.routes.result.now c.write_first-status.result c.write_first-status.new.row c.write_first-status.new.contacts (c.routes.ensures ∙ first.routes) c.write_first-status.ensures
+    best_of (record_of c.args.opened.now.plan.plan c.args.request) (routes c.args.opened.now.plan.plan c.args.request) c.routes.result.now c.write_first-status.result c.write_first-status.new.row c.args.contacts.now c.write_first-status.new.contacts (c.routes.ensures ∙ first.routes) c.write_first-status.ensures.best
