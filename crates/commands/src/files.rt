@@ -1,6 +1,7 @@
 //! The files that the words of a command name.
 
 mod disk;
+mod remover;
 mod system;
 
 ghost use Rattle.std.specs.Prelude.{◌≡◌, IfErr, IfOk, OnErr, Some, option_map};
@@ -14,6 +15,7 @@ use crate::failure::Failure;
 use crate::status::Status;
 use clap::ArgMatches;
 pub use disk::Disk;
+pub use remover::{DiskRemover, Remover};
 pub use system::FileSystem;
 
 /// The word for the plan's file.

@@ -15,7 +15,7 @@ mod words;
 
 pub use command::CommandName;
 pub use failure::Failure;
-pub use files::{Disk, FileSystem};
+pub use files::{Disk, DiskRemover, FileSystem, Remover};
 pub use headline::{
     calls_in_turn, every_run, follow_answers_as_explain, many_answers_as_first, next_goes_on,
     pages_stand, runs_go_on, runs_in_turn,

@@ -1,6 +1,6 @@
 //! Opening plans, and closing them.
 
-ghost use Rattle.std.specs.Prelude.{◌≡◌, ◌⊎◌, [], false, true, IsTrue};
+ghost use Rattle.std.specs.Prelude.{◌≡◌, ◌⊎◌, [], None, false, true, IsTrue, if◌then◌else◌};
 ghost use Rattle.sabr_plan.specs.Reading.{plan_of};
 ghost use Rattle.libcgrlist.specs.Open.{IsWhole};
 ghost use Rattle.libcgrlist.specs.Reading.{IsPlanAlone, Opens, Reads, Refused};
@@ -67,11 +67,12 @@ pub extern "C" fn cgrlist_plan_read(
     }
 }
 
-/// Closes a plan and its listing. A closed one stays so.
+/// Closes a plan and its listing, and frees them. A closed one stays so.
 #[unsafe(no_mangle)]
 pub extern "C" fn cgrlist_plan_close(alloc: Global, handle: &mut PlanHandle)
     requires { IsWhole handle.old.is_open handle.old.place.held }
-    ensures { handle.new.is_open ≡ false }
+    ensures closed { handle.new.is_open ≡ false }
+    ensures freed { handle.new.place.held ≡ (if handle.old.is_open then None else handle.old.place.held) }
 {
     if handle.is_open {
         drop(handle.take(alloc));

@@ -32,6 +32,7 @@ over files = record {
   made = λ path x. (files path ≡ None) × (x.contents ≡ Some []);
   unmade = λ path. Unit {0};
   unremoved = λ path. Unit {0};
+  removed = λ path. Unit {0};
 }
 
 -- the files after a call that left these: each reads as what was written to it, and the others as before

@@ -3,6 +3,7 @@
 ghost use Rattle.std.specs.Prelude.{◌≡◌, ⊤, [], false};
 ghost use Rattle.commands.specs.runs.Files.{unwritten};
 
+use crate::files::remover::{DiskRemover, Remover};
 use crate::files::system::FileSystem;
 use sabr_model::{Device, Failed, Write};
 use std::fs;
@@ -16,23 +17,29 @@ struct Made<'w, F> {
     writer: Option<Device<F>>,
 }
 
-/// The files of the machine, by the runtime. It makes one file at most, and remembers its path, to remove it.
+/// The files of the machine, by the runtime and a remover. It makes one file at most, and remembers its path until the
+/// remover has removed the file.
 #[derive(Drop)]
-pub struct Disk<'r, 'w, R: Files> {
+pub struct Disk<'r, 'w, R: Files, M: Remover> {
     rt: &'r R,
+    remover: M,
     made: Option<Made<'w, R::File>>,
 }
 
-impl<'r, 'w, R: Files> Disk<'r, 'w, R> {
+impl<'r, 'w, R: Files> Disk<'r, 'w, R, DiskRemover<'r, R>> {
     /// The files by this runtime. None was made.
-    pub fn new(rt: &'r R) -> Disk<'r, 'w, R>
-        ensures { ⟦<Disk<'r, 'w, R> as FileSystem<'w>>⟧.left result ≡ [] }
+    pub fn new(rt: &'r R) -> Disk<'r, 'w, R, DiskRemover<'r, R>>
+        ensures { ⟦<Disk<'r, 'w, R, DiskRemover<'r, R>> as FileSystem<'w>>⟧.left result ≡ [] }
     {
-        Disk { rt, made: None }
+        Disk {
+            rt,
+            remover: DiskRemover::new(rt),
+            made: None,
+        }
     }
 }
 
-impl<'r, 'w, R: Files> FileSystem<'w> for Disk<'r, 'w, R> {
+impl<'r, 'w, R: Files, M: Remover> FileSystem<'w> for Disk<'r, 'w, R, M> {
     ghost use Rattle.std.specs.Prelude.{◌∷◌, Option, None, Some};
     ghost use Rattle.std.specs.Option.{option_map_or};
 
@@ -46,6 +53,7 @@ impl<'r, 'w, R: Files> FileSystem<'w> for Disk<'r, 'w, R> {
       made = λ _ x. (x.taken ≡ []) × (x.failures ≡ 0);
       unmade = λ _. ⊤;
       unremoved = λ _. ⊤;
+      removed = M.removed;
     } };
 
     ghost left = { λ disk. option_map_or (λ made. (made.path.now, option_map_or ⟦<Device<R::File> as Write>⟧.output made.writer unwritten) ∷ []) disk.made [] };
@@ -81,7 +89,7 @@ impl<'r, 'w, R: Files> FileSystem<'w> for Disk<'r, 'w, R> {
             return;
         };
         let path = made.path;
-        if fs::remove_file(self.rt, path).is_err() {
+        if self.remover.remove(path).is_err() {
             let writer = Some(file);
             self.made = Some(Made { path, writer });
         }
