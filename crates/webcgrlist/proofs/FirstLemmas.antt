@@ -1,6 +1,6 @@
 -- What a done call `first` gives.
-use Rattle.std.proofs.Common.{◌≡◌, ◌≢◌, ℕ, Bool, true, false, List, [], ◌++◌, Result, Ok, Err, Option, Some, IsSomeAnd, IsTrue, inl, inr, append-nil, refl, sym, ap, subst, ◌∙◌}
-use Rattle.sabr_model.specs.Devices.{Input, Output}
+use Rattle.std.proofs.Common.{◌≡◌, ℕ, Bool, true, false, List, [], ◌++◌, Result, Ok, Err, Some, IsSomeAnd, inl, inr, append-nil, refl, sym, ap, subst, ◌∙◌}
+use Rattle.sabr_model.specs.Devices.{Output}
 use Rattle.sabr_model.specs.plan.Plan.{ContactPlan, TabledPlan}
 use Rattle.sabr_model.specs.routes.Arrival.{RouteRequest}
 use Rattle.sabr_plan.specs.PlanRead.{ReadsPlan}
@@ -10,14 +10,13 @@ use Rattle.commands.specs.declared.command.CommandName.TheVariants as command
 use Rattle.commands.specs.declared.failure.Failure.{Failure}
 use Rattle.commands.specs.declared.status.Status.{Status}
 use Rattle.commands.specs.declared.status.Status.TheVariants as status
-use Rattle.commands.specs.texts.Messages.{number_of, status_at, status_of}
+use Rattle.commands.specs.texts.Messages.{number_of, status_at}
 use Rattle.commands.specs.runs.SessionRuns.{WritesFirstPage, report_from}
 use Rattle.commands.specs.words.Values.{ValuesRead, values_in}
 use Rattle.commands.proofs.RunLemmas.RunsInTurn.{never_done}
 use Rattle.webcgrlist.specs.declared.asked.Asked.{Asked}
 use Rattle.webcgrlist.specs.declared.call.Run.TheVariants.{Command}
-use Rattle.webcgrlist.specs.declared.outputs.Outputs.{Outputs}
-use Rattle.webcgrlist.specs.Answers.{Answers, IsPut, all_fit, status_told}
+use Rattle.webcgrlist.specs.Answers.{IsPut, all_fit, status_told}
 use Rattle.webcgrlist.specs.Asked.{values_asked}
 use Rattle.webcgrlist.specs.Calls.{EndsCall, RunsRead}
 use Rattle.webcgrlist.specs.FirstLists.{FirstLists}

@@ -1,6 +1,6 @@
 -- A call only adds to what its writers took, whatever comes of it. So a buffer stays with its writer, and ends with the
 -- text put over it.
-use Rattle.std.proofs.Common.{◌≡◌, ℕ, Bool, true, false, List, [], Result, Ok, Err, Option, None, Some, IsSomeAnd, inl, inr, refl, sym, ap, subst, ◌∙◌}
+use Rattle.std.proofs.Common.{◌≡◌, ℕ, Bool, true, false, List, [], Result, Ok, Err, Option, None, Some, IsSomeAnd, inl, inr, sym, ap, subst, ◌∙◌}
 use Rattle.sabr_model.specs.Devices.{Output, Takes, Written, WrittenInPart}
 use Rattle.sabr_model.specs.plan.Plan.{ContactPlan, TabledPlan}
 use Rattle.sabr_model.specs.routes.Arrival.{RouteRequest}
@@ -18,17 +18,16 @@ use Rattle.commands.specs.texts.Explanation.{WritesExplanation}
 use Rattle.commands.specs.texts.Messages.{TellsEnd, TellsText, message_text}
 use Rattle.commands.specs.runs.Many.{WritesAnswers}
 use Rattle.commands.specs.runs.SessionRuns.{LeavesSession, WritesAnswer, WritesFirstPage, WritesNextPage, WritesPage}
-use Rattle.commands.specs.words.Values.{ValuesRead, values_in}
+use Rattle.commands.specs.words.Values.{ValuesRead}
 use Rattle.host.specs.Buffers.{buffer_output, put_over}
 use Rattle.host.specs.declared.buffer.Buffer.{Buffer}
 use Rattle.host.proofs.WriterLemmas.{put_by_call}
 use Rattle.webcgrlist.specs.declared.asked.Asked.{Asked}
 use Rattle.webcgrlist.specs.declared.call.Run.{Run}
 use Rattle.webcgrlist.specs.declared.call.Run.TheVariants.{Command, Canonical}
-use Rattle.webcgrlist.specs.Asked.{values_asked}
 use Rattle.webcgrlist.specs.Calls.{EndsCall, RunsCommand, RunsRead, StopsBefore}
 use Rattle.webcgrlist.specs.Canonical.{WritesCanonical}
-use Rattle.webcgrlist.specs.Runs.{RunsOver, RunsReport, WritersSeen}
+use Rattle.webcgrlist.specs.Runs.{RunsOver, WritersSeen}
 
 -- a writer took some bytes more, or none
 abbrev pub Grows : Output → Output → Type 0

@@ -12,7 +12,7 @@ use crate::outputs::Outputs;
 use commands::CommandName;
 use host::Region;
 
-/// Reports what a plan holds.
+/// Reports what a plan holds. Reads the plan.
 #[unsafe(no_mangle)]
 pub extern "C" fn cgrlist_check(
     memory: &mut Region,
@@ -27,7 +27,7 @@ pub extern "C" fn cgrlist_check(
 }
 
 /// Lists the first routes of a request, best first, and whether there are more. Writes the session after them, if it is
-/// kept.
+/// kept. Reads the plan, the words of the request, which are the texts from `from` to `avoid`, and the count.
 #[unsafe(no_mangle)]
 pub extern "C" fn cgrlist_first(
     memory: &mut Region,
@@ -42,7 +42,7 @@ pub extern "C" fn cgrlist_first(
 }
 
 /// Lists the routes that follow a session, best first, and whether there are more. Writes the session after them, if it
-/// is kept.
+/// is kept. Reads the plan, the session and the count.
 #[unsafe(no_mangle)]
 pub extern "C" fn cgrlist_next(
     memory: &mut Region,
@@ -56,7 +56,8 @@ pub extern "C" fn cgrlist_next(
     answer(memory, Call { run, asked }, outputs)
 }
 
-/// Tells whether a session is one of the plan's, whoever wrote it.
+/// Tells whether a session is one of the plan's, whoever wrote it. Reads the plan and the session. The status is 0 for yes
+/// and 1 for no.
 #[unsafe(no_mangle)]
 pub extern "C" fn cgrlist_verify(
     memory: &mut Region,
@@ -70,7 +71,8 @@ pub extern "C" fn cgrlist_verify(
     answer(memory, Call { run, asked }, outputs)
 }
 
-/// Tells what a list of contacts does, hop by hop, and whether it is a route.
+/// Tells what a list of contacts does, hop by hop, and whether it is a route. Reads the plan, the words of the request and
+/// the contacts. The status is 0 for a route, and 1 for another list.
 #[unsafe(no_mangle)]
 pub extern "C" fn cgrlist_explain(
     memory: &mut Region,
@@ -84,7 +86,7 @@ pub extern "C" fn cgrlist_explain(
     answer(memory, Call { run, asked }, outputs)
 }
 
-/// Answers many requests over one plan, each as [`cgrlist_first`].
+/// Answers many requests over one plan, each as [`cgrlist_first`]. Reads the plan, the requests and the count.
 #[unsafe(no_mangle)]
 pub extern "C" fn cgrlist_many(
     memory: &mut Region,
@@ -98,7 +100,7 @@ pub extern "C" fn cgrlist_many(
     answer(memory, Call { run, asked }, outputs)
 }
 
-/// Tells what many lists of contacts do over one plan, each as [`cgrlist_explain`].
+/// Tells what many lists of contacts do over one plan, each as [`cgrlist_explain`]. Reads the plan and the lists.
 #[unsafe(no_mangle)]
 pub extern "C" fn cgrlist_follow(
     memory: &mut Region,
@@ -112,7 +114,7 @@ pub extern "C" fn cgrlist_follow(
     answer(memory, Call { run, asked }, outputs)
 }
 
-/// Writes the canonical text of a plan.
+/// Writes the canonical text of a plan. Reads the plan.
 #[unsafe(no_mangle)]
 pub extern "C" fn cgrlist_canonical(
     memory: &mut Region,

@@ -1,4 +1,4 @@
-use Rattle.std.proofs.Common.{rules, ◌≡◌, length}
+use Rattle.std.proofs.Common.{rules}
 use Rattle.webcgrlist.proofs.GrowLemmas.{grow, put_grown}
 use Rattle.webcgrlist.proofs.answer.write_texts.Goals as goal
 
