@@ -15,7 +15,7 @@ use denote.RattleType.{RattleType}
 use denote.RawPtr.{Ptr, block_ptr, in_a_block}
 use denote.Shadow.{pure_l}
 use denote.Steps.{only}
-use Rattle.core.specs.contracts.option.Option as option
+use Rattle.std.specs.contracts.option.Option as option
 use Rattle.linked_list_allocator.proofs.Nodes.{retypes}
 use Rattle.linked_list_allocator.proofs.Values.{list_val, list_own, list_told}
 use Rattle.linked_list_allocator.specs.Ownership.{bytes_at}

@@ -25,7 +25,7 @@ use denote.Triple.Entry.{alive}
 use denote.Triple.Spec.{triple_of}
 use denote.Triple.Table.{framed}
 use denote.Triple.Walked.{Stays, stay_dropped, walk_of, Goes-dropped}
-use Rattle.core.proofs.alloc.Shapes.{after, arm_body, head}
+use Rattle.std.proofs.alloc.Shapes.{after, arm_body, head}
 use Rattle.linked_list_allocator.proofs.Walks.{then_runs}
 use Rattle.std.proofs.alloc.Calls.{Answer, answer_val, Answer-typed, Answer-Ok, Answer-err}
 use Rattle.std.proofs.raw_atomic.Walks.{proved, leaves}
