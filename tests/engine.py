@@ -333,7 +333,7 @@ def hostile_questions():
     data = random.Random(1).randbytes(1 << 20)
     plan, numbers = chain(20000)
     at = "2030/01/01-00:00:00"
-    chained = {"plan": plan, "from": "1", "to": "20001", "at": at, "count": "2", "contacts": numbers, "keep": True}
+    chained = {"plan": plan, "from": "1", "to": "20001", "at": at, "count": "2", "contacts": numbers}
     relayed = {"plan": relay_plan(), **RELAYED}
     yield Question("binary plan", "check", {"plan": binary(data)})
     yield Question("binary plan after a comment", "check", {"plan": binary(b"#" + data)})
@@ -350,10 +350,12 @@ def hostile_questions():
         yield Question(f"1000001 {run}", name, {**relayed, run: times(1_000_001, relayed[run])})
     yield Question("binary session", "next", {**relayed, "session": binary(data)})
     yield Question("session of 30 MB in one line", "verify", {**relayed, "session": times(30_000_000, "1 ")})
-    yield Question("value of 1 MB", "first", {**relayed, "from": "1" * 100_000})
+    yield Question("value of 100 KB", "first", {**relayed, "from": "1" * 100_000})
     for run in ("first", "explain"):
-        yield Question(f"{run} over a chain of 20000 hops", run, {**chained, "keep": run == "first"})
+        yield Question(f"{run} over a chain of 20000 hops", run, chained)
     yield Question("a list of 20000 hops", "follow", {**chained, "lists": f"{numbers} 1 20001 {at}\n"})
+    # Of a chain of 2000 hops, the session text has 12 MB, since it has each beginning of the route.
+    yield Question("the session after a chain of 2000 hops", "first", {**chained, "plan": chain(2000)[0], "to": "2001", "keep": True})
 
 
 def hostile(room):
