@@ -25,4 +25,4 @@ pub use rows::explanations_of_plan_a;
 pub use runs::{run_check, run_explain, run_first, run_follow, run_many, run_next, run_verify};
 pub use status::Status;
 pub use texts::tell;
-pub use words::{RequestTexts, ValueFault, ValueName, ValueTexts, Values, read_values};
+pub use words::{RequestTexts, ValueFault, ValueName, ValueTexts, Values, read_values, values_in};

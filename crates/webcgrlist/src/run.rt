@@ -9,7 +9,7 @@ use crate::asked::Asked;
 use crate::call::{Call, Run};
 use crate::runs::{check, explain, first, follow, list_canonical, many, next, verify};
 use crate::writers::Writers;
-use commands::{CommandName, Status, read_values, tell};
+use commands::{CommandName, Status, tell, values_in};
 use sabr_model::Write;
 use std::alloc::Allocator;
 
@@ -22,7 +22,7 @@ fn run_command<O: Write, S: Write, E: Write, A: Allocator + Copy>(
 ) -> Status
     ensures { EndsCall (run.Command command) asked.now (seen O.output S.output E.output to.entry.report.now to.entry.session.now to.entry.message.now) (seen O.output S.output E.output to.exit.0.now to.exit.1.0.now to.exit.1.1.0.now) result }
 {
-    let values = match read_values(alloc, command, &asked.values()) {
+    let values = match values_in(alloc, command, &asked.values()) {
         Ok(values) => values,
         Err(fault) => return tell(to.message, fault.into()),
     };

@@ -4,9 +4,9 @@ ghost use Rattle.std.specs.Prelude.{◌≡◌, [], Ok, Err, IfOk, IfErr, IfSome,
 ghost use Rattle.std.specs.Option.{option_copied};
 ghost use Rattle.clap.specs.Matches.{found_of};
 ghost use Rattle.commands.specs.words.Lists.{numbers_within};
-ghost use Rattle.commands.specs.words.Values.{has_request, has_count, has_contacts, seen_values, texts_given, value_of, values_given, values_in, values_of, words_where_asked, count_where_asked, contacts_where_asked, request_where_asked, IsCount, IsInRange};
+ghost use Rattle.commands.specs.words.Values.{command_named, has_request, has_count, has_contacts, seen_values, texts_given, value_of, values_given, values_in, values_of, words_where_asked, count_where_asked, contacts_where_asked, request_where_asked, IsCount, IsInRange};
 
-use crate::command::CommandName;
+use crate::command::{CommandName, command_named};
 use crate::words::lists::contacts_listed;
 use crate::words::request_words::{RequestTexts, number_given, request_of, request_words};
 use crate::words::value_fault::{ValueFault, ValueName};
@@ -94,7 +94,7 @@ fn request_where_asked(words: &Option<RequestValues>) -> Result<Option<Request>,
     Ok(Some(request))
 }
 
-/// Reads the values of a command strictly.
+/// Reads the values of a command from texts strictly.
 ///
 /// Nodes, numbers and counts are decimal without a sign or leading zero and within their limits, a time is
 /// `yyyy/mm/dd-hh:mm:ss`, and lists are joined by single commas. A margin that isn't given is 0, a limit on hops that
@@ -106,7 +106,7 @@ fn request_where_asked(words: &Option<RequestValues>) -> Result<Option<Request>,
 /// [`ValueFault::SameNode`], [`ValueFault::BadAvoid`]. [`ValueFault::NoMemory`] only if an allocation for contacts
 /// failed.
 #[tactic(auto, unfolding(crate::specs::words::Values::values_in))]
-pub fn read_values<A: Allocator + Copy>(
+pub fn values_in<A: Allocator + Copy>(
     alloc: A,
     command: CommandName,
     texts: &ValueTexts<'_>,
@@ -129,7 +129,7 @@ pub fn read_values<A: Allocator + Copy>(
     })
 }
 
-/// Reads the values of a command line, as [`read_values`].
+/// Reads the values of a command line, as [`values_in`].
 #[tactic(auto, unfolding(crate::specs::words::Values::values_of))]
 pub fn values_of<A: Allocator + Copy>(
     alloc: A,
@@ -143,5 +143,28 @@ pub fn values_of<A: Allocator + Copy>(
     ensures count { IfOk result (λ v. is_some v.count ≡ has_count command) }
     ensures count_range { IfOk result (λ v. IfSome v.count IsCount) }
 {
-    read_values(alloc, command, &values_under(matches))
+    values_in(alloc, command, &values_under(matches))
+}
+
+/// Reads the values of the command of this name, as [`values_in`]. `matches` holds the texts given under the names of its
+/// words. The name is that of one of the commands.
+///
+/// # Errors
+///
+/// Those of [`values_in`].
+pub fn read_values<A: Allocator + Copy>(
+    alloc: A,
+    command: &str,
+    matches: &ArgMatches<'_>,
+) -> Result<Values<A>, ValueFault>
+    requires { IsTrue (is_some (command_named command.now)) }
+    ensures ok { IfSome (command_named command.now) (λ name. IfOk result (λ v. values_of name (found_of matches.now) ≡ Ok (seen_values v))) }
+    ensures err { IfSome (command_named command.now) (λ name. IfErr result (λ e. (e ≡ ValueFault.NoMemory) ⊎ (values_of name (found_of matches.now) ≡ Err e))) }
+    ensures memory { IfSome (command_named command.now) (λ name. IsErrOf result ValueFault.NoMemory → IsTrue (has_contacts name)) }
+    ensures request { IfSome (command_named command.now) (λ name. IfOk result (λ v. is_some v.request ≡ has_request name)) }
+    ensures count { IfSome (command_named command.now) (λ name. IfOk result (λ v. is_some v.count ≡ has_count name)) }
+    ensures count_range { IfOk result (λ v. IfSome v.count IsCount) }
+{
+    let command = command_named(command).unwrap();
+    values_of(alloc, command, matches)
 }
