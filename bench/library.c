@@ -33,7 +33,7 @@ static void best(void) {
 /* A plan of 20000 contacts takes no more, so contacts are deleted, in the order of their numbers. */
 static void change(void) {
     static uint32_t last;
-    cgrlist_contact contact;
+    cgrlist_contact contact = {0};
     while (cgrlist_plan_contact(&plan, ++last, &contact) == CGRLIST_NO) continue;
     must(cgrlist_plan_delete_contact(&plan, contact.from, contact.to, contact.start, &last));
     ask();

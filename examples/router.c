@@ -44,7 +44,7 @@ static uint32_t ask(cgrlist_plan *plan, const cgrlist_request *request) {
 
 /* Takes a contact out of the plan: it is named by its nodes and its start. */
 static void lose(cgrlist_plan *plan, uint32_t number) {
-    cgrlist_contact it;
+    cgrlist_contact it = {0}; /* it has a bool */
     must(cgrlist_plan_contact(plan, number, &it), "contact");
     must(cgrlist_plan_delete_contact(plan, it.from, it.to, it.start, &number), "delete");
     printf("contact %" PRIu32 " is lost\n", number);

@@ -4,10 +4,14 @@
  * calls the caller changes nothing in it and copies it nowhere. The library has no global state: different plans may be
  * used by different threads at the same time, one plan by one call at a time.
  *
- * No call aborts, prints, blocks, or calls back. Each call but cgrlist_plan_close, cgrlist_abi and the texts returns a
- * `cgrlist_status`. With any other status than CGRLIST_OK and CGRLIST_NO, the plan and its listing are as they were.
- * Buffers belong to the caller and may not overlap. An empty buffer may be NULL. Times are whole seconds since
- * 1970-01-01T00:00:00Z. Memory comes from malloc, realloc and free.
+ * No call prints, blocks, or calls back, and none aborts as long as the stack suffices. Each call but
+ * cgrlist_plan_close, cgrlist_abi and the texts returns a `cgrlist_status`. With any other status than CGRLIST_OK and
+ * CGRLIST_NO, the plan and its listing are as they were. With any other than CGRLIST_OK and CGRLIST_ROOM, so are the
+ * records and buffers for routes, pages and places.
+ *
+ * Buffers belong to the caller and may not overlap. An empty buffer may be NULL. A record that has a bool
+ * (cgrlist_contact, cgrlist_page, cgrlist_place) is initialized before a call is given its place, as by {0}. Times are
+ * whole seconds since 1970-01-01T00:00:00Z. Memory comes from malloc, realloc and free.
  *
  * See cgrlist(3).
  */
@@ -29,7 +33,8 @@ enum cgrlist_status {
     CGRLIST_OK = 0,
     CGRLIST_NO = 1,         /* no route; the contacts make none; no such contact; no session text of a place; no page
                              * to take back */
-    CGRLIST_ROOM = 2,       /* a buffer is too small: what fits was written, and how much is needed */
+    CGRLIST_ROOM = 2,       /* a buffer is too small, and how much is needed is said; cgrlist_first, cgrlist_hops and
+                             * cgrlist_listing_next wrote what fits, cgrlist_best its route without contact numbers */
     CGRLIST_MEMORY = 3,     /* malloc or realloc refused */
     CGRLIST_CLOSED = 4,     /* the plan isn't open */
     CGRLIST_OPEN = 5,       /* the plan is open already */

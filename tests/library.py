@@ -95,10 +95,9 @@ def the_header(room):
     yield "the limits are the header's", header.declared_limits(text), lambda: {
         name: limits.get(name) for name in header.declared_limits(text)}
     structs = {next(iter(c)): header.stated_structs(source).get(rust) for rust, c in pairs.items()}
-    handle = structs.pop(header.HANDLE, None)
-    wanted = {name: members for name, members in header.declared_structs(text).items() if name != header.HANDLE}
+    structs[header.HANDLE] = header.stated_handle(source)
+    wanted = header.declared_structs(text)
     yield "each struct has the members of the header", wanted, lambda: structs
-    yield "the handle begins with whether it is open", ("bool", "is_open"), lambda: handle and handle[0]
     yield "each struct has the layout of Rust's", "", lambda: room.run(
         f"cc -std=c11 -fsyntax-only -I{TOP}/library", [room.file("layouts.c", header.assertions(wanted))]).all()
     yield "each function with a buffer takes an empty one", header.with_buffers(text), lambda: re.findall(

@@ -8,7 +8,7 @@ from checking import TOP
 HEADER = f"{TOP}/library/cgrlist.h"
 SOURCES = f"{TOP}/crates/libcgrlist/src"
 NUMBERS = {"u8": "uint8_t", "u32": "uint32_t", "u64": "uint64_t", "usize": "size_t", "bool": "bool"}
-BYTES = {"uint8_t": 1, "bool": 1, "uint32_t": 4, "uint64_t": 8, "size_t": 8}
+BYTES = {"uint8_t": 1, "bool": 1, "uint32_t": 4, "uint64_t": 8, "size_t": 8}  # of x86-64, where a place has 8, too
 HANDLE = "cgrlist_plan"
 DONE = "OK"  # what the header calls the status DONE: Rust has an Ok of its own
 
@@ -95,6 +95,13 @@ def stated_structs(text):
     return found
 
 
+def stated_handle(text):
+    """The members of the handle: whether a plan is open, and what its place has. An allocator takes no bytes."""
+    found = stated_structs(text)
+    members = [it for kind, name in found["PlanHandle"] for it in found.get(kind, [(kind, name)])]
+    return [("void", f"*{name}") if kind == "*mut u8" else (kind, name) for kind, name in members if kind != "Global"]
+
+
 def stated_functions(text):
     """Of each export the types of what it takes and returns, in the words of C but for the names of structs."""
     found = {}
@@ -143,7 +150,7 @@ def layout_of(members):
     """The place of each member, and the size, as the rules of C for x86-64 give them."""
     at, widest, places = 0, 1, {}
     for kind, name in members:
-        size = BYTES[kind]
+        size = 8 if name.startswith("*") else BYTES[kind]
         at = -(-at // size) * size
         places[name] = at
         at, widest = at + size, max(widest, size)
@@ -156,5 +163,5 @@ def assertions(structs):
     for name, members in sorted(structs.items()):
         places, size = layout_of(members)
         lines.append(f'_Static_assert(sizeof({name}) == {size}, "{name}");')
-        lines += [f'_Static_assert(offsetof({name}, {it}) == {at}, "{name}.{it}");' for it, at in places.items()]
+        lines += [f'_Static_assert(offsetof({name}, {it.strip("*")}) == {at}, "{name}.{it}");' for it, at in places.items()]
     return "\n".join([*lines, ""])

@@ -215,7 +215,7 @@ static void walk(cgrlist_plan *plan, const page *all) {
         must(next.told.more == (place < all->told.routes || all->told.more), "a page's end");
         drop(&next);
     }
-    cgrlist_place where;
+    cgrlist_place where = {0, false, false};
     must(met(cgrlist_listing_place(plan, &where)) == CGRLIST_OK && where.given == place && where.can_back == (backs > 0), "the place");
 }
 

@@ -6,6 +6,5 @@ pub mod ManyAsFirst
 pub mod RunsFollow
 pub mod NextPages
 pub mod RunsInTurn
-pub mod StandingPages
 pub mod CallLemmas
 pub mod CallsInTurn

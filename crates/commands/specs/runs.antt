@@ -5,7 +5,6 @@ pub mod SessionRuns
 pub mod EveryRun
 pub mod NextPage
 pub mod RunsInTurn
-pub mod PagesLeft
 pub mod Many
 pub mod ManyAsFirst
 pub mod Program

@@ -5,7 +5,6 @@ ghost use Rattle.commands.specs.runs.CallsInTurn.{CallsInTurn};
 ghost use Rattle.commands.specs.runs.EveryRun.{EveryRunFollows};
 ghost use Rattle.commands.specs.runs.ManyAsFirst.{FollowAnswersAsExplain, ManyAnswersAsFirst};
 ghost use Rattle.commands.specs.runs.NextPage.{NextGoesOn};
-ghost use Rattle.commands.specs.runs.PagesLeft.{PagesStand};
 ghost use Rattle.commands.specs.runs.RunsInTurn.{RunsInTurn, RunsGoOn};
 
 /// Shows that every run of a session follows the list of all routes. Whatever sizes its pages have, and wherever it
@@ -39,7 +38,8 @@ pub fn runs_in_turn()
 /// `first` keeps its session, and then each call `next` goes on from the file in which the one before kept its own.
 /// Over a system in which a file reads as what was last written there, the calls that end with
 /// [`Status::Done`](crate::Status::Done) print the reports of the first routes of the list, each from where the one
-/// before ended. At each path they leave the session text of its place.
+/// before ended. At each path they leave the session text of its place. A call `next` that keeps no session may follow
+/// them: it prints the page from there, and leaves no file.
 pub fn calls_in_turn()
     ensures { CallsInTurn }
 {}
@@ -63,11 +63,4 @@ pub fn many_answers_as_first()
 /// `explain` for these contacts and that request writes, if that ends with yes or no.
 pub fn follow_answers_as_explain()
     ensures { FollowAnswersAsExplain }
-{}
-
-/// Shows that after any pages, refusals and steps back a session is that of the pages that weren't taken back, in the
-/// order in which they were given. So are the states that it can go back to. If it began at a place of the list, it
-/// stands at the place after their routes.
-pub fn pages_stand()
-    ensures { PagesStand }
 {}

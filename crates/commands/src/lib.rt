@@ -18,7 +18,7 @@ pub use failure::Failure;
 pub use files::{Disk, DiskRemover, FileSystem, Remover};
 pub use headline::{
     calls_in_turn, every_run, follow_answers_as_explain, many_answers_as_first, next_goes_on,
-    pages_stand, runs_go_on, runs_in_turn,
+    runs_go_on, runs_in_turn,
 };
 pub use program::run_words;
 pub use rows::explanations_of_plan_a;

@@ -1,10 +1,10 @@
 mod FirstLemmas
-mod JoinedLemmas
 mod ListingLemmas
 mod PageLemmas
 mod FollowLemmas
 mod HopLemmas
 mod LoadLemmas
 mod PlaceValues
+mod StandingLemmas
 mod Values
 mod VerifyLemmas

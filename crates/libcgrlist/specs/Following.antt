@@ -1,15 +1,15 @@
 -- What C gets of a list of contacts that is followed.
-use Rattle.std.specs.Prelude.{◌≡◌, ℕ, ◌++◌, List, [], ◌∷◌, length, max, nat_lt, is_none, Bool, Result, Ok, Err, if◌then◌else◌}
+use Rattle.std.specs.Prelude.{◌≡◌, ℕ, List, [], ◌∷◌, length, nat_lt, Bool, Result, Ok, Err, if◌then◌else◌}
 use Rattle.std.specs.Option.{option_map_or}
-use Rattle.sabr_model.specs.declared.contact.Contact.{Contact}
 use Rattle.sabr_model.specs.declared.fault.HopFault.{HopFault}
 use Rattle.sabr_model.specs.declared.fault.HopFault.TheVariants.{Empty, NoSuchContact, NotChained, NodeAgain, NoLight, TooLate, WrongEnd, AvoidedNode, TooManyHops}
 use Rattle.sabr_model.specs.declared.fault.RequestError.{RequestError}
-use Rattle.sabr_model.specs.plan.Plan.{ContactPlan, contact_named}
+use Rattle.sabr_model.specs.plan.Plan.{ContactPlan}
 use Rattle.sabr_model.specs.routes.Arrival.{RouteRequest}
-use Rattle.sabr_model.specs.routes.Fault.{fault_at, fault_of}
+use Rattle.sabr_model.specs.routes.Fault.{fault_of}
 use Rattle.sabr_model.specs.routes.Record.{RouteRecord, record_of}
-use Rattle.sabr_model.specs.routes.Route.{delivery_of, is_route}
+use Rattle.sabr_model.specs.routes.Route.{is_route}
+use Rattle.sabr_session.specs.Hops.{Hop, told_of}
 use Rattle.host.specs.Buffers.{put_over}
 use Rattle.libcgrlist.specs.Status.{done, no, no_room, request_status}
 use Rattle.libcgrlist.specs.declared.follow.Outcome.{Outcome}
@@ -48,26 +48,17 @@ abbrev pub Follows : ContactPlan → Result RouteRequest RequestError → List �
 Follows p (Err e) s status old new = (status ≡ request_status e) × (new ≡ old)
 Follows p (Ok r) s status old new = (status ≡ route_status (is_route p r s)) × (new ≡ outcome_of p r s)
 
--- the hop over the contact of a number that follows the list `front`: it is sent on arrival there, or as soon as its
--- contact starts
-abbrev pub hop_after : ContactPlan → RouteRequest → List ℕ → ℕ → Contact → HopRow
-hop_after p r front n c = record {
-  from = c.from;
-  to = c.to;
-  sent = max (delivery_of p r front) c.start;
-  arrival = delivery_of p r (front ++ n ∷ []);
-  contact = n;
-}
+-- a hop as C gets it
+abbrev pub hop_row : Hop → HopRow
+hop_row h = record { from = h.contact.from; to = h.contact.to; sent = h.sent; arrival = h.arrival; contact = h.contact.number }
 
--- the hops of the numbers after `front`, up to the first fault
-abbrev pub hops_after : ContactPlan → RouteRequest → List ℕ → List ℕ → List HopRow
-hops_after p r front [] = []
-hops_after p r front (n ∷ s) =
-    if is_none (fault_at p r front n) then option_map_or (λ c. hop_after p r front n c ∷ []) (contact_named p n) [] ++ hops_after p r (front ++ n ∷ []) s else []
+-- the row of a hop, whatever it follows
+abbrev pub row_alone : List ℕ → Hop → List HopRow
+row_alone front h = hop_row h ∷ []
 
 -- the hops before the first fault
 abbrev pub hops_of : ContactPlan → RouteRequest → List ℕ → List HopRow
-hops_of p r s = hops_after p r [] s
+hops_of p r s = told_of row_alone p r [] s
 
 -- the request is refused and nothing is given, or as many hops as there is room for are, and their number
 abbrev pub GivesHops : ContactPlan → Result RouteRequest RequestError → List ℕ → ℕ → List HopRow → List HopRow → ℕ → Type 0

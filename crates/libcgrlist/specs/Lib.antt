@@ -2,7 +2,6 @@ pub mod Answers
 pub mod Changes
 pub mod First
 pub mod Following
-pub mod Joined
 pub mod ListingTexts
 pub mod Listings
 pub mod Loading
@@ -13,6 +12,7 @@ pub mod Pages
 pub mod Paused
 pub mod Reading
 pub mod Request
+pub mod Standing
 pub mod Status
 pub mod Texts
 pub mod Verified

@@ -1,14 +1,14 @@
 -- What reading a plan's text comes to.
 use Rattle.std.specs.Prelude.{◌≡◌, ℕ, true, Bool, false, Result, Ok, Err, Option, None, Some}
-use Rattle.sabr_model.specs.plan.Plan.{ContactPlan}
+use Rattle.sabr_model.specs.plan.Plan.{ContactPlan, IsPlan}
 use Rattle.sabr_plan.specs.declared.fault.PlanFault.{PlanFault}
 use Rattle.libcgrlist.specs.Opened.{OpenPlan}
 use Rattle.libcgrlist.specs.Status.{already_open, done, line_status, no_memory}
 
--- behind the handle is this plan, with no listing
+-- behind the handle is this plan, which obeys the rules of plans, with no listing
 abbrev pub IsPlanAlone : ContactPlan → Option OpenPlan → Type 0
 IsPlanAlone p None = ⊥
-IsPlanAlone p (Some o) = (o.plan.plan ≡ p) × (o.listing ≡ None)
+IsPlanAlone p (Some o) = (o.plan.plan ≡ p) × IsPlan o.plan.plan × (o.listing ≡ None)
 
 -- the plan of a text is open, or the handle stays closed and its first bad line is given with the line's number; no
 -- number is given with another status

@@ -81,11 +81,14 @@ pub extern "C" fn cgrlist_best(
     if !handle.is_open {
         return CLOSED;
     }
+    let mut opened = handle.take(alloc);
     let request = match asked.request(avoid) {
         Ok(request) => request,
-        Err(error) => return of_request(error),
+        Err(error) => {
+            handle.give(opened);
+            return of_request(error);
+        }
     };
-    let mut opened = handle.take(alloc);
     let status = match find_best(alloc, &mut opened, request, row, contacts) {
         Ok(status) => status,
         Err(_refused) => MEMORY,

@@ -86,15 +86,19 @@ pub extern "C" fn cgrlist_first(
     if !handle.is_open {
         return CLOSED;
     }
+    let mut opened = handle.take(alloc);
     if MOST_ROUTES < count {
+        handle.give(opened);
         return VALUE_COUNT;
     }
     let request = match asked.request(avoid) {
         Ok(request) => request,
-        Err(error) => return of_request(error),
+        Err(error) => {
+            handle.give(opened);
+            return of_request(error);
+        }
     };
     let wanted = FirstRoutes { request, count };
-    let mut opened = handle.take(alloc);
     let found = find_first(alloc, &mut opened, wanted, rows, contacts);
     handle.give(opened);
     match found {

@@ -4,6 +4,7 @@ mod loose;
 mod place;
 
 ghost use Rattle.std.specs.Prelude.{◌≡◌, IsTrue, is_some, None, Some, true};
+ghost use Rattle.sabr_model.specs.plan.Plan.{IsPlan};
 
 use crate::opened::Opened;
 pub use loose::Loose;
@@ -36,7 +37,9 @@ impl PlanHandle {
     pub fn give(&mut self, held: Box<Opened, Global>)
         ensures open { self.new.is_open ≡ true }
         ensures held { self.new.place.held ≡ Some held.value }
+        ensures rules { IsPlan held.value.plan.plan }
     {
+        held.plan().rules_hold();
         self.place = Place::of(Loose::of(held));
         self.is_open = true;
     }

@@ -7,7 +7,8 @@ ghost use Rattle.sabr_model.specs.routes.Fault.{fault_at};
 ghost use Rattle.sabr_model.specs.routes.Following.{IsReachedBy};
 ghost use Rattle.sabr_model.specs.routes.Route.{is_path, is_route};
 ghost use Rattle.host.specs.Buffers.{put_over};
-ghost use Rattle.libcgrlist.specs.Following.{GivesHops, hop_after, hops_of, route_status};
+ghost use Rattle.sabr_session.specs.Hops.{hop_after};
+ghost use Rattle.libcgrlist.specs.Following.{GivesHops, hop_row, hops_of, route_status};
 ghost use Rattle.libcgrlist.specs.Open.{Calls, IsWhole};
 ghost use Rattle.libcgrlist.specs.Request.{asked_request};
 
@@ -42,7 +43,7 @@ fn hop_after(
     requires here { IsReachedBy plan.now.plan request.now front.now here }
     ensures fault { IfNone result (IsTrue (is_some (fault_at plan.now.plan request.now front.now number))) }
     ensures good { IfSome result (λ x. fault_at plan.now.plan request.now front.now number ≡ None) }
-    ensures hop { IfSome result (λ x. option_map (hop_after plan.now.plan request.now front.now number) (contact_named plan.now.plan number) ≡ Some x.0) }
+    ensures hop { IfSome result (λ x. option_map (λ c. hop_row (hop_after plan.now.plan request.now front.now number c)) (contact_named plan.now.plan number) ≡ Some x.0) }
     ensures path { IfSome result (λ x. IsTrue (is_path plan.now.plan request.now (front.now ++ number ∷ []))) }
     ensures reached { IfSome result (λ x. IsReachedBy plan.now.plan request.now (front.now ++ number ∷ []) x.1) }
 {
@@ -57,7 +58,7 @@ fn hop_after(
         to: contact.to,
         sent: here.at.max(contact.start),
         arrival: there.at,
-        contact: number,
+        contact: contact.number,
     };
     Some((hop, there))
 }

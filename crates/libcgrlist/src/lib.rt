@@ -32,7 +32,7 @@ pub use first::cgrlist_first;
 pub use follow::cgrlist_follow;
 pub use handle::{Loose, Place, PlanHandle};
 pub use hops::cgrlist_hops;
-pub use laws::pages_follow_the_list;
+pub use laws::listings_stand;
 pub use listing::{
     ListingPlace, cgrlist_listing_back, cgrlist_listing_close, cgrlist_listing_next,
     cgrlist_listing_open, cgrlist_listing_place,

@@ -15,3 +15,5 @@ pub mod SessionPieces
 pub mod SessionLeaving
 pub mod TextLaws
 pub mod Verifying
+pub mod SessionPlaces
+pub mod Hops

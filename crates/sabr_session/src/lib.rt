@@ -32,6 +32,7 @@
 #![tactic(auto)]
 
 mod hex_digest;
+mod place_laws;
 mod reading;
 mod rows;
 mod session_fault;
@@ -40,6 +41,7 @@ mod verifying;
 mod writing;
 
 pub use hex_digest::digest_text;
+pub use place_laws::{pages_stand, texts_are_placed};
 pub use reading::{SessionFeed, read_session};
 pub use rows::texts_of_plan_a;
 pub use session_fault::SessionFault;

@@ -1,5 +1,5 @@
 -- Calls in turn print the listing page by page, and leave its session texts at their paths.
-use Rattle.std.proofs.Common.{◌≡◌, ℕ, ◌+◌, Bool, true, false, List, [], ◌∷◌, ◌++◌, refl, sym, ap, subst, ◌∙◌, inl, inr, Result, Ok, Err, Option, None, Some, is_some, if◌then◌else◌}
+use Rattle.std.proofs.Common.{◌≡◌, ℕ, ◌+◌, Bool, true, false, List, [], ◌∷◌, ◌++◌, append-nil, arith, refl, sym, ap, subst, ◌∙◌, inl, inr, Result, Ok, Err, Option, None, Some, is_some, if◌then◌else◌}
 use Rattle.std.specs.Io.KnownBytes.{Appends}
 use Rattle.std.specs.Str.{bytes_eq}
 use Rattle.std.proofs.lemmas.Slice.Eq.{bytes_eq-Decides}
@@ -20,9 +20,9 @@ use Rattle.commands.specs.runs.Files.{LeavesFile}
 use Rattle.commands.specs.runs.Calls.{IsMadeWhereKept, RunsCommand}
 use Rattle.commands.specs.texts.Messages.{status_at}
 use Rattle.commands.specs.runs.SessionRuns.{WritesFirstPage, WritesNextPage, WritesPage, place_of, text_over, place_after, report_from}
-use Rattle.commands.specs.runs.RunsInTurn.{Run, IsDone, IsFirst, IsNext, AreNext, ArePages}
-use Rattle.commands.specs.runs.CallsInTurn.{Files, over, files_after, Call, IsDoneCall, Asks, AsksFirst, AsksNext, IsFirstCall, AreNextCalls, files_left, ArePrinted, CallsInTurn}
-use Rattle.commands.proofs.RunLemmas.RunsInTurn.{never_done, runs_in_turn}
+use Rattle.commands.specs.runs.RunsInTurn.{Run, IsDone, IsFirst, IsNext, AreNext, ArePages, asked_of, text_left}
+use Rattle.commands.specs.runs.CallsInTurn.{Files, over, files_after, Call, IsDoneCall, Asks, AsksFirst, AsksNext, AsksLast, IsFirstCall, AreNextCalls, IsLastCall, files_left, ArePrinted, asked_in, last_path, CallsInTurn}
+use Rattle.commands.proofs.RunLemmas.RunsInTurn.{never_done, place_on, runs_go_on, runs_in_turn}
 
 -- ---- files
 
@@ -83,6 +83,19 @@ next_texts : (planned : Result TabledPlan PlanFault) (place : Result (RouteReque
 next_texts (Err fault) place count end out out₁ session session₁ done w = absurd (never_done _ (sym (ap status_at w.0) ∙ done))
 next_texts (Ok t) (Err fault) count end out out₁ session session₁ done w = absurd (never_done _ (sym (ap status_at w.0) ∙ done))
 next_texts (Ok t) (Ok s) count end out out₁ session session₁ done w = page_texts t.plan _ _ end out out₁ session session₁ done w
+
+-- what a run wrote that is done and keeps no session
+record Report (out out₁ session session₁ : Output) : Type 0 where
+  report : List ℕ
+  prints : out₁.taken ≡ out.taken ++ report
+  keeps : session₁ ≡ session
+
+last_report : (planned : Result TabledPlan PlanFault) (place : Result (RouteRequest × State) SessionFault) (count : ℕ) (end : Result (Unit {0}) Failure) (out out₁ session session₁ : Output)
+    → status_at end ≡ status.Done → WritesNextPage planned place false count end out out₁ session session₁ → Report out out₁ session session₁
+last_report (Err fault) place count end out out₁ session session₁ done w = absurd (never_done _ (sym (ap status_at w.0) ∙ done))
+last_report (Ok t) (Err fault) count end out out₁ session session₁ done w = absurd (never_done _ (sym (ap status_at w.0) ∙ done))
+last_report (Ok t) (Ok s) count (Err f) out out₁ session session₁ done w = absurd (never_done f done)
+last_report (Ok t) (Ok s) count (Ok u) out out₁ session session₁ done w = record { report = _; prints = w.0.0.0.0; keeps = w.1 }
 
 -- ---- a call as a run
 
@@ -202,6 +215,58 @@ module _ (text : List ℕ) where
         is_run text files c run.plan run.planned run.plan₁ run.end h.session h.session₁ texts h.count count made leaves,
       )
 
+  -- a call that keeps no session is a run that printed its report
+  record IsLastRun (before : List ℕ) (c : Call) : Type 0 where
+    run : Run
+    next : IsNext text before false run
+    counted : run.count ≡ c.count
+    printed : c.out₁.taken ≡ c.out.taken ++ run.report
+    left : c.left ≡ []
+
+  last_run : (files : Files) (at old before : List ℕ) (c : Call) → files at ≡ Some text → files old ≡ Some before → IsLastCall files at old c → IsLastRun before c
+  unfolding ran
+  last_run files at old before c there stored (asks, done) =
+      let (found, a, h) = ran command.Next (AsksLast at old c) files c asks done in
+      let run = h.runs in
+      let second = run.does in
+      let values : h.values ≡ record { request = None; count = Some c.count; contacts = [] } = ok_same _ _ (sym h.given ∙ a.values) in
+      let count : h.count ≡ c.count = some_same _ _ (sym h.counted ∙ ap (λ v. v.count) values) in
+      let leaves = subst (λ kept. LeavesFile (over files) kept status.Done h.session₁ [] c.left) a.kept h.leaves in
+      let writes = subst (λ kept. WritesNextPage run.planned (place_of second.answer) (is_some kept) h.count run.end c.out c.out₁ h.session h.session₁) a.kept second.writes in
+      let report = last_report run.planned (place_of second.answer) h.count run.end c.out c.out₁ h.session h.session₁ (sym run.ends) writes in
+      let taken : h.session₁.taken ≡ h.session.taken ++ [] = ap (λ x. x.taken) report.keeps ∙ sym (append-nil h.session.taken) in
+      record {
+        run = record { count = h.count; report = report.report; text = [] };
+        next = record {
+          is_done = record {
+            alone = record {
+              reader = run.plan;
+              planned = run.planned;
+              reader₁ = run.plan₁;
+              has = inl (opened_text files _ at text run.plan a.plan there run.opens);
+              reads = run.reads;
+              out = c.out;
+              out₁ = c.out₁;
+              takes = inl report.prints;
+            };
+            end = run.end;
+            done = sym run.ends;
+            session = h.session;
+            session₁ = h.session₁;
+            takes_text = inl taken;
+          };
+          reader = second.file;
+          resumed = second.answer;
+          reader₁ = second.file₁;
+          has = inl (opened_text files _ old before second.file a.session stored second.opens);
+          reads = second.reads;
+          writes = writes;
+        };
+        counted = count;
+        printed = report.prints;
+        left = leaves;
+      }
+
   -- calls are these runs, one after the other
   abbrev AreRunsOf : Files → List Call → List Run → Type 0
   AreRunsOf files [] [] = Unit {0}
@@ -223,6 +288,19 @@ module _ (text : List ℕ) where
   all_stand files (c ∷ calls) [] q held are there = absurd are
   all_stand files (c ∷ calls) (run ∷ runs) q held (is, rest) there = all_stand (files_after files c.left) calls runs q held rest (stands files c run q held is there)
 
+  -- they were asked for as many routes, and the last of them left its session text at its path
+  all_asked : (files : Files) (calls : List Call) (runs : List Run) → AreRunsOf files calls runs → asked_of runs ≡ asked_in calls
+  all_asked files [] [] are = refl
+  all_asked files [] (run ∷ runs) are = absurd are
+  all_asked files (c ∷ calls) [] are = absurd are
+  all_asked files (c ∷ calls) (run ∷ runs) (is, rest) = omega (arith, is.counted, all_asked (files_after files c.left) calls runs rest)
+
+  left_last : (files : Files) (calls : List Call) (runs : List Run) (path before : List ℕ) → AreRunsOf files calls runs → files path ≡ Some before → files_left files calls (last_path path calls) ≡ Some (text_left before runs)
+  left_last files [] [] path before are there = there
+  left_last files [] (run ∷ runs) path before are there = absurd are
+  left_last files (c ∷ calls) [] path before are there = absurd are
+  left_last files (c ∷ calls) (run ∷ runs) path before (is, rest) there = left_last (files_after files c.left) calls runs c.path run.text rest (left_file files c run is)
+
   all_printed : (p : ContactPlan) (r : RouteRequest) (asked : ℕ) (files : Files) (calls : List Call) (runs : List Run) → AreRunsOf files calls runs → ArePages p r 0 asked runs
       → ArePrinted p r asked (files_left files calls) calls
   all_printed p r asked files [] runs are pages = tt
@@ -239,4 +317,19 @@ pub calls_in_turn : CallsInTurn
 calls_in_turn files at text p r first calls there spelled accepted is are =
     let (run, begins, one) = first_run text files at r first there is in
     let (runs, nexts, others) = next_runs text (files_after files first.left) at first.path run.text calls (stands files first run at text one there) (left_file files first run one) are in
-    all_printed text p r 0 files (first ∷ calls) (run ∷ runs) (one, others) (runs_in_turn text p r run runs spelled accepted begins nexts)
+    let pages = runs_in_turn text p r run runs spelled accepted begins nexts in
+    let from = pages.0.there in
+    let on = runs_go_on text run.text p r (place_after p r 0 (0 + run.count)) runs spelled from nexts in
+    let asked : (0 + run.count) + asked_of runs ≡ asked_in (first ∷ calls) = omega (arith, one.counted, all_asked text (files_after files first.left) calls runs others) in
+    let place = place_on text p r spelled accepted 0 (0 + run.count) (asked_of runs) ∙ ap (place_after p r 0) asked in
+    let end = files_left files (first ∷ calls) in
+    record {
+      each = all_printed text p r 0 files (first ∷ calls) (run ∷ runs) (one, others) pages;
+      last = λ c is.
+          let l = last_run text end at (last_path first.path calls) (text_left run.text runs) c (all_stand text files (first ∷ calls) (run ∷ runs) at text (one, others) there)
+          (left_last text (files_after files first.left) calls runs first.path run.text others (left_file files first run one)) is in
+          record {
+            printed = l.printed ∙ ap (λ b. c.out.taken ++ b) (on.last l.run l.next ∙ ap (λ n. report_from p r n l.run.count) place ∙ ap (report_from p r (place_after p r 0 (asked_in (first ∷ calls)))) l.counted);
+            left = l.left;
+          };
+    }

@@ -25,7 +25,8 @@ use Rattle.commands.specs.declared.failure.Failure.TheVariants as failure
 use Rattle.commands.specs.texts.Messages.{failure_of_session}
 use Rattle.commands.specs.runs.SessionRuns.{WritesNextPage, WritesPage, next_report, report_after, place_of, place_after, report_from}
 use Rattle.commands.specs.runs.NextPage.{KeepsPlace, WritesPageFrom, NextGoesOn}
-use Rattle.commands.proofs.RunLemmas.RunsFollow.{next_within, text_begins}
+use Rattle.sabr_session.proofs.PlaceLemmas.Pages.{next_within}
+use Rattle.commands.proofs.RunLemmas.RunsFollow.{text_begins}
 
 -- a session that was read over a plan is over that plan
 pub is_over_plan : (plan : TabledPlan) (old : Input) (s : Seen) (new : Input) → ReadsSession plan old (Ok s) new → s.plan ≡ plan

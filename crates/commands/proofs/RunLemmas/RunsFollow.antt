@@ -15,31 +15,11 @@ use Rattle.sabr_frontier.proofs.ListingLemmas.PlacesFormed.{state_at_formed}
 use Rattle.sabr_session.specs.SessionText.{text_of, HasText, IsUnlimited, session_text, old_session_text}
 use Rattle.sabr_session.specs.SessionRead.{IsSessionOf}
 use Rattle.sabr_session.specs.TextLaws.{IsReadBack}
+use Rattle.sabr_session.proofs.PlaceLemmas.Pages.{next_within, pages_joined}
 use Rattle.sabr_session.proofs.TextLemmas.OneAnswer.{answers_once, is_read_back}
 use Rattle.commands.specs.runs.EveryRun.{Event, answered, reread, Beginning, started, from_text, EventsLeadTo, IsAt, BeginsWith, IsRun, asked_for, HaveTexts, FollowsListing, RunsFollow}
 
--- ---- pages
-
-take_then : {X : Type 0} (k n : ℕ) (xs : List X) → take k xs ++ take n (drop (length (take k xs)) xs) ≡ take (k + n) xs
-take_then zero n xs = ap (λ m. take m xs) (none n)
-  where
-    none : (n : ℕ) → n ≡ 0 + n
-    none n = omega arith
-take_then (suc k) n [] = take-nil n ∙ sym (take-nil (suc k + n))
-take_then (suc k) n (x ∷ xs) =
-    let one : suc (k + n) ≡ suc k + n = omega arith in
-    ap (λ ys. x ∷ ys) (take_then k n xs) ∙ ap (λ m. take m (x ∷ xs)) one
-
 module _ (p : ContactPlan) (r : RouteRequest) (good : IsPlan p) (accepted : IsRequest r) where
-  -- the place after a page
-  pub next_within : (i k : ℕ) → i ≤ length (routes p r) → i + length (page_of p r i k) ≤ length (routes p r)
-  next_within i k h = omega (arith, length-take k (drop i (routes p r)), length-drop i (routes p r))
-
-  -- two pages, one after the other
-  pub pages_joined : (i k n : ℕ) → page_of p r i k ++ page_of p r (i + length (page_of p r i k)) n ≡ page_of p r i (k + n)
-  pages_joined i k n =
-      ap (λ xs. page_of p r i k ++ take n xs) (sym (drop-drop (length (page_of p r i k)) i (routes p r))) ∙ take_then k n (drop i (routes p r))
-
   -- what is read of a text of a place
   read_back : (i : ℕ) → i ≤ length (routes p r) → HasText (state_at p r i) → IsReadBack p r (state_at p r i)
   read_back i h there = is_read_back p good r (state_at p r i) (record { accepted = accepted; formed = state_at_formed p r good i h; there = there })
@@ -82,10 +62,10 @@ module _ (p : ContactPlan) (r : RouteRequest) (good : IsPlan p) (accepted : IsRe
       let page : List (List ℕ) = page_of p r i k in
       let after : ℕ = i + length page in
       let same : first ≡ page = led.0 ∙ ap (λ (w : List (List ℕ) × State). w.0) (page_led i k x h at) in
-      let stood = stands after (next_within i k h) es rest y z (led.1 ∙ place_led i k x h at) on in
+      let stood = stands after (next_within p r good accepted i k h) es rest y z (led.1 ∙ place_led i k x h at) on in
       let whole : length given ≡ length page + length rest = ap length joined ∙ length-append first rest ∙ ap (λ (l : List (List ℕ)). length l + length rest) same in
       let count : after + length rest ≡ i + length given = omega (arith, whole) in
-      (joined ∙ ap (λ l. l ++ rest) same ∙ ap (λ l. page ++ l) stood.0 ∙ pages_joined i k (asked_for es), stood.1 ∙ ap (λ n. (r, state_at p r n)) count)
+      (joined ∙ ap (λ l. l ++ rest) same ∙ ap (λ l. page ++ l) stood.0 ∙ pages_joined p r good accepted i k (asked_for es), stood.1 ∙ ap (λ n. (r, state_at p r n)) count)
   stands i h (reread ∷ es) given y x at (first, z, rest, led, on, joined) =
       stays i es first rest given y led.0 joined (stands i h es rest y z (read_place i z x h at led.1 led.2) on)
   stands i h (_ ∷ es) given y x at (first, z, rest, led, on, joined) =
@@ -97,7 +77,7 @@ module _ (p : ContactPlan) (r : RouteRequest) (good : IsPlan p) (accepted : IsRe
   runs_on i h [] x at texts = ([], x, (refl, refl))
   runs_on i h (answered k ∷ es) x at texts =
       let page = steps p x.0 k x.1 in
-      let run = runs_on (i + length (page_of p r i k)) (next_within i k h) es (x.0, page.1) (place_led i k x h at) texts in
+      let run = runs_on (i + length (page_of p r i k)) (next_within p r good accepted i k h) es (x.0, page.1) (place_led i k x h at) texts in
       (page.0 ++ run.0, run.1, (page.0, (x.0, page.1), run.0, (refl, refl), run.2, refl))
   runs_on i h (reread ∷ es) x at texts =
       let run = runs_on i h es x at texts.1 in
@@ -145,7 +125,7 @@ module _ (p : ContactPlan) (r : RouteRequest) (good : IsPlan p) (accepted : IsRe
       let within = at_place i beginning is in
       let stood = stands i within events given y x (begins_so i beginning x is b) run in
       let count = ap length stood.0 in
-      let most = next_within i (asked_for events) within in
+      let most = next_within p r good accepted i (asked_for events) within in
       record {
         pages = stood.0;
         place = stood.1;

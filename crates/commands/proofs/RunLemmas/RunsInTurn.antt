@@ -19,7 +19,7 @@ use Rattle.commands.specs.runs.SessionRuns.{ReadsOldSession, WritesFirstPage, Wr
 use Rattle.commands.specs.runs.EveryRun.{IsAt, from_text}
 use Rattle.commands.specs.runs.NextPage.{WritesPageFrom, GoesOnFrom}
 use Rattle.commands.specs.runs.RunsInTurn.{Run, IsDone, IsFirst, IsNext, AreNext, IsPage, ArePages, RunsInTurn, asked_of, text_left, pages_given, GoOnFrom, RunsGoOn}
-use Rattle.commands.proofs.RunLemmas.RunsFollow.{next_within, pages_joined}
+use Rattle.sabr_session.proofs.PlaceLemmas.Pages.{next_within, pages_joined}
 use Rattle.commands.proofs.RunLemmas.NextPages.{place_kept, next_goes_on}
 
 -- no failure ends as done
@@ -128,7 +128,7 @@ module _ (plan : List ℕ) (p : ContactPlan) (r : RouteRequest) (spelled : plan_
       subst (λ t. run.report ≡ report_from t r i run.count) e (report_taken false q i run x.is_done x.is_done.end x.is_done.done w)
 
   -- the place after pages from place i on that were asked for so many routes, and then one more
-  place_on : (i asked count : ℕ) → place_after p r (place_after p r i asked) count ≡ place_after p r i (asked + count)
+  pub place_on : (i asked count : ℕ) → place_after p r (place_after p r i asked) count ≡ place_after p r i (asked + count)
   place_on i asked count =
       let a = page_of p r i asked in
       let b = page_of p r (place_after p r i asked) count in

@@ -22,25 +22,11 @@ use Rattle.sabr_model.proofs.RouteLemmas.Prefixes.{empty_is_path}
 use Rattle.sabr_model.proofs.RouteLemmas.Faults.{hop_is_good, good_is_path, path_is_good, route_has_no_fault, fault_is_no_route}
 use Rattle.sabr_plan.specs.Times.{last_spelled}
 use Rattle.sabr_session.specs.ReportText.{route_line}
-use Rattle.commands.specs.texts.Explanation.{hop_line, line_after, hop_lines, fault_line, ending_line, hops_before, Follows}
+use Rattle.sabr_session.proofs.HopLemmas.{told_of-append}
+use Rattle.commands.specs.texts.Explanation.{hop_line, line_of, line_after, hop_lines, fault_line, ending_line, hops_before, Follows}
 use Rattle.commands.proofs.TextLemmas.SpelledTimes.{record_spelled}
 
 -- ---- a list in two parts
-
-no_fault_before : (o o' : Option HopFault) → fault_or o o' ≡ None → (o ≡ None) × (o' ≡ None)
-no_fault_before None o' e = (refl, e)
-no_fault_before (Some f) o' e = absurd cc
-
--- after numbers without a fault the lines go on
-pub hop_lines-append : (p : ContactPlan) (r : RouteRequest) (q s t : List ℕ) → first_fault p r q s ≡ None
-    → hop_lines p r q (s ++ t) ≡ hop_lines p r q s ++ hop_lines p r (q ++ s) t
-hop_lines-append p r q [] t e = ap (λ w. hop_lines p r w t) (sym (append-nil q))
-hop_lines-append p r q (n ∷ s) t e =
-    let both = no_fault_before (fault_at p r q n) (first_fault p r (q ++ n ∷ []) s) e in
-    rw (both.0)
-    (ap (λ w. line_after p r q n ++ w)
-    (hop_lines-append p r (q ++ n ∷ []) s t both.1 ∙ ap (λ w. hop_lines p r (q ++ n ∷ []) s ++ hop_lines p r w t) (append_assoc q (n ∷ []) s))
-    ∙ sym (append_assoc (line_after p r q n) (hop_lines p r (q ++ n ∷ []) s) (hop_lines p r (q ++ n ∷ s) t)))
 
 -- the hops up to one of them
 pub path_up_to : (p : ContactPlan) (r : RouteRequest) (s : List ℕ) (i d : ℕ) → IsTrue (is_path p r s) → i < length s
@@ -58,7 +44,7 @@ hop_lines-at p r s i d path h =
     let good = hop_is_good p r (take i s) (get_or s i d) (hop_facts p r (take i s) (get_or s i d) up) in
     let front = path_is_good p r [] (take i s) (beginning_is_path p r (take i s) (get_or s i d ∷ []) up) in
     ap (hop_lines p r []) (sym (take-append-drop i s) ∙ ap (λ w. take i s ++ w) (drop-cons s i d h))
-    ∙ hop_lines-append p r [] (take i s) (get_or s i d ∷ drop (suc i) s) front
+    ∙ told_of-append line_of p r [] (take i s) (get_or s i d ∷ drop (suc i) s) front
     ∙ ap (λ o. hop_lines p r [] (take i s) ++ cond (is_none o) (line_after p r (take i s) (get_or s i d) ++ hop_lines p r (take i s ++ get_or s i d ∷ []) (drop (suc i) s)) []) good
 
 -- one more hop
@@ -69,7 +55,7 @@ hop_lines-take p r s i d path h =
     let good = hop_is_good p r (take i s) (get_or s i d) (hop_facts p r (take i s) (get_or s i d) up) in
     let front = path_is_good p r [] (take i s) (beginning_is_path p r (take i s) (get_or s i d ∷ []) up) in
     ap (hop_lines p r []) (take-suc s i d h)
-    ∙ hop_lines-append p r [] (take i s) (get_or s i d ∷ []) front
+    ∙ told_of-append line_of p r [] (take i s) (get_or s i d ∷ []) front
     ∙ ap (λ o. hop_lines p r [] (take i s) ++ cond (is_none o) (line_after p r (take i s) (get_or s i d) ++ []) []) good
     ∙ ap (λ w. hop_lines p r [] (take i s) ++ w) (append-nil (line_after p r (take i s) (get_or s i d)))
 

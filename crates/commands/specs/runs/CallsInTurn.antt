@@ -1,5 +1,5 @@
 -- Calls of the program in turn, from words to words and files: a call `first`, and then calls `next`, each over the
--- file in which the one before kept its session.
+-- file in which the one before kept its session, at last one that keeps none.
 use Rattle.std.specs.Prelude.{◌≡◌, ℕ, ◌+◌, true, List, [], ◌∷◌, ◌++◌, Option, None, Some, Ok, if◌then◌else◌}
 use Rattle.std.specs.Str.{bytes_eq}
 use Rattle.clap.specs.Matches.{first_value}
@@ -73,6 +73,13 @@ pub record AsksNext (at old : List ℕ) (c : Call) (found : Found) : Type 0 wher
   pub values : values_of command.Next found ≡ Ok (record { request = None; count = Some c.count; contacts = [] })
   pub kept : first_value found session_out_word ≡ Some c.path
 
+-- the page after that of an old session, and no session is kept
+pub record AsksLast (at old : List ℕ) (c : Call) (found : Found) : Type 0 where
+  pub plan : path_under found plan_word ≡ at
+  pub session : path_under found session_word ≡ old
+  pub values : values_of command.Next found ≡ Ok (record { request = None; count = Some c.count; contacts = [] })
+  pub kept : first_value found session_out_word ≡ None
+
 -- a call `first` over these files
 abbrev pub IsFirstCall : Files → List ℕ → RouteRequest → Call → Type 0
 IsFirstCall files at r c = Asks command.First c.words (AsksFirst at r c) × IsDoneCall files c
@@ -81,6 +88,10 @@ IsFirstCall files at r c = Asks command.First c.words (AsksFirst at r c) × IsDo
 abbrev pub AreNextCalls : Files → List ℕ → List ℕ → List Call → Type 0
 AreNextCalls files at old [] = Unit {0}
 AreNextCalls files at old (c ∷ calls) = Asks command.Next c.words (AsksNext at old c) × IsDoneCall files c × AreNextCalls (files_after files c.left) at c.path calls
+
+-- a call `next` over the session at this path that keeps none
+abbrev pub IsLastCall : Files → List ℕ → List ℕ → Call → Type 0
+IsLastCall files at old c = Asks command.Next c.words (AsksLast at old c) × IsDoneCall files c
 
 -- the files after all calls
 abbrev pub files_left : Files → List Call → Files
@@ -98,10 +109,30 @@ abbrev pub ArePrinted : ContactPlan → RouteRequest → ℕ → Files → List 
 ArePrinted p r asked end [] = Unit {0}
 ArePrinted p r asked end (c ∷ calls) = IsPrinted p r asked end c × ArePrinted p r (asked + c.count) end calls
 
--- over files of which one has the text of a plan, a call `first` for an accepted request, and then any calls `next`,
--- print the listing page by page, and leave the session text of each place
+-- how many routes the calls were asked for together
+abbrev pub asked_in : List Call → ℕ
+asked_in [] = 0
+asked_in (c ∷ calls) = c.count + asked_in calls
+
+-- the path at which the last of them keeps its session
+abbrev pub last_path : List ℕ → List Call → List ℕ
+last_path path [] = path
+last_path path (c ∷ calls) = last_path c.path calls
+
+-- a call after them that keeps no session printed the page after theirs, and left no file
+pub record EndsCalls (p : ContactPlan) (r : RouteRequest) (calls : List Call) (c : Call) : Type 0 where
+  pub printed : c.out₁.taken ≡ c.out.taken ++ report_from p r (place_after p r 0 (asked_in calls)) c.count
+  pub left : c.left ≡ []
+
+-- the calls print the listing page by page, and leave the session text of each place; so does a call that ends them,
+-- which leaves no text
+pub record PrintInTurn (files : Files) (at : List ℕ) (p : ContactPlan) (r : RouteRequest) (first : Call) (calls : List Call) : Type 0 where
+  pub each : ArePrinted p r 0 (files_left files (first ∷ calls)) (first ∷ calls)
+  pub last : (c : Call) → IsLastCall (files_left files (first ∷ calls)) at (last_path first.path calls) c → EndsCalls p r (first ∷ calls) c
+
+-- over files of which one has the text of a plan, a call `first` for an accepted request, and then any calls `next`
 abbrev pub CallsInTurn : Type 0
 CallsInTurn =
     (files : Files) (at text : List ℕ) (p : ContactPlan) (r : RouteRequest) (first : Call) (calls : List Call) → files at ≡ Some text → plan_of text true ≡ Ok p → IsRequest r
     → IsFirstCall files at r first → AreNextCalls (files_after files first.left) at first.path calls
-    → ArePrinted p r 0 (files_left files (first ∷ calls)) (first ∷ calls)
+    → PrintInTurn files at p r first calls

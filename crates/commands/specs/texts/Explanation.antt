@@ -1,18 +1,19 @@
 -- The explanation of a list of contacts: its hops up to the first fault, and how it ends; and what following answers.
-use Rattle.std.specs.Prelude.{◌≡◌, ℕ, ◌+◌, ◌-◌, max, Bool, IsTrue, is_none, Some, List, [], ◌∷◌, ◌++◌, length, decimal, codes, Result, Ok, Err, if◌then◌else◌}
+use Rattle.std.specs.Prelude.{◌≡◌, ℕ, ◌+◌, ◌-◌, Bool, IsTrue, Some, List, [], ◌∷◌, ◌++◌, length, decimal, codes, Result, Ok, Err}
 use Rattle.std.specs.List.{concat}
 use Rattle.std.specs.Option.{option_map_or}
 use Rattle.sabr_model.specs.declared.contact.Contact.{Contact}
 use Rattle.sabr_model.specs.declared.fault.HopFault.{HopFault}
 use Rattle.sabr_model.specs.declared.fault.HopFault.TheVariants.{Empty, NoSuchContact, NotChained, NodeAgain, NoLight, TooLate, WrongEnd, AvoidedNode, TooManyHops}
-use Rattle.sabr_model.specs.plan.Plan.{ContactPlan, TabledPlan, contact_named}
+use Rattle.sabr_model.specs.plan.Plan.{ContactPlan, TabledPlan}
 use Rattle.sabr_model.specs.routes.Arrival.{RouteRequest, arrival_after}
-use Rattle.sabr_model.specs.routes.Route.{delivery_of, is_route}
+use Rattle.sabr_model.specs.routes.Route.{is_route}
 use Rattle.sabr_model.specs.routes.Record.{record_of}
-use Rattle.sabr_model.specs.routes.Fault.{fault_at, fault_of}
+use Rattle.sabr_model.specs.routes.Fault.{fault_of}
 use Rattle.sabr_model.specs.Devices.{Output, WrittenAndFlushed, WrittenInPart}
 use Rattle.sabr_plan.specs.Times.{time_text_of}
 use Rattle.sabr_plan.specs.declared.fault.PlanFault.{PlanFault}
+use Rattle.sabr_session.specs.Hops.{Hop, told_after, told_of}
 use Rattle.sabr_session.specs.ReportText.{route_line}
 use Rattle.commands.specs.declared.failure.Failure.{Failure}
 use Rattle.commands.specs.declared.failure.Failure.TheVariants as failure
@@ -29,17 +30,17 @@ hop_line place c sent arrived = concat (
     ∷ codes " arrive " ∷ time_text_of arrived ∷ codes "\n" ∷ []
     )
 
--- the line of a number that follows the list `front`: it is sent on arrival there, or as soon as its contact starts
+-- the line of a hop that follows the list `front`
+abbrev pub line_of : List ℕ → Hop → List ℕ
+line_of front h = hop_line (length front + 1) h.contact h.sent h.arrival
+
+-- the line of a number that follows `front`
 abbrev pub line_after : ContactPlan → RouteRequest → List ℕ → ℕ → List ℕ
-line_after p r front n =
-    option_map_or (λ c. hop_line (length front + 1) c (max (delivery_of p r front) c.start) (delivery_of p r (front ++ n ∷ [])))
-    (contact_named p n) []
+line_after p r front n = told_after line_of p r front n
 
 -- the lines of the numbers after `front`, up to the first fault
 abbrev pub hop_lines : ContactPlan → RouteRequest → List ℕ → List ℕ → List ℕ
-hop_lines p r front [] = []
-hop_lines p r front (n ∷ s) =
-    if is_none (fault_at p r front n) then line_after p r front n ++ hop_lines p r (front ++ n ∷ []) s else []
+hop_lines p r front s = told_of line_of p r front s
 
 -- the fault of a place, by its name
 abbrev pub refused_at : ℕ → List ℕ → List ℕ

@@ -9,11 +9,12 @@ const FACTS = {
   sources: "SHA-256 of its sources",
 };
 
-// What the engine of this browser can.
+// What the engine of this browser can. What was told before, as of a link, stays.
 function tellEngine() {
   const isHere = engine.state === "ready";
   const here = `cgrlist ${about.version}: proved answers, computed in this page. No data leaves it.`;
-  app.tell(isHere ? here : `This page shows what was found when it was made. ${BROWSERS} answer the rest.`);
+  const told = isHere ? here : `This page shows what was found when it was made. ${BROWSERS} answer the rest.`;
+  if (!byId("told").textContent) app.tell(told);
   const lack = `It doesn't answer here: ${engine.state}. ${BROWSERS} have what it needs.`;
   byId("engine").textContent = isHere ? "It answers in this browser." : lack;
 }

@@ -1,16 +1,17 @@
 -- After any pages, refusals and steps back a session is that of the pages not taken back.
 use Rattle.std.proofs.Common.{◌≡◌, ℕ, zero, suc, ◌+◌, ◌≤◌, List, [], ◌∷◌, length, refl, sym, ap, subst, ◌∙◌, arith, length-append, Option, Some, None}
-use Rattle.sabr_model.specs.plan.Plan.{ContactPlan, IsPlan}
+use Rattle.std.specs.Prelude.{is_some}
+use Rattle.sabr_model.specs.plan.Plan.{ContactPlan, TabledPlan, IsPlan}
 use Rattle.sabr_model.specs.routes.Arrival.{RouteRequest}
 use Rattle.sabr_model.specs.routes.Asking.{IsRequest}
 use Rattle.sabr_model.specs.routes.Listing.{routes, page_of}
 use Rattle.sabr_frontier.specs.listing.State.{State}
-use Rattle.sabr_frontier.specs.listing.Listing.{state_at, steps, one_step}
+use Rattle.sabr_frontier.specs.listing.Listing.{next_route, state_at, steps, one_step}
 use Rattle.sabr_frontier.specs.session.Session.{Seen, former_then}
 use Rattle.sabr_frontier.proofs.ListingLemmas.Lawful.{steps_follow}
 use Rattle.sabr_frontier.proofs.SessionLemmas.Pages.{steps_stop, steps_go, steps_none}
-use Rattle.commands.specs.runs.PagesLeft.{Act, paged, refused, back, no_back, Leaves, LeaveInTurn, without_latest, pages_left, after_pages, all_asked, PagesStand}
-use Rattle.commands.proofs.RunLemmas.RunsFollow.{next_within, pages_joined}
+use Rattle.sabr_session.specs.SessionPlaces.{Act, paged, refused, back, no_back, Leaves, LeaveInTurn, without_latest, pages_left, after_pages, all_asked, IsPlaced, IsNextPage, place_then, PagesStand}
+use Rattle.sabr_session.proofs.PlaceLemmas.Pages.{next_within, pages_joined}
 
 -- steps that give no route lead nowhere
 no_step : (p : ContactPlan) (r : RouteRequest) (k : ℕ) (s : State) (o : Option (List ℕ × State)) → one_step p r s ≡ o → (steps p r (suc k) s).0 ≡ [] → (steps p r (suc k) s).1 ≡ s
@@ -112,6 +113,27 @@ module _ (p : ContactPlan) (r : RouteRequest) (good : IsPlan p) (accepted : IsRe
       omega (arith, length-append (page_of p r i (all_asked sizes)) page, ap length (pages_joined p r good accepted i (all_asked sizes) k)) in
       led ∙ ap (state_at p r) count
 
+-- a session over the same plan, for the same request
+placed_too : (x y : Seen) (j : ℕ) → y.plan ≡ x.plan → y.request ≡ x.request → j ≤ length (routes x.plan.plan x.request) → y.state ≡ state_at x.plan.plan x.request j → IsPlaced y j
+placed_too x y j plan request within state = record {
+  within = subst (λ (n : ℕ). j ≤ n) (sym (λ t. length (routes (plan t).plan (request t)))) within;
+  state = state ∙ sym (λ t. state_at (plan t).plan (request t) j);
+}
+
+-- what a session at a place gives next
+goes_on : (s : Seen) (i k : ℕ) → IsPlan s.plan.plan → IsRequest s.request → IsPlaced s i → IsNextPage s i k
+goes_on s i k good accepted here =
+    let p = s.plan.plan in
+    let r = s.request in
+    let way = steps_follow p r good in
+    let after = place_then s i k in
+    let page : steps p r k s.state ≡ (page_of p r i k, state_at p r after) = ap (λ (z : State). steps p r k z) here.state ∙ way.pages i k here.within in
+    record {
+      page = ap (λ (z : List (List ℕ) × State). z.0) page;
+      leads = ap (λ (z : List (List ℕ) × State). z.1) page;
+      more = ap (λ (z : List (List ℕ) × State). is_some (next_route p r z.1)) page ∙ way.carries after (next_within p r good accepted i k here.within);
+    }
+
 pub pages_stand : PagesStand
 pages_stand x y acts none led =
     let h = stands_then x acts [] x y (record { plan = refl; request = refl; state = refl; former = none; gave = tt }) led in
@@ -120,5 +142,15 @@ pages_stand x y acts none led =
       request = h.request;
       state = h.state;
       former = h.former;
-      place = λ i good accepted within is. h.state ∙ placed x.plan.plan x.request good accepted i within x.state is (pages_left acts []);
+      place = λ i good accepted here. stands_at h i good accepted here;
+      next = λ i k good accepted here.
+          goes_on y (place_then x i (all_asked sizes)) k (subst (λ (q : TabledPlan). IsPlan q.plan) (sym h.plan) good) (subst IsRequest (sym h.request) accepted) (stands_at h i good accepted here);
     }
+  where
+    sizes : List ℕ
+    sizes = pages_left acts []
+
+    stands_at : Stands x sizes y → (i : ℕ) → IsPlan x.plan.plan → IsRequest x.request → IsPlaced x i → IsPlaced y (place_then x i (all_asked sizes))
+    stands_at h i good accepted here =
+        placed_too x y (place_then x i (all_asked sizes)) h.plan h.request (next_within x.plan.plan x.request good accepted i (all_asked sizes) here.within)
+        (h.state ∙ placed x.plan.plan x.request good accepted i here.within x.state here.state sizes)

@@ -1,0 +1,4 @@
+-- Where sessions stand in the list of their request.
+pub mod Pages
+pub mod PlacedTexts
+pub mod StandingPages
