@@ -281,7 +281,7 @@ def timeline():
     check_words(parser, words)
     view = view_of(asked, parser)
     answer = answer_of(asked)  # first, since the program says more of a plan that it refuses
-    routes = answer and list(answer.routes)
+    routes = None if answer is None else list(answer.routes)
     check_routes(asked.plan, routes or [])
     if words.html is not None:
         return write_page(asked, view, answer)
