@@ -1,5 +1,5 @@
 -- The hops of a list of contacts up to the first fault.
-use Rattle.std.proofs.Common.{◌≡◌, ℕ, suc, ◌<◌, cond, List, [], ◌∷◌, ◌++◌, length, get_or, take, drop, refl, sym, ap, ◌∙◌, append_assoc, append-nil, drop-cons}
+use Rattle.std.proofs.Common.{◌≡◌, ℕ, suc, ◌<◌, cond, List, [], ◌∷◌, ◌++◌, length, get_or, take, drop, refl, sym, ap, ◌∙◌, append-nil, drop-cons}
 use Rattle.std.specs.Prelude.{is_none, is_some, IsTrue}
 use Rattle.std.specs.Option.{option_map, option_map_or}
 use Rattle.std.specs.declared.option.Option.{Option}
@@ -11,7 +11,7 @@ use Rattle.sabr_model.specs.declared.fault.HopFault.{HopFault}
 use Rattle.sabr_model.specs.plan.Plan.{ContactPlan, contact_named}
 use Rattle.sabr_model.specs.routes.Arrival.{RouteRequest}
 use Rattle.sabr_model.specs.routes.Route.{is_path}
-use Rattle.sabr_model.specs.routes.Fault.{fault_at, fault_or, first_fault}
+use Rattle.sabr_model.specs.routes.Fault.{fault_at, first_fault}
 use Rattle.sabr_model.proofs.RouteLemmas.Faults.{path_is_good}
 use Rattle.sabr_model.proofs.RouteLemmas.Follows.{path_behind}
 use Rattle.sabr_session.specs.Hops.{hop_after, told_of}

@@ -1,6 +1,6 @@
 -- Pages of a listing.
-use Rattle.std.proofs.Common.{◌≡◌, ℕ, zero, suc, ◌+◌, ◌<◌, ◌≤◌, List, [], ◌∷◌, Option, None, Some, length, refl, sym, ap, subst, ◌∙◌, inl, inr, arith}
-use Rattle.std.specs.Prelude.{map, IsTrue, IsFalse, Bool, true, false, nat_lt}
+use Rattle.std.proofs.Common.{◌≡◌, ℕ, zero, suc, ◌<◌, ◌≤◌, List, [], ◌∷◌, Option, None, Some, length, refl, sym, ap, subst, ◌∙◌, inl, inr, arith}
+use Rattle.std.specs.Prelude.{IsTrue, IsFalse, Bool, true, false}
 use Rattle.std.specs.List.{All}
 use Rattle.std.proofs.Math.ListN.{get_or}
 use Rattle.std.proofs.lemmas.List.{length-map}
@@ -14,9 +14,8 @@ use Rattle.sabr_frontier.specs.listing.Fresh.{GivesNewRoutes}
 use Rattle.sabr_frontier.specs.listing.Listing.{given_first, one_step, steps}
 use Rattle.sabr_frontier.specs.listing.State.{Member, State}
 use Rattle.sabr_frontier.specs.session.Session.{Seen, former_then, next_page}
-use Rattle.libcgrlist.specs.Listings.{listing_after, listing_then, next_records}
+use Rattle.libcgrlist.specs.Listings.{next_records}
 use Rattle.libcgrlist.specs.Paused.{listing_of}
-use Rattle.libcgrlist.specs.declared.rows.Page.{Page}
 
 -- what one step and k after it give
 abbrev one_and : (p : ContactPlan) (r : RouteRequest) (k : ℕ) (s : State) → Option (List ℕ × State) → List (List ℕ) × State

@@ -1,5 +1,5 @@
 -- The listing of a session text that lies in memory.
-use Rattle.std.proofs.Common.{◌≡◌, ℕ, ◌+◌, ◌⊎◌, inl, inr, Bool, true, List, [], ◌++◌, append-nil, sym, ap, subst, ◌∙◌, refl, arith, Result, Ok, Err, Some}
+use Rattle.std.proofs.Common.{◌≡◌, ℕ, ◌⊎◌, inl, inr, Bool, true, List, [], ◌++◌, append-nil, sym, ap, subst, ◌∙◌, refl, arith, Result, Ok, Err, Some}
 use Rattle.sabr_model.specs.Devices.{Input}
 use Rattle.sabr_model.specs.plan.Plan.{TabledPlan}
 use Rattle.sabr_frontier.specs.session.Session.{Seen}

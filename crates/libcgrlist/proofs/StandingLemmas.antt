@@ -1,5 +1,5 @@
 -- Where listings stand in the list of all routes of their request.
-use Rattle.std.proofs.Common.{◌≡◌, ℕ, ◌≤◌, ◌⊎◌, inl, inr, Bool, true, false, List, [], ◌∷◌, length, Ok, Option, None, Some, refl, sym, ap, subst, ◌∙◌, arith, if◌then◌else◌}
+use Rattle.std.proofs.Common.{◌≡◌, ℕ, ◌≤◌, inl, inr, Bool, true, false, List, ◌∷◌, length, Ok, Option, None, Some, refl, sym, ap, subst, ◌∙◌, arith, if◌then◌else◌}
 use Rattle.std.specs.Prelude.{nat_lt}
 use Rattle.sabr_model.specs.plan.Plan.{IsPlan}
 use Rattle.sabr_model.specs.routes.Arrival.{RouteRequest}
@@ -8,13 +8,12 @@ use Rattle.sabr_plan.specs.Canonical.{digest_of}
 use Rattle.sabr_frontier.specs.listing.Listing.{state_at}
 use Rattle.sabr_frontier.specs.listing.State.{State}
 use Rattle.sabr_frontier.specs.session.Session.{Seen, next_page, session_over}
-use Rattle.sabr_session.specs.SessionPlaces.{Act, paged, refused, back, no_back, IsPlaced, Leaves}
+use Rattle.sabr_session.specs.SessionPlaces.{Act, paged, refused, back, no_back, Leaves}
 use Rattle.sabr_session.specs.SessionRead.{IsSessionOf}
 use Rattle.sabr_session.specs.Verifying.{IsSessionText}
 use Rattle.sabr_session.proofs.PlaceLemmas.PlacedTexts.{texts_are_placed}
 use Rattle.libcgrlist.specs.Answers.{count_refusal}
-use Rattle.libcgrlist.specs.Listings.{AnswersBackOf, AnswersNext, AnswersPage, IfOpen, IsBefore, listing_after}
-use Rattle.libcgrlist.specs.Loading.{IsLoaded}
+use Rattle.libcgrlist.specs.Listings.{AnswersBackOf, AnswersNext, AnswersPage, IfOpen, listing_after}
 use Rattle.libcgrlist.specs.Opened.{OpenPlan}
 use Rattle.libcgrlist.specs.Pages.{RouteBuffers}
 use Rattle.libcgrlist.specs.Paused.{listing_of}

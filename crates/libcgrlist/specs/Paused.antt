@@ -1,5 +1,4 @@
 -- What stays behind a handle between calls.
-use Rattle.std.specs.Prelude.{ℕ}
 use Rattle.sabr_model.specs.plan.Plan.{TabledPlan}
 use Rattle.sabr_index.specs.Index.{IsIndex}
 use Rattle.sabr_index.specs.declared.counted_plan.PlanLinks.{PlanLinks}

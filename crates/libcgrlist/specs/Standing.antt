@@ -1,5 +1,5 @@
 -- Where listings stand in the list of all routes of their request.
-use Rattle.std.specs.Prelude.{◌≡◌, ℕ, List, [], Ok, Option, Some}
+use Rattle.std.specs.Prelude.{◌≡◌, ℕ, List, [], Ok, Some}
 use Rattle.sabr_model.specs.plan.Plan.{IsPlan}
 use Rattle.sabr_model.specs.routes.Arrival.{RouteRequest}
 use Rattle.sabr_frontier.specs.session.Session.{Seen}
