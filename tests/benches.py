@@ -2,14 +2,16 @@
 
 Looked at are the status and the columns that don't depend on the machine. The counts are worked out by hand. Parts that
 count instructions need valgrind, and a program that it can run, as a trial isn't. Those that build the yardstick need
-cargo, too, and one needs the C library. Without these they are left out.
+cargo, too, one needs the C library, and that of the page Chromium. Without these they are left out.
 """
 
 import os
 import shutil
 import tempfile
 
+from browsers import lack_of_chromium
 from checking import TOP, Room, checks_of
+from engine import MODULE
 
 OVER_A = ["--plan", f"{TOP}/examples/a.txt", "--from", "1", "--to", "3", "--at", "2030/01/01-00:00:00"]
 ONCE = ["--repeats", "1"]
@@ -39,6 +41,10 @@ OF_THE_LIBRARY = [
 BESIDE = [
     ("the main figures", "figures.py", ["--only", "relay-moon-500", "--counts", "1", *ONCE], [0], ["relay-moon-500"] * 2),
     ("long lists", "further.py --parts long", ["--only", "relay-mars-500"], [0], ["relay-mars-500"]),
+]
+OF_THE_PAGE = [
+    ("calls of the page's engine", "page.py", ["--only", "relay-moon-500", "--counts", "1", "--browsers", "Chromium", *ONCE], [0],
+     ["relay-moon-500", "Chromium"]),
 ]
 
 
@@ -80,7 +86,8 @@ def parts(room):
     beside = ["--beside", room.program]
     for about, command, words, columns, wanted in ROWS + COUNTED * has_counts + OF_THE_LIBRARY * has_library:
         yield about, (0, wanted, ""), room.made, command, [*words, *beside], columns
-    for about, command, words, columns, wanted in BESIDE * (has_counts and bool(shutil.which("cargo"))):
+    has_page = os.path.exists(MODULE) and not lack_of_chromium()
+    for about, command, words, columns, wanted in BESIDE * (has_counts and bool(shutil.which("cargo"))) + OF_THE_PAGE * has_page:
         yield about, (0, wanted, ""), room.made, command, words, columns
 
 

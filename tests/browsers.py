@@ -1,7 +1,7 @@
 """Browsers that tests drive: Chromium by selenium, and Firefox, for which Debian has no driver, by WebDriver BiDi.
 
-On Debian the packages are chromium, chromium-driver, python3-selenium and firefox-esr. BiDi is Firefox's own remote protocol:
-JSON over a web socket.
+On Debian the packages are chromium, chromium-driver, python3-selenium and firefox-esr. BiDi is a remote protocol that Firefox
+has itself: JSON over a web socket.
 """
 
 import base64
@@ -157,11 +157,12 @@ def lack_of_firefox():
     return None if shutil.which("firefox-esr") else "there is no firefox-esr"
 
 
-PREFERENCES = {  # nothing that the browser does on its own goes to the network, nor over what is tested
+PREFERENCES = {  # what the browser does on its own, and how exact its clock is
     "browser.shell.checkDefaultBrowser": False,
     "datareporting.policy.dataSubmissionEnabled": False,
     "dom.max_script_run_time": 0,
     "network.proxy.type": 0,
+    "privacy.reduceTimerPrecision": False,
 }
 
 
