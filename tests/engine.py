@@ -7,7 +7,8 @@
     hostile     texts that are binary or huge, a million lines, and a chain of 20000 hops
     objects     the objects of cgrlist.mjs, written again as the program's texts; its types and its repairs
 
-Without the module, or a node that has 64-bit memory, this is left out, and a line says so.
+Without the module, or a node that has 64-bit memory, this is left out, and a line says so. A trial isn't asked over the
+hostile texts.
 """
 
 import base64
@@ -476,11 +477,17 @@ def types(room):
         yield f"the methods of {name}", sorted(declared), lambda name=name: sorted(found[name])
 
 
-SECTIONS = (drawn, canonical, sessions, refusals, memory, hostile, long_lists, objects, refused_objects, types)
+SHARED = (drawn, canonical, sessions, refusals, memory, long_lists)  # with the engine of the page
+
+
+def shared_sections(asked):
+    """Those that are asked of any engine. A trial would take minutes for each of the hostile texts."""
+    return SHARED if asked.trials else (*SHARED, hostile)
 
 
 def checks(asked):
     if lack():
         print(f"note: engine is left out, {lack()}")
         return ()
-    return checks_of("engine", Node(asked.program("cgrlist")), SECTIONS)
+    sections = [*shared_sections(asked), objects, refused_objects, types]
+    return checks_of("engine", Node(asked.program("cgrlist")), sections)

@@ -125,22 +125,19 @@ def served(room):
 
 # ---- The sections -----------------------------------------------------------------------------------------------
 
-SHARED = (engine.drawn, engine.canonical, engine.sessions, engine.refusals, engine.memory, engine.long_lists, engine.hostile)
-SECTIONS = (worker, *SHARED)
 
-
-def over_the_file(room):
+def over_the_file(room, sections):
     yield "the state", "ready", room.begin, f"file://{PAGE}"
-    for section in SECTIONS:
+    for section in sections:
         yield from section(room)
     yield "no complaint, and nothing loaded", [], room.browser.faults
 
 
-def in_browser(name, room):
+def in_browser(name, sections, room):
     room.browser = BROWSERS[name][0]()
     try:
-        for section in (over_the_file, served):
-            for title, *further in section(room):
+        for found in (over_the_file(room, sections), served(room)):
+            for title, *further in found:
                 yield f"{name}: {title}", *further
     finally:
         room.browser.close()
@@ -153,5 +150,6 @@ def checks(asked):
     lacks = {name: lack() for name, (_, lack) in BROWSERS.items()}
     for name in filter(lacks.get, lacks):
         print(f"note: {name} is left out, {lacks[name]}")
-    names = [name for name in BROWSERS if not lacks[name]]
-    return checks_of("engine_browsers", Pages(asked.program("cgrlist")), [partial(in_browser, name) for name in names])
+    sections = [worker, *engine.shared_sections(asked)]
+    driven = [partial(in_browser, name, sections) for name in BROWSERS if not lacks[name]]
+    return checks_of("engine_browsers", Pages(asked.program("cgrlist")), driven)
