@@ -9,6 +9,8 @@ import { Program, compiledModule, engineLack } from "./program.mjs";
  */
 function workerTask() {
   let program;
+  let plan; // the last one, which isn't sent again
+  const bytesOf = (text) => (typeof text === "string" ? new TextEncoder().encode(text) : text);
   const warmUp = () => {
     const at = "2030/01/01-00:00:00";
     const nodes = [1, 2, 3, 4, 5];
@@ -23,7 +25,8 @@ function workerTask() {
   };
   const answerTo = ({ module, isFirst, run, texts }) => {
     if (!module) {
-      return program.ask(run, texts);
+      plan = "plan" in texts ? bytesOf(texts.plan) : plan;
+      return program.ask(run, { ...texts, plan });
     }
     program = new Program(module);
     return isFirst ? warmUp() : undefined;
@@ -42,6 +45,7 @@ export class Engine {
   #module;
   #source;
   #worker;
+  #sent; // the text of the last plan that the worker was sent
   #running; // the question that runs, or the start of a worker
   #waiting = [];
 
@@ -76,6 +80,7 @@ export class Engine {
   #employ(isFirst) {
     this.#source ??= URL.createObjectURL(new Blob([`${Program}\n(${workerTask})()`], { type: "text/javascript" }));
     this.#worker = new Worker(this.#source);
+    this.#sent = undefined;
     this.#worker.onmessage = ({ data }) => this.#end(data);
     this.#worker.onerror = ({ message }) => this.#replace(new CgrlistError(NO_PROGRAM, message || "the worker ended"));
     return new Promise((done, refuse) => {
@@ -113,9 +118,16 @@ export class Engine {
     }
     if (this.state === "ready" && !this.#running && this.#waiting.length) {
       this.#running = this.#waiting.shift();
-      const { run, texts } = this.#running;
-      this.#worker.postMessage({ run, texts });
+      this.#send(this.#running);
     }
+  }
+
+  /** Sends a question to the worker; the text of a plan is sent once, since it may have megabytes. */
+  #send({ run, texts }) {
+    const { plan, ...others } = texts;
+    const isSent = typeof plan === "string" && plan === this.#sent;
+    this.#worker.postMessage({ run, texts: isSent ? others : { ...others, plan } });
+    this.#sent = plan;
   }
 
   /**
