@@ -13,7 +13,9 @@ export class Program {
   static #TOLD = ["report", "session", "message"];
 
   static #MEMORY = 6; // the status of a run for which the lent memory or a buffer didn't suffice
+  static #REFUSED = { status: Program.#MEMORY, report: "", session: "", message: "cgrlist: no memory\n" };
   static #MOST = 2 ** 32; // bytes that are lent at most
+  static #LONGEST = 2 ** 28; // bytes of a text that is answered: JavaScript has no string of some more
   static #KEPT = 2 ** 28; // bytes of an instance's memory, over which it isn't used again
   static #WORD = 8; // bytes of an address or a length
   static #PAGE = 65536; // bytes by which memory grows
@@ -39,24 +41,28 @@ export class Program {
     this.#rooms = { report: 2 ** 22, session: 2 ** 22, message: 2 ** 12 };
   }
 
-  /** The answer of a run over texts. More memory is lent as long as the run asks for it. */
+  /**
+   * The answer of a run over texts. More memory is lent as long as the run asks for it; if there is no more, or if a text
+   * of the answer has more than 256 MB, the status is 6.
+   */
   ask(run, texts) {
     const since = performance.now();
     let answer;
     do {
       answer = this.once(run, texts, this.#lent, this.#rooms);
     } while (answer.status === Program.#MEMORY && this.#lendMore(answer.lengths));
-    if (this.#exports.memory.buffer.byteLength > Program.#KEPT) {
-      this.#begin();
+    const isRefused = answer.status === Program.#MEMORY;
+    if (isRefused || this.#exports.memory.buffer.byteLength > Program.#KEPT) {
+      this.#begin(); // with little memory again
     }
-    const { lengths, ...told } = answer;
+    const { lengths, ...told } = isRefused ? Program.#REFUSED : answer;
     return { ...told, milliseconds: performance.now() - since };
   }
 
   /** Makes room for texts of these lengths or, where there is room, doubles the lent memory; false if there is no more. */
   #lendMore(lengths) {
-    if (!lengths) {
-      return false; // the memory doesn't grow
+    if (!lengths || Object.values(lengths).some((length) => length > Program.#LONGEST)) {
+      return false; // the memory doesn't grow, or a text is too long
     }
     const short = Object.keys(lengths).filter((name) => lengths[name] > this.#rooms[name]);
     short.forEach((name) => (this.#rooms[name] = lengths[name]));
@@ -75,7 +81,7 @@ export class Program {
     const given = Program.#GIVEN.map((name) => Program.#bytesOf(texts[name]));
     const layout = this.#layout(given, lent, rooms);
     if (!this.#growTo(layout.end)) {
-      return { status: Program.#MEMORY, report: "", session: "", message: "cgrlist: no memory\n" };
+      return Program.#REFUSED;
     }
     this.#write(given, texts.keep, layout);
     try {
