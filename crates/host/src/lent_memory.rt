@@ -9,7 +9,8 @@ use std::alloc::{AllocError, Allocator};
 use std::cell::Cell;
 
 /// An allocator of one block: the memory that a host lends. It hands all of it out for one request, takes it back, and
-/// hands it out again.
+/// hands it out again. It refuses a request for more bytes, and each one while the memory is handed out. An arena such as
+/// `Bump` of bumpalo makes smaller blocks of the memory.
 #[derive(Drop)]
 pub struct LentMemory {
     /// The memory, unless it is handed out.
@@ -20,7 +21,7 @@ pub struct LentMemory {
 }
 
 impl LentMemory {
-    /// Lends this memory. None of it is handed out yet.
+    /// Takes this memory to hand out.
     pub fn new(region: Region) -> LentMemory
         ensures { result.size ≡ region.size }
     {
