@@ -188,9 +188,9 @@ def what_it_knows(room):
 
 
 def example(room):
-    """The page in examples/ is what tools/page makes now."""
+    """The page in examples/ is what page/example makes now."""
     yield within("its bytes", 500_000, os.path.getsize, f"{TOP}/examples/cgrlist.html")
-    yield "it is as it would be made", 0, lambda: room.run(f"env CGRLIST={room.program} {TOP}/tools/page --check").status
+    yield "it is as it would be made", 0, lambda: room.run(f"env CGRLIST={room.program} {TOP}/page/example --check").status
 
 
 def writing(room):
