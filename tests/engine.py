@@ -465,8 +465,8 @@ def refused_objects(room):
 
 
 def types(room):
-    """The names in cgrlist.d.ts are those that the module has."""
-    with open(f"{ENGINE}/cgrlist.d.ts", encoding="ascii") as file:
+    """The names in cgrlist.d.mts are those that the module has."""
+    with open(f"{ENGINE}/cgrlist.d.mts", encoding="ascii") as file:
         text = file.read()
     found = room.asked("names")
     exported = re.findall(r"^export (?:class|const|function) (\w+)", text, re.M)
@@ -475,6 +475,12 @@ def types(room):
         inside = re.search(rf"^export class {name} .*?^}}|^export class {name} {{.*?^}}", text, re.M | re.S)[0]
         declared = re.findall(r"^  (?!readonly|static|private|constructor)(\w+)[(:]", inside, re.M)
         yield f"the methods of {name}", sorted(declared), lambda name=name: sorted(found[name])
+
+
+def compiled(room):
+    """A compiler of TypeScript, such as that of Debian's package node-typescript, takes each name with its type."""
+    words = "tsc --noEmit --strict --module nodenext --target es2022 tests/engine/use.mts"
+    yield "the types, compiled", (0, ""), lambda: room.run(words)[:2]
 
 
 SHARED = (drawn, canonical, sessions, refusals, memory, long_lists)  # with the engine of the page
@@ -490,4 +496,8 @@ def checks(asked):
         print(f"note: engine is left out, {lack()}")
         return ()
     sections = [*shared_sections(asked), objects, refused_objects, types]
+    if shutil.which("tsc"):
+        sections.append(compiled)
+    else:
+        print("note: there is no tsc, which compiles the types")
     return checks_of("engine", Node(asked.program("cgrlist")), sections)

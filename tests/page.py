@@ -793,13 +793,13 @@ def followed(it, _):
     it.run("single(0)")
     for name in ("light", "dark"):
         it.run("changeTheme(arguments[0])", name == "dark")
-        colours = it.run("return [ink.faintSoft, ...ink.faint]")
+        colours = it.run("return [ink.faint, ...ink.faintRoutes]")
         grounds = it.run("return [ink.back, ink.band]")
         low = [colour for colour in colours if min(contrast(colour, ground) for ground in grounds) < LEAST_CONTRAST]
         yield f"{name}: contrasts", [], lambda: low
         yield f"{name}: they stand back", [], lambda: [it for it in it.run("return ink.routes") if it in colours]
     it.run("changeTheme(false)")
-    drawn = "return routes.map((it) => [...ink.routes, ...ink.faint].indexOf(colourOf(it)))"
+    drawn = "return routes.map((it) => [...ink.routes, ...ink.faintRoutes].indexOf(colourOf(it)))"
     yield "their colours", [0, 9, 10], it.run, drawn
     it.run("startOver()")
 
@@ -1104,7 +1104,7 @@ def paging(it, room):
             rest[0].click()
             it.settle()
     whole = room.run([room.program, "first", "--plan", RELAY, *asked, "--count", "1000"]).out
-    yield "the report of all pages", whole, it.run, "return app.report"
+    yield "the report of all pages", whole, it.run, "return listing.report"
 
 
 def losing(it, room):
@@ -1162,7 +1162,7 @@ def stopping(it, room):
     plan = room.ring_plan(60, 20000, "ring")
     it.open(room.make("ring", "--plan", plan))
     it.run("""const requests = Array.from({ length: 2000 }, (_, place) => `1 30 ${programTime(earliest + 60 * place)}\\n`).join("");
-        app.ask("many", { requests, count: "100" }).then((it) => (globalThis.ended = it))""")
+        askHere("many", { requests, count: "100" }).then((it) => (globalThis.ended = it))""")
     it.wait_for("const look = () => (byId('stop').hidden ? setTimeout(look, 20) : done()); look()")
     yield "it shows that it runs", True, lambda: "busy" in it.all("body")[0].get_attribute("class")
     it.part("stop").click()
@@ -1211,7 +1211,7 @@ def markup(it, room):
     it.choose("to", "3")
     it.ask("at", tag)
     yield "a value", ("bad --at", 0), lambda: (it.says("refused"), it.run(found))
-    saved = room.file("saved.html", it.run("return app.pageText(app.data())"))
+    saved = room.file("saved.html", it.run("return pageText(dataNow())"))
     it.open(saved)
     yield "the page that is saved", (f"{tag}.txt", 0, 1), lambda: (it.says("title"), it.run(found), len(it.deliveries()))
 

@@ -308,7 +308,7 @@ def sessions(it, room):
     waited(it, "routes[0].rank === '4'")
     wanted = [[str(rank), delivery, contacts] for rank, (delivery, _, contacts) in enumerate(room.routes_of(RELAY, 6), 1)][3:]
     yield "the next page", wanted, routes_shown, it
-    yield "its report", room.run([room.program, "next", "--plan", RELAY, "--session", f"{room.path}/session3", "--count", "3"]).out, it.run, "return app.report"
+    yield "its report", room.run([room.program, "next", "--plan", RELAY, "--session", f"{room.path}/session3", "--count", "3"]).out, it.run, "return listing.report"
     yield "the session after it", session_of(room, 6), saved, it, room, "session", "Save the session after these routes", "relay.session"
 
 
@@ -338,11 +338,11 @@ def saved_page(it, room):
     text = f"{text_of(RELAY)}\n# <!--<script>alert(1)</script>\nd contact 2030/01/01-01:00:00 31 22\n"
     it.wait_for("openPlan('other.txt', arguments[0], { ...request.texts, maxHops: '5' }).then(done)".replace("arguments[0]", json.dumps(text)))
     show(it, "save")
-    before = routes_shown(it), it.run("return [app.plan.text, app.plan.name, request.texts, app.report]")
+    before = routes_shown(it), it.run("return [app.plan.text, app.plan.name, request.texts, listing.report]")
     text = saved(it, room, "save", "HTML", "other.html")
     it.open(room.file("opened.html", text))
     waited(it, "app.plan && routes.length")
-    yield "the saved page", before, lambda: (routes_shown(it), it.run("return [app.plan.text, app.plan.name, request.texts, app.report]"))
+    yield "the saved page", before, lambda: (routes_shown(it), it.run("return [app.plan.text, app.plan.name, request.texts, listing.report]"))
 
 
 def links(it, room):

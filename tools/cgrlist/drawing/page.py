@@ -19,10 +19,13 @@ from .told import explanations, report_text, seeds_of, texts_of
 
 FOLDER = Path(__file__).resolve().parent / "html"
 ENGINE = FOLDER.parent.parent / "engine"
-RUNS = ("errors", "program", "engine")  # of the engine, in the order in which they run
+RUNS = ("errors", "program", "engine", "texts")  # of the engine, in the order in which they run
 SCRIPTS = ("plan", "times", "answers", "routes", "view", "svg", "colours", "picture", "traces", "sheets", "words", "starts")
-SCRIPTS += ("timetable", "hands", "find", "ask", "app", "open", "about")
+SCRIPTS += ("timetable", "hands", "find", "ask", "open", "about")
 PANELS = ("panel", "faults", "choices", "judge", "session", "export", "link")
+# Those of routes that stand back: as far towards the ground as eyes can follow a line.
+FAINT_LIGHT = ["#478fe3", "#cd7940", "#539f69", "#a17ce7", "#cf6ba7", "#82974d", "#ae8533", "#3b97a3"]
+FAINT_DARK = ["#486d97", "#865c37", "#32723e", "#705d8b", "#865673", "#606b3e", "#78622c", "#3c7076"]
 MOST_ROUTES = 1000  # so many are on a page that isn't asked for twice
 
 
@@ -120,7 +123,8 @@ def about_data():
 def look_data():
     """How a page looks like a picture: the steps of its axis, and the colours and dashes of its routes."""
     dashes = [[] if it == "none" else [*map(int, it.split())] for it in DASHES]
-    return {"steps": [[it.seconds, it.months] for it in STEPS], "dashes": dashes, "light": LIGHT, "dark": DARK}
+    hues = {"light": (LIGHT, FAINT_LIGHT), "dark": (DARK, FAINT_DARK)}
+    return {"steps": [[it.seconds, it.months] for it in STEPS], "dashes": dashes, **hues}
 
 
 def read(path):

@@ -65,11 +65,12 @@ def report_text(routes, is_whole=None):
 
 
 def explanations(routes):
-    """The explanations of routes, one after the other."""
-    return "".join(f"{line}\n" for route in routes for line in [*_hop_lines(route), route.text()])
+    """The explanations of routes, one after the other, each below a line with its contacts."""
+    return "".join(f"{line}\n" for route in routes for line in [*_lines_above(route), route.text()])
 
 
-def _hop_lines(route):
+def _lines_above(route):
+    yield f"list {','.join(map(str, route.contacts))}"
     for place, it in enumerate(route.hops, 1):
         ends = f"from {it.sender} to {it.receiver} send {time_text(it.send)} arrive {time_text(it.arrive)}"
         yield f"hop {place} contact {it.contact} {ends}"
@@ -104,7 +105,8 @@ def seeds_of(told, plan, missing):
         yield _followed(routes, request, missing)
     yield from _seeds_of_losses(told, missing)
     if told.starts:
-        yield {**_seed("timetable", texts_of(request), "", (missing, ())), "answer": _timetable(told.starts)}
+        seed = _seed("timetable", texts_of(request), explanations(told.starts.routes), (missing, ()))
+        yield {**seed, "answer": {**seed["answer"], "rows": _rows(told.starts)}}
 
 
 def _check_text(plan):
@@ -135,11 +137,8 @@ def _seeds_of_losses(told, missing):
             yield _followed([route], request, missing)
 
 
-def _timetable(starts):
+def _rows(starts):
     """The stretches, each with the place of its route among those that are told once, and its first and last delivery."""
     places = {route.contacts: place for place, route in enumerate(starts.routes)}
-    rows = [
-        [it.first, it.last, *([places[it.route.contacts], it.delivery, it.last_delivery] if it.route else [])]
-        for it in starts.stretches
-    ]
-    return {"status": 0, "rows": rows, "report": report_text(starts.routes), "explained": explanations(starts.routes)}
+    told = lambda it: [places[it.route.contacts], it.delivery, it.last_delivery] if it.route else []
+    return [[it.first, it.last, *told(it)] for it in starts.stretches]

@@ -4,36 +4,48 @@ import { CgrlistError, NO_PROGRAM, STOPPED } from "./errors.mjs";
 import { Program, compiledModule, engineLack } from "./program.mjs";
 
 /**
- * What the worker does: the first message has the module, each later one a question. A browser compiles a function when it
- * is first called, so the first worker calls most of them over a small plan before it says that it is ready.
+ * What the worker does: the first message has the module, which is compiled and handed back, and each later one a question.
+ * A browser compiles a function when it is first called. So the first worker asks `first` over a small plan, while the page
+ * is laid out, and the other runs as long as nothing else is asked, so that a question waits for one of them at most.
  */
 function workerTask() {
+  const PAUSE = 50; // milliseconds before each of the other runs
   let program;
   let plan; // the last one, which isn't sent again
   const bytesOf = (text) => (typeof text === "string" ? new TextEncoder().encode(text) : text);
-  const warmUp = () => {
+  const warmUp = ([run, ...others], asked) => {
+    const { session } = program.ask(run, asked);
+    if (others.length) {
+      setTimeout(warmUp, PAUSE, others, { session, ...asked });
+    }
+  };
+  const warmUpAll = () => {
     const at = "2030/01/01-00:00:00";
     const nodes = [1, 2, 3, 4, 5];
     const pairs = nodes.flatMap((from) => nodes.filter((to) => to !== from).map((to) => `+0 +9000 ${from} ${to} 1`));
-    const plan = `@ ${at}\n${pairs.map((pair) => `a range ${pair}\na contact ${pair}\n`).join("")}`;
+    const small = `@ ${at}\n${pairs.map((pair) => `a range ${pair}\na contact ${pair}\n`).join("")}`;
     const lines = { requests: `1 5 ${at}\n`, lists: `4 1 5 ${at}\n` };
-    const asked = { plan, from: "1", to: "5", at, count: "8", contacts: "4", keep: true, ...lines };
-    const { session } = program.ask("first", asked);
-    for (const run of ["check", "next", "verify", "explain", "many", "follow", "canonical"]) {
-      program.ask(run, { ...asked, session });
-    }
+    const asked = { plan: small, from: "1", to: "5", at, count: "8", contacts: "4", keep: true, ...lines };
+    warmUp(["first", "many", "follow", "check", "canonical", "next", "verify", "explain"], asked);
   };
-  const answerTo = ({ module, isFirst, run, texts }) => {
-    if (!module) {
-      plan = "plan" in texts ? bytesOf(texts.plan) : plan;
-      return program.ask(run, { ...texts, plan });
-    }
+  const begin = async (given) => {
+    const module = await compiledModule(given);
     program = new Program(module);
-    return isFirst ? warmUp() : undefined;
+    if (module !== given) {
+      warmUpAll();
+    }
+    return module;
   };
-  globalThis.onmessage = ({ data }) => {
+  const answerTo = ({ module, run, texts }) => {
+    if (module) {
+      return begin(module);
+    }
+    plan = "plan" in texts ? bytesOf(texts.plan) : plan;
+    return program.ask(run, { ...texts, plan });
+  };
+  globalThis.onmessage = async ({ data }) => {
     try {
-      globalThis.postMessage({ answer: answerTo(data) });
+      globalThis.postMessage({ answer: await answerTo(data) });
     } catch (error) {
       globalThis.postMessage({ failure: String(error) });
     }
@@ -66,27 +78,27 @@ export class Engine {
       if (without) {
         throw new Error(without);
       }
-      this.#module = await compiledModule(await module);
-      await this.#employ(true);
+      const begun = this.#employ(); // before the module is there
+      this.#worker.postMessage({ module: await module });
+      this.#module = await begun;
       this.state = "ready";
     } catch (error) {
       this.state = error.message;
+      this.#worker?.terminate();
     }
     this.#goOn();
     return this.state;
   }
 
-  /** Begins a worker, which first gets the module. */
-  #employ(isFirst) {
-    this.#source ??= URL.createObjectURL(new Blob([`${Program}\n(${workerTask})()`], { type: "text/javascript" }));
+  /** Begins a worker, which is sent the module next, and hands it on compiled. */
+  #employ() {
+    const parts = [`${Program}\n${compiledModule}\n(${workerTask})()`];
+    this.#source ??= URL.createObjectURL(new Blob(parts, { type: "text/javascript" }));
     this.#worker = new Worker(this.#source);
     this.#sent = undefined;
     this.#worker.onmessage = ({ data }) => this.#end(data);
     this.#worker.onerror = ({ message }) => this.#replace(new CgrlistError(NO_PROGRAM, message || "the worker ended"));
-    return new Promise((done, refuse) => {
-      this.#running = { done, refuse };
-      this.#worker.postMessage({ module: this.#module, isFirst });
-    });
+    return new Promise((done, refuse) => (this.#running = { done, refuse }));
   }
 
   /** Ends the question that runs by its answer, or by what it failed with. */
@@ -106,7 +118,8 @@ export class Engine {
     const { refuse } = this.#running ?? {};
     this.#worker.terminate();
     if (this.state === "ready") {
-      this.#employ(false).catch(({ message }) => (this.state = message));
+      this.#employ().catch(({ message }) => (this.state = message));
+      this.#worker.postMessage({ module: this.#module });
     }
     refuse?.(error);
   }

@@ -176,9 +176,13 @@ export function engineLack() {
   return WebAssembly.validate(smallest) ? "" : "no 64-bit memory in WebAssembly";
 }
 
-/** The compiled module of its bytes, which may be compressed or in base 64. */
+/** The compiled module of its bytes, which may be compressed or in base 64. The text of this is the worker's, too. */
 export async function compiledModule(given) {
-  const bytes = typeof given === "string" ? Uint8Array.from(atob(given), (it) => it.charCodeAt(0)) : new Uint8Array(given);
+  if (given instanceof WebAssembly.Module) {
+    return given;
+  }
+  const decode = (text) => Uint8Array.fromBase64?.(text) ?? Uint8Array.from(atob(text), (it) => it.charCodeAt(0));
+  const bytes = typeof given === "string" ? decode(given) : new Uint8Array(given);
   const isGzip = bytes[0] === 0x1f && bytes[1] === 0x8b;
   const plain = isGzip ? new Blob([bytes]).stream().pipeThrough(new DecompressionStream("gzip")) : bytes;
   return WebAssembly.compile(await new Response(plain).arrayBuffer());

@@ -14,7 +14,7 @@ function tellEngine() {
   const isHere = engine.state === "ready";
   const here = `cgrlist ${about.version}: proved answers, computed in this page. No data leaves it.`;
   const told = isHere ? here : `This page shows what was found when it was made. ${BROWSERS} answer the rest.`;
-  if (!byId("told").textContent) app.tell(told);
+  if (!byId("told").textContent) tell(told);
   const lack = `It doesn't answer here: ${engine.state}. ${BROWSERS} have what it needs.`;
   byId("engine").textContent = isHere ? "It answers in this browser." : lack;
 }

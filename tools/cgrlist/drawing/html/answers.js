@@ -69,6 +69,9 @@ async function askOver(lost, run, texts) {
   return answer;
 }
 
+// The answer of a run over the plan that is shown, without what is lost, or over another plan that is among the texts.
+const askHere = (run, texts = {}) => ("plan" in texts ? askEngine(run, texts) : askOver(lossesNow(), run, texts));
+
 // Asks the engine. What a browser that has none is told, says which have one.
 function askEngine(run, texts) {
   const given = Object.fromEntries(Object.entries(texts).map(([name, value]) => [name, value ?? ""]));

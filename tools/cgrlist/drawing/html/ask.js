@@ -73,9 +73,11 @@ function tellBusy() {
   tellBusy.due = setTimeout(show, waiting.size ? 150 : 0);
 }
 
+const tell = (text) => (byId("told").textContent = text);
+
 function tellRefused(text, isPlan = false) {
-  const toPlan = element("button", { type: "button", class: "small", onclick: () => app.showPanel("plan") }, "Show the text");
-  byId("refused").replaceChildren(...(text ? [text, isPlan && panels.has("plan") ? toPlan : ""] : []));
+  const toPlan = element("button", { type: "button", class: "small", onclick: () => showPanel("plan") }, "Show the text");
+  byId("refused").replaceChildren(...(text ? [text, isPlan ? toPlan : ""] : []));
 }
 
 // ---- Questions ----

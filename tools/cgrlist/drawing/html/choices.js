@@ -98,25 +98,16 @@ async function followed(ask, choices) {
     const lists = left.map((it) => `${it.contacts.join(",")} ${it.asked}\n`).join("");
     const { status, report, message } = await ask("follow", { lists });
     const [, line, fault] = /lists line (\d+): (\w+)/.exec(message) ?? [];
-    if (status === 0) return [...refused, ...answersIn(report, "list ").map((lines, at) => [left[at], explanationIn(lines)])];
+    if (status === 0) return [...refused, ...explainedIn(report).map((it, at) => [left[at], endOf(it)])];
     if (!line) throw new Error(message);
     refused.push([left.splice(line - 1, 1)[0], { fault }]);
   }
   return refused;
 }
 
-// The lines of each part of a report; a part begins with a line that begins with a word.
-function answersIn(report, word) {
-  const parts = `\n${report.trimEnd()}`.split(`\n${word}`).slice(1);
-  return parts.map((part) => part.split("\n").slice(1));
-}
-
-// What lines of an explanation say: hops, and a delivery or a fault.
-function explanationIn(lines) {
-  const hops = lines.map((line) => HOP.exec(line)).filter(Boolean), [route] = routesIn(lines.at(-1));
-  const place = (contact) => contactWith.get(Number(contact)), fault = lines.at(-1).replace(/^refused:? /, "");
-  const read = ([, contact, send, arrive]) => ({ contact: place(contact), send: secondOf(send), arrive: secondOf(arrive) });
-  return { hops: hops.map(read), ...(route ? { delivery: route.delivery } : { fault }) };
+// What an explanation ends with: a delivery, or a fault in words.
+function endOf({ hops, route, fault }) {
+  return route ? { hops, delivery: route.delivery } : { hops, fault: fault.hop ? `hop ${fault.hop}: ${fault.reason}` : fault.reason };
 }
 
 // Of the request of each of some choices, which are routes, its first routes: the best delivery, ranks by contacts, and how many
@@ -129,7 +120,7 @@ async function listingsOf(ask, choices, tell) {
       tell(`${at * REQUESTS_OF_RUN} of ${count(asked.length, "request")} answered`);
       const { status, report, message } = await ask("many", { requests: `${part.join("\n")}\n`, count: String(look) });
       if (status !== 0) throw new Error(message);
-      answersIn(report, "request ").forEach((lines, place) => lists.set(part[place], listingIn(lines, look)));
+      answersIn(report, "request ").forEach(({ told }, place) => lists.set(part[place], listingIn(told, look)));
     }
   }
   return lists;

@@ -92,20 +92,44 @@ function requestJson(node) {
 
 async function aboutJson() {
   const passed = new Set(routes.flatMap((it) => it.nodes.map((place) => known.nodes[place])));
-  const digest = digestIn(await askOver(lossesBelow(), "check", {})), end = app.report ? app.report.endsWith("end\n") : null;
+  const digest = digestIn(await askOver(lossesBelow(), "check", {})), end = listing.report ? listing.report.endsWith("end\n") : null;
   const told = Object.fromEntries([...names].filter(([node]) => passed.has(node)));
   return { looked_at: routes.length, end, names: told, plan: digest, version: about.version };
 }
 
+// ---- The page ---------------------------------------------------------------------------------------------------
+
+// What a file needs so that it opens with what this page shows.
+const dataNow = () => ({
+  ...data,
+  name: app.plan.name,
+  names: Object.fromEntries(names),
+  plan: app.plan.text,
+  span: null,
+  links: null,
+  lost: numbersOf(missing),
+  request: request?.texts ?? null,
+  given: listing.isGiven ? { report: listing.report, explained: listing.explained } : null,
+  answers: [...cache.values()],
+});
+
+// This page's file with other data inside.
+function pageText(inside) {
+  const [begin, end] = ['<script type="application/json" id="data">', "<\/script>"];
+  const from = file.indexOf(begin) + begin.length;
+  const json = JSON.stringify(inside).replaceAll("<", "\\u003c");
+  return `<!DOCTYPE html>\n${file.slice(0, from)}${json}${file.slice(file.indexOf(end, from))}\n`;
+}
+
 // ---- The panel --------------------------------------------------------------------------------------------------
 
-const saveReport = () => save(fileName("report"), "text/plain", app.report);
+const saveReport = () => save(fileName("report"), "text/plain", listing.report);
 const saveRoutes = () => save(fileName("csv"), "text/csv", routesCsv());
 const saveHops = () => save(fileName("hops.csv"), "text/csv", hopsCsv());
 const saveJson = async () => save(fileName("json"), "application/json", await routesJson());
 const savePicture = () => save(fileName("svg"), "image/svg+xml", svgText(0, AXIS + rows.height));
-const savePlan = () => save(app.plan.name, "text/plain", app.planText());
-const savePage = () => save(fileName("html"), "text/html", app.pageText(app.data()));
+const savePlan = () => save(app.plan.name, "text/plain", textWithout(lossesNow()));
+const savePage = () => save(fileName("html"), "text/html", pageText(dataNow()));
 
 const kinds = { Report: saveReport, CSV: saveRoutes, "CSV of hops": saveHops, JSON: saveJson };
 const needingRoutes = Object.entries(kinds).map(([name, act]) => actButton(name, act));
@@ -125,8 +149,8 @@ addPanel("save", "Save", [
 // Shows what can be saved now.
 function showSaved() {
   for (const button of needingRoutes) button.disabled = !routes.length;
-  needingRoutes[0].disabled = !app.report;
+  needingRoutes[0].disabled = !listing.report;
   showLink();
 }
 
-app.changed(showSaved);
+listeners.push(showSaved);

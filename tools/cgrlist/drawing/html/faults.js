@@ -82,7 +82,7 @@ async function checkText() {
   clearTimeout(edited.timer);
   if (formOf(planArea.value)) return showFaults({ faults: [], isAll: true });
   const ofPlan = async () => ({ faults: [], isAll: true, answer: await askOver(noLosses, "check", {}) });
-  const found = await (isPlanText() ? ofPlan() : faultsOf(app.ask, planArea.value, goesOn));
+  const found = await (isPlanText() ? ofPlan() : faultsOf(askHere, planArea.value, goesOn));
   if (found && turn === edited.turn) showFaults(found);
 }
 
@@ -124,7 +124,7 @@ function faultItem({ line, reason, text }, isFirst) {
 
 // Opens the text in the page, for the same question.
 async function useText() {
-  const answer = await app.openPlan(edited.name, planArea.value, app.request);
+  const answer = await openPlan(edited.name, planArea.value, request?.texts);
   if (answer.status === 0) planArea.focus();
 }
 
@@ -151,7 +151,7 @@ const planButtons = element("div", { class: "acts" }, useButton, resetButton, ac
 const planPanel = addPanel("plan", "Plan text", [planState, planField.part, planButtons, faultList], showPlanText);
 planPanel.classList.add("wide");
 
-app.changed((what) => {
+listeners.push((what) => {
   if (what !== "plan" && what !== "refused") return;
   edited.isOld = true;
   if (planPanel.offsetParent) showPlanText();

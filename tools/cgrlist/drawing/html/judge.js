@@ -28,7 +28,7 @@ const judgeTable = element("div", { class: "judged" });
 // Judges the choices in the field over the plan as it is now.
 async function judge() {
   if (judgement.isRunning) return;
-  const plan = app.planText(), ask = (run, texts) => app.ask(run, { ...texts, plan }); // not kept: they may be many
+  const plan = textWithout(lossesNow()), ask = (run, texts) => askEngine(run, { ...texts, plan }); // not kept: they may be many
   const choices = choicesOf(choiceField.area.value, Number(firstNumber.value));
   if (!choices.length) return void (judgeState.textContent = "There is no choice yet.");
   tellJudging(true);
@@ -128,6 +128,6 @@ addPanel("judge", "Judge", [
   judgeTable,
 ]).classList.add("wide");
 
-app.changed((what) => {
+listeners.push((what) => {
   if (what === "plan") showJudged([]);
 });

@@ -13,7 +13,7 @@ function linkState() {
 // Asks what an address asks, over the plan that is shown.
 async function recallLink(state) {
   const ask = state.get("ask") ?? lineAtFirst(), plan = state.get("plan") ?? app.plan.digest;
-  if (plan !== app.plan.digest) app.tell("This link is of another plan than this page has: open that plan, too.");
+  if (plan !== app.plan.digest) tell("This link is of another plan than this page has: open that plan, too.");
   const [from, to, at, marginPpm, maxHops, avoid] = ask.split(" ");
   if (ask && ask !== lineNow()) await setRequest({ from, to, at, marginPpm, maxHops, avoid });
 }
@@ -30,5 +30,5 @@ const showLink = () => (byId("link").value = location.href);
 function copyLink() {
   byId("link").select();
   document.execCommand("copy"); // pages from files have no other way in each browser
-  app.tell("The link is copied.");
+  tell("The link is copied.");
 }

@@ -44,6 +44,7 @@ function showOpened(plan, canonical) {
   usePlan(contactsIn(canonical.report));
   fillQuestion();
   byId("below").hidden = true;
+  isFit = false;
   showAnew();
   announce("plan");
 }

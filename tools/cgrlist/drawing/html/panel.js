@@ -1,4 +1,40 @@
-// What the panels share: fields with labels, files that are opened or dropped, states of buttons, and words for counts.
+// The panels beside the picture, each below a tab, and what they share: fields with labels, and files that are opened or dropped.
+
+const panels = new Map(); // by the names of their tabs: each with what is done when it is opened
+
+// Puts parts beside the picture as a panel with a tab.
+function addPanel(id, title, parts, opened) {
+  const about = { id: `panel-${id}`, class: "panel", role: "tabpanel", "aria-labelledby": `tab-${id}` };
+  const panel = element("div", { ...about, hidden: true }, ...parts);
+  const tab = { id: `tab-${id}`, role: "tab", "aria-controls": panel.id, "aria-selected": false, tabindex: -1 };
+  byId("tabs").append(element("button", { ...tab, onclick: () => showPanel(id) }, title));
+  byId("panels").append(panel);
+  panels.set(id, { panel, opened });
+  return panel;
+}
+
+function showPanel(id) {
+  for (const [other, { panel }] of panels) {
+    const tab = byId(`tab-${other}`);
+    panel.hidden = other !== id;
+    tab.setAttribute("aria-selected", other === id);
+    tab.tabIndex = other === id ? 0 : -1;
+  }
+  byId("side").classList.toggle("wide", panels.get(id).panel.classList.contains("wide"));
+  panels.get(id).opened?.();
+}
+
+// Arrows go from tab to tab.
+byId("tabs").onkeydown = (event) => {
+  const step = { ArrowLeft: -1, ArrowRight: 1 }[event.key], tabs = [...byId("tabs").children];
+  if (!step) return;
+  event.preventDefault();
+  const next = tabs.at((tabs.indexOf(event.target) + step) % tabs.length);
+  next.click();
+  next.focus();
+};
+
+// ---- Parts of panels ----
 
 // A field of several lines with its label, and what stands beside its lines. Ctrl and Enter act.
 function textField(label, about, act, beside = "") {
@@ -32,16 +68,11 @@ const actButton = (label, onclick, about = {}) => element("button", { type: "but
 const inLabel = (before, field, after = "") => element("label", {}, before, field, after);
 const statusLine = () => element("p", { class: "status", role: "status" });
 
-// A panel of parts, which is shown as a tab.
-function addPanel(id, title, parts, opened) {
-  const part = element("div", { class: "panel" }, ...parts);
-  app.addPanel({ id, title, element: part, opened });
-  return part;
-}
-
 // What the plan is without, in words.
 function withoutLost() {
-  const { contacts, nodes } = app.lost, told = (what, all) => (all.length ? [`${what} ${all.join(", ")}`] : []);
+  const { contacts, nodes } = lossesNow(), told = (what, all) => (all.length ? [`${what} ${all.join(", ")}`] : []);
   const lost = [...told("contact", contacts), ...told("node", nodes)];
   return lost.length ? `, over the plan without ${lost.join(" and ")}` : "";
 }
+
+addPanel("routes", "Routes", [byId("listing")]);

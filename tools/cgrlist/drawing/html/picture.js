@@ -8,12 +8,14 @@ let paper = screen; // what is painted on
 const map = byId("map");
 let digitWidth = 7;
 let isPrinting = false;
+let isFit = false; // whether the sizes are those of the page and of the plan's names
 let due = 0;
 
 // Draws all anew at the next frame.
 function draw() {
   due = due || requestAnimationFrame(() => {
     due = 0;
+    if (!isFit) return fitAll();
     paint();
     paintStarts();
     placePart();
@@ -59,6 +61,13 @@ function write(text, x, y, colour, align = "left") {
   paper.fillText(text, x, y);
 }
 
+// Writes left of the plot, narrower if there is no room.
+function writeBeside(text, y, colour) {
+  paper.textAlign = "right";
+  paper.fillStyle = colour;
+  paper.fillText(text, size.left - 10, y, size.left - 16);
+}
+
 // Writes with a rim, so that the text stands out from lines.
 function writeOver(text, x, y, colour, rim) {
   paper.lineWidth = 3;
@@ -67,6 +76,13 @@ function writeOver(text, x, y, colour, rim) {
   paper.strokeStyle = rim;
   paper.strokeText(text, x, y);
   write(text, x, y, colour);
+}
+
+// A line over some places.
+function strokeLine(...places) {
+  paper.beginPath();
+  places.forEach(([x, y], place) => (place ? paper.lineTo(x, y) : paper.moveTo(x, y)));
+  paper.stroke();
 }
 
 function useFont(font, baseline = "middle") {
@@ -213,10 +229,7 @@ function crossOut(left, right, y) {
   }
   paper.stroke();
   paper.globalAlpha = 1;
-  paper.beginPath();
-  paper.moveTo(left, y + BAR / 2);
-  paper.lineTo(right, y + BAR / 2);
-  paper.stroke();
+  strokeLine([left, y + BAR / 2], [right, y + BAR / 2]);
   paper.restore();
 }
 
@@ -261,9 +274,8 @@ function paintOutline(contact, top) {
 function paintNames(inView, top) {
   for (const row of inView) {
     fillBox(row.isBanded ? ink.band : ink.back, 0, top + row.top, size.left, row.height);
-    paper.fillStyle = shows.node !== null || !isOfLink(row) ? ink.accent : rows.lanes.has(row.link) ? ink.number : ink.soft;
-    paper.textAlign = "right";
-    paintName(row, top + row.top + ABOVE + BAR / 2 + 0.5);
+    const colour = shows.node !== null || !isOfLink(row) ? ink.accent : rows.lanes.has(row.link) ? ink.number : ink.soft;
+    paintName(row, top + row.top + ABOVE + BAR / 2 + 0.5, colour);
   }
   fillBox(ink.back, 0, top + rows.height, size.left, size.height);
   fillBox(ink.line, size.left - 1, AXIS, 1, Math.min(size.height, top + rows.height) - AXIS);
@@ -271,14 +283,12 @@ function paintNames(inView, top) {
 }
 
 // A name in one line, or in two smaller ones if it is too wide.
-function paintName(row, y) {
+function paintName(row, y, colour) {
   useFont(MIDDLE);
-  const most = size.left - 16, name = rowName(row), isWide = isOfLink(row) && paper.measureText(name).width > most;
+  const name = rowName(row), isWide = isOfLink(row) && paper.measureText(name).width > size.left - 16;
   const lines = isWide ? [`${nameOf(links[row.link].from)} →`, nameOf(links[row.link].to)] : [name];
   if (isWide) useFont(SMALL);
-  lines.forEach((line, place) => {
-    paper.fillText(line, size.left - 10, y + (isWide ? place * 12 - 5 : 0), most);
-  });
+  lines.forEach((line, place) => writeBeside(line, y + (isWide ? place * 12 - 5 : 0), colour));
 }
 
 function rowName(row) {
@@ -346,22 +356,19 @@ function openAtPixels(scale) {
 
 const mapScale = () => plotWidth() / (latest - earliest || 1);
 
+const MAP = 33; // how high it is
+
 function paintMap() {
-  const height = 33, brush = map.getContext("2d"), open = openAtPixels(mapScale());
-  const most = open.reduce((one, other) => Math.max(one, other), 1);
-  fitCanvas(map, size.width, height, brush);
-  brush.fillStyle = ink.back;
-  brush.fillRect(0, 0, size.width, height);
-  brush.fillStyle = ink.bar;
+  const open = openAtPixels(mapScale()), most = open.reduce((one, other) => Math.max(one, other), 1);
+  paper = brushOf(map, size.width, MAP);
+  fillBox(ink.back, 0, 0, size.width, MAP);
   open.forEach((count, pixel) => {
     const high = (count / most) * 24;
-    brush.fillRect(size.left + pixel, height - 3 - high, 1, high);
+    fillBox(ink.bar, size.left + pixel, MAP - 3 - high, 1, high);
   });
-  brush.font = SMALL;
-  brush.textAlign = "right";
-  brush.textBaseline = "middle";
-  brush.fillStyle = ink.soft;
-  brush.fillText("whole plan", size.left - 10, height / 2);
+  useFont(SMALL);
+  writeBeside("whole plan", MAP / 2, ink.soft);
+  paper = screen;
 }
 
 // Marks the part of the map that is in view.
@@ -375,15 +382,16 @@ function placePart() {
 
 // ---- Sizes ----
 
-// Gives a canvas its size in pixels of the screen.
-function fitCanvas(canvas, width, height, brush) {
-  const scale = devicePixelRatio || 1;
+// Gives a canvas its size in pixels of the screen, and returns what paints on it.
+function brushOf(canvas, width, height) {
+  const scale = devicePixelRatio || 1, brush = canvas.getContext("2d");
   const [wide, high] = [Math.round(width * scale), Math.round(height * scale)];
   if (canvas.width !== wide || canvas.height !== high) {
     [canvas.width, canvas.height] = [wide, high];
     [canvas.style.width, canvas.style.height] = [`${width}px`, `${height}px`];
   }
   brush.setTransform(scale, 0, 0, scale, 0, 0);
+  return brush;
 }
 
 // Lays all out in a width and a height.
@@ -396,11 +404,14 @@ function fitTo(width, height) {
   layOut();
 }
 
+const isOfPage = () => size.width === scroller.clientWidth && size.height === scroller.clientHeight;
+
 // Measures the page, and draws all for it.
 function fitAll() {
   if (!scroller.clientWidth) return; // as in a print
+  isFit = true;
   fitTo(scroller.clientWidth, scroller.clientHeight);
-  fitCanvas(chart, size.width, size.height, screen);
+  brushOf(chart, size.width, size.height);
   paint();
   paintStarts();
   paintMap();

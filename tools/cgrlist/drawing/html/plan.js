@@ -8,6 +8,11 @@ const file = document.documentElement.outerHTML; // before the script changes it
 const data = jsonIn("data"); // the plan and the question with which the file opens
 const look = jsonIn("look");
 
+// The plan that is shown, with `name`, `text` and `digest`, and the last text that was refused, with `name`, `text` and `message`.
+const app = { plan: null, refused: null };
+const listeners = [];
+const announce = (what) => listeners.forEach((listener) => listener(what));
+
 let known; // the columns: `nodes`, and of each contact `number`, `start`, `length`, `rate` and `light`
 let contactCount, ends, contactWith, linkOf, links, earliest, latest;
 const names = new Map(Object.entries(data.names)); // of nodes
@@ -19,38 +24,9 @@ const byNumber = (one, other) => one.length - other.length || (one < other ? -1 
 
 // The contacts of a plan's canonical text, by link and by start, each with the light time for its start.
 function contactsIn(canonical) {
-  const contacts = [], ranges = new Map();
-  for (const line of canonical.split("\n")) {
-    const [word, ...values] = line.split(" ");
-    if (word === "c") contacts.push(readContact(values));
-    if (word === "r") addRange(ranges, values);
-  }
-  for (const contact of contacts) contact.light = lightTime(ranges, contact);
+  const asTexts = ({ from, to, rate, ...others }) => ({ ...others, from: `${from}`, to: `${to}`, rate: `${rate}` });
   const byLink = (one, other) => byNumber(one.from, other.from) || byNumber(one.to, other.to) || one.start - other.start;
-  return contacts.sort(byLink);
-}
-
-function readContact([number, start, end, from, to, rate]) {
-  return { number: Number(number), start: Number(start), end: Number(end), from, to, rate };
-}
-
-function addRange(ranges, [one, other, ...times]) {
-  const [start, end, light] = times.map(Number), pair = `${one} ${other}`;
-  if (!ranges.has(pair)) ranges.set(pair, []);
-  ranges.get(pair).push({ start, end, light });
-}
-
-// The seconds of light for a contact: of the range of its own direction, or else of one that holds in both, which has the
-// smaller node first; null if there is none when the contact starts.
-function lightTime(ranges, { from, to, start }) {
-  const pairs = byNumber(from, to) < 0 ? [`${from} ${to}`] : [`${from} ${to}`, `${to} ${from}`];
-  const holding = pairs.map((pair) => rangeAt(ranges.get(pair) ?? [], start)).find(Boolean);
-  return holding ? holding.light : null;
-}
-
-function rangeAt(ranges, second) {
-  const range = ranges[firstOf(ranges, (it) => it.end > second)];
-  return range && range.start <= second ? range : undefined;
+  return standingIn(canonical).contacts.map(asTexts).sort(byLink);
 }
 
 // The place of the first of some things, in order, for which something holds; it holds for all after that.

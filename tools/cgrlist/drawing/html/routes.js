@@ -6,26 +6,19 @@ let isFromFirst = false; // whether they begin the list of all
 
 // ---- What the program prints ----
 
-const ROUTE = /^(?:(\d+) )?delivery (\S+) hops \d+ entry (\d+) until (\S+) contacts ([\d ]+)$/;
-const HOP = /^hop \d+ contact (\d+) from \d+ to \d+ send (\S+) arrive (\S+)$/;
+const ROUTE = /^(\d+ )?delivery /;
 
 // The routes of a report, without hops. Ranks may be above what a number holds exactly, and stay texts.
-const routesIn = (text) => text.split("\n").map((line) => ROUTE.exec(line)).filter(Boolean).map(readRoute);
-
-function readRoute([line, rank, delivery, entry, until, contacts]) {
-  const numbers = contacts.split(" ").map(Number);
-  return { line, rank, delivery: secondOf(delivery), entry, until: secondOf(until), contacts: numbers };
+function routesIn(report) {
+  const lines = report.split("\n").filter((line) => ROUTE.test(line));
+  return lines.map((line) => ({ ...routeOf(line), rank: /^\d+/.exec(line)?.[0] }));
 }
 
-// The hops of each explanation; an explanation ends with a route's line.
-function explainedIn(text) {
-  const found = [[]];
-  for (const line of text.split("\n")) {
-    const [, contact, send, arrive] = HOP.exec(line) ?? [];
-    if (contact) found.at(-1).push({ contact: contactWith.get(Number(contact)), send: secondOf(send), arrive: secondOf(arrive) });
-    else if (ROUTE.test(line)) found.push([]);
-  }
-  return found.slice(0, -1);
+// The explanations of a report: hops, each with the place of its contact, and then a route or a fault.
+function explainedIn(report) {
+  const placed = (hop) => ({ ...hop, contact: contactWith.get(hop.contact) });
+  const explanations = answersIn(report, "list ").map(({ told }) => explanationOf(told));
+  return explanations.map(({ hops, ...end }) => ({ hops: hops.map(placed), ...end }));
 }
 
 // A route with its hops, and what follows from these.
@@ -41,17 +34,15 @@ function lastStart(hops) {
   return hops.reduceRight((latest, { contact, send, arrive }) => Math.min(ends[contact] - 1, latest - (arrive - send)), Infinity);
 }
 
-// A request's line as `many` takes it, from a second on, and with contacts in front as `follow` does.
-function lineOf({ from, to, marginPpm, maxHops, avoid }, at) {
-  return [from, to, programTime(at), marginPpm || "0", maxHops || "20000", avoid].filter(Boolean).join(" ");
-}
+// A request's line as `many` takes it, from a second on.
+const lineOf = (asked, at) => linesOf([{ ...asked, at }]).trimEnd();
 
 // The hops of routes, as the program explains their contacts, each from a second on; or why it doesn't.
 async function explained(told, asked, seconds = told.map(() => secondOf(asked.at))) {
   if (!told.length) return { status: 0, report: "", hops: [] };
-  const lists = told.map(({ contacts }, place) => `${contacts.join(",")} ${lineOf(asked, seconds[place])}\n`).join("");
+  const lists = linesOf(told.map(({ contacts }, place) => ({ ...asked, contacts, at: seconds[place] })));
   const answer = await askOver(lossesBelow(), "follow", { lists });
-  return { ...answer, hops: explainedIn(answer.report) };
+  return { ...answer, hops: explainedIn(answer.report).map(({ hops }) => hops) };
 }
 
 // The routes of an answer to a question, with their hops, from a place on; or what refuses them.

@@ -24,7 +24,7 @@ function aboutSession(text) {
 // Checks the text in the field, and tells in words whether it is right.
 async function checkSession() {
   tellSession("Checking ..");
-  const session = sessionField.area.value, answer = await app.ask("verify", { session });
+  const session = sessionField.area.value, answer = await askHere("verify", { session });
   if (answer.status > 1 || answer.status === UNANSWERED) return tellSession(messageOf(answer));
   if (answer.status === 1) return tellSession(`No: ${await whyNotSession(session)}.`);
   return tellSession(`Yes: this is the session ${aboutSession(session)}, its routes are the best ones, and none is left out.`);
@@ -32,7 +32,7 @@ async function checkSession() {
 
 // Why `verify` says no: what `next` says of the text.
 async function whyNotSession(session) {
-  const answer = await app.ask("next", { session, count: "1" });
+  const answer = await askHere("next", { session, count: "1" });
   if (answer.status === 0) return "its text is sound, but its routes aren't the best ones, or a part has another best route";
   return sessionFault(messageOf(answer));
 }
@@ -43,12 +43,12 @@ function sessionFault(message) {
 }
 
 async function goOnAfter() {
-  const session = sessionField.area.value, answer = await app.goOn(session), isRight = answer.status === 0;
+  const session = sessionField.area.value, answer = await goOn(session), isRight = answer.status === 0;
   tellSession(isRight ? `The routes that are shown are those ${aboutSession(session)}.` : sessionFault(messageOf(answer)));
 }
 
 async function saveSession() {
-  const text = await app.sessionText();
+  const text = await sessionText();
   if (!text) return tellSession("There is no session: it needs a question, and routes from the first one on.");
   save(fileName("session"), "text/plain", text);
   return tellSession(`Saved: the session ${aboutSession(text)}.`);

@@ -80,7 +80,6 @@ function showAnew() {
   [view.first, view.last] = spanOfRoutes();
   view.widest = view.last - view.first;
   change();
-  fitAll();
 }
 
 // ---- The address ----
@@ -93,6 +92,7 @@ function remember() {
   if (chosen.gone.size) state.set("avoid", [...chosen.gone].map((node) => known.nodes[node]).join(","));
   if (chosen.route !== null) state.set("route", routes[chosen.route].rank);
   if (theme.isChosen) state.set("theme", theme.isDark ? "dark" : "light");
+  if (location.hash === (state.size ? `#${state}` : "")) return;
   try {
     history.replaceState(null, "", state.size ? `#${state}` : location.pathname + location.search);
   } catch {
@@ -135,8 +135,8 @@ addEventListener("hashchange", async () => {
 async function start() {
   useTheme(surroundings.matches);
   for (const [name, action] of Object.entries(does)) byId(name).onclick = action;
-  app.addPanel({ id: "about", title: "About", element: byId("about-page") });
-  app.showPanel("routes");
+  addPanel("about", "About", [byId("about-page")]);
+  showPanel("routes");
   tellAbout();
   const state = opened();
   keepAnswers(data.answers);
@@ -152,8 +152,9 @@ async function start() {
   if (data.span) showSpan(...data.span);
   view.widest = view.last - view.first;
   change();
+  fitAll();
   if (isAsking()) bringIntoView();
-  new ResizeObserver(() => isPrinting || fitAll()).observe(scroller);
+  new ResizeObserver(() => isPrinting || isOfPage() || fitAll()).observe(scroller);
 }
 
 const askOpening = async (run) => keptAnswer(run, noLosses, {}) ?? askEngine(run, { plan: data.plan });
@@ -163,7 +164,7 @@ const placeOfLink = ([from, to]) => links.findIndex((it) => known.nodes[it.from]
 function takeGiven({ report, explained: told }) {
   const hops = explainedIn(told);
   Object.assign(listing, { report, explained: told, session: "", isGiven: true });
-  takeRoutes(data.request, routesIn(report).map((route, place) => withHops(route, hops[place], place)));
+  takeRoutes(data.request, routesIn(report).map((route, place) => withHops(route, hops[place].hops, place)));
 }
 
 surroundings.onchange = () => theme.isChosen || changeTheme(surroundings.matches);

@@ -1,7 +1,6 @@
 // When a bundle is delivered at best, by the second at which it is at the source: the timetable below the picture.
 
 const table = byId("starts");
-const brush = table.getContext("2d");
 const HIGH = 84; // of the timetable
 
 // The stretch of a second, or else the next one; and the nearest second that is known.
@@ -19,12 +18,12 @@ const lastBest = { second: null, route: null };
 
 // The best route from a known second on; null if there is none.
 function routeAtStart(second) {
-  if (lastBest.second !== second) Object.assign(lastBest, { second, route: routeOf(starts[stretchFrom(second)], second) });
+  if (lastBest.second !== second) Object.assign(lastBest, { second, route: routeFrom(starts[stretchFrom(second)], second) });
   return lastBest.route;
 }
 
 // The route of a stretch, with the times that it has from a second on: a hop waits for its contact, and is as long as ever.
-function routeOf({ route }, second) {
+function routeFrom({ route }, second) {
   if (!route) return null;
   let here = second;
   const hops = route.hops.map(({ contact, send, arrive }) => {
@@ -55,20 +54,22 @@ const deliveryAt = ({ route, first, delivery, lastDelivery }, second) =>
 
 function paintStarts() {
   if (byId("below").hidden) return;
-  fitCanvas(table, size.width, HIGH, brush);
-  brush.fillStyle = ink.back;
-  brush.fillRect(0, 0, size.width, HIGH);
-  writeBeside(["best delivery,", "by the second", "at the source"]);
-  if (!starts) return;
-  brush.save();
-  brush.beginPath();
-  brush.rect(size.left, 0, size.width - size.left, HIGH);
-  brush.clip();
+  paper = brushOf(table, size.width, HIGH);
+  fillBox(ink.back, 0, 0, size.width, HIGH);
+  useFont(SMALL);
+  ["best delivery,", "by the second", "at the source"].forEach((line, place) => writeBeside(line, 26 + 15 * place, ink.soft));
+  if (starts) paintStretches();
+  paper = screen;
+}
+
+function paintStretches() {
+  paper.save();
+  clipTo(size.left, 0, size.width - size.left, HIGH);
   const inView = starts.filter((it) => it.route && it.last >= view.first && it.first <= view.last);
   const yOf = heightsOfDeliveries(inView);
   inView.forEach((it, place) => paintStretch(it, inView[place - 1], yOf));
   paintLine(yOf);
-  brush.restore();
+  paper.restore();
 }
 
 // Where deliveries lie, of which the earliest and the latest in view are at the ends.
@@ -77,49 +78,31 @@ function heightsOfDeliveries(inView) {
   return (second) => HIGH - 8 - ((second - low) / (high - low || 1)) * (HIGH - 32);
 }
 
-function writeBeside(lines) {
-  brush.font = SMALL;
-  brush.textAlign = "right";
-  brush.textBaseline = "middle";
-  brush.fillStyle = ink.soft;
-  lines.forEach((line, place) => brush.fillText(line, size.left - 10, 26 + 15 * place, size.left - 16));
-}
-
 // The line of a stretch, and what joins it with the one before.
 function paintStretch(it, before, yOf) {
   const left = xOf(it.first), right = Math.max(xOf(it.last + 1), left + 1), y = yOf(it.delivery);
   if (before) {
-    brush.strokeStyle = ink.grid;
-    brush.lineWidth = 1;
-    strokeOn(brush, [[xOf(before.last + 1), yOf(before.lastDelivery)], [left, yOf(before.lastDelivery)], [left, y]]);
+    paper.strokeStyle = ink.grid;
+    paper.lineWidth = 1;
+    strokeLine([xOf(before.last + 1), yOf(before.lastDelivery)], [left, yOf(before.lastDelivery)], [left, y]);
   }
-  brush.strokeStyle = it.hue === undefined ? ink.used : ink.routes[it.hue % HUES];
-  brush.lineWidth = 2.5;
-  strokeOn(brush, [[left, y], [right, yOf(it.lastDelivery)]]);
-}
-
-function strokeOn(brush, places) {
-  brush.beginPath();
-  places.forEach(([x, y], place) => (place ? brush.lineTo(x, y) : brush.moveTo(x, y)));
-  brush.stroke();
+  paper.strokeStyle = it.hue === undefined ? ink.used : ink.routes[it.hue % HUES];
+  paper.lineWidth = 2.5;
+  strokeLine([left, y], [right, yOf(it.lastDelivery)]);
 }
 
 // The line that can be dragged, and the delivery from its second on.
 function paintLine(yOf) {
   const second = startSecond(), x = Math.round(xOf(second)) + 0.5, delivery = deliveryAt(starts[stretchFrom(second)], second);
-  brush.fillStyle = isStarting() ? ink.accent : ink.soft;
-  brush.fillRect(x - 0.5, 0, 1.5, HIGH);
+  const colour = isStarting() ? ink.accent : ink.soft;
+  fillBox(colour, x - 0.5, 0, 1.5, HIGH);
   for (const y of [9, delivery === null ? 9 : yOf(delivery)]) {
-    brush.beginPath();
-    brush.arc(x, y, y === 9 ? 6 : 4, 0, 7);
-    brush.fill();
+    paper.beginPath();
+    paper.arc(x, y, y === 9 ? 6 : 4, 0, 7);
+    paper.fill();
   }
   const text = delivery === null ? "no route" : `delivery ${timeBeside(delivery, second)}`, isLeft = x + 160 > size.width;
-  brush.textAlign = isLeft ? "right" : "left";
-  brush.strokeStyle = ink.back; // a rim, so that the text stands out from lines
-  brush.lineWidth = 5;
-  brush.strokeText(text, x + (isLeft ? -11 : 11), 9);
-  brush.fillText(text, x + (isLeft ? -11 : 11), 9);
+  writeOver(text, isLeft ? x - 11 - paper.measureText(text).width : x + 11, 9, colour, ink.back);
 }
 
 // What is best for the second of the line.

@@ -20,9 +20,6 @@ function clockText(second) {
 
 const timeText = (second) => `${dayText(second)}${data.iso ? "T" : "-"}${clockText(second)}${data.iso ? "Z" : ""}`;
 
-// A time as the program takes it.
-const programTime = (second) => `${dayText(second).replaceAll("-", "/")}-${clockText(second)}`;
-
 const WHOLE_TIME = /^(\d{4})([-/])(\d\d)\2(\d\d)[-Tt ](\d\d):(\d\d):(\d\d)[Zz]?$/;
 
 // The second of a time in either spelling; NaN if it is none, as of a day that its month doesn't have.

@@ -21,13 +21,12 @@ function useTimetable(answer) {
   starts = answer && stretchesIn(answer);
   byId("below").hidden = !starts && (!request || !routes.length || isLacking());
   if (starts) recallStart();
-  fitAll();
+  draw();
 }
 
 // The stretches of an answer. Of a second between two of them the page doesn't know the best route.
-function stretchesIn({ rows, report, explained }) {
-  const hops = explainedIn(explained);
-  const all = routesIn(report).map((route, place) => withHops(route, hops[place], routes.length, "★"));
+function stretchesIn({ rows, report }) {
+  const all = explainedIn(report).map(({ hops, route }) => withHops(route, hops, routes.length, "★"));
   const hues = all.map((it) => likeRoute(it)?.place);
   return rows.map(([first, last, place, delivery, lastDelivery]) => {
     return { first, last, route: all[place] ?? null, delivery, lastDelivery, hue: hues[place] };
@@ -50,17 +49,17 @@ async function timetableOf({ texts, at }) {
   const places = new Map([...firsts.keys()].map((key, place) => [key, place]));
   const rows = stretches.map(({ first, last, route, delivery, lastDelivery }) =>
     [first, last, ...(route ? [places.get(keyOfRoute(route)), delivery, lastDelivery] : [])]);
-  return { rows, report: first.map((it) => `${it.route.line}\n`).join(""), explained: told.report };
+  return { rows, report: told.report };
 }
 
 const keyOfRoute = (route) => route.contacts.join();
 
 // The best route, or null, at each of some seconds; undefined if nothing tells it.
 async function bestAt(texts, seconds) {
-  const requests = seconds.map((second) => `${lineOf(texts, second)}\n`).join("");
+  const requests = linesOf(seconds.map((at) => ({ ...texts, at })));
   const answer = await askOver(lossesBelow(), "many", { requests, count: "1" });
   if (answer.status !== 0) return undefined;
-  return `\n${answer.report}`.split("\nrequest ").slice(1).map((part) => routesIn(part)[0] ?? null);
+  return answersIn(answer.report, "request ").map(({ told }) => routesIn(told[0])[0] ?? null);
 }
 
 // The best routes at seconds of a span, by second: at some that are equally far from each other, and then in the middle of the

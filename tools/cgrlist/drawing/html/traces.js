@@ -10,10 +10,7 @@ function paintStart(bottom) {
   paper.strokeStyle = isStarting() ? ink.accent : ink.soft;
   paper.lineWidth = 1;
   paper.setLineDash([2, 3]);
-  paper.beginPath();
-  paper.moveTo(x, AXIS);
-  paper.lineTo(x, bottom);
-  paper.stroke();
+  strokeLine([x, AXIS], [x, bottom]);
   paper.setLineDash([]);
 }
 
@@ -81,19 +78,12 @@ function paintWait(piece) {
   if (!from && hop.send <= since) return;
   paper.lineWidth = isFaint(route) ? 1.2 : 1.6;
   paper.setLineDash(dashesOf(route));
-  strokeLine(start, y, send, y);
+  strokeLine([start, y], [send, y]);
   paper.setLineDash([]);
   traced.push(tracedPiece(piece, start, send, true));
 }
 
 const dashesOf = (route) => DASHES[(route.place % HUES) % DASHES.length];
-
-function strokeLine(...[x, y, toX, toY]) {
-  paper.beginPath();
-  paper.moveTo(x, y);
-  paper.lineTo(toX, toY);
-  paper.stroke();
-}
 
 // From the lane of the hop before to that of this one, where the bundle arrives.
 function paintTurn(piece) {
@@ -102,7 +92,7 @@ function paintTurn(piece) {
   paper.lineCap = shares > 1 ? "butt" : "round";
   paper.setLineDash(shares > 1 ? [DASH, DASH * (shares - 1)] : dashesOf(route));
   paper.lineDashOffset = shares > 1 ? lowest(piece) - DASH * share : 0;
-  strokeLine(from.x, lowest(piece), from.x, highest(piece));
+  strokeLine([from.x, lowest(piece)], [from.x, highest(piece)]);
   paper.lineDashOffset = 0;
   paper.lineCap = "round";
   traced.push({ ...tracedPiece(piece, from.x, from.x, true), low: lowest(piece), high: highest(piece) });
@@ -110,10 +100,7 @@ function paintTurn(piece) {
 
 function paintHop(piece) {
   paper.lineWidth = isFaint(piece.route) ? 3.5 : 5;
-  paper.beginPath();
-  paper.moveTo(piece.send, piece.y);
-  paper.lineTo(piece.arrive, piece.y);
-  paper.stroke();
+  strokeLine([piece.send, piece.y], [piece.arrive, piece.y]);
   traced.push(tracedPiece(piece, piece.send, piece.arrive, false));
 }
 
