@@ -4,12 +4,13 @@
     page.py [PROGRAM] [--only NAME,..] [--counts N,N,..] [--repeats N] [--browsers NAME,..] [--out FOLDER]
 
 calls    warm calls of `first` over six plans: what the page waits for an answer, by its own clock, the best of some in turns
-         with runs of the program, as multiples of these; and the least memory that has to be lent, in MB
-opening  the time from opening the page to the answer of a question that is asked as soon as its script has run, the best of
-         some, and the same in a browser that has opened no page before
+         with runs of the program, and as multiples of these, beside what is the most in Chromium; and the least memory that
+         has to be lent, in MB, beside the program's
+opening  the time from opening the page to the answer of a question that is asked as soon as its script has run, in a browser
+         that has opened no page before, and the best of further pages
 
-The plans are those of plans.py; reports are compared byte for byte. A browser that isn't there is left out. Status 1: a run
-failed, or two reports differ.
+All of it takes some minutes. What is above its most is bold. The plans are those of plans.py; reports are compared byte for
+byte. A browser that isn't there is left out. Status 1: a run failed, or two reports differ.
 """
 import argparse
 import base64
@@ -18,6 +19,8 @@ import json
 import os
 import re
 import sys
+from contextlib import ExitStack
+from functools import partial
 
 import plans
 from measure import built_program
@@ -32,6 +35,8 @@ PLANS = ["relay-mars-2000", "relay-mars-20000", "walker-66-5000", "grid-8", "spa
 IN_A_ROW = 3  # runs and calls before the other one's turn
 WARMING = 5  # calls that aren't measured
 MEGABYTE = 1 << 20
+MOST = {1: 1.3, 1000: 1.8, 10000: 1.5}  # times the program's, of so many routes in Chromium
+MOST_OPENING = 500  # milliseconds from opening the page to an answer in Chromium
 
 # What the page waits for an answer, several times, and the report.
 CALLS = """
@@ -59,59 +64,77 @@ def script(text, **names):
     return "".join(f"const {name} = {json.dumps(value)};" for name, value in names.items()) + text
 
 
+def judged(number, most, digits=2):
+    """A number, which is bold if it is above its most."""
+    text = shown(number, digits)
+    return f"**{text}**" if number and most and number > most else text
+
+
 # ---- Calls ------------------------------------------------------------------------------------------------------
 
 
-class Pair:
-    """The program and a browser that has the page open: their times for one question, in milliseconds."""
+class Side:
+    """The program, or a browser that has the page open: its times for a question, in milliseconds, and its reports."""
 
-    def __init__(self, program, browser):
-        self.program, self.browser = program, browser
+    def __init__(self, name, asked):
+        self.name, self.asked = name, asked
+        self.times, self.reports = [], set()
 
-    def by_program(self, question, count):
-        """The time of a run, and its report."""
-        ran = run(self.program.words(question.words(count)), 600)
-        return ran.seconds * 1000, ran.text.decode() if ran.status == 0 else None
-
-    def by_page(self, asked, repeats):
-        """The times of calls, and the report."""
-        told = self.browser.value(script(CALLS, asked=asked, repeats=repeats))
-        return told["times"], told["report"] if told["status"] == 0 else None
-
-    def measured(self, question, count, repeats):
-        """The best time of each, whether the reports are one, and the lent memory."""
-        with open(question.path, encoding="ascii") as file:
-            asked = {"plan": file.read(), "from": question.source, "to": question.target, "at": question.at, "count": str(count)}
-        self.by_page(asked, WARMING)
-        mine, theirs, reports = [], [], set()
-        for _ in range(repeats):
-            for _ in range(IN_A_ROW):
-                took, report = self.by_program(question, count)
-                mine.append(took)
-                reports.add(report)
-            took, report = self.by_page(asked, IN_A_ROW)
-            theirs += took
-            reports.add(report)
-        is_alike = len(reports) == 1 and None not in reports
-        return min(mine), min(theirs), is_alike, self.browser.value(script(MEMORY, asked=asked, step=MEGABYTE))
+    def take_turn(self):
+        times, reports = self.asked()
+        self.times += times
+        self.reports |= set(reports)
 
 
-def calls(program, name, given):
-    """A table of the calls in one browser; whether all reports are the program's."""
-    browser, all_alike = BROWSERS[name][0](), True
-    try:
-        browser.open(f"file://{PAGE}")
-        pair = Pair(program, browser)
-        print_head(f"Warm calls in {name}.", ["Plan", "routes", "program ms", f"{name} ms", "ratio", "MB lent", "program MB"])
-        for question in plans.questions(given.only or PLANS, given.out):
-            for count in given.counts:
-                mine, theirs, is_alike, lent = pair.measured(question, count, given.repeats)
-                times = [shown(mine, 1), shown(theirs, 1), shown(ratio((theirs, mine))) if is_alike else "DIFFERENT"]
-                peak = peak_kb(program.words(question.words(count)), 600)
-                print_row([question.name, count, *times, lent, megabytes(peak)])
-                all_alike = all_alike and is_alike
-    finally:
-        browser.close()
+def by_program(words):
+    """Some runs."""
+    ran = [run(words, 600) for _ in range(IN_A_ROW)]
+    return [it.seconds * 1000 for it in ran], [it.text.decode() if it.status == 0 else None for it in ran]
+
+
+def by_page(browser, asked, repeats=IN_A_ROW):
+    """Some calls."""
+    told = browser.value(script(CALLS, asked=asked, repeats=repeats))
+    return told["times"], [told["report"] if told["status"] == 0 else None]
+
+
+def measured(program, browsers, question, count, repeats):
+    """The cells of a question's row, and whether the reports are alike."""
+    with open(question.path, encoding="ascii") as file:
+        asked = {"plan": file.read(), "from": question.source, "to": question.target, "at": question.at, "count": str(count)}
+    words = program.words(question.words(count))
+    sides = [Side("program", partial(by_program, words))]
+    for browser in browsers:
+        by_page(browser, asked, WARMING)
+        sides.append(Side(browser.name, partial(by_page, browser, asked)))
+    for _ in range(repeats):
+        for side in sides:
+            side.take_turn()
+    reports = set.union(*(side.reports for side in sides))
+    is_alike = len(reports) == 1 and None not in reports
+    mine, *theirs = (min(side.times) for side in sides)
+    cells = [shown(mine, 1)]
+    for browser, best in zip(browsers, theirs):
+        most = MOST.get(count) if browser.name == "Chromium" else None
+        cells += [shown(best, 1), judged(ratio((best, mine)), most) if is_alike else "DIFFERENT", *most_cell(browser, most)]
+    lent = browsers[0].value(script(MEMORY, asked=asked, step=MEGABYTE))
+    return [*cells, lent, megabytes(peak_kb(words, 600))], is_alike
+
+
+def most_cell(browser, most):
+    return [most or "-"] if browser.name == "Chromium" else []
+
+
+def calls(program, browsers, given):
+    """The table of calls; whether all reports are the program's."""
+    heads = [head for it in browsers for head in (f"{it.name} ms", "ratio", *["at most"] * (it.name == "Chromium"))]
+    print_head("Warm calls.", ["Plan", "routes", "program ms", *heads, "MB lent", "program MB"])
+    all_alike = True
+    for question in plans.questions(given.only or PLANS, given.out):
+        for count in given.counts:
+            cells, is_alike = measured(program, browsers, question, count, given.repeats)
+            print_row([question.name, count, *cells])
+            all_alike = all_alike and is_alike
     return all_alike
 
 
@@ -145,7 +168,9 @@ def opening(name, given):
             times.append(took if status == 0 else None)
     finally:
         browser.close()
-    print_row([name, shown(times[0], 0), shown(min(filter(None, times[1:]), default=None), 0)])
+    most = MOST_OPENING if name == "Chromium" else None
+    further = min(filter(None, times[1:]), default=None)
+    print_row([name, judged(times[0], most, 0), judged(further, most, 0), most or "-"])
     return None not in times
 
 
@@ -163,9 +188,15 @@ def main():
     for name in filter(lacks.get, lacks):
         print(f"{name} is left out: {lacks[name]}")
     names = [name for name in given.browsers if not lacks[name]]
-    are_good = [calls(program, name, given) for name in names]
-    print_head("From opening the page to an answer, in milliseconds.", ["Browser", "the first page", "the best of further ones"])
-    are_good += [opening(name, given) for name in names]
+    heads = ["Browser", "the first page", "the best of further ones", "at most"]
+    print_head("From opening the page to an answer, in milliseconds.", heads)
+    are_good = [opening(name, given) for name in names]
+    with ExitStack() as stack:
+        browsers = [BROWSERS[name][0]() for name in names]
+        for browser in browsers:
+            stack.callback(browser.close)
+            browser.open(f"file://{PAGE}")
+        are_good.append(not browsers or calls(program, browsers, given))
     machine.end()
     return 0 if all(are_good) else 1
 

@@ -44,7 +44,7 @@ BESIDE = [
 ]
 OF_THE_PAGE = [
     ("calls of the page's engine", "page.py", ["--only", "relay-moon-500", "--counts", "1", "--browsers", "Chromium", *ONCE], [0],
-     ["relay-moon-500", "Chromium"]),
+     ["Chromium", "relay-moon-500"]),
 ]
 
 

@@ -349,6 +349,7 @@ def head(it, room):
     yield "the request", "31 lander → 1 control centre, bundle at the source 2030/01/01-00:45:00 UTC", it.says, "asks"
     digest = room.run([room.program, "check", "--plan", RELAY]).out.split()[-1]
     yield "the digest", digest, lambda: it.says("digest")
+    yield "a number and its unit stay in one line", "12\xa0h 29\xa0min 59\xa0s", it.run, "return durationText(44999)"
     best = room.routes_of(RELAY, 1)[0][0]
     for at, (delivery, until, contacts) in enumerate(room.routes_of(RELAY, 3)):
         hops = room.hops_of(RELAY, contacts)
@@ -381,6 +382,9 @@ def single(it, at, delivery, hops):
         [str(number), NAMES[to], beside(send, delivery), beside(arrive, delivery)] for number, to, send, arrive in hops
     ]
     yield f"route {at + 1}, its hops", wanted, lambda: [row[:4] for row in rows]
+    cut = it.run("""const { right } = document.querySelector("#routes .on .hops").getBoundingClientRect();
+        return [...document.querySelectorAll("#routes .on .hops button")].filter((it) => it.getBoundingClientRect().right > right).length""")
+    yield f"route {at + 1}, its buttons aren't cut", 0, lambda: cut
     it.all("#routes .route")[at].click()
     it.settle()
     yield f"route {at + 1}, all are shown again", None, it.run, "return chosen.route"
@@ -696,12 +700,18 @@ def prints(it, room):
     told = it.run("return [...document.querySelectorAll('#sheets svg')].map((sheet) => ["
                   "[...sheet.querySelectorAll('text')].map((it) => it.textContent), sheet.getBoundingClientRect().height])")
     first = it.run("return document.querySelector('#sheets svg').getBoundingClientRect().bottom")
+    asked = it.run("return [byId('asks').getClientRects().length, byId('asks').clientHeight, byId('size').clientHeight]")
+    legend = it.run("return byId('legend').getBoundingClientRect().bottom <= document.querySelector('#sheets').getBoundingClientRect().top")
+    alone = it.run("return getComputedStyle(byId('told-routes')).breakAfter")
     it.run("dispatchEvent(new Event('afterprint'))")
     it.command("Emulation.clearDeviceMetricsOverride")
     it.command("Emulation.setEmulatedMedia", media="")
     yield "all rows", wanted, lambda: {text for texts, _ in told for text in texts if " → " in text}
     yield "the axis on each sheet", (True, []), lambda: (len(told) > 1, [texts for texts, _ in told if "UTC" not in texts])
     yield "the first sheet has room below the heading", True, lambda: first <= PAPER[1] or first
+    yield "the legend stands above the first sheet", True, lambda: legend
+    yield "the question has one line", True, lambda: asked[0] == 1 and asked[1] < 1.5 * 20 or asked
+    yield "the heading of the routes doesn't end a page", "avoid", lambda: alone
     yield "no sheet is higher than its paper", [], lambda: [high for _, high in told if high > PAPER[1]]
     it.part("some").click()
     it.run("dispatchEvent(new Event('beforeprint'))")

@@ -5,10 +5,17 @@ import os
 import re
 import shutil
 import subprocess
+import sys
 from collections import Counter
 
 from checking import TOP, Room, checks_of, last_of, lines_with, parts_of
 from picture_faults import looked_at
+
+sys.path.insert(0, f"{TOP}/tools")
+from cgrlist.drawing.plot import plot_svg
+from cgrlist.routes import Route
+from cgrlist.times import time_text
+from cgrlist.timetable import Stretch
 
 MARS = "--plan examples/relay.txt --explained examples/relay-routes.txt"
 DAY = ("2030/01/01-00:00:00", "2030/01/02-00:00:00")
@@ -345,6 +352,7 @@ esac
            parts_of, "contact 11:[^<]*", picture)
     yield "it is crossed out", [2, 2, 1, 1], lambda: [len(lines_with(it, picture).splitlines()) for it in (
         'class="bar lost"', 'class="cross"', 'class="number out"', ">lost<")]
+    yield "no line is over its number", 0, picture.count, "line-through"
     yield "its row comes last", "31 → 21,21 → 12,12 → 1,22 → 12", labels, picture
     # The span is from 00:45:00, when the bundle is at the source, to 06:27:22, with a twentieth and a second at both sides.
     yield ("it lies at its time", "6 ticks, 6 bars, 3 hops, 3 waits",
@@ -368,6 +376,17 @@ def notched(picture):
     """The contacts of the bars that have a notch, once for each."""
     return [number for number, rest in re.findall('contact ([0-9]+):[^<]*</title></rect>((?:\n<path.*)*)', picture)
             for _ in re.findall('class="notch', rest)]
+
+
+def a_plot(_):
+    """In the plot of tools/timetable, no line of the grid is over the words 'no route'."""
+    route = Route(1, 9000, 2, 9000, (1,), nodes=(1, 2))
+    drawn = "".join(plot_svg([Stretch(0, 7200, route), Stretch(7201, 86400, None)], "a plot", time_text, str))
+    yield "the words come after the grid", True, lambda: drawn.rindex('class="tick"') < drawn.index("no route")
+    ground = r'<rect class="band" x="(\S+)" y="(\d+)" width="(\S+)" height="(\d+)"/>\n<text x="(\S+)" y="(\d+)"[^>]*>no route'
+    x, y, width, height, middle, low = map(float, re.search(ground, drawn).groups())
+    inside = x < middle - 28 and middle + 28 < x + width and y < low - 12 and low + 3 < y + height
+    yield "on a ground of their own", True, lambda: inside
 
 
 def what_is_refused(room):
@@ -437,4 +456,4 @@ status 3""", lambda: room.run("tools/timeline", plan, request, "--count 1 --prog
 
 def checks(_):
     return checks_of("picture", Pictures(), [
-        the_day_at_mars, the_picture_of_the_readme, the_axis, plans, what_is_chosen, many_routes, asking_the_program, lost_contacts, what_is_refused])
+        the_day_at_mars, the_picture_of_the_readme, the_axis, plans, what_is_chosen, many_routes, asking_the_program, lost_contacts, a_plot, what_is_refused])

@@ -30,7 +30,7 @@ text { font: 13px system-ui, sans-serif; fill: #1f2328 }
 .changed { fill: #9a6700 }
 .was { fill: none; stroke: #656d76; stroke-dasharray: 3 2 }
 .cross { stroke: #cf222e; stroke-width: 1.5 }
-.number.out { fill: #cf222e; stroke: #ffffff; text-decoration: line-through }
+.number.out { fill: #cf222e; stroke: #ffffff }
 .hop { stroke-width: 4; stroke-linecap: round }
 .wait, .turn { fill: none; stroke-width: 1.3 }
 .begin { stroke: #57606a; stroke-dasharray: 2 3 }

@@ -21,8 +21,10 @@ def plot_svg(stretches, title, time_text, path_text):
         sign = date_sign(time_text)
         across = Axis(Span(stretches[0].first, stretches[-1].last + 1), WIDTH, CHARACTER, 10, sign)
         up = Axis(_span(shown), HEIGHT, 0, LINE, sign)
-        yield from _without_route(stretches, across)
+        gaps = [[LEFT + across.place(second) for second in (it.first, it.last + 1)] for it in stretches if not it.route]
+        yield from (_band(x, end, HEIGHT) for x, end in gaps)
         yield from _ticks(across, up, time_text)
+        yield from (_no_route((x + end) / 2) for x, end in gaps if end - x > 60)
         yield from _joins(shown, across, up)
         for it in shown:
             yield _line(it, across, up, f"line{hue(places[it.route.contacts])}", time_text) + "\n"
@@ -52,12 +54,13 @@ def _ticks(across, up, time_text):
         yield f'<text x="{LEFT - 8}" y="{y + 4:.1f}" text-anchor="end">{f"{tick.above} {tick.label}".strip()}</text>\n'
 
 
-def _without_route(stretches, across):
-    """Where there is no route."""
-    for it in (it for it in stretches if not it.route):
-        x, end = (LEFT + across.place(second) for second in (it.first, it.last + 1))
-        yield f'<rect class="band" x="{x:.1f}" y="{TOP}" width="{end - x:.1f}" height="{HEIGHT}"/>\n'
-        yield f'<text x="{(x + end) / 2:.1f}" y="{TOP + LINE}" text-anchor="middle">no route</text>\n' if end - x > 60 else ""
+def _band(x, end, height):
+    return f'<rect class="band" x="{x:.1f}" y="{TOP}" width="{end - x:.1f}" height="{height}"/>\n'
+
+
+def _no_route(middle):
+    """Words at the top, below which no line of the grid is seen."""
+    return f'{_band(middle - 30, middle + 30, LINE + 6)}<text x="{middle:.1f}" y="{TOP + LINE}" text-anchor="middle">no route</text>\n'
 
 
 def _joins(shown, across, up):
