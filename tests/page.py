@@ -149,9 +149,10 @@ def what_stands_there(room):
     text = text_of(room.relay)
     loads = r"""https?:(?!//www\.w3\.org/2000/svg)|\bsrc=|\bhref=|url\((?!#)|@import|\bfetch\(|XMLHttp|\bimport\("""
     yield "nothing is loaded", [], re.findall, loads, text
-    style, script = (re.search(rf"<{it}>(.*?)</{it}>", text, re.S)[1] for it in ("style", "script"))
-    hashes = [f"'sha256-{base64.b64encode(hashlib.sha256(it.encode()).digest()).decode()}'" for it in (style, script)]
-    policy = "default-src 'none'; style-src {}; script-src {} 'wasm-unsafe-eval'; worker-src blob:".format(*hashes)
+    parts = [it for name in ("style", "script") for it in re.findall(rf"<{name}>(.*?)</{name}>", text, re.S)]
+    hashes = [f"'sha256-{base64.b64encode(hashlib.sha256(it.encode()).digest()).decode()}'" for it in parts]
+    policy = "default-src 'none'; style-src {}; script-src {} {} 'wasm-unsafe-eval'; worker-src blob:".format(*hashes)
+    yield "the engine begins before the page is laid out", True, lambda: text.index("new Engine(") < text.index("<body>")
     yield "the policy", policy, lambda: re.search(r'Policy" content="(.*?)"', text)[1]
     yield "nothing of where it was made", [], re.findall, r"/work|/home|/tmp|/root", text
     names = room.file("bad-names.txt", "31 <!--<script & co\n")
@@ -861,6 +862,10 @@ def ends_of_line(it):
     it.run("document.querySelector('#lost .back').focus()")
     it.keys(Keys.ENTER)
     yield "after that is taken back", ["starts", None], it.run, "return [document.activeElement.id, chosen.start]"
+    it.keys(Keys.END)
+    it.keys(Keys.ESCAPE)
+    it.settle()
+    yield "the routes are in view again", True, it.run, "return view.first <= routes[0].hops[0].send && routes[0].delivery <= view.last"
 
 
 def answers_at(it, room):
@@ -1054,7 +1059,8 @@ def another_plan(it, room):
     it.run(DROPPED, bad, "bad.txt")
     it.settle()
     told = room.run([room.program, "check", "--plan", room.file("bad.txt", bad)]).err.strip().removeprefix("cgrlist: ")
-    yield "a plan that is refused", f"bad.txt isn't opened: {told}", lambda: it.says("refused")[: len(told) + 22]
+    repair = "a contact with that start, sender and receiver stands above: take one out"
+    yield "a plan that is refused", f"bad.txt isn't opened: {told}: {repair}", lambda: it.says("refused").removesuffix("Show the text")
     yield "nothing else is changed", ("pasted plan", [delivery]), lambda: (it.says("title"), it.deliveries())
     it.run(PASTED, f"{text_of(RELAY)}\n")
     it.settle()

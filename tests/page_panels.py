@@ -168,6 +168,18 @@ def used_text(it, room):
     best = room.routes_of(path, 1)[0]
     yield "its best route", [best[0], best[2]], lambda: routes_shown(it)[0][1:]
     yield "whose it is then", f"This is the plan that is shown, relay.txt: {facts_of(room, path)}", state, it, "plan"
+    it.part("ask").click()
+    yield "the routes are beside the picture when they are asked for", [False, True], it.run, """
+        return [byId("panel-routes").hidden, byId("panel-plan").hidden]"""
+    show(it, "plan")
+    write(it, "planText", "a contact 2030/01/01-00:00:00 2030/01/01-01:00:00 8 9 100\n")
+    press(it, "plan", "Use this text")
+    waited(it, "contactCount === 1")
+    it.settle()
+    yield "a plan without the question's nodes isn't asked it", [None, "", "2030/01/01-00:00:00"], it.run, """
+        return [request, byId("from").value, byId("at").value]"""
+    yield "the words beside the timetable aren't squeezed", True, it.run, """
+        paper.font = SMALL; return paper.measureText("best delivery,").width <= size.left - 16"""
 
 
 def other_texts(it, room):

@@ -4,7 +4,7 @@ from dataclasses import dataclass
 
 from ..errors import WORDS_STATUS, Refused
 from .axis import Axis
-from .scene import columns_of, lanes_of
+from .scene import columns_of, date_sign, lanes_of
 
 ARROW = "\u2192"
 PLOT = 560  # width of the plot, in pixels, as all below
@@ -71,7 +71,7 @@ class Layout:
         self.left = max(round(longest * CHARACTER) + 16, 76)
         self.plot = plot_width(self.left, width)
         self.width = self.left + self.plot + SIDE
-        self.axis = Axis(self.span, self.plot, CHARACTER, 10, scene.date_sign) if self.span else None
+        self.axis = Axis(self.span, self.plot, CHARACTER, 10, date_sign(scene.time_text)) if self.span else None
         self.by_contact = scene.stages_by(lambda stage: stage.hop.contact)
         self.head = HEAD if scene.source_second is None else HEAD + SOURCE
         self.turns = self.all_turns()

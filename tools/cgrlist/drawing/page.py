@@ -15,6 +15,7 @@ from ..plans import links_of
 from ..version import VERSION
 from .axis import STEPS
 from .picture import DARK, DASHES, LIGHT
+from .scene import date_sign
 from .told import explanations, report_text, seeds_of, texts_of
 
 FOLDER = Path(__file__).resolve().parent / "html"
@@ -40,17 +41,19 @@ class Page:
 
     def html(self):
         """The whole text."""
-        body, style, script = page_html(), page_style(), page_script()
-        policy = f"default-src 'none'; style-src {hash_of(style)}; script-src {hash_of(script)} 'wasm-unsafe-eval'; worker-src blob:"
+        body, style, scripts = page_html(), page_style(), [engine_script(), page_script()]
+        hashes = " ".join(map(hash_of, scripts))
+        policy = f"default-src 'none'; style-src {hash_of(style)}; script-src {hashes} 'wasm-unsafe-eval'; worker-src blob:"
         data = {"look": look_data(), "about": about_data(), "data": self.data()}
         return (
             '<!DOCTYPE html>\n<html lang="en">\n<head>\n<meta charset="utf-8">\n'
             f'<meta http-equiv="Content-Security-Policy" content="{policy}">\n'
             '<meta name="viewport" content="width=device-width, initial-scale=1">\n'
             '<meta name="color-scheme" content="light dark">\n'
-            f"<title>{html.escape(self._view.title)} · cgrlist</title>\n<style>{style}</style>\n</head>\n<body>\n{body}"
+            f"<title>{html.escape(self._view.title)} · cgrlist</title>\n<style>{style}</style>\n"
+            f'<script type="text/plain" id="module">{module_text()}</script>\n<script>{scripts[0]}</script>\n</head>\n<body>\n{body}'
             + "".join(f'<script type="application/json" id="{name}">{json_of(it)}</script>\n' for name, it in data.items())
-            + f'<script type="text/plain" id="module">{module_text()}</script>\n<script>{script}</script>\n</body>\n</html>\n'
+            + f"<script>{scripts[1]}</script>\n</body>\n</html>\n"
         )
 
     def data(self):
@@ -62,7 +65,7 @@ class Page:
         return {
             "name": view.title,
             "remarks": [*view.remarks],
-            "iso": view.date_sign == "-",
+            "iso": date_sign(view.time_text) == "-",
             "span": view.span and [view.span.first, view.span.last],
             "linksAtFirst": {None: None, True: "some", False: "all"}[view.choice.used],
             "links": self._links(),
@@ -101,11 +104,16 @@ def page_style():
     return "".join(read(FOLDER / name) for name in ("page.css", "panels.css"))
 
 
-def page_script():
-    """The script: the engine, which is a module elsewhere, and the page's files."""
+def engine_script():
+    """The engine, which is a module elsewhere, and its beginning, so that it is compiled while the page is laid out."""
     engine = "\n".join(read(ENGINE / f"{name}.mjs") for name in RUNS)
     engine = re.sub(r"^export ", "", re.sub(r"^import .*\n", "", engine, flags=re.MULTILINE), flags=re.MULTILINE)
-    return "\n".join(['"use strict";', engine, *(read(FOLDER / f"{name}.js") for name in (*SCRIPTS, *PANELS, "start"))])
+    return f'"use strict";\n{engine}\nconst engine = new Engine(document.getElementById("module").textContent.trim());\n'
+
+
+def page_script():
+    """The page's files."""
+    return "\n".join(['"use strict";', *(read(FOLDER / f"{name}.js") for name in (*SCRIPTS, *PANELS, "start"))])
 
 
 def module_text():

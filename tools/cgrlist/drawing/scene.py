@@ -135,11 +135,6 @@ class Scene:
     remarks: list  # lines of words
     source_second: "int | None" = None  # when the bundle is at the source, if that is known
 
-    @property
-    def date_sign(self):
-        """What stands between the numbers of a date."""
-        return date_sign(self.time_text)
-
     def label(self, link, arrow):
         """A link's nodes with an arrow between them."""
         return f"{self.names.of(link[0])} {arrow} {self.names.of(link[1])}"
@@ -193,11 +188,6 @@ class View:
     names: Names
     time_text: "Callable[[int], str]"
     remarks: tuple = ()  # lines of words about the plan
-
-    @property
-    def date_sign(self):
-        """What stands between the numbers of a date."""
-        return date_sign(self.time_text)
 
     def scene(self, plan, routes, lost=(), is_list=False, source_second=None):
         """What is to be shown of a plan, of routes, which are None if none were asked for, and of lost contacts."""

@@ -1,7 +1,7 @@
 """What tools/timeline prints as text: the picture with characters."""
 
 from .axis import Axis
-from .scene import columns_of
+from .scene import columns_of, date_sign
 
 OVER = 7  # columns right of the rows, for the last label
 SIGNS = {"#": "sending to arrival", ".": "wait"}
@@ -16,7 +16,7 @@ class Text:
         labels = [scene.label(row.link, ">") for row in scene.rows] + [route_label(it) for it in self.routes]
         self.left = max(map(columns_of, labels), default=3) + 2
         self.width = max(columns - self.left - OVER, 20)
-        self.axis = Axis(scene.span, self.width, 1, 2, scene.date_sign) if scene.span else None
+        self.axis = Axis(scene.span, self.width, 1, 2, date_sign(scene.time_text)) if scene.span else None
         self.by_contact = scene.stages_by(lambda stage: stage.hop.contact)
 
     def cell(self, second):

@@ -9,7 +9,6 @@ const MOST_KEPT = 300; // answers, after which the first ones are forgotten
 const LARGEST_KEPT = 500_000; // signs of an answer with its question
 const BROWSERS = "Chrome and Edge from version 133 on and Firefox from 134 on";
 
-const engine = new Engine(byId("module").textContent.trim());
 const cache = new Map();
 const waiting = new Set(); // the questions that the engine is asked
 

@@ -6,8 +6,6 @@ let turn = 0; // of questions: what answers an earlier one isn't shown
 
 // ---- The bar ----
 
-const choices = ["from", "to", "at", "marginPpm", "maxHops", "avoid", "count"];
-
 // Puts what the plan has, and the question, into the bar.
 function fillQuestion() {
   const asked = request?.texts ?? {};
@@ -30,15 +28,21 @@ const FEW = "3"; // routes that are asked for at first
 
 // The question in the bar, as the program takes it. A time without a day is that of the nearest day in view.
 function questionInBar() {
-  const asked = Object.fromEntries(choices.map((name) => [name, byId(name).value.trim()]));
-  const second = secondOf(asked.at), found = Number.isNaN(second) ? timesFor(asked.at)[0]?.second : second;
+  const asked = Object.fromEntries(QUESTION.map((name) => [name, byId(name).value.trim()]));
+  const found = timesFor(asked.at.toLowerCase())[0]?.second;
   const avoid = asked.avoid.split(/[\s,]+/).filter(Boolean).sort(byNumber).join(",");
   return { ...asked, avoid, at: found === undefined ? asked.at : programTime(found) };
 }
 
+// Asks what stands in the bar. The routes take the place of the plan's text.
+function askBar() {
+  if (!byId("panel-plan").hidden) showPanel("routes");
+  setRequest(questionInBar());
+}
+
 form.onsubmit = (event) => {
   event.preventDefault();
-  setRequest(questionInBar());
+  askBar();
 };
 
 // A choice asks at once, and a text when Enter is pressed.
@@ -48,7 +52,7 @@ form.onchange = ({ target }) => {
     byId("avoid").value = [byId("avoid").value, target.value].filter(Boolean).join(",");
     target.value = "";
   }
-  if (byId("from").value && byId("to").value) setRequest(questionInBar());
+  if (byId("from").value && byId("to").value) askBar();
 };
 
 byId("limits").onkeydown = ({ key, currentTarget }) => {

@@ -54,11 +54,6 @@ function nodeOfText(text) {
   return /^[1-9]\d{0,19}$/.test(text) ? text : [...names].find(([, name]) => name === text)?.[0];
 }
 
-// The second of a time, which may be a day, or have no seconds; undefined if it is none.
-function secondOfText(text) {
-  return [text, `${text}-00:00:00`, `${text.replace(/Z$/, "")}:00`].map(secondOf).find((it) => !Number.isNaN(it));
-}
-
 const isTime = (word) => secondOfText(word) !== undefined;
 
 // The line for what words ask, `from to time` and then a margin, a limit of hops and nodes to avoid; undefined if they are

@@ -38,17 +38,11 @@ function linksFor(wanted) {
   return hits.filter((hit) => hit.match).sort((one, other) => other.match - one.match || one.link - other.link);
 }
 
-const TIME = /^(?:(\d{4})[-/](\d\d)[-/](\d\d))?[-t ]?(?:(\d\d?):(\d\d)(?::(\d\d))?)?z?$/;
-
 // A time of the plan; without a day, that of each day, the nearest ones first.
 function timesFor(wanted) {
-  const [isTime, year, month, day, ...clock] = wanted.match(TIME) ?? [];
-  if (!isTime || (!year && !clock[0])) return [];
+  const second = secondOfText(wanted), [isClock, ...clock] = /^(\d\d?):(\d\d)(?::(\d\d))?z?$/.exec(wanted) ?? [];
+  if (second !== undefined || !isClock) return second === undefined ? [] : [{ second }];
   const [hours, minutes, seconds] = clock.map((part) => Number(part ?? 0)), ofDay = hours * 3600 + minutes * 60 + seconds;
-  if (year) {
-    const date = new Date(Date.UTC(year, month - 1, day));
-    return date.getUTCDate() === Number(day) ? [{ second: date / 1000 + ofDay }] : [];
-  }
   const first = Math.floor(earliest / DAY), last = Math.floor(latest / DAY);
   const middle = (view.first + view.last) / 2, away = (hit) => Math.abs(hit.second - middle);
   const days = Array.from({ length: last - first + 1 }, (_, place) => first + place);

@@ -291,6 +291,7 @@ document.onkeydown = (event) => {
 function startOver() {
   hideTip();
   closeFound();
+  if (isStarting() && routes.length) revealSpan(routes[0].hops[0].send, routes[0].delivery);
   Object.assign(chosen, { route: null, contact: null });
   loseNothing();
   shows.node = null;

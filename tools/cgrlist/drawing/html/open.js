@@ -1,6 +1,7 @@
 // Opening another plan: a file that is chosen or dropped, or a text that is pasted.
 
-// Opens another plan, and asks a question of it, if there is one. What is no plan changes nothing; it is told why.
+// Opens another plan, and asks a question of it, or else that of the plan before, if it has their nodes. What is no plan
+// changes nothing; it is told why.
 async function openPlan(name, text, question = null) {
   stopAsking();
   const opened = ++turn, answers = [await askEngine("canonical", { plan: text }), await askEngine("check", { plan: text })];
@@ -10,12 +11,11 @@ async function openPlan(name, text, question = null) {
   app.refused = null;
   tellRefused("");
   keepAnswers(["canonical", "check"].map((run, place) => ({ run, lost: noLosses, texts: {}, answer: answers[place] })));
-  const before = request?.texts;
+  const asked = question ?? { ...request?.texts, at: "" };
   if (name !== app.plan.name) names.clear(); // they are those of another plan
   showOpened({ name, text, digest: digestIn(check) }, canonical);
-  const asked = question ?? (before && isOfPlan(before) ? { ...before, at: "" } : null);
   byId("at").value = timeText(contactCount ? earliest : 0);
-  if (asked) await setRequest({ ...asked, at: asked.at || programTime(earliest) });
+  if (isOfPlan(asked)) await setRequest({ ...asked, at: asked.at || programTime(earliest) });
   return check;
 }
 
@@ -25,8 +25,8 @@ const isOfPlan = ({ from, to }) => [from, to].every((node) => known.nodes.includ
 
 function refusePlan(refused, check) {
   app.refused = refused;
-  const why = formOf(refused.text) || refused.message;
-  tellRefused(`${refused.name} isn't opened: ${why}`, check.status === PLAN_STATUS);
+  const told = [refused.message, REPAIRS[refused.message.split(" ").at(-1)]].filter(Boolean).join(": ");
+  tellRefused(`${refused.name} isn't opened: ${formOf(refused.text) || told}`, check.status === PLAN_STATUS);
   announce("refused");
   return check;
 }

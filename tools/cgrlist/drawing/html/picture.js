@@ -424,6 +424,6 @@ function namesWidth() {
   const names = links.map((_, link) => linkName(link));
   const longest = names.reduce((most, name) => Math.max(most, name.length), 0);
   const long = names.filter((name) => name.length >= longest - 2).slice(0, 50);
-  const wide = Math.max(84, ...long.map((name) => paper.measureText(name).width + 26));
+  const wide = Math.max(104, ...long.map((name) => paper.measureText(name).width + 26));
   return Math.round(Math.min(wide, size.width * 0.32));
 }

@@ -29,6 +29,11 @@ function secondOf(text) {
   return date.getUTCDate() === Number(day) && date.getUTCSeconds() === Number(clock[2]) ? date.getTime() / 1000 : NaN;
 }
 
+// The second of a time, which may be a day, or have no seconds; undefined if it is none.
+function secondOfText(text) {
+  return [text, `${text}-00:00:00`, `${text.replace(/z$/i, "")}:00`].map(secondOf).find((it) => !Number.isNaN(it));
+}
+
 // A time beside another one: without the day if that is the same.
 const timeBeside = (second, other) => (dayText(second) === dayText(other) ? clockText(second) : timeText(second));
 

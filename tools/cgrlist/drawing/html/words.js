@@ -284,7 +284,6 @@ const backButton = () => element("button", { class: "small back", onclick: takeB
 
 function takeBack() {
   const part = isStarting() ? table : chart;
-  loseNothing();
-  change();
+  startOver();
   part.focus();
 }
