@@ -6,8 +6,8 @@ ghost use Rattle.host.specs.Buffers.{buffer_output, put_over};
 use crate::put::put_text;
 use sabr_model::{Failed, GhostBytes, GhostCount, Write};
 
-/// A writer into a buffer of the caller. It stores the bytes that fit, counts all, and needs no memory. It fails only where
-/// the count would pass `usize::MAX`.
+/// A writer into a buffer of the caller. It stores the bytes that fit, counts all, and allocates nothing. It fails only
+/// where the count would pass `usize::MAX`.
 #[derive(Drop)]
 pub struct Buffer<'a> {
     /// The caller's buffer.

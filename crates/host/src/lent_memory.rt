@@ -39,7 +39,7 @@ impl LentMemory {
         of_size(self.free.into_inner(), self.size)
     }
 
-    /// Takes the memory for a request of so many bytes, unless it is smaller or handed out.
+    /// Takes the memory for a request of `size` bytes, unless it is smaller or handed out.
     fn take(&self, size: usize) -> Option<Memory>
         ensures { IfSome result (λ m. (m.size ≡ self.now.size) × (0 < m.size) × (size ≤ m.size)) }
     {

@@ -6,7 +6,7 @@ ghost use Rattle.host.specs.Lending.{IsSize};
 use crate::memory::Memory;
 
 /// Memory that a host lends: its address, which is a multiple of 16, and its size in bytes, which is one, too, and below
-/// 2^63. Nothing lies in it. If the size is 0, there is no memory, whatever the address is.
+/// 2^63. Nothing lies in it. A region of size 0 has no memory, at any address.
 #[repr(C)]
 #[derive(Drop)]
 pub struct Region {

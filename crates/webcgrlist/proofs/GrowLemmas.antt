@@ -1,4 +1,4 @@
--- A call only adds to what its writers took, whatever comes of it. So a buffer stays with its writer, and ends with the
+-- A call only adds to what its writers took, however it ends. So a buffer stays with its writer, and ends with the
 -- text put over it.
 use Rattle.std.proofs.Common.{◌≡◌, ℕ, Bool, true, false, List, [], Result, Ok, Err, Option, None, Some, IsSomeAnd, inl, inr, sym, ap, subst, ◌∙◌}
 use Rattle.sabr_model.specs.Devices.{Output, Takes, Written, WrittenInPart}

@@ -56,8 +56,8 @@ pub extern "C" fn cgrlist_next(
     answer(memory, Call { run, asked }, outputs)
 }
 
-/// Tells whether a session is one of the plan's, whoever wrote it. Reads the plan and the session. The status is 0 for yes
-/// and 1 for no.
+/// Verifies a session: whether it is one of the plan's, by any writer. Reads the plan and the session. The status is 0
+/// for yes and 1 for no.
 #[unsafe(no_mangle)]
 pub extern "C" fn cgrlist_verify(
     memory: &mut Region,
@@ -71,8 +71,8 @@ pub extern "C" fn cgrlist_verify(
     answer(memory, Call { run, asked }, outputs)
 }
 
-/// Tells what a list of contacts does, hop by hop, and whether it is a route. Reads the plan, the words of the request and
-/// the contacts. The status is 0 for a route, and 1 for another list.
+/// Explains a list of contacts: what it does, hop by hop, and whether it is a route. Reads the plan, the words of the
+/// request and the contacts. The status is 0 for a route, and 1 for another list.
 #[unsafe(no_mangle)]
 pub extern "C" fn cgrlist_explain(
     memory: &mut Region,
@@ -100,7 +100,7 @@ pub extern "C" fn cgrlist_many(
     answer(memory, Call { run, asked }, outputs)
 }
 
-/// Tells what many lists of contacts do over one plan, each as [`cgrlist_explain`]. Reads the plan and the lists.
+/// Explains many lists of contacts over one plan, each as [`cgrlist_explain`]. Reads the plan and the lists.
 #[unsafe(no_mangle)]
 pub extern "C" fn cgrlist_follow(
     memory: &mut Region,

@@ -17,7 +17,7 @@ use std::mem::replace;
 /// What the arena takes of its memory for itself, in bytes.
 const FOOTER: usize = 48;
 
-/// Runs a call in an arena that takes all memory of its allocator, so many bytes.
+/// Runs a call in an arena that takes all memory of its allocator, `size` bytes.
 fn run_in_arena<O: Write, S: Write, E: Write>(
     lent: &LentMemory,
     size: usize,

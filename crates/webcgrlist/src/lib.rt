@@ -23,7 +23,7 @@
 //!
 //! Each run reads the texts of its command, and no others. A buffer gets as much of its text as it has room for. The
 //! statuses are the program's, but for 5: where the lent memory or a buffer was too small, the status is 6. The host
-//! then lends more memory, and buffers of the told lengths at least, and calls again.
+//! then lends more memory, and buffers of at least the lengths that the call set, and calls again.
 #![tactic(auto)]
 
 mod answer;

@@ -13,7 +13,7 @@ use commands::{CommandName, Status, tell, values_in};
 use sabr_model::Write;
 use std::alloc::Allocator;
 
-/// Runs a command over the texts that a call is asked, or tells why their values are refused.
+/// Runs a command over the texts that a call is asked, or writes the message of why their values are refused.
 fn run_command<O: Write, S: Write, E: Write, A: Allocator + Copy>(
     alloc: A,
     command: CommandName,
