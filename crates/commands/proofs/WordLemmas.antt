@@ -4,5 +4,6 @@ pub mod RequestWords
 pub mod TextLines
 pub mod ListLines
 pub mod LinesRead
+pub mod JudgedLines
 pub mod BuiltWords
 pub mod NamedWords

@@ -132,7 +132,7 @@ A list is a line NUMBERS FROM TO TIME, and after it, if need be, PPM, HOPS and N
     }
 
     /// Runs the command over its words and the files that they name. The report goes to `out`, and messages go to
-    /// `err`. The file that was made for a session is kept if the run is done, and else removed. If that fails, it
+    /// `err`. The file that was made for a session stays if the run is done, and else is removed. If that fails, it
     /// stays.
     ///
     /// # Errors

@@ -82,7 +82,7 @@ pub fn open_session<'w, D: FileSystem<'w>>(
     open_file(files, words, SESSION, Failure::CannotOpenSession)
 }
 
-/// The path of the file for the new session. `None` if it isn't kept.
+/// The path of the file for the new session. `None` if no session is written.
 pub fn session_out<'w>(words: &ArgMatches<'w>) -> Option<&'w str>
     ensures { option_map (λ path. path.now) result ≡ first_value (found_of words.now) session_out_word }
 {

@@ -7,9 +7,9 @@ ghost use Rattle.commands.specs.runs.ManyAsFirst.{FollowAnswersAsExplain, ManyAn
 ghost use Rattle.commands.specs.runs.NextPage.{NextGoesOn};
 ghost use Rattle.commands.specs.runs.RunsInTurn.{RunsInTurn, RunsGoOn};
 
-/// Shows that every run of a session follows the list of all routes. Whatever sizes its pages have, and wherever it
-/// went through its text, its pages in turn are the next routes of the list, best first, none left out and none twice.
-/// Its text depends only on the number of routes given. A page that runs out of memory gives nothing and leaves all as
+/// Shows that every run of a session follows the list of all routes. For pages of any sizes, with the session written
+/// and read anywhere between them, its pages in turn are the next routes of the list, best first, none left out and none
+/// twice. Its text depends only on the number of routes given. A page that runs out of memory gives nothing and leaves all as
 /// it was. A run begins with a session just started, or goes on from the place of a text that verifying accepts.
 ///
 /// Every list of events has a run, as long as the sessions that it writes have texts, which all in memory have. Each
@@ -35,7 +35,7 @@ pub fn runs_in_turn()
 {}
 
 /// Shows that calls of the program list a plan page by page, from their words to the files that they leave. A call
-/// `first` keeps its session, and then each call `next` goes on from the file in which the one before kept its own.
+/// `first` keeps its session, and then each call `next` goes on from the file in which the one before left its own.
 /// Over a system in which a file reads as what was last written there, the calls that end with
 /// [`Status::Done`](crate::Status::Done) print the reports of the first routes of the list, each from where the one
 /// before ended. At each path they leave the session text of its place. A call `next` that keeps no session may follow

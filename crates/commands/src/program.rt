@@ -22,8 +22,8 @@ use std::alloc::Global;
 ///
 /// The status is [`Status::Usage`] if the words are refused or ask for help, [`Status::Io`] if a file can't be opened
 /// or made, and [`Status::Memory`] if an allocation failed before the run. Then nothing is written to `out`. Else the
-/// status is the run's. The file that was made for a session is kept if the status is [`Status::Done`], and else
-/// removed; if that fails, it stays.
+/// status is the run's. The file that was made for a session stays if the status is [`Status::Done`], and else
+/// is removed; if that fails, it stays.
 pub fn run_words<'w, D: FileSystem<'w>, O: Write, E: Write>(
     alloc: Global,
     words: &'w [&'w str],

@@ -1,36 +1,24 @@
--- What reading a text of requests leaves.
-use Rattle.std.proofs.Common.{◌≡◌, ℕ, ◌≤◌, List, length, take, refl, sym, ap, ◌∙◌, ◌⊎◌, inl, inr, Result, Ok, Err, None, Some}
-use Rattle.std.proofs.lemmas.List.{take-append-le}
-use Rattle.sabr_model.specs.Devices.{Input, Gives, HasEnded}
+-- What reading a text of lines leaves.
+use Rattle.std.proofs.Common.{◌≡◌, ℕ, List, ◌++◌, refl, ap, inr, Result, Ok, Err, None, Some}
+use Rattle.sabr_model.specs.Devices.{Input, Gives}
 use Rattle.commands.specs.declared.words.lines_fault.LinesFault.{LinesFault}
 use Rattle.commands.specs.declared.words.lines_fault.LinesFault.TheVariants.{Line}
 use Rattle.commands.specs.declared.words.lines.LineForm.{LineForm}
 use Rattle.commands.specs.declared.words.lines_fault.LineKind.{LineKind}
-use Rattle.commands.specs.words.Lines.{Asked, AskedLine, ReadsLines, StopsReading, fault_of, lines_in, most_bytes, put_first, asked_from, asked_by}
-
--- a reader failed, or memory was refused
-pub not_read : (form : LineForm) (old new : Input) (given : List ℕ) (f : LinesFault) → Gives old given new → StopsReading old f new → ReadsLines form old (Err f) new
-not_read form old new given f gives h = record { given = given; gives = gives; told = inl h }
-
--- the lines that were read are those of the text
-pub lines_read : (form : LineForm) (old new : Input) (given text : List ℕ) → Gives old given new → text ≡ take (most_bytes form) given → new.failures ≡ old.failures
-    → HasEnded new ⊎ (most_bytes form ≤ length given) → ReadsLines form old (asked_from form 1 (lines_in text)) new
-unfolding asked_by
-lines_read form old new given text gives is fine (inl end) = record {
-  given = given;
-  gives = gives;
-  told = inr (fine, inl (end, ap (λ t. asked_from form 1 (lines_in t)) (sym is)));
-}
-lines_read form old new given text gives is fine (inr long) = record {
-  given = given;
-  gives = gives;
-  told = inr (fine, inr (λ more. ap (λ t. asked_from form 1 (lines_in t)) (take-append-le (most_bytes form) given more long ∙ sym is)));
-}
+use Rattle.commands.specs.words.Lines.{Asked, AskedLine, IsRefused, ReadsLines, asked_by, fault_of, put_first}
 
 -- the answer that has a fault is that fault
 pub fault_requested : (requested : Result (List AskedLine) LinesFault) (f : LinesFault) → fault_of requested ≡ Some f → requested ≡ Err f
 fault_requested (Ok xs) f e = absurd cc
 fault_requested (Err g) f e = cc
+
+-- a bad line was read, and what follows can't make it a good one
+pub line_refused : (form : LineForm) (old new : Input) (text : List ℕ) (f : LinesFault) → Gives old text new → new.failures ≡ old.failures → IsRefused form text f → ReadsLines form old (Err f) new
+line_refused form old new text f gives fine refused = record {
+  given = text;
+  gives = gives;
+  told = inr (fine, inr (λ more. fault_requested (asked_by form (text ++ more)) f (refused more)));
+}
 
 -- a bad line is the first bad one before all others
 pub bad_first : (n : ℕ) (line : List ℕ) (a : Result Asked LineKind) (rest : Result (List AskedLine) LinesFault) (kind : LineKind) → fault_of a ≡ Some kind → fault_of (put_first n line a rest) ≡ Some (Line n kind)
@@ -39,7 +27,7 @@ bad_first n line (Err k) rest kind e =
     let same : k ≡ kind = cc in
     ap (λ j. Some (Line n j)) same
 
--- before a line that isn't bad, the others tell
+-- a good line leaves the first bad one to the others
 pub good_first : (n : ℕ) (line : List ℕ) (a : Result Asked LineKind) (rest : Result (List AskedLine) LinesFault) → fault_of a ≡ None → fault_of (put_first n line a rest) ≡ fault_of rest
 good_first n line (Ok a) (Ok xs) e = refl
 good_first n line (Ok a) (Err fault) e = refl

@@ -1,5 +1,5 @@
 -- What a text of requests or of lists says: one a line, each word read as strictly as the option of its name.
-use Rattle.std.specs.Prelude.{◌≡◌, ℕ, ◌+◌, ◌≤◌, nat_lt, ◌⊎◌, List, [], ◌∷◌, ◌++◌, length, take, option_map, Result, Ok, Err, IsErrAnd, if◌then◌else◌}
+use Rattle.std.specs.Prelude.{◌≡◌, ℕ, ◌+◌, ◌≤◌, nat_lt, ◌&&◌, ◌||◌, ◌⊎◌, Bool, List, [], ◌∷◌, ◌++◌, length, drop, option_map, Result, Ok, Err, IsErrAnd, if◌then◌else◌}
 use Rattle.sabr_model.specs.Devices.{Input, Gives, HasEnded}
 use Rattle.std.specs.declared.option.Option.{Option}
 use Rattle.std.specs.declared.option.Option.TheVariants.{Some, None}
@@ -13,6 +13,7 @@ use Rattle.commands.specs.declared.words.lines_fault.LinesFault.{LinesFault}
 use Rattle.commands.specs.declared.words.lines_fault.LinesFault.TheVariants.{Line, Read, NoMemory}
 use Rattle.commands.specs.declared.words.lines.LineForm.{LineForm}
 use Rattle.commands.specs.declared.words.lines.LineForm.TheVariants.{Requests, Lists}
+use Rattle.commands.specs.declared.words.lines.Judged.{Judged}
 use Rattle.sabr_session.specs.SessionWords.{most_number}
 use Rattle.commands.specs.words.Lists.{numbers_within, pieces_of}
 use Rattle.commands.specs.words.Values.{TextsGiven, and_then, request_words, request_of}
@@ -145,19 +146,37 @@ abbrev pub asked_from : LineForm → ℕ → List (List ℕ) → Result (List As
 asked_from form n [] = Ok []
 asked_from form n (line ∷ lines) = put_first n line (asked_at form n line) (asked_from form (n + 1) lines)
 
--- one byte more than so many lines of the largest length have; a text as long has a bad line within that many bytes
-abbrev pub most_bytes : LineForm → ℕ
-most_bytes Requests = 412000001
-most_bytes Lists = 220412000001
-
 -- what the lines of a text ask, or its first bad line
-unfoldable pub asked_by : LineForm → List ℕ → Result (List AskedLine) LinesFault
-asked_by form text = asked_from form 1 (lines_in (take (most_bytes form) text))
+abbrev pub asked_by : LineForm → List ℕ → Result (List AskedLine) LinesFault
+asked_by form text = asked_from form 1 (lines_in text)
+
+-- the most bytes of a line of this form
+abbrev pub most_bytes : LineForm → ℕ
+most_bytes Requests = most_line_bytes
+most_bytes Lists = most_list_bytes
 
 -- the fault of what was refused
 abbrev pub fault_of : {A E : Type 0} → Result A E → Option E
 fault_of (Ok _) = None
 fault_of (Err fault) = Some fault
+
+-- the first bad line of a text whose first line has this number
+abbrev pub fault_in : LineForm → ℕ → List ℕ → Option LinesFault
+fault_in form n text = fault_of (asked_from form n (lines_in text))
+
+-- the lines before this place are good: whatever follows the text, its first bad line is found from there on
+pub record IsJudged (form : LineForm) (text : List ℕ) (j : Judged) : Type 0 where
+  pub few : j.number ≤ most_lines + 1
+  pub within : j.bytes ≤ length text
+  pub same : (more : List ℕ) → fault_in form 1 (text ++ more) ≡ fault_in form j.number (drop j.bytes text ++ more)
+
+-- whether a line of this number is a bad one, whatever follows these many bytes of it
+abbrev pub is_bad_rest : LineForm → ℕ → ℕ → Bool
+is_bad_rest form n bytes = nat_lt (most_bytes form) bytes || (nat_lt 0 bytes && nat_lt most_lines n)
+
+-- this is the first bad line of a text, whatever follows it
+abbrev pub IsRefused : LineForm → List ℕ → LinesFault → Type 0
+IsRefused form text fault = (more : List ℕ) → fault_in form 1 (text ++ more) ≡ Some fault
 
 -- bytes aren't read to their end: the reader failed, or memory was refused
 abbrev pub StopsReading : Input → LinesFault → Input → Type 0
@@ -165,8 +184,8 @@ StopsReading old Read new = new.failures ≡ old.failures + 1
 StopsReading old NoMemory new = new.failures ≡ old.failures
 StopsReading old (Line n kind) new = ⊥
 
--- these bytes tell the answer: the reader ended after them, and they are the text; or it is the same whatever follows
--- them
+-- these bytes decide the answer: the reader ended after them, and they are the text; or each text that begins with them
+-- has it
 abbrev pub TellsLines : LineForm → Input → List ℕ → Result (List AskedLine) LinesFault → Input → Type 0
 TellsLines form old given answer new =
     (new.failures ≡ old.failures) × ((HasEnded new × (asked_by form given ≡ answer)) ⊎ ((more : List ℕ) → asked_by form (given ++ more) ≡ answer))
@@ -177,12 +196,6 @@ pub record ReadsLines (form : LineForm) (old : Input) (answer : Result (List Ask
   pub gives : Gives old given new
   pub told : IsErrAnd answer (λ fault. StopsReading old fault new) ⊎ TellsLines form old given answer new
 
--- what reading bytes leaves: all that there are, or as many as are looked at
-abbrev pub GivesText : {T : Type 0} → ℕ → (T → List ℕ) → Input → List ℕ → Result T LinesFault → Input → Type 0
-GivesText most bytes old given (Ok text) new =
-    (bytes text ≡ take most given) × (new.failures ≡ old.failures) × (HasEnded new ⊎ (most ≤ length given))
-GivesText most bytes old given (Err fault) new = StopsReading old fault new
-
 -- the lines of a text ask this, and none is bad
 abbrev pub HasLines : LineForm → List ℕ → Result (List AskedLine) LinesFault → Type 0
-HasLines form text told = (asked_from form 1 (lines_in text) ≡ told) × (fault_of told ≡ None)
+HasLines form text requested = (asked_by form text ≡ requested) × (fault_of requested ≡ None)

@@ -8,7 +8,7 @@ use std::rt::Files;
 
 /// What removes files by their paths.
 pub trait Remover {
-    /// What a call that removed the file at a path tells of the path.
+    /// What is true of a path if a call removed the file there.
     ghost removed: { List ℕ → Type 0 };
 
     /// Removes the file at a path.

@@ -101,10 +101,10 @@ fn write_answers<P: Read, Q: Read, O: Write, A: Allocator + Copy>(
     }
 }
 
-/// Answers the requests of a text over one plan: reads the plan whole from `plan`, then the text whole from `requests`,
-/// and judges its lines. For each request in order, it then writes to `out` the word `request` and its line, and the
-/// report of its first `count` routes, from 1 to 10000, as [`run_first`](crate::run_first) does. The output is flushed
-/// at the end.
+/// Answers the requests of a text over one plan: reads the plan whole from `plan`, and then the text from `requests`, to
+/// its end or to its first bad line. For each request in order, it then writes to `out` the word `request` and its line,
+/// and the report of its first `count` routes, from 1 to 10000, as [`run_first`](crate::run_first) does. The output is
+/// flushed at the end.
 ///
 /// A failure's message goes to `err`; a failure of `err` changes nothing else. The status is [`Status::Plan`] if the
 /// plan is refused, and then `requests` isn't read; [`Status::Session`] if a line is bad; [`Status::Io`] if a reader or
@@ -131,8 +131,8 @@ pub fn run_many<P: Read, Q: Read, O: Write, E: Write, A: Allocator + Copy>(
     tell_end(end, err)
 }
 
-/// Explains the lists of a text over one plan: reads the plan whole from `plan`, then the text whole from `lists`, and
-/// judges its lines. For each list in order, it then writes to `out` the word `list` and its line, and what
+/// Explains the lists of a text over one plan: reads the plan whole from `plan`, and then the text from `lists`, to its
+/// end or to its first bad line. For each list in order, it then writes to `out` the word `list` and its line, and what
 /// [`run_explain`](crate::run_explain) writes of its contacts for its request. The output is flushed at the end.
 ///
 /// A failure's message goes to `err`; a failure of `err` changes nothing else. The status is [`Status::Done`] whether

@@ -1,14 +1,15 @@
-//! A text of requests or of lists: reading it whole, and judging its lines.
+//! A text of lines, read to its end or to its first bad line.
 
-ghost use Rattle.std.specs.Prelude.{◌≡◌, ◌<◌, ◌≤◌, ◌∷◌, [], length, List, Result, MatchOption, MatchResult, IfNone, IfSome, Err, ℕ};
-ghost use Rattle.sabr_model.specs.Devices.{Gives};
-ghost use Rattle.commands.specs.words.Lines.{GivesText, HasLines, ReadsLines, AskedLine, asked_at, fault_of, lines_in, most_bytes, most_lines, asked_from};
+ghost use Rattle.std.specs.Prelude.{◌≡◌, ◌<◌, ◌≤◌, ◌∷◌, ◌++◌, [], drop, length, List, Result, MatchOption, MatchResult, IfErr, IfNone, IfOk, IfSome, IsTrue, Err};
+ghost use Rattle.sabr_plan.specs.Words.{is_one_line};
+ghost use Rattle.commands.specs.words.Lines.{HasLines, IsJudged, IsRefused, ReadsLines, AskedLine, asked_at, fault_in, fault_of, is_bad_rest, line_feed, lines_in, most_bytes, most_lines};
 ghost use Rattle.commands.specs.declared.words.lines_fault.LinesFault.{LinesFault};
 
 use crate::words::lines_fault::{LineKind, LinesFault};
 use crate::words::lists::first_piece;
-use crate::words::request_line::{list_in, request_in};
+use crate::words::request_line::{MAX_LINE_BYTES, MAX_LIST_BYTES, list_in, request_in};
 use sabr_model::{Failed, Read};
+use sabr_plan::line_end;
 use std::alloc::Allocator;
 
 /// The most lines of a text.
@@ -27,16 +28,24 @@ pub enum LineForm {
 }
 
 impl LineForm {
-    /// One byte more than all lines of the largest length have. No more bytes are read: a text as long has a bad line
-    /// within these.
+    /// The most bytes of a line without its LF.
     pub fn most_bytes(self) -> usize
         ensures { result ≡ most_bytes self }
     {
         match self {
-            LineForm::Requests => 412000001,
-            LineForm::Lists => 220412000001,
+            LineForm::Requests => MAX_LINE_BYTES,
+            LineForm::Lists => MAX_LIST_BYTES,
         }
     }
+}
+
+/// How far the lines of a text are judged, and found good.
+#[derive(Clone, Copy)]
+pub struct Judged {
+    /// The number of the next line, from 1.
+    pub number: u32,
+    /// The bytes before that line.
+    pub bytes: usize,
 }
 
 /// Splits off the first line, without its LF. With it comes what stands after that. `None` if there is no byte.
@@ -68,54 +77,92 @@ fn fault_at(form: LineForm, number: u32, line: &[u8]) -> Option<LineKind>
     }
 }
 
-/// Finds the first bad line of a text.
-fn first_fault(form: LineForm, text: &[u8]) -> Option<LinesFault>
-    ensures { result ≡ fault_of (asked_from form 1 (lines_in text.now)) }
+/// Splits off the first line that ends with LF. With it comes what stands after that. `None` if there is no LF.
+fn ended_line(text: &[u8]) -> Option<(&[u8], &[u8])>
+    ensures { MatchOption result (IsTrue (is_one_line text.now)) (λ r. (text.now ≡ r.0.now ++ line_feed ∷ r.1.now) × IsTrue (is_one_line r.0.now)) }
 {
-    let mut rest = text;
-    let mut number = 1;
-    while let Some((line, after)) = first_line(rest) {
-        if let Some(kind) = fault_at(form, number, line) {
-            return Some(LinesFault::Line(number, kind));
-        }
-        number += 1;
-        rest = after;
-    }
-    None
+    let end = line_end(text)?;
+    Some((&text[..end], &text[end + 1..]))
 }
 
-/// Reads the bytes of a text, at most `most` of them.
-fn read_text<R: Read, A: Allocator + Copy>(
-    alloc: A,
-    reader: &mut R,
-    most: usize,
-) -> Result<Vec<u8, A>, LinesFault>
-    ensures { (given : List ℕ) × Gives (R.input reader.old) given (R.input reader.new)
-        × GivesText most (λ text. text.items) (R.input reader.old) given result (R.input reader.new) }
+/// Whether the line of this number is a bad one, whatever follows these many bytes of it.
+fn is_bad_rest(form: LineForm, number: u32, bytes: usize) -> bool
+    ensures { result ≡ is_bad_rest form number bytes }
 {
-    let mut buffer = [0u8; PIECE_BYTES];
-    let mut text = Vec::new(alloc);
-    while text.len() < most {
-        match reader.read(&mut buffer) {
-            Ok(0) => return Ok(text),
-            Ok(count) => {
-                let Ok(()) = text.extend_from_slice(&buffer[..count]) else {
-                    return Err(LinesFault::NoMemory);
-                };
-            }
-            Err(Failed) => return Err(LinesFault::Read),
-        }
-    }
-    text.truncate(most);
-    Ok(text)
+    bytes > form.most_bytes() || (bytes > 0 && number > MAX_LINES)
 }
 
-/// Reads a text of lines of this form whole, and judges them.
+/// Judges the lines of a text that end with LF, from where that was done before.
 ///
 /// # Errors
 ///
-/// [`LinesFault::Read`] if the reader failed, [`LinesFault::NoMemory`] if an allocation failed, and else
-/// [`LinesFault::Line`] with the first bad line.
+/// The first bad line of the text, whatever follows: one that ends with LF, or the one after these, if it is too long
+/// or comes after the last that a text may have.
+fn judge(form: LineForm, text: &[u8], before: Judged) -> Result<Judged, LinesFault>
+    requires { IsJudged form text.now before }
+    ensures judged { IfOk result (IsJudged form text.now) }
+    ensures rest { IfOk result (λ j. IsTrue (is_one_line (drop j.bytes text.now))) }
+    ensures refused { IfErr result (IsRefused form text.now) }
+{
+    let mut judged = before;
+    while let Some((line, _after)) = ended_line(&text[judged.bytes..]) {
+        if let Some(kind) = fault_at(form, judged.number, line) {
+            return Err(LinesFault::Line(judged.number, kind));
+        }
+        judged = Judged {
+            number: judged.number + 1,
+            bytes: judged.bytes + line.len() + 1,
+        };
+    }
+    if is_bad_rest(form, judged.number, text.len() - judged.bytes) {
+        return Err(LinesFault::Line(judged.number, LineKind::BadLine));
+    }
+    Ok(judged)
+}
+
+/// Judges a text that grew by this piece, as [`judge`]. A piece that ends no line is looked at once.
+fn judge_piece(
+    form: LineForm,
+    text: &[u8],
+    piece: &[u8],
+    before: Judged,
+) -> Result<Judged, LinesFault>
+    requires { IsJudged form text.now before }
+    ensures judged { IfOk result (IsJudged form text.now) }
+    ensures refused { IfErr result (IsRefused form text.now) }
+{
+    let rest = text.len() - before.bytes;
+    if line_end(piece).is_some() || is_bad_rest(form, before.number, rest) {
+        return judge(form, text, before);
+    }
+    Ok(before)
+}
+
+/// Finds the first bad line of a text that has ended.
+fn first_fault(form: LineForm, text: &[u8], before: Judged) -> Option<LinesFault>
+    requires { IsJudged form text.now before }
+    ensures { result ≡ fault_in form 1 text.now }
+{
+    let judged = match judge(form, text, before) {
+        Ok(judged) => judged,
+        Err(fault) => return Some(fault),
+    };
+    let line = &text[judged.bytes..];
+    if line.is_empty() {
+        return None;
+    }
+    match fault_at(form, judged.number, line) {
+        Some(kind) => Some(LinesFault::Line(judged.number, kind)),
+        None => None,
+    }
+}
+
+/// Reads a text of lines of this form, and judges them, to the end of the text or to its first bad line.
+///
+/// # Errors
+///
+/// [`LinesFault::Line`] with the first bad line, as soon as no byte that follows can make it a good one. Before that,
+/// [`LinesFault::Read`] if the reader failed, and [`LinesFault::NoMemory`] if an allocation failed.
 pub fn read_lines<R: Read, A: Allocator + Copy>(
     alloc: A,
     form: LineForm,
@@ -125,9 +172,29 @@ pub fn read_lines<R: Read, A: Allocator + Copy>(
         × ReadsLines form (R.input reader.old) requested (R.input reader.new)
         × MatchResult result (λ text. HasLines form text.items requested) (λ fault. requested ≡ Err fault) }
 {
-    let text = read_text(alloc, reader, form.most_bytes())?;
-    match first_fault(form, text.as_slice()) {
-        Some(fault) => Err(fault),
-        None => Ok(text),
+    let mut buffer = [0u8; PIECE_BYTES];
+    let mut text = Vec::new(alloc);
+    let mut judged = Judged {
+        number: 1,
+        bytes: 0,
+    };
+    while text.len() < usize::MAX {
+        match reader.read(&mut buffer) {
+            Ok(0) => {
+                return match first_fault(form, text.as_slice(), judged) {
+                    Some(fault) => Err(fault),
+                    None => Ok(text),
+                };
+            }
+            Ok(count) => {
+                let piece = &buffer[..count];
+                let Ok(()) = text.extend_from_slice(piece) else {
+                    return Err(LinesFault::NoMemory);
+                };
+                judged = judge_piece(form, text.as_slice(), piece, judged)?;
+            }
+            Err(Failed) => return Err(LinesFault::Read),
+        }
     }
+    Err(LinesFault::NoMemory)
 }

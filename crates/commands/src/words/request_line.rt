@@ -14,10 +14,10 @@ use crate::words::value_fault::ValueFault;
 use sabr_model::Request;
 
 /// The most bytes of a line. A line of 20-digit nodes, a time, the largest limits and 16 nodes to avoid has as many.
-const MAX_LINE_BYTES: usize = 411;
+pub const MAX_LINE_BYTES: usize = 411;
 
 /// The most bytes of a line of lists: 20000 numbers of ten digits, each with a byte after it, and such a line.
-const MAX_LIST_BYTES: usize = 220411;
+pub const MAX_LIST_BYTES: usize = 220411;
 
 /// What a line of lists asks about.
 #[derive(Drop)]

@@ -1,18 +1,26 @@
-use Rattle.std.proofs.Common.{sym, ap, ◌∙◌, arith}
-use Rattle.commands.specs.words.Lines.{fault_of, asked_from}
-use Rattle.commands.proofs.WordLemmas.LinesRead.{bad_first, good_first}
+use Rattle.std.proofs.Common.{◌≡◌, ◌-◌, ◌<◌, length, ap, sym, ◌∙◌, arith}
+use Rattle.std.proofs.lemmas.Grind.{common_steps}
+use Rattle.std.proofs.lemmas.List.{take_rest}
+use Rattle.commands.specs.words.Lines.{asked_at, fault_of}
+use Rattle.commands.proofs.WordLemmas.JudgedLines.{last_bad, last_good, none_left, refused_here}
 use Rattle.commands.proofs.words.lines.first_fault.Goals as goal
 
-pub returns-in-Some-fault_at : goal.returns-in-Some-fault_at
-returns-in-Some-fault_at c =
-    let first = ap (λ ls. fault_of (asked_from c.args.form c.loop-line.number ls)) (c.in-Some.ensures {u = tt}).lines in
-    sym (bad_first _ _ _ _ _ (sym c.fault_at.ensures.value ∙ c.in-Some-fault_at.is)) ∙ sym first ∙ c.loop-line.invariant.same
+pub returns-in-Err : goal.returns-in-Err
+returns-in-Err c = sym (refused_here c.args.form c.args.text.now c.in-Err.fault (c.in-Err.ensures.refused))
 
-pub loop-line-preserved : goal.loop-line-preserved
-loop-line-preserved c =
-    let first = ap (λ ls. fault_of (asked_from c.args.form c.loop-line.number ls)) (c.in-Some.ensures {u = tt}).lines in
-    let within = rw c.in_default-fault_at.is at c.fault_at.ensures.limit in
-    record {
-      few = omega (arith, within);
-      same = sym (good_first _ _ _ _ (sym c.fault_at.ensures.value ∙ c.in_default-fault_at.is)) ∙ sym first ∙ c.loop-line.invariant.same;
-    }
+pub returns-then-is_empty : goal.returns-then-is_empty
+returns-then-is_empty c =
+    let none : length c.args.text.now - c.in-Ok.judged.bytes ≡ 0 = grind (arith, common_steps, c.is_empty.ensures, c.if-is_empty.true) in
+    sym (none_left c.args.form c.args.text.now c.in-Ok.judged (c.in-Ok.ensures.judged) (c.in-Ok.ensures.rest) none)
+
+pub returns-in-Some : goal.returns-in-Some
+returns-in-Some c =
+    let some : 0 < length c.args.text.now - c.in-Ok.judged.bytes = grind (arith, common_steps, c.is_empty.ensures, c.if-is_empty.false) in
+    let bad = ap (λ line. fault_of (asked_at c.args.form c.in-Ok.judged.number line)) (sym (take_rest c.args.text.now c.in-Ok.judged.bytes)) ∙ sym c.fault_at.ensures.value ∙ c.in-Some.is in
+    sym (last_bad c.args.form c.args.text.now c.in-Ok.judged (c.in-Ok.ensures.judged) (c.in-Ok.ensures.rest) c.in-Some.kind some bad)
+
+pub returns-in-None : goal.returns-in-None
+returns-in-None c =
+    let some : 0 < length c.args.text.now - c.in-Ok.judged.bytes = grind (arith, common_steps, c.is_empty.ensures, c.if-is_empty.false) in
+    let good = ap (λ line. fault_of (asked_at c.args.form c.in-Ok.judged.number line)) (sym (take_rest c.args.text.now c.in-Ok.judged.bytes)) ∙ sym c.fault_at.ensures.value ∙ c.in-None.is in
+    sym (last_good c.args.form c.args.text.now c.in-Ok.judged (c.in-Ok.ensures.judged) (c.in-Ok.ensures.rest) some good)

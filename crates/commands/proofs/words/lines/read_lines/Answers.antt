@@ -1,29 +1,16 @@
-use Rattle.std.proofs.Common.{refl, sym, ap, ◌∙◌, Err}
+use Rattle.std.proofs.Common.{◌≡◌, ◌++◌, take, refl, sym, ap, ◌∙◌, Err, arith}
 use Rattle.std.proofs.lemmas.Result.{err_from_is_err_and}
-use Rattle.commands.specs.words.Lines.{fault_of, lines_in, asked_from}
-use Rattle.commands.proofs.WordLemmas.LinesRead.{not_read, lines_read, fault_requested}
+use Rattle.sabr_model.proofs.ListLemmas.ReadTexts.{Gives-append}
+use Rattle.commands.specs.words.Lines.{fault_in}
+use Rattle.commands.proofs.WordLemmas.LinesRead.{line_refused}
 use Rattle.commands.proofs.words.lines.read_lines.Goals as goal
 
-pub returns-in_err-text : goal.returns-in_err-text
-returns-in_err-text g c =
+pub returns-in_err-judged-in-Ok : goal.returns-in_err-judged-in-Ok
+returns-in_err-judged-in-Ok g c =
     let p = err_from_is_err_and c.from_residual.result c.from_residual.ensures.1 in
-    let h = c.in_err-text.ensures {u = tt} in
-    (Err c.in_err-text.field-0.0, not_read c.args.form _ _ h.0 c.in_err-text.field-0.0 h.1 h.2, rw (p.1, p.2) refl)
-
-pub returns-in-Some : goal.returns-in-Some
-returns-in-Some g c =
-    let h = c.in_ok-text.ensures {u = tt} in
-    let text = c.in_ok-text.text.items in
-    let read = rw c.most_bytes.ensures at h.2 in
-    let requested = asked_from c.args.form 1 (lines_in text) in
-    let found = sym (ap (λ t. fault_of (asked_from c.args.form 1 (lines_in t))) c.as_slice.ensures.value) ∙ sym c.first_fault.ensures ∙ c.in-Some.is in
-    (requested, lines_read c.args.form _ _ h.0 text h.1 read.0 read.1 read.2, fault_requested requested c.in-Some.fault found)
-
-pub returns-in-None : goal.returns-in-None
-returns-in-None g c =
-    let h = c.in_ok-text.ensures {u = tt} in
-    let text = c.in_ok-text.text.items in
-    let read = rw c.most_bytes.ensures at h.2 in
-    let requested = asked_from c.args.form 1 (lines_in text) in
-    let none = sym (ap (λ t. fault_of (asked_from c.args.form 1 (lines_in t))) c.as_slice.ensures.value) ∙ sym c.first_fault.ensures ∙ c.in-None.is in
-    (requested, lines_read c.args.form _ _ h.0 text h.1 read.0 read.1 read.2, (refl, none))
+    let h = c.in-Ok.ensures in
+    let fault = c.in_err-judged-in-Ok.field-0.0 in
+    let text = c.loop-form.text.items ++ take c.in-Ok.count c.read.new.buf in
+    let gives = Gives-append (g.R.Read.input c.args.reader.now) (g.R.Read.input c.loop-form.reader) (g.R.Read.input c.read.new.self) c.loop-form.text.items _ c.loop-form.invariant.read h.bytes in
+    let same : c.as_slice-in-Ok.result.now ≡ text = c.as_slice-in-Ok.ensures.value ∙ c.in-Ok-extend_from_slice.ensures.items in
+    (Err fault, line_refused c.args.form _ _ text fault gives (omega (arith, h.count, c.loop-form.invariant.fine)) (λ more. ap (λ t. fault_in c.args.form 1 (t ++ more)) (sym same) ∙ (c.in_err-judged-in-Ok.ensures {u = tt}).refused more), rw (p.1, p.2) refl)
