@@ -9,8 +9,8 @@ ghost use Rattle.commands.specs.runs.RunsInTurn.{RunsInTurn, RunsGoOn};
 
 /// Shows that every run of a session follows the list of all routes. For pages of any sizes, with the session written
 /// and read anywhere between them, its pages in turn are the next routes of the list, best first, none left out and none
-/// twice. Its text depends only on the number of routes given. A page that runs out of memory gives nothing and leaves all as
-/// it was. A run begins with a session just started, or goes on from the place of a text that verifying accepts.
+/// twice. Its text depends only on the number of routes given. A page that runs out of memory gives nothing and leaves
+/// all as it was. A run begins with a session just started, or goes on from the place of a text that verifying accepts.
 ///
 /// Every list of events has a run, as long as the sessions that it writes have texts, which all in memory have. Each
 /// beginning of a list is a list of events, too, so this holds at every place of a run. Pages may have any size here;

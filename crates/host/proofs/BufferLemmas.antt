@@ -23,7 +23,7 @@ put_over-full [] xs x h = refl
 put_over-full (b ∷ bs) [] x h = absurd (omega (arith, h))
 put_over-full (b ∷ bs) (y ∷ xs) x h = ap (λ zs. y ∷ zs) (put_over-full bs xs x (omega (arith, h)))
 
--- so many elements of it, and the rest of the buffer
+-- what fits of it, and the rest of the buffer
 pub put_over-at : {X : Type 0} (bs xs : List X) (k : ℕ) → k ≡ min (length xs) (length bs) → put_over bs xs ≡ take k xs ++ drop k bs
 put_over-at [] xs k e = let none : k ≡ 0 = omega (arith, e) in rw none refl
 put_over-at (b ∷ bs) [] k e = let none : k ≡ 0 = omega (arith, e) in rw none refl

@@ -32,7 +32,7 @@ plan_told text rest given ended p reads = elim reads.told [
   | inr (inr refused) ↦ absurd refused
 ]
 
--- the number 0 is told of a run that is done, and whose texts fit
+-- the number 0 is that of a run that is done, and whose texts fit
 done_told : (fit : Bool) (ended : Status) → 0 ≡ number_of (status_told fit ended) → (fit ≡ true) × (ended ≡ status.Done)
 done_told false ended e = absurd cc
 done_told true status.Done e = (refl, refl)

@@ -22,7 +22,7 @@ pub record Texts : Type 0 where
 abbrev pub texts_of : Outputs → Texts
 texts_of o = record { report = o.report.buffer.now; session = o.session.buffer.now; message = o.message.buffer.now }
 
--- the lengths that they tell
+-- the lengths that they hold
 abbrev pub told_by : Outputs → Lengths
 told_by o = record { report = o.report.length; session = o.session.length; message = o.message.length }
 
@@ -32,7 +32,7 @@ pub record IsUnwritten (w : WritersSeen) : Type 0 where
   pub session : w.session.taken ≡ []
   pub message : w.message.taken ≡ []
 
--- a text was put to the front of a buffer, as far as there was room, and its length was told
+-- a text was put to the front of a buffer, as far as there was room, and its length was set
 pub record IsPut (text old new : List ℕ) (number : ℕ) : Type 0 where
   pub buffer : new ≡ put_over old text
   pub told : number ≡ length text

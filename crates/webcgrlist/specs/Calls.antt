@@ -31,7 +31,7 @@ RunsCommand command.Explain a values old new ended = IsSomeAnd values.request (�
 RunsCommand command.Many a values old new ended = IsSomeAnd values.count (λ count. RunsMany a count old new ended)
 RunsCommand command.Follow a values old new ended = RunsFollow a old new ended
 
--- a command is run with the values that were read, or it ended before its run: the first fault of the values is told
+-- a command is run with the values that were read, or it ended before its run, with the message of their first fault
 abbrev pub RunsRead : CommandName → Asked → Result ValuesRead ValueFault → WritersSeen → WritersSeen → Status → Type 0
 RunsRead name a (Ok values) old new ended = RunsCommand name a values old new ended
 RunsRead name a (Err fault) old new ended = StopsBefore (failure_of_value fault) old new ended

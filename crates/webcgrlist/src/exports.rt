@@ -26,8 +26,8 @@ pub extern "C" fn cgrlist_check(
     answer(memory, Call { run, asked }, outputs)
 }
 
-/// Lists the first routes of a request, best first, and whether there are more. Writes the session after them, if it is
-/// kept. Reads the plan, the words of the request, which are the texts from `from` to `avoid`, and the count.
+/// Lists the first routes of a request, best first, and whether there are more. Writes the session after them, if that
+/// is asked. Reads the plan, the words of the request, which are the texts from `from` to `avoid`, and the count.
 #[unsafe(no_mangle)]
 pub extern "C" fn cgrlist_first(
     memory: &mut Region,
@@ -41,8 +41,8 @@ pub extern "C" fn cgrlist_first(
     answer(memory, Call { run, asked }, outputs)
 }
 
-/// Lists the routes that follow a session, best first, and whether there are more. Writes the session after them, if it
-/// is kept. Reads the plan, the session and the count.
+/// Lists the routes that follow a session, best first, and whether there are more. Writes the session after them, if that
+/// is asked. Reads the plan, the session and the count.
 #[unsafe(no_mangle)]
 pub extern "C" fn cgrlist_next(
     memory: &mut Region,

@@ -18,7 +18,7 @@
 //! | Parameter | Points to |
 //! |---|---|
 //! | `memory` | [`Region`](host::Region): address and size of the memory that is lent, which comes back. The size is 4096 k - 16 |
-//! | `asked` | [`Asked`]: the twelve texts plan, session, requests, lists, from, to, at, margin, hops, avoid, count and contacts, each an address and a length; at byte 192 one byte, 1 if the session after a page is kept, and else 0 |
+//! | `asked` | [`Asked`]: the twelve texts plan, session, requests, lists, from, to, at, margin, hops, avoid, count and contacts, each an address and a length; at byte 192 one byte, 1 if the session after a page is written, and else 0 |
 //! | `outputs` | [`Outputs`]: report, session and message, each the address and the length of its buffer, and then a number, to which the call sets the length of the text |
 //!
 //! Each run reads the texts of its command, and no others. A buffer gets as much of its text as it has room for. The

@@ -16,7 +16,7 @@ pub struct OutputText<'a> {
 pub struct Outputs<'r, 's, 'm> {
     /// The report of the run, or the canonical text.
     pub report: OutputText<'r>,
-    /// The session after a page, if it is kept.
+    /// The session after a page, if it is written.
     pub session: OutputText<'s>,
     /// The message of a call that failed.
     pub message: OutputText<'m>,

@@ -14,7 +14,7 @@ use host::Bytes;
 use sabr_model::Write;
 use std::alloc::Allocator;
 
-/// Lists the first page of a request. Writes the session after it if that is kept.
+/// Lists the first page of a request. Writes the session after it if that is asked.
 pub fn first<O: Write, S: Write, E: Write, A: Allocator + Copy>(
     alloc: A,
     asked: &Asked<'_>,
@@ -40,7 +40,7 @@ pub fn first<O: Write, S: Write, E: Write, A: Allocator + Copy>(
     )
 }
 
-/// Lists the page after a session. Writes the session after it if that is kept.
+/// Lists the page after a session. Writes the session after it if that is asked.
 pub fn next<O: Write, S: Write, E: Write, A: Allocator + Copy>(
     alloc: A,
     asked: &Asked<'_>,

@@ -1,5 +1,5 @@
 -- Calls of the program in turn, from words to words and files: a call `first`, and then calls `next`, each over the
--- file in which the one before kept its session, at last one that keeps none.
+-- file in which the one before left its session, at last one that leaves none.
 use Rattle.std.specs.Prelude.{◌≡◌, ℕ, ◌+◌, true, List, [], ◌∷◌, ◌++◌, Option, None, Some, Ok, if◌then◌else◌}
 use Rattle.std.specs.Str.{bytes_eq}
 use Rattle.clap.specs.Matches.{first_value}
@@ -73,7 +73,7 @@ pub record AsksNext (at old : List ℕ) (c : Call) (found : Found) : Type 0 wher
   pub values : values_of command.Next found ≡ Ok (record { request = None; count = Some c.count; contacts = [] })
   pub kept : first_value found session_out_word ≡ Some c.path
 
--- the page after that of an old session, and no session is kept
+-- the page after that of an old session, and no session is written
 pub record AsksLast (at old : List ℕ) (c : Call) (found : Found) : Type 0 where
   pub plan : path_under found plan_word ≡ at
   pub session : path_under found session_word ≡ old

@@ -27,7 +27,7 @@ unwritten = record { contents = Some []; taken = []; failures = 0; flushed = fal
 abbrev pub Makes : FileRules → List ℕ → Output → Left → Left → Type 0
 Makes rules path x old new = rules.made path x × (new ≡ (path, unwritten) ∷ old)
 
--- the file that was made last is kept, whose writer shows x
+-- the file that was made last stays, whose writer shows x
 abbrev pub Keeps : Output → Left → Left → Type 0
 Keeps x [] new = new ≡ []
 Keeps x (file ∷ others) new = new ≡ (file.0, x) ∷ others
@@ -37,12 +37,12 @@ abbrev pub Removes : FileRules → Output → Left → Left → Type 0
 Removes rules x [] new = new ≡ []
 Removes rules x (file ∷ others) new = (rules.removed file.0 × (new ≡ others)) ⊎ (rules.unremoved file.0 × (new ≡ (file.0, x) ∷ others))
 
--- it is kept if the run is done that wrote it, and else removed
+-- it stays if the run is done that wrote it, and else is removed
 abbrev pub KeepsIfDone : FileRules → Status → Output → Left → Left → Type 0
 KeepsIfDone rules status.Done x old new = Keeps x old new
 KeepsIfDone rules _ x old new = Removes rules x old new
 
--- what is left after a run: the file of the session that it kept, whose writer shows x, if it is done. If it isn't, that
+-- what is left after a run: the file of the session that it wrote, whose writer shows x, if it is done. If it isn't, that
 -- file was removed, unless that failed. No other file is made or removed.
 abbrev pub LeavesFile : FileRules → Option (List ℕ) → Status → Output → Left → Left → Type 0
 LeavesFile rules None ended x old new = new ≡ old

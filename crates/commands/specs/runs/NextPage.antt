@@ -13,7 +13,7 @@ use Rattle.commands.specs.declared.failure.Failure.TheVariants as failure
 use Rattle.commands.specs.runs.EveryRun.{IsAt, from_text}
 use Rattle.commands.specs.runs.SessionRuns.{ReadsOldSession, WritesNextPage, WritesPage, place_after, place_of, report_from}
 
--- if a run ended well and kept its session, that is the text of place i, from which a run can go on
+-- if a run ended well and wrote its session, that is the text of place i, from which a run can go on
 abbrev pub KeepsPlace : Bool → ContactPlan → RouteRequest → ℕ → Result (Unit {0}) Failure → Type 0
 KeepsPlace keep p r i end = IfOk end (λ _. IsTrue keep → IsAt p r i (from_text (session_text p r i)))
 
@@ -22,7 +22,7 @@ abbrev pub WritesPageFrom : Bool → ContactPlan → RouteRequest → ℕ → �
 WritesPageFrom keep p r i count end old new old₁ new₁ =
     WritesPage keep p (report_from p r i count) (r, state_at p r (place_after p r i count)) end old new old₁ new₁ × KeepsPlace keep p r (place_after p r i count) end
 
--- a reader's text is these bytes: whatever is read of it, a next run leaves the page from place i on; or the
+-- a reader's text is these bytes: for any bytes read of it, a next run leaves the page from place i on; or the
 -- reader failed, and nothing is written
 abbrev pub GoesOnFrom : TabledPlan → RouteRequest → ℕ → List ℕ → Type 0
 GoesOnFrom p r i bytes =

@@ -46,7 +46,7 @@ pub record EndsNamed (rules : FileRules) (given : Given) (left left₁ : Left) (
   pub rows : rows_in given ≡ Some (rows_of found)
   pub does : RunsCommand name rules found left left₁ out out₁ err err₁ ended ⊎ EndsBefore rules name found left left₁ out out₁ err err₁ ended
 
--- the words were refused: for this reason, and then a text is told and the status is Usage; or memory was
+-- the words were refused: for this reason, and then a text is written and the status is Usage; or memory was
 abbrev pub TellsRefusal : Type 0 → Output → Output → Status → Type 0
 TellsRefusal Why err err₁ ended =
     ((text : List ℕ) × Why × TellsText err text err₁ × (ended ≡ status.Usage))

@@ -40,8 +40,8 @@ next_report p r s count = report_after p r s.emitted (steps p r count s)
 abbrev pub text_over : ContactPlan → RouteRequest × State → List ℕ
 text_over p x = text_of (digest_of p) x.0 x.1
 
--- what a page leaves on the session's writer: if the session after it is kept, it has a text, and that was taken, whole
--- and flushed; if it isn't kept, the writer is as it was
+-- what a page leaves on the session's writer: if the session after it is written, it has a text, and that was taken,
+-- whole and flushed; if it isn't, the writer is as it was
 abbrev pub LeavesSession : Bool → ContactPlan → RouteRequest × State → Output → Output → Type 0
 LeavesSession true p x old new = HasText x.1 × WrittenAndFlushed old (text_over p x) new
 LeavesSession false p x old new = new ≡ old

@@ -131,7 +131,7 @@ without_last_empty (line ∷ lines) = line ∷ without_last_empty lines
 unfoldable pub lines_in : List ℕ → List (List ℕ)
 lines_in text = without_last_empty (pieces_of line_feed text)
 
--- what the line of this number asks, if there may be so many
+-- what the line of this number asks; one after the last line that a text may have is bad
 abbrev pub asked_at : LineForm → ℕ → List ℕ → Result Asked LineKind
 asked_at form n line = if nat_lt most_lines n then Err BadLine else asked_in form line
 
@@ -178,7 +178,7 @@ is_bad_rest form n bytes = nat_lt (most_bytes form) bytes || (nat_lt 0 bytes && 
 abbrev pub IsRefused : LineForm → List ℕ → LinesFault → Type 0
 IsRefused form text fault = (more : List ℕ) → fault_in form 1 (text ++ more) ≡ Some fault
 
--- bytes aren't read to their end: the reader failed, or memory was refused
+-- bytes aren't read to their end: the reader failed, or an allocation did
 abbrev pub StopsReading : Input → LinesFault → Input → Type 0
 StopsReading old Read new = new.failures ≡ old.failures + 1
 StopsReading old NoMemory new = new.failures ≡ old.failures

@@ -188,7 +188,7 @@ pub record ValuesRead : Type 0 where
   pub count : Option ℕ
   pub contacts : List ℕ
 
--- what the values of a command tell, without the memory that holds them
+-- the values of a command, without the memory that holds them
 abbrev pub seen_values : {A : Type 0} → Values A → ValuesRead
 seen_values v = record { request = v.request; count = v.count; contacts = v.contacts }
 
