@@ -1,6 +1,7 @@
 pub mod ChainedPlaces
 pub mod LastRanges
 pub mod SortedRanges
+pub mod PlacedRanges
 pub mod RangeKeys
 pub mod GatheredOpenings
 pub mod Digits

@@ -1,6 +1,6 @@
 -- Contacts that are gathered with what no two of them share; and ranges that are gathered in any order, and sorted at
 -- the end. Indexes of both are in chains by buckets.
-use Rattle.std.specs.Prelude.{◌≡◌, ◌≢◌, ℕ, ◌+◌, ◌*◌, ◌/◌, ◌%◌, ◌^◌, ◌<◌, ◌≤◌, Bool, false, true, ◌&&◌, nat_lt, List, [], ◌∷◌, length, take, drop, map, slice_get, slice_index, option_map, IsPermutation}
+use Rattle.std.specs.Prelude.{◌≡◌, ◌≢◌, ℕ, ◌+◌, ◌*◌, ◌/◌, ◌%◌, ◌^◌, ◌<◌, ◌≤◌, Bool, false, true, ◌&&◌, nat_lt, List, [], ◌∷◌, length, take, drop, map, slice_get, slice_index, slice_index_or, option_map, IsPermutation}
 use Rattle.std.specs.List.{filter, list_any, AllByRecursion}
 use Rattle.std.specs.declared.option.Option.{Option}
 use Rattle.std.specs.declared.option.Option.TheVariants.{Some, None}
@@ -83,6 +83,11 @@ put_in_turn (x ∷ xs) ys = put_in_turn xs (put_in by_range_key x ys)
 -- put in one by one, the ranges obey the rules of a plan, and none of them is lost
 abbrev pub ObeyInTurn : List Range → Type 0
 ObeyInTurn ranges = IsPlan (plan_of_ranges (put_in_turn ranges [])) × IsPermutation ranges (put_in_turn ranges [])
+
+-- the index of a range that passes, or none does
+abbrev pub IsPlaced : (Range → Bool) → List Range → Option ℕ → Type 0
+IsPlaced p ranges (Some k) = (k < length ranges) × ((d : Range) → p (slice_index_or ranges k d) ≡ true)
+IsPlaced p ranges None = list_any p ranges ≡ false
 
 -- the bucket of a range by its ordered pair, one of 2048
 abbrev pub range_bucket : Range → ℕ
