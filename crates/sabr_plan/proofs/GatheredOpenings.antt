@@ -174,6 +174,10 @@ module _ (o : Opening) where
       → (standing (set cs k (ended (get_or cs k no_contact) o.start)) ≡ filter (λ c. not (p c)) (standing cs)) × (find p (standing cs) ≡ Some (get_or cs k no_contact))
   deletes cs k h apart = deleted cs k h.0 (stands_found o cs k h.0 h.1) apart
 
+  -- and doesn't stand then
+  pub gone : (cs : List Contact) (k : ℕ) → IsFound o cs (Some k) → stands (ended (get_or cs k no_contact) o.start) ≡ false
+  gone cs k h = ends (get_or cs k no_contact) (and_parts (p (get_or cs k no_contact)) (stands (get_or cs k no_contact)) (stands_found o cs k h.0 h.1)).0
+
   -- without one none is found
   pub none_found : (cs : List Contact) → list_any (stands_at o) cs ≡ false → find p (standing cs) ≡ None
   none_found cs h = nothing p (standing cs) (sym (any_standing p cs) ∙ h)

@@ -4,6 +4,7 @@ pub mod SortedRanges
 pub mod PlacedRanges
 pub mod RangeKeys
 pub mod GatheredOpenings
+pub mod TreedOpenings
 pub mod Digits
 pub mod SpelledNumbers
 pub mod FirstWords

@@ -4,6 +4,9 @@ use Rattle.std.specs.Prelude.{◌≡◌, ◌≢◌, ℕ, ◌+◌, ◌*◌, ◌/�
 use Rattle.std.specs.List.{filter, list_any, AllByRecursion}
 use Rattle.std.specs.declared.option.Option.{Option}
 use Rattle.std.specs.declared.option.Option.TheVariants.{Some, None}
+use Rattle.std.specs.BTreeMap.{BTreeMap, get}
+use Rattle.std.specs.Ordering.{nat_cmp, ordering_then}
+use Rattle.std.specs.declared.cmp.Ordering.{Ordering}
 use Rattle.sabr_model.specs.declared.contact.Contact.{Contact}
 use Rattle.sabr_model.specs.declared.contact.Range.{Range}
 use Rattle.sabr_model.specs.declared.opening.Opening.{Opening}
@@ -68,6 +71,15 @@ KnowsSome befores lasts rising last contacts = AreChained (map contact_bucket co
 abbrev pub IsFound : Opening → List Contact → Option ℕ → Type 0
 IsFound o contacts (Some k) = (k < length contacts) × (option_map (stands_at o) (slice_get contacts k) ≡ Some true)
 IsFound o contacts None = list_any (stands_at o) contacts ≡ false
+
+-- openings in order, as the keys of a tree
+abbrev pub opening_cmp : ℕ × ℕ × ℕ → ℕ × ℕ × ℕ → Ordering
+opening_cmp x y = ordering_then (ordering_then (nat_cmp x.0 y.0) (nat_cmp x.1 y.1)) (nat_cmp x.2 y.2)
+
+-- the tree has the index of each of the first contacts that stands
+pub record IsTreed (indexes : BTreeMap (ℕ × ℕ × ℕ) ℕ) (treed : ℕ) (contacts : List Contact) : Type 0 where
+  pub within : treed ≤ length contacts
+  pub found : (k : ℕ) (d : Contact) → k < treed → stands (slice_index_or contacts k d) ≡ true → get opening_cmp indexes ((slice_index_or contacts k d).from, (slice_index_or contacts k d).to, (slice_index_or contacts k d).start) ≡ Some k
 
 -- ---- ranges
 

@@ -32,6 +32,7 @@ mod gathered_contacts;
 mod gathered_ranges;
 mod known_openings;
 mod known_ranges;
+mod opening_tree;
 mod plan;
 mod sorted_ranges;
 

@@ -28,13 +28,13 @@ pub struct GatheredContacts<A: Allocator + Copy = Global> {
 impl<A: Allocator + Copy> Model for GatheredContacts<A> {
     ghost use Rattle.sabr_model.specs.plan.Plan.{ContactPlan, IsPlan};
     ghost use Rattle.std.specs.Prelude.{◌≡◌};
-    ghost use Rattle.sabr_plan.specs.Gathering.{plan_of_contacts, standing, KnowsSome};
+    ghost use Rattle.sabr_plan.specs.Gathering.{plan_of_contacts, standing, KnowsSome, IsTreed};
 
     ghost Value = { ContactPlan };
 
     ghost view = { λ g. plan_of_contacts (standing g.contacts.items) g.largest };
 
-    ghost invariant = { λ g. IsPlan (plan_of_contacts (standing g.contacts.items) g.largest) × KnowsSome g.openings.chains.befores.items g.openings.chains.lasts.items g.openings.rising g.openings.last g.contacts.items × (g.deleted ≡ 0 → standing g.contacts.items ≡ g.contacts.items) };
+    ghost invariant = { λ g. IsPlan (plan_of_contacts (standing g.contacts.items) g.largest) × KnowsSome g.openings.chains.befores.items g.openings.chains.lasts.items g.openings.rising g.openings.last g.contacts.items × IsTreed g.openings.tree.indexes g.openings.tree.treed g.contacts.items × (g.deleted ≡ 0 → standing g.contacts.items ≡ g.contacts.items) };
 }
 
 impl<A: Allocator + Copy> GatheredContacts<A> {
@@ -126,6 +126,7 @@ impl<A: Allocator + Copy> GatheredContacts<A> {
         }
         self.deleted = 0;
         self.openings.chains.clear();
+        self.openings.tree.clear();
         self.contacts.retain(|c| c.start < c.end);
     }
 
@@ -144,7 +145,12 @@ impl<A: Allocator + Copy> GatheredContacts<A> {
     {
         self.sweep();
         let opening = Opening { from, to, start };
-        let Some(index) = find_standing(&mut self.openings.chains, &self.contacts, &opening) else {
+        let Some(index) = find_standing(
+            &mut self.openings.chains,
+            &mut self.openings.tree,
+            &self.contacts,
+            &opening,
+        ) else {
             return Err(AddFault::NothingToDelete);
         };
         let number = self.contacts[index].number;

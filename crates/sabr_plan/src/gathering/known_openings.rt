@@ -3,9 +3,11 @@
 
 ghost use Rattle.std.specs.Prelude.{◌≡◌, ◌<◌, ◌≤◌, ◌↔◌, [], IsTrue, length, map};
 ghost use Rattle.std.specs.List.{list_any, position};
-ghost use Rattle.sabr_plan.specs.Gathering.{AreChained, opening_number, opening_bucket, contact_bucket, stands_at, OpenBy, KnowsSome, IsFound};
+ghost use Rattle.sabr_plan.specs.Gathering.{AreChained, opening_number, opening_bucket, contact_bucket, stands_at, OpenBy, KnowsSome, IsFound, IsTreed, standing};
+ghost use Rattle.sabr_model.specs.plan.Plan.{same_opening, none_twice};
 
 use crate::gathering::chains::Chains;
+use crate::gathering::opening_tree::OpeningTree;
 use sabr_model::{Contact, Opening, comes_by};
 use std::alloc::Allocator;
 
@@ -23,6 +25,8 @@ const BUCKETS: usize = 4096;
 pub struct KnownOpenings<A: Allocator + Copy> {
     /// The hash table of the first contacts, by their openings.
     pub chains: Chains<A>,
+    /// A tree of the first contacts, made when the walks along chains took long.
+    pub tree: OpeningTree<A>,
     /// Whether each contact so far opens after those before it.
     pub rising: bool,
     /// If so, no contact opens after it.
@@ -34,9 +38,11 @@ impl<A: Allocator + Copy> KnownOpenings<A> {
     pub fn new(alloc: A) -> KnownOpenings<A>
         ensures lasts { result.chains.lasts.items ≡ [] }
         ensures befores { result.chains.befores.items ≡ [] }
+        ensures treed { result.tree.treed ≡ 0 }
     {
         KnownOpenings {
             chains: Chains::new(alloc),
+            tree: OpeningTree::new(alloc),
             rising: true,
             last: Opening {
                 from: 0,
@@ -49,9 +55,12 @@ impl<A: Allocator + Copy> KnownOpenings<A> {
     /// Returns true if one of these contacts stands and has this opening, that of a contact that is to come after them.
     #[inline(always)]
     pub fn has(&mut self, contacts: &[Contact], opening: Opening) -> bool
-        requires { KnowsSome self.old.chains.befores.items self.old.chains.lasts.items self.old.rising self.old.last contacts.now }
+        requires knows { KnowsSome self.old.chains.befores.items self.old.chains.lasts.items self.old.rising self.old.last contacts.now }
+        requires treed { IsTreed self.old.tree.indexes self.old.tree.treed contacts.now }
+        requires apart { IsTrue (none_twice same_opening (standing contacts.now)) }
         ensures value { result ≡ list_any (stands_at opening) contacts.now }
         ensures knows { KnowsSome self.new.chains.befores.items self.new.chains.lasts.items self.new.rising self.new.last contacts.now }
+        ensures treed { IsTreed self.new.tree.indexes self.new.tree.treed contacts.now }
         ensures rises { IsTrue self.new.rising → OpenBy opening contacts.now }
     {
         if self.rising && comes_after(&opening, &self.last) {
@@ -60,32 +69,61 @@ impl<A: Allocator + Copy> KnownOpenings<A> {
         self.rising = false;
         // A copy, so that an opening that comes last stays in registers.
         let late = opening;
-        find_standing(&mut self.chains, contacts, &late).is_some()
+        find_standing(&mut self.chains, &mut self.tree, contacts, &late).is_some()
     }
 }
 
 /// Returns the index of the contact that stands and has this opening, or `None`. It is O(1) on average with all
-/// contacts in the hash table, and a pass over them if an allocation for it fails.
+/// contacts in the hash table, O(log n) with all in the tree, and a pass over them if an allocation for these fails.
 #[cold]
 #[inline(never)]
 pub fn find_standing<A: Allocator + Copy>(
     chains: &mut Chains<A>,
+    tree: &mut OpeningTree<A>,
     contacts: &[Contact],
     opening: &Opening,
 ) -> Option<usize>
-    requires { AreChained (map contact_bucket contacts.now) chains.old.befores.items chains.old.lasts.items }
+    requires chained { AreChained (map contact_bucket contacts.now) chains.old.befores.items chains.old.lasts.items }
+    requires treed { IsTreed tree.old.indexes tree.old.treed contacts.now }
+    requires apart { IsTrue (none_twice same_opening (standing contacts.now)) }
     ensures found { IsFound opening.now contacts.now result }
     ensures chained { AreChained (map contact_bucket contacts.now) chains.new.befores.items chains.new.lasts.items }
+    ensures treed { IsTreed tree.new.indexes tree.new.treed contacts.now }
 {
+    if tree.is_due(contacts.len()) {
+        return find_in_tree(tree, contacts, opening);
+    }
     let chained = chains.add_all(BUCKETS, contacts, |c| bucket_of(c.from, c.to, c.start));
     let Ok(()) = chained else {
         return find_by_pass(contacts, opening);
     };
-    find_in_chain(contacts, &chains.befores, &chains.lasts, opening)
+    let (found, walked) = find_in_chain(contacts, &chains.befores, &chains.lasts, opening);
+    tree.count(walked);
+    found
+}
+
+/// Returns the index of the contact that stands and has this opening, or `None`. It is a pass over the contacts if an
+/// allocation for the tree fails.
+#[cold]
+#[inline(never)]
+fn find_in_tree<A: Allocator + Copy>(
+    tree: &mut OpeningTree<A>,
+    contacts: &[Contact],
+    opening: &Opening,
+) -> Option<usize>
+    requires treed { IsTreed tree.old.indexes tree.old.treed contacts.now }
+    requires apart { IsTrue (none_twice same_opening (standing contacts.now)) }
+    ensures found { IsFound opening.now contacts.now result }
+    ensures treed { IsTreed tree.new.indexes tree.new.treed contacts.now }
+{
+    let Ok(()) = tree.add_all(contacts) else {
+        return find_by_pass(contacts, opening);
+    };
+    tree.find(contacts, opening)
 }
 
 /// Returns true if the contact stands and has this opening.
-fn stands_at(contact: &Contact, opening: &Opening) -> bool
+pub fn stands_at(contact: &Contact, opening: &Opening) -> bool
     ensures { result ≡ stands_at opening.now contact.now }
 {
     contact.opens(opening.from, opening.to, opening.start) && contact.start < contact.end
@@ -113,26 +151,30 @@ fn bucket_of(from: u64, to: u64, start: u64) -> usize
     ((mixed >> 44) % 4096) as usize
 }
 
-/// Returns the index of the contact that stands and has this opening, or `None`. All contacts are in the hash table.
+/// Returns the index of the contact that stands and has this opening, or `None`, and the number of steps along a chain.
+/// All contacts are in the hash table.
+#[inline(always)]
 fn find_in_chain(
     contacts: &[Contact],
     befores: &[usize],
     lasts: &[usize],
     opening: &Opening,
-) -> Option<usize>
+) -> (Option<usize>, usize)
     requires sized { 4096 ≤ length lasts.now }
     requires chained { AreChained (map contact_bucket contacts.now) befores.now lasts.now }
     requires all { length befores.now ≡ length contacts.now }
-    ensures { IsFound opening.now contacts.now result }
+    ensures { IsFound opening.now contacts.now result.0 }
 {
+    let mut walked = 0usize;
     let mut at = lasts[bucket_of(opening.from, opening.to, opening.start)];
     while at > 0 {
         if stands_at(&contacts[at - 1], opening) {
-            return Some(at - 1);
+            return (Some(at - 1), walked);
         }
         at = befores[at - 1];
+        walked = walked.wrapping_add(1);
     }
-    None
+    (None, walked)
 }
 
 /// Returns the index of the contact that stands and has this opening, or `None`. It is a pass over the contacts.

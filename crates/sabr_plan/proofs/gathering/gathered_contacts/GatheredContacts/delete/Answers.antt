@@ -10,8 +10,9 @@ use Rattle.sabr_model.specs.declared.fault.AddFault.TheVariants.{NothingToDelete
 use Rattle.sabr_model.specs.plan.Plan.{ContactPlan, IsPlan, opens}
 use Rattle.sabr_model.specs.plan.Adding.{without_contact, number_of_opening}
 use Rattle.sabr_model.proofs.PlanLemmas.Deletions.{IsPlan-fewer_contacts}
-use Rattle.sabr_plan.specs.Gathering.{AreChained, plan_of_contacts, standing, contact_bucket, KnowsSome, IsFound}
-use Rattle.sabr_plan.proofs.GatheredOpenings.{ended, no_contact, deletes, none_found, open_by_set, there}
+use Rattle.sabr_plan.specs.Gathering.{AreChained, plan_of_contacts, standing, contact_bucket, KnowsSome, IsFound, IsTreed}
+use Rattle.sabr_plan.proofs.GatheredOpenings.{ended, no_contact, deletes, gone, none_found, open_by_set, there}
+use Rattle.sabr_plan.proofs.TreedOpenings.{treed_set}
 use Rattle.sabr_plan.proofs.gathering.gathered_contacts.GatheredContacts.delete.Goals as goal
 
 pub returns-in_default-clause-value : goal.returns-in_default-clause-value
@@ -29,16 +30,18 @@ invariant_of-self-2 g c =
     let cs = s.contacts.items in
     let k = c.in-Some.index in
     let chains = c.find_standing.new.chains in
+    let tree = c.find_standing.new.tree in
     let found : IsFound o cs (Some k) = subst (λ ds. IsFound o ds (Some k)) c.deref.ensures.value (c.in-Some.ensures {u = tt}).found in
     let left = deletes o cs k found c.self.invariant.0.openings_differ in
     let then = ended (get_or cs k no_contact) c.args.start in
     let chained = subst (λ ds. AreChained (map contact_bucket ds) chains.befores.items chains.lasts.items) c.deref.ensures.value c.find_standing.ensures.chained in
-    subst (λ x. IsPlan (plan_of_contacts (standing (set cs k (ended x c.args.start))) s.largest) × KnowsSome chains.befores.items chains.lasts.items s.openings.rising s.openings.last (set cs k (ended x c.args.start)) × (c.saturating_add-self-inside.result ≡ 0 → standing (set cs k (ended x c.args.start)) ≡ set cs k (ended x c.args.start))) (sym (there cs k c.index_mut.result.now found.0 c.index_mut.ensures.value)) (
+    subst (λ x. IsPlan (plan_of_contacts (standing (set cs k (ended x c.args.start))) s.largest) × KnowsSome chains.befores.items chains.lasts.items s.openings.rising s.openings.last (set cs k (ended x c.args.start)) × IsTreed tree.indexes tree.treed (set cs k (ended x c.args.start)) × (c.saturating_add-self-inside.result ≡ 0 → standing (set cs k (ended x c.args.start)) ≡ set cs k (ended x c.args.start))) (sym (there cs k c.index_mut.result.now found.0 c.index_mut.ensures.value)) (
       subst (λ ds. IsPlan (plan_of_contacts ds s.largest)) (sym left.0) (IsPlan-fewer_contacts (plan_of_contacts (standing cs) s.largest) (λ d. not (opens o.from o.to o.start d)) c.self.invariant.0),
       (
         subst (λ ks. AreChained ks chains.befores.items chains.lasts.items) (sym (map-set_same contact_bucket cs k then no_contact refl)) chained,
         λ up. open_by_set s.openings.last cs k c.args.start (c.self.invariant.1.1 up),
       ),
+      treed_set tree.indexes tree.treed cs k then (subst (IsTreed tree.indexes tree.treed) c.deref.ensures.value c.find_standing.ensures.treed) found.0 (gone o cs k found),
       λ no. absurd (let e = c.saturating_add-self-inside.ensures in omega (arith, e, no)),
     )
 

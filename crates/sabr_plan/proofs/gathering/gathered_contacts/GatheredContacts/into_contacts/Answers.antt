@@ -10,5 +10,5 @@ returns-clause-contacts g c =
     let viewed = ap (λ (p : ContactPlan). p.contacts) c.self.view_is in
     elim c.if-deleted-gt0.branch [
       | then-deleted-gt0 w ↦ rw w.contacts-is (filter_same _ stands _ (λ d b f' k. search rules) _ _ w.retain.ensures.filtered ∙ viewed)
-      | else-deleted-gt0 w ↦ rw w.contacts-is (sym (c.self.invariant.2 (let e = w.if-deleted-gt0.false in omega (arith, e))) ∙ viewed)
+      | else-deleted-gt0 w ↦ rw w.contacts-is (sym (c.self.invariant.3 (let e = w.if-deleted-gt0.false in omega (arith, e))) ∙ viewed)
     ]

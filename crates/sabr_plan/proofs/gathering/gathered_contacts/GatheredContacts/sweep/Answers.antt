@@ -5,6 +5,7 @@ use Rattle.sabr_model.proofs.PlanLemmas.Deletions.{IsPlan-fewer_contacts, all_fi
 use Rattle.sabr_plan.specs.Gathering.{plan_of_contacts, opening_number, stands, standing}
 use Rattle.sabr_plan.proofs.ChainedPlaces.{chained_none}
 use Rattle.sabr_plan.proofs.GatheredOpenings.{standing_twice}
+use Rattle.sabr_plan.proofs.TreedOpenings.{treed_none}
 use Rattle.sabr_plan.proofs.gathering.gathered_contacts.GatheredContacts.sweep.Goals as goal
 
 pub invariant_of-self : goal.invariant_of-self
@@ -12,9 +13,10 @@ invariant_of-self g c =
     let s = c.self.inside in
     let cs = s.contacts.items in
     let left = filter_same _ stands _ (λ d b f' k. search rules) _ _ c.retain.ensures.filtered in
-    rw (left, c.clear.ensures.befores, c.clear.ensures.lasts) (
+    rw (left, c.clear.ensures.befores, c.clear.ensures.lasts, c.clear-2.ensures) (
       IsPlan-fewer_contacts (plan_of_contacts (standing cs) s.largest) stands c.self.invariant.0,
       (chained_none _, λ up. all_filter (λ d. opening_number (opening_of d) ≤ opening_number s.openings.last) stands cs (c.self.invariant.1.1 up)),
+      treed_none _ (standing cs),
       λ no. standing_twice cs,
     )
 

@@ -1,0 +1,135 @@
+-- A tree of the contacts that stand, by their openings: what it finds, and what one more leaves of it.
+use Rattle.std.proofs.Common.{◌≡◌, ℕ, zero, suc, ◌+◌, ◌<◌, true, false, cond, ◌&&◌, not, eqb, List, [], ◌∷◌, ◌++◌, length, get_or, set, refl, sym, ap, subst, ◌∙◌, inl, inr, arith, length-append}
+use Rattle.std.specs.List.{list_any}
+use Rattle.std.specs.declared.option.Option.TheVariants.{Some, None}
+use Rattle.std.specs.BTreeMap.{BTreeMap, get, is_at, Updates}
+use Rattle.std.specs.Ordering.{nat_cmp, ordering_then}
+use Rattle.std.specs.Cmp.{both_tied, unsigned_ties}
+use Rattle.std.proofs.lemmas.Bool.{and_parts, and_from, cases_eq, cases_lt, eq-eqb, not-true, both_ways, false_from_ne_true}
+use Rattle.std.proofs.lemmas.List.{get_or_append_left, get_or_default, get_or-set_same, get_or-set_other, length-set}
+use Rattle.std.proofs.lemmas.List.Folds.{list_any_at}
+use Rattle.std.proofs.lemmas.List.Recursion.{or_from_places}
+use Rattle.sabr_model.specs.declared.contact.Contact.{Contact}
+use Rattle.sabr_model.specs.declared.opening.Opening.{Opening}
+use Rattle.sabr_model.specs.plan.Plan.{opens, same_opening, none_twice}
+use Rattle.sabr_model.proofs.PlanLemmas.Deletions.{opens_parts}
+use Rattle.sabr_plan.specs.Gathering.{stands, standing, stands_at, opening_cmp, IsTreed}
+use Rattle.sabr_plan.proofs.GatheredOpenings.{any_standing, no_contact}
+
+-- the tree of no contact
+pub treed_none : (indexes : BTreeMap (ℕ × ℕ × ℕ) ℕ) (cs : List Contact) → IsTreed indexes 0 cs
+treed_none indexes cs = record { within = omega arith; found = λ k d lt stays. absurd (omega (arith, lt)) }
+
+-- ---- what it finds
+
+module _ (o : Opening) (indexes : BTreeMap (ℕ × ℕ × ℕ) ℕ) (treed : ℕ) (cs : List Contact) (h : IsTreed indexes treed cs) (all : treed ≡ length cs) where
+  at_own : (k : ℕ) → k < length cs → stands_at o (get_or cs k no_contact) ≡ true → get opening_cmp indexes (o.from, o.to, o.start) ≡ Some k
+  at_own k lt also =
+      let c = get_or cs k no_contact in
+      let both = and_parts (opens o.from o.to o.start c) (stands c) also in
+      let e = opens_parts o.from o.to o.start c both.0 in
+      rw (e.0, e.1, e.2) (h.found k no_contact (omega (arith, lt, all)) both.1)
+
+  pub nothing_there : get opening_cmp indexes (o.from, o.to, o.start) ≡ None → list_any (stands_at o) cs ≡ false
+  nothing_there is =
+      or_from_places (list_any (stands_at o)) (stands_at o) refl (λ x ys. refl) cs no_contact (λ k lt.
+      false_from_ne_true (stands_at o (get_or cs k no_contact)) (λ also. let no : None ≡ Some k = sym is ∙ at_own k lt also in absurd cc))
+
+  pub another_there : (i : ℕ) → get opening_cmp indexes (o.from, o.to, o.start) ≡ Some i → (i < length cs → stands_at o (get_or cs i no_contact) ≡ false) → list_any (stands_at o) cs ≡ false
+  another_there i is fails =
+      or_from_places (list_any (stands_at o)) (stands_at o) refl (λ x ys. refl) cs no_contact (λ k lt.
+      false_from_ne_true (stands_at o (get_or cs k no_contact)) (λ also.
+      let found : Some i ≡ Some k = sym is ∙ at_own k lt also in
+      let same : i ≡ k = cc in
+      both_ways (stands_at o (get_or cs k no_contact)) (subst (λ j. stands_at o (get_or cs j no_contact) ≡ false) same (fails (omega (arith, lt, same)))) also))
+
+-- ---- one more
+
+-- two that stand differ in their openings
+distinct : (cs : List Contact) (k j : ℕ) (d : Contact) → k < j → j < length cs → stands (get_or cs k d) ≡ true → stands (get_or cs j d) ≡ true → none_twice same_opening (standing cs) ≡ true → same_opening (get_or cs k d) (get_or cs j d) ≡ false
+distinct [] k j d less lt sk sj apart = absurd (omega (arith, lt))
+distinct (c ∷ cs) k zero d less lt sk sj apart = absurd (omega (arith, less))
+distinct (c ∷ cs) zero (suc j) d less lt sk sj apart =
+    let parts = and_parts (not (list_any (same_opening c) (standing cs))) (none_twice same_opening (standing cs)) (subst (λ b. none_twice same_opening (cond b (c ∷ standing cs) (standing cs)) ≡ true) sk apart) in
+    let none = any_standing (same_opening c) cs ∙ not-true (list_any (same_opening c) (standing cs)) parts.0 in
+    false_from_ne_true (same_opening c (get_or cs j d)) (λ also.
+    both_ways (list_any (λ e. same_opening c e && stands e) cs) none
+    (list_any_at (λ e. same_opening c e && stands e) cs j d (omega (arith, lt)) (and_from (same_opening c (get_or cs j d)) (stands (get_or cs j d)) also sj)))
+distinct (c ∷ cs) (suc k) (suc j) d less lt sk sj apart =
+    distinct cs k j d (omega (arith, less)) (omega (arith, lt)) sk sj
+    (elim (stands c) as (λ b. none_twice same_opening (cond b (c ∷ standing cs) (standing cs)) ≡ true → none_twice same_opening (standing cs) ≡ true) [
+      | true ↦ λ g. (and_parts (not (list_any (same_opening c) (standing cs))) (none_twice same_opening (standing cs)) g).1
+      | false ↦ λ g. g
+    ] apart)
+
+abbrev key : Contact → ℕ × ℕ × ℕ
+key c = (c.from, c.to, c.start)
+
+-- keys are equal where openings are
+tied : (c d : Contact) → same_opening c d ≡ is_at (opening_cmp (key c)) (key d)
+tied c d = both_tied _ _ (ordering_then (nat_cmp c.from d.from) (nat_cmp c.to d.to)) (nat_cmp c.start d.start) (both_tied _ _ (nat_cmp c.from d.from) (nat_cmp c.to d.to) (unsigned_ties c.from d.from) (unsigned_ties c.to d.to)) (unsigned_ties c.start d.start)
+
+flipped : (c d : Contact) → same_opening c d ≡ true → same_opening d c ≡ true
+flipped c d also =
+    let e = opens_parts c.from c.to c.start d also in
+    and_from (eqb d.from c.from && eqb d.to c.to) (eqb d.start c.start)
+    (and_from (eqb d.from c.from) (eqb d.to c.to) (eq-eqb d.from c.from (sym e.0)) (eq-eqb d.to c.to (sym e.1)))
+    (eq-eqb d.start c.start (sym e.2))
+
+module _ (indexes : BTreeMap (ℕ × ℕ × ℕ) ℕ) (n : ℕ) (cs : List Contact) (h : IsTreed indexes n cs) (lt : n < length cs) where
+  -- one that doesn't stand
+  pub treed_skip : stands (get_or cs n no_contact) ≡ false → IsTreed indexes (n + 1) cs
+  treed_skip gone = record {
+    within = omega (arith, lt);
+    found = λ k d less stays.
+        elim (cases_lt k n) [
+          | inl low ↦ h.found k d low stays
+          | inr high ↦
+              let here : k ≡ n = omega (arith, less, high) in
+              absurd (both_ways (stands (get_or cs n no_contact)) gone (subst (λ c. stands c ≡ true) (get_or_default cs n d no_contact lt) (subst (λ j. stands (get_or cs j d) ≡ true) here stays)))
+        ];
+  }
+
+  -- one that stands
+  pub treed_more : (then : BTreeMap (ℕ × ℕ × ℕ) ℕ) → none_twice same_opening (standing cs) ≡ true → stands (get_or cs n no_contact) ≡ true → Updates opening_cmp indexes then (key (get_or cs n no_contact)) (Some n) → IsTreed then (n + 1) cs
+  treed_more then apart here u = record {
+    within = omega (arith, lt);
+    found = λ k d less stays.
+        let c = get_or cs n no_contact in
+        elim (cases_lt k n) [
+          | inl low ↦
+              let e = get_or cs k d in
+              let same : get_or cs n d ≡ c = get_or_default cs n d no_contact lt in
+              let differ : same_opening e c ≡ false = subst (λ x. same_opening e x ≡ false) same (distinct cs k n d low lt stays (subst (λ x. stands x ≡ true) (sym same) here) apart) in
+              u.2 (key e) (sym (tied c e) ∙ false_from_ne_true (same_opening c e) (λ also. both_ways (same_opening e c) differ (flipped c e also)))
+              ∙ h.found k d low stays
+          | inr high ↦
+              let at : k ≡ n = omega (arith, less, high) in
+              let same : get_or cs k d ≡ c = ap (λ j. get_or cs j d) at ∙ get_or_default cs n d no_contact lt in
+              ap (λ x. get opening_cmp then (key x)) same ∙ u.1 ∙ ap Some (sym at)
+        ];
+  }
+
+-- ---- contacts that change
+
+pub treed_push : (indexes : BTreeMap (ℕ × ℕ × ℕ) ℕ) (n : ℕ) (cs : List Contact) (c : Contact) → IsTreed indexes n cs → IsTreed indexes n (cs ++ c ∷ [])
+treed_push indexes n cs c h = record {
+  within = let low = h.within in omega (arith, low, length-append cs (c ∷ []));
+  found = λ k d less stays.
+      let low = h.within in
+      let same : get_or (cs ++ c ∷ []) k d ≡ get_or cs k d = get_or_append_left cs (c ∷ []) d k (omega (arith, less, low)) in
+      rw same (h.found k d less (subst (λ x. stands x ≡ true) same stays));
+}
+
+-- one that doesn't stand any more
+pub treed_set : (indexes : BTreeMap (ℕ × ℕ × ℕ) ℕ) (n : ℕ) (cs : List Contact) (k : ℕ) (c : Contact) → IsTreed indexes n cs → k < length cs → stands c ≡ false → IsTreed indexes n (set cs k c)
+treed_set indexes n cs k c h lt gone = record {
+  within = let low = h.within in omega (arith, low, length-set cs k c);
+  found = λ j d less stays.
+      elim (cases_eq j k) [
+        | inl here ↦ absurd (both_ways (stands c) gone (subst (λ x. stands x ≡ true) (get_or-set_same cs k c d lt) (subst (λ i. stands (get_or (set cs k c) i d) ≡ true) here stays)))
+        | inr other ↦
+            let same : get_or (set cs k c) j d ≡ get_or cs j d = get_or-set_other cs k j c d other in
+            rw same (h.found j d less (subst (λ x. stands x ≡ true) same stays))
+      ];
+}

@@ -1,0 +1,20 @@
+-- The index in the tree is that of the contact that stands, if one does.
+use Rattle.std.proofs.Common.{◌∙◌, sym, arith}
+use Rattle.sabr_plan.proofs.GatheredOpenings.{found_at}
+use Rattle.sabr_plan.proofs.TreedOpenings.{nothing_there, another_there}
+use Rattle.sabr_plan.proofs.gathering.opening_tree.OpeningTree.find.Goals.{else-index-contacts-via-then-index-contacts+else-stands_at, else-index-contacts-via-else-index-contacts}
+use Rattle.sabr_plan.proofs.gathering.opening_tree.OpeningTree.find.Goals as goal
+
+pub returns-in_default : goal.returns-in_default
+returns-in_default g c = nothing_there c.args.opening.now _ _ c.args.contacts.now c.requires.treed c.requires.all (sym (c.in_default.ensures {u = tt}).value)
+
+pub returns-then-stands_at : goal.returns-then-stands_at
+returns-then-stands_at g c = (c.if-index-contacts.true, found_at c.args.opening.now c.args.contacts.now c.in-Some.index.now c.if-index-contacts.true (sym c.stands_at.ensures ∙ c.if-stands_at.true))
+
+pub returns : goal.returns
+returns g c =
+    another_there c.args.opening.now _ _ c.args.contacts.now c.requires.treed c.requires.all c.in-Some.index.now (sym (c.in-Some.ensures {u = tt}).value)
+    (elim c.else-index-contacts.branch [
+      | else-index-contacts-via-then-index-contacts+else-stands_at w ↦ λ lt. sym w.stands_at.ensures ∙ w.if-stands_at.false
+      | else-index-contacts-via-else-index-contacts w ↦ λ lt. absurd (let no_less = w.if-index-contacts.false in omega (arith, lt, no_less))
+    ])
