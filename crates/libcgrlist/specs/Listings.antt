@@ -6,6 +6,7 @@ use Rattle.sabr_index.specs.declared.counted_plan.PlanLinks.{PlanLinks}
 use Rattle.sabr_frontier.specs.declared.session.paused.PausedSession.{PausedSession}
 use Rattle.sabr_frontier.specs.listing.Listing.{next_route}
 use Rattle.sabr_frontier.specs.session.Paused.{IsPausedOver}
+use Rattle.sabr_search.specs.questions.Calls.{no_calls}
 use Rattle.sabr_frontier.specs.session.Session.{Seen, former_then, next_page, started}
 use Rattle.libcgrlist.specs.Answers.{WritesPage, count_refusal}
 use Rattle.libcgrlist.specs.Opened.{OpenPlan}
@@ -49,7 +50,7 @@ TakesUp o (Ok x) n = AreLinksOf o.plan x.0 × IsPausedOver o.plan x.1 × (o.list
 -- what an opening call answers
 abbrev pub OpensListing : OpenPlan → Result RouteRequest ℕ → ℕ → OpenPlan → Type 0
 OpensListing o (Err s) status n = (status ≡ s) × (n ≡ o)
-OpensListing o (Ok r) status n = ((status ≡ done) × (n ≡ record o { listing = Some (listing_of (started o.plan r 0)) })) ⊎ ((status ≡ no_memory) × (n ≡ o))
+OpensListing o (Ok r) status n = ((status ≡ done) × (n ≡ record o { listing = Some (listing_of (started o.plan r no_calls)) })) ⊎ ((status ≡ no_memory) × (n ≡ o))
 
 -- a second listing is refused
 abbrev pub second_refusal : Option Seen → Option ℕ

@@ -1,6 +1,7 @@
 -- What opening the listing of a session text answers.
 use Rattle.std.specs.Prelude.{◌≡◌, ℕ, ◌⊎◌, min, true, List, Ok, Err, Option, None, Some}
 use Rattle.sabr_plan.specs.Canonical.{digest_of}
+use Rattle.sabr_search.specs.questions.Calls.{no_calls}
 use Rattle.sabr_frontier.specs.session.Session.{Seen, session_over}
 use Rattle.sabr_session.specs.SessionRead.{IsSessionOf}
 use Rattle.sabr_session.specs.declared.session_fault.SessionFault.{SessionFault}
@@ -38,7 +39,7 @@ session_line fault.NoMemory = 0
 abbrev pub IsLoaded : OpenPlan → List ℕ → OpenPlan → Type 0
 IsLoaded o bytes n = IfOpen n.listing (λ s.
     IsSessionOf o.plan.plan (digest_of o.plan.plan) bytes true (Ok (s.request, s.state))
-    × (n ≡ record o { listing = Some (listing_of (session_over o.plan s.request s.state 0)) }))
+    × (n ≡ record o { listing = Some (listing_of (session_over o.plan s.request s.state no_calls)) }))
 
 -- memory is refused, or this is the first fault of the bytes over the plan
 abbrev pub IsRefusal : OpenPlan → List ℕ → SessionFault → Type 0

@@ -3,6 +3,7 @@ use Rattle.sabr_model.specs.plan.Plan.{TabledPlan}
 use Rattle.sabr_index.specs.Index.{IsIndex}
 use Rattle.sabr_index.specs.declared.counted_plan.PlanLinks.{PlanLinks}
 use Rattle.sabr_frontier.specs.declared.session.paused.PausedSession.{PausedSession}
+use Rattle.sabr_search.specs.questions.Calls.{no_calls}
 use Rattle.sabr_frontier.specs.session.Paused.{seen_over}
 use Rattle.sabr_frontier.specs.session.Session.{Seen}
 
@@ -12,8 +13,8 @@ AreLinksOf p l = IsIndex p l.linked l.incoming.starts.items l.incoming.named.ite
 
 -- what callers see of a listing: searches, calls of the finder and looks aren't counted
 abbrev pub listing_of : Seen → Seen
-listing_of s = record s { searches = 0; calls = 0; looks = 0 }
+listing_of s = record s { searches = 0; calls = no_calls; looks = 0 }
 
 -- the listing of a paused session over a plan
 abbrev pub listing_over : {B A : Type 0} → TabledPlan → PausedSession B A → Seen
-listing_over p s = listing_of (seen_over (λ _. 0) p s)
+listing_over p s = listing_of (seen_over (λ _. no_calls) p s)

@@ -3,6 +3,7 @@
 ghost use Rattle.std.specs.Prelude.{◌≡◌, ◌≢◌, ◌≤◌, IfErr, IfOk, None, OnErr, OnOk, Some, is_some};
 ghost use Rattle.sabr_frontier.specs.listing.Listing.{most_routes};
 ghost use Rattle.sabr_frontier.specs.session.Session.{started};
+ghost use Rattle.sabr_search.specs.questions.Calls.{no_calls};
 ghost use Rattle.libcgrlist.specs.Answers.{UnlessWritten, asked_status, page_status};
 ghost use Rattle.libcgrlist.specs.Listings.{AnswersBack, AnswersNext, AnswersPlace, ClosesListing, GivesNext, GivesPlace, GoesBack, IsPlaceOf, OpensListing, TakesUp, goes_on, listing_then, next_records, second_refusal};
 ghost use Rattle.libcgrlist.specs.Open.{Calls, IsWhole};
@@ -37,7 +38,7 @@ pub struct ListingPlace {
 /// Opens the listing of a request, before its first route. It takes one search.
 fn open_listing(alloc: Global, opened: &mut Opened, request: Request) -> Result<(), NoMemory>
     requires { opened.old.listing ≡ None }
-    ensures ok { OnOk result (opened.new ≡ record opened.old { listing = Some (listing_of (started opened.old.plan request 0)) }) }
+    ensures ok { OnOk result (opened.new ≡ record opened.old { listing = Some (listing_of (started opened.old.plan request no_calls)) }) }
     ensures err { OnErr result (opened.new ≡ opened.old) }
 {
     let links = opened.take_links(alloc)?;

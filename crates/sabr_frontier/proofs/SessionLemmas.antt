@@ -3,4 +3,5 @@ pub mod Pages
 pub mod StandingPages
 pub mod Verdicts
 pub mod LeftSteps
+pub mod OnlyCarriers
 pub mod CutPages

@@ -71,8 +71,8 @@ impl<A: Allocator + Copy> Tree<A> {
     ) -> Result<bool, NoMemory>
         requires tree { IsTree searcher.old.asked.plan.plan searcher.old.asked.request (shape_of self.now) }
         ensures least { IfOk result (λ yes. IsTrue yes ↔ CarriesLeast searcher.old.asked.plan.plan searcher.old.asked.request (shown (shape_of self.now))) }
-        ensures called { searcher.new.calls ≤ searcher.old.calls + length self.now.nodes.items }
-        ensures no_fewer { searcher.old.calls ≤ searcher.new.calls }
+        ensures called { searcher.new.calls.count ≤ searcher.old.calls.count + length self.now.nodes.items }
+        ensures no_fewer { searcher.old.calls.count ≤ searcher.new.calls.count }
         ensures same { searcher.new.asked ≡ searcher.old.asked }
     {
         for node in self.nodes.iter() {
@@ -95,8 +95,8 @@ impl<A: Allocator + Copy> Tree<A> {
         requires tree { IsTree searcher.old.asked.plan.plan searcher.old.asked.request (shape_of self.now) }
         requires room { IsRoomy self.now }
         ensures placed { IfOk result (λ yes. IsTrue yes ↔ (shown (shape_of self.now) ≡ state_at searcher.old.asked.plan.plan searcher.old.asked.request (shown (shape_of self.now)).emitted)) }
-        ensures called { searcher.new.calls ≤ searcher.old.calls + length self.now.nodes.items }
-        ensures no_fewer { searcher.old.calls ≤ searcher.new.calls }
+        ensures called { searcher.new.calls.count ≤ searcher.old.calls.count + length self.now.nodes.items }
+        ensures no_fewer { searcher.old.calls.count ≤ searcher.new.calls.count }
         ensures same { searcher.new.asked ≡ searcher.old.asked }
     {
         if let Some(last) = self.last_given() {

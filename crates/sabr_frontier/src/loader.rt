@@ -27,8 +27,7 @@ use std::alloc::{Allocator, Global};
 use std::marker::Model;
 
 /// The parts of a state that will become a session. It runs no search: a carried route is checked to be a route of its
-/// part, but not to be its best. Contracts see the plan, the request, the parts so far, and how often the finder was
-/// called.
+/// part, but not to be its best. Contracts see the plan, the request, the parts so far, and the finder's calls.
 #[derive(Drop)]
 pub struct Loader<'p, B: BestOf<A>, A: Allocator + Copy = Global> {
     /// What the session will be asked for.

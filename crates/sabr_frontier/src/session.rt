@@ -1,13 +1,13 @@
 //! A session over a listing of routes: the next routes a page at a time, and back.
 
-ghost use Rattle.std.specs.Prelude.{◌≡◌, ◌≢◌, ℕ, ◌+◌, ◌*◌, ◌^◌, ◌<◌, ◌≤◌, ◌⊎◌, ◌↔◌, ◌∷◌, [], map, length, is_some, None, Ok, IfOk, OnOk, OnErr, IsOk, IsTrue, IsFalse};
+ghost use Rattle.std.specs.Prelude.{◌≡◌, ◌≢◌, ℕ, ◌+◌, ◌^◌, ◌<◌, ◌≤◌, ◌⊎◌, ◌↔◌, ◌∷◌, [], map, length, is_some, None, Ok, IfOk, OnOk, OnErr, IsOk, IsTrue, IsFalse};
 ghost use Rattle.sabr_model.specs.plan.Plan.{IsPlan};
 ghost use Rattle.sabr_model.specs.routes.Asking.{IsRequest};
 ghost use Rattle.sabr_model.specs.routes.Record.{record_of};
 ghost use Rattle.sabr_frontier.specs.listing.Fresh.{GivesNewRoutes};
 ghost use Rattle.sabr_frontier.specs.listing.Listing.{most_routes, next_route, state_at};
-ghost use Rattle.sabr_frontier.specs.session.Session.{former_then, next_page, page_searches, session_over, seen_part, started};
-ghost use Rattle.sabr_frontier.specs.tree.Searching.{IsAtRest, call_looks};
+ghost use Rattle.sabr_frontier.specs.session.Session.{IsStarted, former_then, next_page, page_searches, session_over, seen_part};
+ghost use Rattle.sabr_frontier.specs.tree.Searching.{GoOn, IsAtRest, looks_since};
 ghost use Rattle.sabr_frontier.specs.tree.Shape.{shape_of, shown};
 ghost use Rattle.sabr_frontier.specs.tree.Sound.{IsTree};
 ghost use Rattle.sabr_frontier.specs.tree.Undo.{IsRoomy};
@@ -29,7 +29,7 @@ use std::marker::Model;
 /// Lawler), each with its best route.
 ///
 /// Contracts see the plan, the request, the state, the states that `back` leads to, the latest first, the count of
-/// searches, their looks, and how often the finder was called.
+/// searches, their looks, and the finder's calls.
 #[derive(Drop)]
 pub struct Session<'p, B: BestOf<A>, A: Allocator + Copy = Global> {
     /// What finds the parts' best routes.
@@ -67,7 +67,7 @@ impl<'p, B: BestOf<A>, A: Allocator + Copy> Session<'p, B, A> {
         request: Request,
         finder: B,
     ) -> Result<Session<'p, B, A>, NoMemory>
-        ensures { IfOk result (λ s. s ≡ started plan.now request (B.calls_of finder + 1)) }
+        ensures { IfOk result (IsStarted plan.now request (B.calls_of finder)) }
     {
         let index = Index::new(alloc, plan)?;
         Session::start_with_index(alloc, index, request, finder)
@@ -84,7 +84,7 @@ impl<'p, B: BestOf<A>, A: Allocator + Copy> Session<'p, B, A> {
         request: Request,
         finder: B,
     ) -> Result<Session<'p, B, A>, NoMemory>
-        ensures { IfOk result (λ s. s ≡ started index.entry request (B.calls_of finder + 1)) }
+        ensures { IfOk result (IsStarted index.entry request (B.calls_of finder)) }
     {
         index.plan().rules_hold();
         request.limits_hold();
@@ -144,10 +144,11 @@ impl<'p, B: BestOf<A>, A: Allocator + Copy> Session<'p, B, A> {
 
         // It took this number of searches.
         ensures searches { OnOk result (self.new.searches ≡ page_searches self.old count) }
-        ensures calls { OnOk result (self.new.calls ≡ self.old.calls + page_searches self.old count) }
+        ensures calls { OnOk result (self.new.calls.count ≡ self.old.calls.count + page_searches self.old count) }
 
-        // Together they took no more looks than that many calls of a finder take at most.
-        ensures looks { OnOk result (self.new.looks ≤ page_searches self.old count * call_looks self.old.plan.plan) }
+        // Their looks are those that the finder took for them, no more than that many calls take at most.
+        ensures looks { OnOk result (self.new.looks ≡ looks_since self.old.calls self.new.calls) }
+        ensures go_on { GoOn self.old.plan.plan self.old.calls self.new.calls }
 
         // The plan and the request stay, and no route comes twice.
         ensures plan { self.new.plan ≡ self.old.plan }
@@ -156,8 +157,7 @@ impl<'p, B: BestOf<A>, A: Allocator + Copy> Session<'p, B, A> {
 
         // If an allocation failed, all but the calls is as before. A page without routes allocates nothing.
         ensures err { OnErr result (self.new ≡ record self.old { calls = self.new.calls }) }
-        ensures no_fewer { OnErr result (self.old.calls ≤ self.new.calls) }
-        ensures at_most { OnErr result (self.new.calls ≤ self.old.calls + page_searches self.old count) }
+        ensures at_most { OnErr result (self.new.calls.count ≤ self.old.calls.count + page_searches self.old count) }
         ensures free { (count ≡ 0) ⊎ (next_route self.old.plan.plan self.old.request self.old.state ≡ None) → IsOk result }
     {
         let mut given = Vec::new(self.searcher.alloc());
@@ -220,8 +220,8 @@ impl<'p, B: BestOf<A>, A: Allocator + Copy> Session<'p, B, A> {
     /// [`NoMemory`] if an allocation failed.
     pub fn certify(&mut self) -> Result<bool, NoMemory>
         ensures same { self.new ≡ record self.old { calls = self.new.calls } }
-        ensures calls { self.new.calls ≤ self.old.calls + length self.old.state.parts }
-        ensures no_fewer { self.old.calls ≤ self.new.calls }
+        ensures calls { self.new.calls.count ≤ self.old.calls.count + length self.old.state.parts }
+        ensures go_on { GoOn self.old.plan.plan self.old.calls self.new.calls }
         ensures ok { IfOk result (λ yes. IsTrue yes ↔ (self.old.state ≡ state_at self.old.plan.plan self.old.request self.old.state.emitted)) }
     {
         let placed = self.tree.is_placed(&mut self.searcher);

@@ -9,3 +9,4 @@ pub mod Part
 pub mod FirstSteps
 pub mod WideTasks
 pub mod Bounded
+pub mod Calls

@@ -1,6 +1,7 @@
 //! The law of finders: the best route of a part.
 
 ghost use Rattle.std.specs.Prelude.{◌≡◌, ℕ, ◌+◌, ◌*◌, ◌≤◌, IfOk, IsTrue, length};
+ghost use Rattle.sabr_search.specs.questions.Calls.{Calls, with_call};
 ghost use Rattle.sabr_search.specs.questions.Part.{IsBestOf};
 ghost use Rattle.sabr_search.specs.questions.Bounded.{IsSought, IsFloor, IsWhole, sought_hops};
 ghost use Rattle.sabr_search.specs.answers.SearchCache.{IsSearchCache};
@@ -20,8 +21,8 @@ pub trait BestOf<A: Allocator + Copy>: Drop {
     /// The looks of the last call of `best`: how often it used a contact's record.
     ghost looks_of: { Self → ℕ };
 
-    /// How often `best` was called, refused calls among them.
-    ghost calls_of: { Self → ℕ };
+    /// All calls, refused ones among them: how many they are, and how many looks they took together.
+    ghost calls_of: { Self → Calls };
 
     /// Returns the best route of the part by key (delivery, number of hops, contact numbers), or none if the part has
     /// no route.
@@ -41,7 +42,7 @@ pub trait BestOf<A: Allocator + Copy>: Drop {
         ensures least { IfOk result (IsBestOf plan.now.plan request.now part.entry.prefix.now part.entry.excluded.now) }
         ensures bound { looks_of self.new ≤ (3 * node_count plan.now.plan.contacts + 1) * length plan.now.plan.contacts }
         ensures counted { IfOk result (λ answer. answer_hops answer ≤ looks_of self.new) }
-        ensures called { calls_of self.new ≡ calls_of self.old + 1 };
+        ensures called { calls_of self.new ≡ with_call (calls_of self.old) (looks_of self.new) };
 
     /// Does the same with an index of the plan, and with the cache of the searches of this plan and request.
     ///
@@ -63,7 +64,7 @@ pub trait BestOf<A: Allocator + Copy>: Drop {
         ensures least { IfOk result (IsBestOf index.now.plan request.now prefix.now excluded.entry.numbers.now) }
         ensures bound { looks_of self.new ≤ (3 * node_count index.now.plan.contacts + 1) * length index.now.plan.contacts }
         ensures counted { IfOk result (λ answer. answer_hops answer ≤ looks_of self.new) }
-        ensures called { calls_of self.new ≡ calls_of self.old + 1 }
+        ensures called { calls_of self.new ≡ with_call (calls_of self.old) (looks_of self.new) }
         ensures cache { IsSearchCache index.now request.now cache.new }
     {
         let _cache = cache;
@@ -95,7 +96,7 @@ pub trait BestOf<A: Allocator + Copy>: Drop {
         ensures whole { IfOk result (IsWhole part.entry.bound) }
         ensures bound { looks_of self.new ≤ (3 * node_count index.now.plan.contacts + 1) * length index.now.plan.contacts }
         ensures counted { IfOk result (λ answer. sought_hops answer ≤ looks_of self.new) }
-        ensures called { calls_of self.new ≡ calls_of self.old + 1 }
+        ensures called { calls_of self.new ≡ with_call (calls_of self.old) (looks_of self.new) }
         ensures cache { IsSearchCache index.now request.now cache.new }
     {
         let _cache = cache;

@@ -5,6 +5,7 @@ ghost use Rattle.sabr_model.specs.routes.Route.{is_prefix};
 ghost use Rattle.sabr_model.specs.routes.Telling.{summary_of};
 ghost use Rattle.sabr_model.specs.plan.Table.{node_count};
 ghost use Rattle.sabr_search.specs.questions.Part.{IsBestOf};
+ghost use Rattle.sabr_search.specs.questions.Calls.{begun_with, no_calls, with_call};
 ghost use Rattle.sabr_search.specs.questions.Task.{IsAsked};
 ghost use Rattle.sabr_search.specs.layers.Late.{AreArrivals};
 ghost use Rattle.sabr_index.specs.Looks.{looks_taken};
@@ -14,6 +15,7 @@ use crate::backward::from_goal::Aim;
 use crate::backward::since::Since;
 use crate::best::BestOf;
 use crate::bound::{Bound, BoundedPart, Sought};
+use crate::ghost_calls::GhostCalls;
 use crate::layer_search::LayerSearch;
 use crate::part::{Excluded, Part};
 use crate::prefix_path::PrefixPath;
@@ -21,7 +23,7 @@ use crate::question::Question;
 use crate::search_cache::SearchCache;
 use crate::task::Task;
 use sabr_index::{CountedPlan, Index, Looks};
-use sabr_model::{GhostCount, NoMemory, Plan, Request, Route, RouteSummary};
+use sabr_model::{NoMemory, Plan, Request, Route, RouteSummary};
 use std::alloc::{Allocator, Global};
 
 /// A finder that makes layers forward for the earliest delivery, layers backward for its route, and then picks the
@@ -38,31 +40,31 @@ pub struct Layered<A: Allocator + Copy = Global> {
     since: Vec<u64, A>,
     /// The looks that the last call left.
     looks: Looks,
-    /// How often it was called, for proofs alone.
-    calls: GhostCount,
+    /// Its calls, for proofs alone: how many, and the looks of those before the last.
+    begun: GhostCalls,
 }
 
 impl<A: Allocator + Copy> Layered<A> {
     /// Makes a finder that wasn't called. It doesn't allocate.
     pub fn new(alloc: A) -> Layered<A>
         ensures looks { looks_taken result.looks ≡ 0 }
-        ensures calls { result.calls.count ≡ 0 }
+        ensures calls { result.begun.calls ≡ no_calls }
     {
         Layered {
             alloc,
             layers: LayerSearch::new(alloc),
             since: Vec::new(alloc),
             looks: Looks::many(),
-            calls: GhostCount::new(),
+            begun: GhostCalls::new(),
         }
     }
 
     /// Counts a call, which may still take these looks.
     fn begin(&mut self, looks: Looks)
         ensures looks { self.new.looks ≡ looks }
-        ensures called { self.new.calls.count ≡ self.old.calls.count + 1 }
+        ensures called { self.new.begun.calls ≡ with_call self.old.begun.calls (looks_taken self.old.looks) }
     {
-        self.calls.add();
+        self.begun.add(self.looks.taken());
         self.looks = looks;
     }
 
@@ -80,7 +82,7 @@ impl<A: Allocator + Copy> Layered<A> {
         ensures least { IfOk result (IsBestOf task.now.plan task.now.request prefix.now task.now.excluded) }
         ensures bound { looks_taken self.new.looks ≤ (3 * length task.now.table + 1) * length task.now.plan.contacts }
         ensures counted { IfOk result (λ answer. answer_hops answer ≤ looks_taken self.new.looks) }
-        ensures calls { self.new.calls ≡ self.old.calls }
+        ensures calls { self.new.begun ≡ self.old.begun }
     {
         let asked = Question {
             task,
@@ -127,7 +129,7 @@ impl<A: Allocator + Copy> Layered<A> {
         ensures least { IfOk result (IsBestOf index.now.plan request.now prefix.now excluded.entry.numbers.now) }
         ensures bound { looks_taken self.new.looks ≤ (3 * node_count index.now.plan.contacts + 1) * length index.now.plan.contacts }
         ensures counted { IfOk result (λ answer. answer_hops answer ≤ looks_taken self.new.looks) }
-        ensures calls { self.new.calls ≡ self.old.calls }
+        ensures calls { self.new.begun ≡ self.old.begun }
     {
         let opened = PrefixPath::open(self.alloc, index, request)?;
         let Some(mut prefix_path) = opened else {
@@ -144,7 +146,7 @@ impl<A: Allocator + Copy> Layered<A> {
 impl<A: Allocator + Copy> BestOf<A> for Layered<A> {
     ghost looks_of = { λ f. looks_taken f.looks };
 
-    ghost calls_of = { λ f. f.calls.count };
+    ghost calls_of = { λ f. begun_with f.begun.calls f.looks };
 
     fn best(
         &mut self,

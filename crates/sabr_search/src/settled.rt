@@ -4,6 +4,7 @@ ghost use Rattle.std.specs.Prelude.{◌≡◌, ◌≤◌, ◌+◌, ◌*◌, IfOk
 ghost use Rattle.sabr_model.specs.routes.Route.{is_prefix};
 ghost use Rattle.sabr_model.specs.plan.Table.{node_count};
 ghost use Rattle.sabr_search.specs.questions.Part.{IsBestOf};
+ghost use Rattle.sabr_search.specs.questions.Calls.{begun_with, no_calls, with_call};
 ghost use Rattle.sabr_search.specs.questions.Bounded.{IsSought, IsCutUpTo, IsFloor, IsWhole, sought_hops};
 ghost use Rattle.sabr_index.specs.Looks.{looks_taken};
 ghost use Rattle.sabr_search.specs.questions.RouteSummary.{answer_hops, IsCut};
@@ -11,13 +12,14 @@ ghost use Rattle.sabr_search.specs.answers.SearchCache.{IsSearchCache};
 
 use crate::best::BestOf;
 use crate::bound::{Bound, BoundedPart, Sought};
+use crate::ghost_calls::GhostCalls;
 use crate::part::{Excluded, Part};
 use crate::question::Question;
 use crate::search::Search;
 use crate::search_cache::SearchCache;
 use crate::task::Task;
 use sabr_index::{CountedPlan, Index, Looks};
-use sabr_model::{GhostCount, NoMemory, Plan, Request, Route};
+use sabr_model::{NoMemory, Plan, Request, Route};
 use std::alloc::{Allocator, Global};
 
 /// A finder that settles nodes in order of their arrival and of what the goal costs from there, up to the first
@@ -33,30 +35,30 @@ pub struct Settled<A: Allocator + Copy = Global> {
     search: Search<A>,
     /// The looks that the last call left.
     looks: Looks,
-    /// How often it was called, for proofs alone.
-    calls: GhostCount,
+    /// Its calls, for proofs alone: how many, and the looks of those before the last.
+    begun: GhostCalls,
 }
 
 impl<A: Allocator + Copy> Settled<A> {
     /// Makes a finder that wasn't called. It doesn't allocate.
     pub fn new(alloc: A) -> Settled<A>
         ensures looks { looks_taken result.looks ≡ 0 }
-        ensures calls { result.calls.count ≡ 0 }
+        ensures calls { result.begun.calls ≡ no_calls }
     {
         Settled {
             alloc,
             search: Search::new(alloc),
             looks: Looks::many(),
-            calls: GhostCount::new(),
+            begun: GhostCalls::new(),
         }
     }
 
     /// Counts a call, which may still take these looks.
     fn begin(&mut self, looks: Looks)
         ensures looks { self.new.looks ≡ looks }
-        ensures called { self.new.calls.count ≡ self.old.calls.count + 1 }
+        ensures called { self.new.begun.calls ≡ with_call self.old.begun.calls (looks_taken self.old.looks) }
     {
-        self.calls.add();
+        self.begun.add(self.looks.taken());
         self.looks = looks;
     }
 
@@ -76,7 +78,7 @@ impl<A: Allocator + Copy> Settled<A> {
         ensures whole { IfOk result (IsWhole part.entry.bound) }
         ensures bound { looks_taken self.new.looks ≤ (3 * node_count index.now.plan.contacts + 1) * length index.now.plan.contacts }
         ensures counted { IfOk result (λ answer. sought_hops answer ≤ looks_taken self.new.looks) }
-        ensures calls { self.new.calls ≡ self.old.calls }
+        ensures calls { self.new.begun ≡ self.old.begun }
         ensures cache { IsSearchCache index.now request.now cache.new }
         ensures cut { IfOk result (IsCutUpTo index.now.plan request.now.max_hops part.entry.bound part.entry.prefix.now (looks_taken self.new.looks)) }
     {
@@ -113,7 +115,7 @@ impl<A: Allocator + Copy> Settled<A> {
         ensures least { IfOk result (IsBestOf index.now.plan request.now prefix.now excluded.entry.numbers.now) }
         ensures bound { looks_taken self.new.looks ≤ (3 * node_count index.now.plan.contacts + 1) * length index.now.plan.contacts }
         ensures counted { IfOk result (λ answer. answer_hops answer ≤ looks_taken self.new.looks) }
-        ensures calls { self.new.calls ≡ self.old.calls }
+        ensures calls { self.new.begun ≡ self.old.begun }
         ensures cache { IsSearchCache index.now request.now cache.new }
         ensures cut { IfOk result (IsCut index.now.plan request.now.max_hops prefix.now (looks_taken self.new.looks)) }
     {
@@ -134,7 +136,7 @@ impl<A: Allocator + Copy> Settled<A> {
 impl<A: Allocator + Copy> BestOf<A> for Settled<A> {
     ghost looks_of = { λ f. looks_taken f.looks };
 
-    ghost calls_of = { λ f. f.calls.count };
+    ghost calls_of = { λ f. begun_with f.begun.calls f.looks };
 
     fn best(
         &mut self,
@@ -146,7 +148,7 @@ impl<A: Allocator + Copy> BestOf<A> for Settled<A> {
         ensures least { IfOk result (IsBestOf plan.now.plan request.now part.entry.prefix.now part.entry.excluded.now) }
         ensures bound { looks_taken self.new.looks ≤ (3 * node_count plan.now.plan.contacts + 1) * length plan.now.plan.contacts }
         ensures counted { IfOk result (λ answer. answer_hops answer ≤ looks_taken self.new.looks) }
-        ensures called { self.new.calls.count ≡ self.old.calls.count + 1 }
+        ensures called { begun_with self.new.begun.calls self.new.looks ≡ with_call (begun_with self.old.begun.calls self.old.looks) (looks_taken self.new.looks) }
         ensures cut { IfOk result (IsCut plan.now.plan request.now.max_hops part.entry.prefix.now (looks_taken self.new.looks)) }
     {
         self.begin(Looks::over(plan));
@@ -171,7 +173,7 @@ impl<A: Allocator + Copy> BestOf<A> for Settled<A> {
         ensures least { IfOk result (IsBestOf index.now.plan request.now prefix.now excluded.entry.numbers.now) }
         ensures bound { looks_taken self.new.looks ≤ (3 * node_count index.now.plan.contacts + 1) * length index.now.plan.contacts }
         ensures counted { IfOk result (λ answer. answer_hops answer ≤ looks_taken self.new.looks) }
-        ensures called { self.new.calls.count ≡ self.old.calls.count + 1 }
+        ensures called { begun_with self.new.begun.calls self.new.looks ≡ with_call (begun_with self.old.begun.calls self.old.looks) (looks_taken self.new.looks) }
         ensures cache { IsSearchCache index.now request.now cache.new }
         ensures cut { IfOk result (IsCut index.now.plan request.now.max_hops prefix.now (looks_taken self.new.looks)) }
     {
@@ -193,7 +195,7 @@ impl<A: Allocator + Copy> BestOf<A> for Settled<A> {
         ensures whole { IfOk result (IsWhole part.entry.bound) }
         ensures bound { looks_taken self.new.looks ≤ (3 * node_count index.now.plan.contacts + 1) * length index.now.plan.contacts }
         ensures counted { IfOk result (λ answer. sought_hops answer ≤ looks_taken self.new.looks) }
-        ensures called { self.new.calls.count ≡ self.old.calls.count + 1 }
+        ensures called { begun_with self.new.begun.calls self.new.looks ≡ with_call (begun_with self.old.begun.calls self.old.looks) (looks_taken self.new.looks) }
         ensures cache { IsSearchCache index.now request.now cache.new }
         ensures cut { IfOk result (IsCutUpTo index.now.plan request.now.max_hops part.entry.bound part.entry.prefix.now (looks_taken self.new.looks)) }
     {

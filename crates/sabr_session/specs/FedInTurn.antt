@@ -3,6 +3,7 @@ use Rattle.std.specs.Prelude.{◌≡◌, ◌≢◌, ℕ, true, false, List, [], 
 use Rattle.sabr_model.specs.plan.Plan.{TabledPlan}
 use Rattle.sabr_plan.specs.Words.{lines_of}
 use Rattle.sabr_frontier.specs.session.Session.{Seen}
+use Rattle.sabr_search.specs.questions.Calls.{Calls}
 use Rattle.sabr_session.specs.SessionFed.{OpenText, opened_over, IsFed, IsFinished, IsSessionFrom}
 use Rattle.sabr_session.specs.SessionGiven.{said_over}
 use Rattle.sabr_session.specs.declared.session_fault.SessionFault.{SessionFault}
@@ -33,5 +34,5 @@ pub record IsOneText (plan : TabledPlan) (fed : List (List ℕ × Result (Unit {
 -- for all chunks
 abbrev pub PiecesAreOneText : Type 0
 PiecesAreOneText =
-    (plan : TabledPlan) (calls : ℕ) (fed : List (List ℕ × Result (Unit {0}) SessionFault)) (old : Result OpenText SessionFault)
+    (plan : TabledPlan) (calls : Calls) (fed : List (List ℕ × Result (Unit {0}) SessionFault)) (old : Result OpenText SessionFault)
     → AreFed (Ok (opened_over plan calls)) fed old → IsOneText plan fed old

@@ -4,6 +4,7 @@ use Rattle.sabr_model.specs.plan.Plan.{ContactPlan, TabledPlan}
 use Rattle.sabr_plan.specs.Canonical.{digest_of}
 use Rattle.sabr_plan.specs.Steps.{and_then}
 use Rattle.sabr_plan.specs.Words.{has_bytes, lines_of}
+use Rattle.sabr_search.specs.questions.Calls.{Calls}
 use Rattle.sabr_frontier.specs.session.Session.{Seen, session_over}
 use Rattle.sabr_session.specs.SessionRead.{Said, nothing_said, read_lines, is_after, last_line, most_bytes, misspelled, ComesTo}
 use Rattle.sabr_session.specs.declared.session_fault.SessionFault.{SessionFault}
@@ -29,14 +30,14 @@ outcome p h s bytes ended =
 abbrev pub is_bad_front : ℕ → Said → List ℕ → Bool
 is_bad_front n s front = (is_after n s && has_bytes front) || nat_lt most_bytes (length front)
 
--- over a plan, what was fed of a text that wasn't refused, and how often the finder of its session was called
+-- over a plan, what was fed of a text that wasn't refused, and the calls of its session's finder
 pub record OpenText : Type 0 where
   pub plan : TabledPlan
-  pub calls : ℕ
+  pub calls : Calls
   pub fed : SessionFed
 
 -- before the first chunk, over a plan
-abbrev pub opened_over : TabledPlan → ℕ → OpenText
+abbrev pub opened_over : TabledPlan → Calls → OpenText
 opened_over plan calls = record { plan = plan; calls = calls; fed = nothing_fed }
 
 -- what all lines come to say, with these bytes after the text, over its plan

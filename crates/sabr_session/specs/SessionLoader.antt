@@ -1,14 +1,15 @@
 -- What the lines of a session text lead to: a loader, from the request on.
-use Rattle.std.specs.Prelude.{◌≡◌, ℕ, List, [], Option, Some, None, unwrap_or}
+use Rattle.std.specs.Prelude.{◌≡◌, List, [], Option, Some, None, unwrap_or}
 use Rattle.sabr_model.specs.plan.Plan.{TabledPlan}
 use Rattle.sabr_model.specs.routes.Arrival.{RouteRequest}
 use Rattle.sabr_model.specs.routes.Asking.{unlimited}
+use Rattle.sabr_search.specs.questions.Calls.{Calls, no_calls}
 use Rattle.sabr_frontier.specs.listing.State.{PartState}
 use Rattle.sabr_frontier.specs.loading.Loading.{Loaded}
 
--- how often the finder was called, before the request and after it
-abbrev pub calls_by : Option ℕ → Option Loaded → ℕ
-calls_by calls None = unwrap_or calls 0
+-- the finder's calls, before the request and after it
+abbrev pub calls_by : Option Calls → Option Loaded → Calls
+calls_by calls None = unwrap_or calls no_calls
 calls_by calls (Some l) = l.calls
 
 -- the request

@@ -18,6 +18,7 @@ use Rattle.sabr_model.specs.routes.Route.{is_path, is_prefix, is_route}
 use Rattle.sabr_model.specs.routes.Parts.{goes_on}
 use Rattle.sabr_model.specs.routes.Record.{RouteRecord, record_of}
 use Rattle.sabr_model.proofs.RouteLemmas.Prefixes.{empty_is_prefix, prefix_goes_on}
+use Rattle.sabr_search.specs.questions.Calls.{Calls}
 use Rattle.sabr_frontier.specs.declared.tree.Node.{Node}
 use Rattle.sabr_frontier.specs.declared.loader.check.Checked.{Checked}
 use Rattle.sabr_frontier.specs.declared.loader.leading.ExpectedPrefix.{ExpectedPrefix}
@@ -468,7 +469,7 @@ module _ {A : Type 0} (q : List ℕ) where
 abbrev is_next : {A : Type 0} → PartialTree A → PartState → Bool
 is_next partial t = rise_strictly t.excluded && comes_after (parts_in (partial_shape_of partial)) t.prefix
 
-module _ {A : Type 0} {plan : TabledPlan} {r : RouteRequest} (partial : PartialTree A) {calls : ℕ} {v : Loaded} (is : loaded plan r partial calls ≡ v) (t : PartState) where
+module _ {A : Type 0} {plan : TabledPlan} {r : RouteRequest} (partial : PartialTree A) {calls : Calls} {v : Loaded} (is : loaded plan r partial calls ≡ v) (t : PartState) where
   refusal_is : {first may : Bool} → is_next partial t ≡ first → may_carry plan.plan r t ≡ may → refusal_by v t ≡ cond (not first) (Some BadOrder) (cond (not may) (Some BadRoute) None)
   refusal_is h k = ap (λ w. refusal_by w t) (sym is) ∙ (λ i. cond (not (h i)) (Some BadOrder) (cond (not (k i)) (Some BadRoute) None))
 

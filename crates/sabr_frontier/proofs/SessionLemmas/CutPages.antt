@@ -3,7 +3,7 @@ use Rattle.std.proofs.Common.{◌≡◌, ◌⊎◌, inl, inr, ℕ, zero, suc, �
 use Rattle.std.proofs.lemmas.Bool.{or_cases, or_parts, or_right}
 use Rattle.std.specs.Cmp.{both_ways}
 use Rattle.std.specs.Prelude.{is_some, slice_get}
-use Rattle.std.specs.Option.{option_map_or}
+use Rattle.std.specs.Option.{option_map, option_map_or}
 use Rattle.std.specs.Ordering.{is_lt}
 use Rattle.sabr_model.specs.plan.Plan.{ContactPlan, IsPlan}
 use Rattle.sabr_model.specs.routes.Arrival.{RouteRequest}
@@ -12,19 +12,21 @@ use Rattle.sabr_search.specs.declared.bound.Bound.{Bound}
 use Rattle.sabr_frontier.specs.declared.giving.give_next.Step.{Step}
 use Rattle.sabr_frontier.specs.declared.tree.Node.{Node}
 use Rattle.sabr_frontier.specs.declared.tree.NodeId.{NodeId}
-use Rattle.sabr_frontier.specs.listing.State.{State}
+use Rattle.sabr_frontier.specs.giving.Detours.{CarriesNoOther, HasLooks}
+use Rattle.sabr_frontier.specs.listing.State.{Member, PartState, State}
 use Rattle.sabr_frontier.specs.listing.Listing.{next_route, one_step, searches_for, searches_in}
 use Rattle.sabr_frontier.specs.tree.Searching.{Asked, best_for, steps_for}
 use Rattle.sabr_frontier.specs.tree.Best.{best_of}
 use Rattle.sabr_frontier.specs.tree.Cut.{AreCutBy, IsCutTree, ShowsCut, carries_before, count_before}
 use Rattle.sabr_frontier.specs.tree.Left.{others_carry, part_goes_on, some_carry}
-use Rattle.sabr_frontier.specs.tree.Shape.{Shape, shown}
+use Rattle.sabr_frontier.specs.tree.Shape.{Shape, numbers_of, part_at, route_at, shown}
 use Rattle.sabr_frontier.specs.tree.Sound.{IsTree}
 use Rattle.sabr_frontier.specs.tree.Giving.{IsNextGiven, divided_with}
 use Rattle.sabr_frontier.specs.tree.Winners.{CarriesNone, IsFirst, IsBestOf}
-use Rattle.sabr_frontier.proofs.TreeLemmas.CarryingNodes.{route_there, searches_are}
+use Rattle.sabr_frontier.proofs.ListingLemmas.ListMembers.{Member-map, Member-map_cases}
+use Rattle.sabr_frontier.proofs.TreeLemmas.CarryingNodes.{carried_at, mapped, next_is, route_there, searches_are}
 use Rattle.sabr_frontier.proofs.TreeLemmas.CutDivided.{answer_cut, cut_self, cut_sound, divided_cut, stands_in, still_before, IsBoundFor}
-use Rattle.sabr_frontier.proofs.TreeLemmas.CutTrees.{at_most_one, cut_weaken, least_same, none_same}
+use Rattle.sabr_frontier.proofs.TreeLemmas.CutTrees.{at_most_one, carried_there, cut_weaken, least_same, none_same}
 use Rattle.sabr_frontier.proofs.TreeLemmas.SlotWinners.{carries_cases, standing_at}
 use Rattle.sabr_frontier.proofs.SessionLemmas.LeftSteps.{left_after, one_step_is}
 use Rattle.sabr_frontier.proofs.SessionLemmas.Pages.{counts_one, counts_stop, given_by, nothing_carried, nothing_given, steps_stop}
@@ -211,6 +213,30 @@ module _ {A : Type 0} (a : Asked) (good : IsPlan a.plan.plan) (u t : Shape A) (h
 
   same_step : IsSameStep a (shown u) t
   same_step = elim (carries_cases t.nodes) [ inl none ↦ same_none none | inr w ↦ same_some w.0 w.1 w.2 ]
+
+  same_route : next_route p r (shown t) ≡ next_route p r (shown u)
+  same_route = elim (carries_cases t.nodes) [
+    | inl none ↦ nothing_carried p r good t is none ∙ sym (nothing_carried p r good u h.sound (none_same 1 u.nodes t.nodes h.nodes none))
+    | inr w ↦
+        let at = standing_at t.nodes w.1 w.0 w.2.carries in
+        let stands = stands_whole p r 1 u t h w.1 at.0 w.0 at.1 at.2 w.2.least in
+        let least = least_whole p r 1 u t h w.1 at.0 w.0 at.1 at.2 w.2.least in
+        next_is p r t is w.1 at.0 w.0 at.1 at.2 w.2.least ∙ sym (next_is p r u h.sound w.1 at.0 w.0 stands at.2 least)
+  ]
+
+  -- the parts carry no more
+  no_other : (x : List ℕ) → CarriesNoOther (shown u) x → CarriesNoOther (shown t) x
+  no_other x only part y there e =
+      let w = Member-map_cases (part_at t.leaves t.nodes) part t.index there in
+      let id = w.0 in
+      let v = mapped (route_at t.nodes id) y (sym (carried_at t.leaves (slice_get t.nodes id.0)) ∙ ap (λ (z : PartState). z.carried) (sym w.1) ∙ e) in
+      let whole = carried_there 1 u.nodes t.nodes h.nodes id v.0 v.1 in
+      let listed = subst (Member id) (ap (λ (z : Shape A). z.index) h.same) w.2 in
+      only (part_at u.leaves u.nodes id) y (Member-map (part_at u.leaves u.nodes) id u.index listed) (carried_at u.leaves (slice_get u.nodes id.0) ∙ ap (option_map numbers_of) whole ∙ ap Some v.2)
+
+pub cut_looks : {A : Type 0} (a : Asked) (s : State) (t : Shape A) → IsPlan a.plan.plan → ShowsCut a 2 s t → (looks : ℕ) → HasLooks looks a.plan.plan a.request (shown t) → HasLooks looks a.plan.plan a.request s
+cut_looks a s t good h looks has =
+    subst (HasLooks looks a.plan.plan a.request) (sym h.1) (λ x next only. has x (same_route a good h.0 t h.2 ∙ next) (no_other a good h.0 t h.2 x only))
 
 pub cut_next : {A : Type 0} (a : Asked) (s : State) (t : Shape A) → IsPlan a.plan.plan → ShowsCut a 2 s t → IsSameStep a s t
 cut_next a s t good h = subst (λ z. IsSameStep a z t) (sym h.1) (same_step a good h.0 t h.2)

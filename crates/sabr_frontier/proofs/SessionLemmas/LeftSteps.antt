@@ -47,7 +47,7 @@ no_route : (o : Option RouteRecord) → is_some o ≡ false → o ≡ None
 no_route None e = refl
 no_route (Some x) e = absurd (true≢false e)
 
-some_route : (o : Option RouteRecord) → is_some o ≡ true → (x : RouteRecord) × (o ≡ Some x)
+pub some_route : (o : Option RouteRecord) → is_some o ≡ true → (x : RouteRecord) × (o ≡ Some x)
 some_route None e = absurd (true≢false (sym e))
 some_route (Some x) e = (x, refl)
 

@@ -92,7 +92,7 @@ pub carried_at : {A : Type 0} (leaves : List RouteRecord) (o : Option (Node A)) 
 carried_at leaves None = refl
 carried_at leaves (Some n) = refl
 
-mapped : (o : Option RouteRecord) (s : List ℕ) → option_map numbers_of o ≡ Some s → (y : RouteRecord) × (o ≡ Some y) × (y.contacts ≡ s)
+pub mapped : (o : Option RouteRecord) (s : List ℕ) → option_map numbers_of o ≡ Some s → (y : RouteRecord) × (o ≡ Some y) × (y.contacts ≡ s)
 mapped None s e = absurd cc
 mapped (Some y) s e = (y, refl, (let same : y.contacts ≡ s = cc in same))
 
@@ -175,7 +175,7 @@ module _ {A : Type 0} (p : ContactPlan) (r : RouteRequest) (t : Shape A) (is : I
         let h = tree_has u.prefix u.excluded S (subst (Member (pair_of u)) (closed_tree (is_route p r) (is_path p r) (is_prefix p r) (map pair_of parts) is.formed.order is.formed.closed) (Member-map pair_of u parts m)) in
         (h.0, subst (λ Z. Within u.prefix Z x.contacts) h.1 w.1)
 
-    same_prefix : (u : PartState) → Member u parts → u.carried ≡ Some x.contacts → u.prefix ≡ prefix_of t.leaves n
+    pub same_prefix : (u : PartState) → Member u parts → u.carried ≡ Some x.contacts → u.prefix ≡ prefix_of t.leaves n
     same_prefix u m e =
         let a = listed_within u m (is.formed.carried u x.contacts m e) in
         let b = listed_within here here_in inside in

@@ -1,13 +1,15 @@
 -- Where paths lead, by the indexes of nodes, and how they go on.
-use Rattle.std.specs.Prelude.{◌≡◌, ℕ, ◌+◌, ◌*◌, ◌<◌, false, List, length, Some, IsTrue, slice_get}
+use Rattle.std.specs.Prelude.{◌≡◌, ℕ, ◌+◌, ◌*◌, ◌<◌, ◌≤◌, false, List, length, Some, IsTrue, slice_get}
 use Rattle.sabr_index.specs.Links.{IsPassOf}
 use Rattle.sabr_index.specs.declared.link.Pass.{Pass}
 use Rattle.sabr_model.specs.declared.contact.Contact.{Contact}
-use Rattle.sabr_model.specs.plan.Plan.{IsPlan, TabledPlan, contact_named}
+use Rattle.sabr_model.specs.plan.Plan.{ContactPlan, IsPlan, TabledPlan, contact_named}
 use Rattle.sabr_model.specs.routes.Arrival.{RouteRequest, arrival, arrival_after}
 use Rattle.sabr_model.specs.routes.Route.{chain_end, is_path}
 use Rattle.sabr_search.specs.questions.PrefixPath.{AreForbidden}
 use Rattle.sabr_search.specs.questions.Task.{HasNodes, is_closed}
+use Rattle.sabr_frontier.specs.listing.Listing.{next_route}
+use Rattle.sabr_frontier.specs.listing.State.{Member, PartState, State}
 use Rattle.sabr_frontier.specs.declared.giving.route_front.Place.{Place}
 use Rattle.sabr_frontier.specs.declared.giving.other_way.Onward.{Onward}
 use Rattle.sabr_frontier.specs.declared.giving.other_way.RouteEnd.{RouteEnd}
@@ -58,3 +60,11 @@ most_links = 64
 -- contacts, and two for each of these links
 abbrev pub detour_looks : ℕ → ℕ
 detour_looks hops = hops + 2 * most_links
+
+-- no part of the state carries another route than this one
+abbrev pub CarriesNoOther : State → List ℕ → Type 0
+CarriesNoOther s x = (t : PartState) (y : List ℕ) → Member t s.parts → t.carried ≡ Some y → y ≡ x
+
+-- there was a look at least for each contact of the next route, if no part of the state carries another one
+abbrev pub HasLooks : ℕ → ContactPlan → RouteRequest → State → Type 0
+HasLooks looks p r s = (x : List ℕ) → next_route p r s ≡ Some x → CarriesNoOther s x → length x ≤ looks

@@ -7,6 +7,7 @@ use Rattle.sabr_model.specs.plan.Plan.{ContactPlan, TabledPlan, rises_above}
 use Rattle.sabr_model.specs.routes.Arrival.{RouteRequest}
 use Rattle.sabr_model.specs.routes.Route.{is_path, is_prefix, is_route}
 use Rattle.sabr_model.specs.routes.Parts.{in_part}
+use Rattle.sabr_search.specs.questions.Calls.{Calls}
 use Rattle.sabr_frontier.specs.declared.loader.load_fault.LoadFault.{LoadFault}
 use Rattle.sabr_frontier.specs.declared.loader.load_fault.LoadFault.TheVariants.{BadOrder, BadRoute, NotClosed, BadCount, NoMemory}
 use Rattle.sabr_frontier.specs.listing.Rising.{has}
@@ -16,12 +17,12 @@ use Rattle.sabr_frontier.specs.listing.Listing.{IsState, leaves_in}
 use Rattle.sabr_frontier.specs.session.Session.{Seen, session_over}
 use Rattle.sabr_frontier.specs.tree.Undo.{last_item}
 
--- what callers see of a loader: the plan, the request, the parts so far, and how often the finder was called
+-- what callers see of a loader: the plan, the request, the parts so far, and the finder's calls
 pub record Loaded : Type 0 where
   pub plan : TabledPlan
   pub request : RouteRequest
   pub parts : List PartState
-  pub calls : ℕ
+  pub calls : Calls
 
 -- ---- a part more
 

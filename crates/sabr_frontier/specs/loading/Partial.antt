@@ -9,6 +9,7 @@ use Rattle.sabr_model.specs.routes.Arrival.{RouteRequest}
 use Rattle.sabr_model.specs.routes.Asking.{IsRequest}
 use Rattle.sabr_model.specs.routes.Route.{is_path, is_route}
 use Rattle.sabr_model.specs.routes.Record.{RouteRecord, record_of}
+use Rattle.sabr_search.specs.questions.Calls.{Calls}
 use Rattle.sabr_frontier.specs.declared.tree.Node.{Node}
 use Rattle.sabr_frontier.specs.declared.loader.partial_tree.PartialTree.{PartialTree}
 use Rattle.sabr_frontier.specs.declared.loader.check.Checked.{Checked}
@@ -179,7 +180,7 @@ pub record IsLastPlace (leaves : List RouteRecord) (emitted : ℕ) (last : List 
 
 -- ---- the loader
 
-abbrev pub loaded : {A : Type 0} → TabledPlan → RouteRequest → PartialTree A → ℕ → Loaded
+abbrev pub loaded : {A : Type 0} → TabledPlan → RouteRequest → PartialTree A → Calls → Loaded
 loaded plan request partial calls = record { plan = plan; request = request; parts = parts_in (partial_shape_of partial); calls = calls }
 
 pub record IsLoader {A : Type 0} (plan : TabledPlan) (request : RouteRequest) (h : PartialTree A) : Type 0 where

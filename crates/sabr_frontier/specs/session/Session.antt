@@ -1,12 +1,13 @@
 -- What a session shows, and what holds of it.
-use Rattle.std.specs.Prelude.{◌≡◌, ℕ, ◌-◌, ◌<◌, zero, suc, List, [], ◌∷◌, length, reverse, Option}
+use Rattle.std.specs.Prelude.{◌≡◌, ℕ, ◌+◌, ◌-◌, ◌<◌, zero, suc, List, [], ◌∷◌, length, reverse, Option}
 use Rattle.std.specs.Option.{option_map}
 use Rattle.sabr_model.specs.plan.Plan.{ContactPlan, TabledPlan, IsPlan}
 use Rattle.sabr_model.specs.routes.Arrival.{RouteRequest}
 use Rattle.sabr_model.specs.routes.Asking.{IsRequest}
 use Rattle.sabr_model.specs.routes.Record.{RouteRecord, record_of}
 use Rattle.sabr_frontier.specs.declared.tree.Tree.{Tree}
-use Rattle.sabr_frontier.specs.tree.Searching.{Searching}
+use Rattle.sabr_search.specs.questions.Calls.{Calls}
+use Rattle.sabr_frontier.specs.tree.Searching.{GoOn, Searching}
 use Rattle.sabr_frontier.specs.listing.State.{State, PartState}
 use Rattle.sabr_frontier.specs.listing.Listing.{searches_in, state_at, steps}
 use Rattle.sabr_frontier.specs.tree.Shape.{Shape, shape_of, shown}
@@ -14,23 +15,29 @@ use Rattle.sabr_frontier.specs.tree.Undo.{CanUndo, IsRoomy, undone, undone_times
 use Rattle.sabr_frontier.specs.tree.Sound.{IsTree}
 
 -- what callers see: the plan and the request, the state, the states that can be gone back to, the latest first,
--- how many searches the last call made, how often the finder was called, by this session or before, and the looks that
--- the searches of the last page took
+-- how many searches the last call made, the calls of the finder, by this session or before, and the looks that the
+-- searches of the last page took
 pub record Seen : Type 0 where
   pub plan : TabledPlan
   pub request : RouteRequest
   pub state : State
   pub former : List State
   pub searches : ℕ
-  pub calls : ℕ
+  pub calls : Calls
   pub looks : ℕ
 
 -- a session just started: no route was given yet, by one search
-abbrev pub started : TabledPlan → RouteRequest → ℕ → Seen
+abbrev pub started : TabledPlan → RouteRequest → Calls → Seen
 started plan r calls = record { plan = plan; request = r; state = state_at plan.plan r 0; former = []; searches = 1; calls = calls; looks = 0 }
 
+-- one that a finder of these calls started
+pub record IsStarted (plan : TabledPlan) (r : RouteRequest) (calls : Calls) (s : Seen) : Type 0 where
+  pub shows : s ≡ started plan r s.calls
+  pub called : s.calls.count ≡ calls.count + 1
+  pub go_on : GoOn plan.plan calls s.calls
+
 -- a session over a state that was loaded: nothing can be taken back, and no search was counted
-abbrev pub session_over : TabledPlan → RouteRequest → State → ℕ → Seen
+abbrev pub session_over : TabledPlan → RouteRequest → State → Calls → Seen
 session_over plan r s calls = record { plan = plan; request = r; state = s; former = []; searches = 0; calls = calls; looks = 0 }
 
 -- the next page of at most that many routes: its routes, and the state after it

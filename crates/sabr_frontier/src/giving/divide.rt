@@ -64,7 +64,7 @@ pub fn find_best_after<B: BestOf<A>, A: Allocator + Copy>(
     requires route { IsTrue (is_route searcher.old.asked.plan.plan searcher.old.asked.request route.now) }
     requires longer { count < length route.now }
     ensures best { IfOk result (λ found. found ≡ best_for searcher.old.asked bound (take count route.now) (slice_index route.now count ∷ [])) }
-    ensures called { searcher.new.calls ≡ searcher.old.calls + 1 }
+    ensures called { searcher.new.calls.count ≡ searcher.old.calls.count + 1 }
     ensures same { searcher.new.asked ≡ searcher.old.asked }
 {
     searcher.find_best(
@@ -88,7 +88,7 @@ fn fresh_node<B: BestOf<A>, A: Allocator + Copy>(
 
     // It finds the node by one search, which may fail. The question stays.
     ensures node { IfOk result (λ n. n ≡ fresh_node (best_for searcher.old.asked given.bound) given.leaf route.now count) }
-    ensures called { searcher.new.calls ≡ searcher.old.calls + 1 }
+    ensures called { searcher.new.calls.count ≡ searcher.old.calls.count + 1 }
     ensures same { searcher.new.asked ≡ searcher.old.asked }
 {
     let found = find_best_after(searcher, route, count, given.floor, given.bound)?;
@@ -116,11 +116,11 @@ fn fresh_nodes<B: BestOf<A>, A: Allocator + Copy>(
 
     // It adds a node for each number left, by a search each.
     ensures nodes { OnOk result (nodes.new.items ≡ nodes.old.items ++ fresh_nodes (best_for searcher.old.asked given.bound) given.leaf (take first route.now) (drop first route.now)) }
-    ensures called { OnOk result (searcher.new.calls + vec_len nodes.old ≡ searcher.old.calls + vec_len nodes.new) }
+    ensures called { OnOk result (searcher.new.calls.count + vec_len nodes.old ≡ searcher.old.calls.count + vec_len nodes.new) }
 
     // If an allocation failed, some of the searches were taken, and some of the nodes may stay.
-    ensures no_fewer { OnErr result (searcher.old.calls ≤ searcher.new.calls) }
-    ensures at_most { OnErr result (searcher.new.calls + first ≤ searcher.old.calls + length route.now) }
+    ensures no_fewer { OnErr result (searcher.old.calls.count ≤ searcher.new.calls.count) }
+    ensures at_most { OnErr result (searcher.new.calls.count + first ≤ searcher.old.calls.count + length route.now) }
 
     // The question and the former nodes stay.
     ensures longer { OnOk result (vec_len nodes.old ≤ vec_len nodes.new) }
@@ -155,11 +155,11 @@ fn search<B: BestOf<A>, A: Allocator + Copy>(
     // It finds what the node carries, and adds the new nodes, by a search each.
     ensures found { IfOk result (λ found. OfNode nodes.old.items node (λ n. found ≡ best_for searcher.old.asked given.bound (take n.length route.now) n.excluded)) }
     ensures nodes { OnOk result (OfNode nodes.old.items node (λ n. nodes.new.items ≡ nodes.old.items ++ fresh_after (best_for searcher.old.asked given.bound) given.leaf n route.now)) }
-    ensures called { OnOk result (searcher.new.calls + vec_len nodes.old ≡ searcher.old.calls + (vec_len nodes.new + 1)) }
+    ensures called { OnOk result (searcher.new.calls.count + vec_len nodes.old ≡ searcher.old.calls.count + (vec_len nodes.new + 1)) }
 
     // If an allocation failed, some of the searches were taken, and some of the nodes may stay.
-    ensures no_fewer { OnErr result (searcher.old.calls ≤ searcher.new.calls) }
-    ensures at_most { OnErr result (OfNode nodes.old.items node (λ n. searcher.new.calls + n.length ≤ searcher.old.calls + length route.now)) }
+    ensures no_fewer { OnErr result (searcher.old.calls.count ≤ searcher.new.calls.count) }
+    ensures at_most { OnErr result (OfNode nodes.old.items node (λ n. searcher.new.calls.count + n.length ≤ searcher.old.calls.count + length route.now)) }
 
     // The question and the former nodes stay.
     ensures longer { OnOk result (vec_len nodes.old ≤ vec_len nodes.new) }
@@ -228,11 +228,11 @@ pub fn divide<B: BestOf<A>, A: Allocator + Copy>(
     // It finds what the node carries, and changes and adds nodes, by a search each.
     ensures found { IfOk result (λ found. OfNode nodes.old.items node (λ n. found ≡ best_for searcher.old.asked given.bound (take n.length route.now) (wide_of n route.now))) }
     ensures ok { OnOk result (OfNode nodes.old.items node (λ n. nodes.new.items ≡ parted (best_for searcher.old.asked given.bound) given.leaf nodes.old.items node route.now n)) }
-    ensures called { OnOk result (searcher.new.calls + vec_len nodes.old ≡ searcher.old.calls + (vec_len nodes.new + 1)) }
+    ensures called { OnOk result (searcher.new.calls.count + vec_len nodes.old ≡ searcher.old.calls.count + (vec_len nodes.new + 1)) }
 
     // If an allocation failed, some of the searches were taken, and the nodes are as they were.
-    ensures no_fewer { OnErr result (searcher.old.calls ≤ searcher.new.calls) }
-    ensures at_most { OnErr result (OfNode nodes.old.items node (λ n. searcher.new.calls + n.length ≤ searcher.old.calls + length route.now)) }
+    ensures no_fewer { OnErr result (searcher.old.calls.count ≤ searcher.new.calls.count) }
+    ensures at_most { OnErr result (OfNode nodes.old.items node (λ n. searcher.new.calls.count + n.length ≤ searcher.old.calls.count + length route.now)) }
     ensures err { OnErr result (nodes.new.items ≡ nodes.old.items) }
 
     // No node goes, and the question stays.

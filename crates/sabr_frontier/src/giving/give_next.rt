@@ -68,11 +68,11 @@ impl<A: Allocator + Copy> Tree<A> {
 
         // The route is given by this step.
         ensures ok { IfOk result (IsNextGiven (best_for searcher.old.asked bound) (shape_of self.old) (shape_of self.new) given.old.items given.new.items) }
-        ensures called { IfOk result (λ step. searcher.new.calls ≡ searcher.old.calls + step.searches) }
+        ensures called { IfOk result (λ step. searcher.new.calls.count ≡ searcher.old.calls.count + step.searches) }
 
         // If an allocation failed, it took no more searches, and the tree is as it was.
-        ensures no_fewer { OnErr result (searcher.old.calls ≤ searcher.new.calls) }
-        ensures at_most { OnErr result (searcher.new.calls ≤ searcher.old.calls + searches_in searcher.old.asked.plan.plan searcher.old.asked.request 1 (shown (shape_of self.old))) }
+        ensures no_fewer { OnErr result (searcher.old.calls.count ≤ searcher.new.calls.count) }
+        ensures at_most { OnErr result (searcher.new.calls.count ≤ searcher.old.calls.count + searches_in searcher.old.asked.plan.plan searcher.old.asked.request 1 (shown (shape_of self.old))) }
         ensures err { OnErr result (shape_of self.new ≡ shape_of self.old) }
 
         // The index and the question stay, and there is room for what comes.

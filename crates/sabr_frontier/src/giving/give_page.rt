@@ -41,9 +41,9 @@ impl<A: Allocator + Copy> Tree<A> {
 
         // It takes this number of searches, and no more if an allocation failed.
         ensures searches { IfOk result (λ n. n ≡ searches_in searcher.old.asked.plan.plan searcher.old.asked.request count (shown (shape_of self.old))) }
-        ensures called { IfOk result (λ n. searcher.new.calls ≡ searcher.old.calls + n) }
-        ensures no_fewer { OnErr result (searcher.old.calls ≤ searcher.new.calls) }
-        ensures at_most { OnErr result (searcher.new.calls ≤ searcher.old.calls + searches_in searcher.old.asked.plan.plan searcher.old.asked.request count (shown (shape_of self.old))) }
+        ensures called { IfOk result (λ n. searcher.new.calls.count ≡ searcher.old.calls.count + n) }
+        ensures no_fewer { OnErr result (searcher.old.calls.count ≤ searcher.new.calls.count) }
+        ensures at_most { OnErr result (searcher.new.calls.count ≤ searcher.old.calls.count + searches_in searcher.old.asked.plan.plan searcher.old.asked.request count (shown (shape_of self.old))) }
 
         // In any case the tree is sound, and what was given can be taken back. The index and the question stay.
         ensures sound { IsSound searcher.old.asked.plan.plan searcher.old.asked.request (shape_of self.new) }
@@ -85,7 +85,7 @@ impl<A: Allocator + Copy> Tree<A> {
         ensures room { OnOk result (IsRoomy self.new) }
 
         // It takes as many searches as the steps. The question stays.
-        ensures called { OnOk result (searcher.new.calls ≡ searcher.old.calls + searches_in searcher.old.asked.plan.plan searcher.old.asked.request count (shown (shape_of self.old))) }
+        ensures called { OnOk result (searcher.new.calls.count ≡ searcher.old.calls.count + searches_in searcher.old.asked.plan.plan searcher.old.asked.request count (shown (shape_of self.old))) }
         ensures same { searcher.new.asked ≡ searcher.old.asked }
     {
         let mut keys = SmallestKeys::new(searcher.alloc(), count as usize + 2);

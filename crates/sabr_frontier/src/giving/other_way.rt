@@ -168,6 +168,7 @@ fn takes_detour<A: Allocator + Copy>(
     requires passes { ArePassesBetween plan.now end.here.node leg.to leg.passes.now }
     ensures most { looks.old.left ≤ looks.new.left + 2 }
     ensures fewer { looks.new.left ≤ looks.old.left }
+    ensures both { IsTrue result → looks.new.left + 2 ≤ looks.old.left }
     ensures yes { IsTrue result → IsOtherWay plan.now.plan request.now end.entry.front.now end.entry.last end.entry.excluded.now }
 {
     if leg.to == end.to || end.forbidden[leg.to] {
@@ -201,6 +202,7 @@ fn detours<A: Allocator + Copy>(
     requires end { IsRouteEnd plan.now request.now end }
     ensures most { looks.old.left ≤ looks.new.left + 2 * most_links }
     ensures fewer { looks.new.left ≤ looks.old.left }
+    ensures both { IsTrue result → looks.new.left + 2 ≤ looks.old.left }
     ensures yes { IsTrue result → IsOtherWay plan.now.plan request.now end.entry.front.now end.entry.last end.entry.excluded.now }
 {
     if end.front.len() + 1 >= request.max_hops() as usize {
@@ -220,7 +222,8 @@ fn detours<A: Allocator + Copy>(
 /// Returns true if a route is seen to have another ending in place of its last number. Either one number that isn't
 /// excluded leads to the destination; only the last contact of its link is tried. Or there is a detour of two numbers.
 ///
-/// It takes a look for each contact of the route, and at most two for each link that is tried.
+/// It takes at most a look for each contact of the route and two for each link that is tried; at least a look for each
+/// contact if it returns true.
 pub fn goes_otherwise<A: Allocator + Copy>(
     alloc: A,
     plan: &CountedPlan<'_, A>,
@@ -233,6 +236,7 @@ pub fn goes_otherwise<A: Allocator + Copy>(
     requires few { detour_looks (length route.now) ≤ looks.old.left }
     ensures most { looks.old.left ≤ looks.new.left + detour_looks (length route.now) }
     ensures fewer { looks.new.left ≤ looks.old.left }
+    ensures least { IfOk result (λ yes. IsTrue yes → looks.new.left + length route.now ≤ looks.old.left) }
     ensures yes { IfOk result (λ yes. IsTrue yes → GoesOtherwise plan.now.plan request.now route.now excluded.now) }
 {
     plan.rules_hold();

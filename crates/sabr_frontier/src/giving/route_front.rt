@@ -82,6 +82,7 @@ pub fn follow_front<A: Allocator + Copy>(
     requires few { length front.now ≤ looks.old.left }
     ensures looks { looks.old.left ≤ looks.new.left + length front.now }
     ensures fewer { looks.new.left ≤ looks.old.left }
+    ensures all { IfOk result (λ o. IfSome o (λ f. looks.old.left ≡ looks.new.left + length front.now)) }
     ensures leads { IfOk result (λ o. IfSome o (λ f. LeadsTo plan.now request.now front.now f.here)) }
     ensures forbids { IfOk result (λ o. IfSome o (λ f. AreForbidden plan.now.table f.forbidden.items (is_closed plan.now.plan request.now front.now))) }
 {

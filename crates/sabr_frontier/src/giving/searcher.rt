@@ -1,18 +1,17 @@
 //! Finding the best routes of parts, with a finder and its cache.
 
-ghost use Rattle.std.specs.Prelude.{◌≡◌, ◌+◌, ◌-◌, ◌*◌, ◌<◌, ◌≤◌, min, IfOk, IsTrue};
+ghost use Rattle.std.specs.Prelude.{◌≡◌, ◌+◌, IfOk, IsTrue};
 ghost use Rattle.std.specs.List.Sorted.{IsStrictlyIncreasing};
 ghost use Rattle.sabr_model.specs.routes.Route.{is_prefix};
-ghost use Rattle.sabr_index.specs.Looks.{many_looks};
 ghost use Rattle.sabr_search.specs.answers.SearchCache.{IsSearchCache};
 ghost use Rattle.sabr_search.specs.questions.Bounded.{IsFloor};
-ghost use Rattle.sabr_frontier.specs.tree.Searching.{IsAtRest, searching_first, best_for, call_looks};
+ghost use Rattle.sabr_frontier.specs.tree.Searching.{GoOn, IsAtRest, best_for, looks_since, searching_first};
 ghost use Rattle.sabr_frontier.specs.tree.Best.{bound_in, found_by};
 
 use crate::plan_request::PlanRequest;
 use sabr_index::Index;
-use sabr_model::{GhostCount, NoMemory, Plan, Request, Route};
-use sabr_search::{BestOf, Bound, BoundedPart, Excluded, SearchCache, Sought};
+use sabr_model::{NoMemory, Plan, Request, Route};
+use sabr_search::{BestOf, Bound, BoundedPart, Excluded, GhostCalls, SearchCache, Sought};
 use std::alloc::{Allocator, Global};
 use std::marker::Model;
 
@@ -42,8 +41,8 @@ fn up_to<A: Allocator + Copy>(sought: Sought<A>, bound: Option<Bound>) -> Option
     None
 }
 
-/// A finder with what it is asked for, and the cache of its searches. Contracts see the plan, the request, how often
-/// the finder was called, and the looks that it took.
+/// A finder with what it is asked for, and the cache of its searches. Contracts see the plan, the request, the finder's
+/// calls, and those before the calls whose looks are summed.
 #[derive(Drop)]
 pub struct Searcher<'p, B: BestOf<A>, A: Allocator + Copy = Global> {
     /// The index of the plan.
@@ -52,8 +51,8 @@ pub struct Searcher<'p, B: BestOf<A>, A: Allocator + Copy = Global> {
     rest: PausedSearcher<B, A>,
     /// The looks of the calls that are summed, `u64::MAX` if they are more.
     looks: u64,
-    /// How many calls are summed.
-    summed: GhostCount,
+    /// The calls that are summed, for proofs alone.
+    summed: GhostCalls,
 }
 
 /// A searcher without the index of its plan, which it doesn't borrow.
@@ -70,21 +69,20 @@ pub struct PausedSearcher<B: BestOf<A>, A: Allocator + Copy = Global> {
 }
 
 impl<'p, B: BestOf<A>, A: Allocator + Copy> Model for Searcher<'p, B, A> {
-    ghost use Rattle.std.specs.Prelude.{◌*◌, ◌≤◌};
     ghost use Rattle.sabr_search.specs.answers.SearchCache.{IsSearchCache};
-    ghost use Rattle.sabr_frontier.specs.tree.Searching.{Searching, searching_over, call_looks};
+    ghost use Rattle.sabr_frontier.specs.tree.Searching.{IsSumOf, Searching, searching_over};
 
     ghost Value = { Searching };
 
-    ghost view = { λ a. searching_over B.calls_of B.looks_of a.index a.rest a.summed.count a.looks };
+    ghost view = { λ a. searching_over B.calls_of a.index a.rest a.summed.calls };
 
-    ghost invariant = { λ a. IsSearchCache a.index a.rest.request a.rest.cache × (a.looks ≤ a.summed.count * call_looks a.index.plan) };
+    ghost invariant = { λ a. IsSearchCache a.index a.rest.request a.rest.cache × IsSumOf a.index.plan (B.calls_of a.rest.finder) a.summed.calls a.looks };
 }
 
 impl<'p, B: BestOf<A>, A: Allocator + Copy> Searcher<'p, B, A> {
     /// Makes the plan's index, and a searcher with an empty cache.
     pub fn new(question: PlanRequest<'p, A>, finder: B) -> Result<Searcher<'p, B, A>, NoMemory>
-        ensures { IfOk result (λ searcher. searcher ≡ searching_first question.entry.plan.now question.entry.request (B.calls_of finder) (B.looks_of finder)) }
+        ensures { IfOk result (λ searcher. searcher ≡ searching_first question.entry.plan.now question.entry.request (B.calls_of finder)) }
     {
         let alloc = question.alloc();
         let index = Index::new(alloc, question.plan)?;
@@ -93,7 +91,7 @@ impl<'p, B: BestOf<A>, A: Allocator + Copy> Searcher<'p, B, A> {
 
     /// Makes a searcher over an index, with an empty cache.
     pub fn over(alloc: A, index: Index<'p, A>, request: Request, finder: B) -> Searcher<'p, B, A>
-        ensures { result ≡ searching_first index.entry request (B.calls_of finder) (B.looks_of finder) }
+        ensures { result ≡ searching_first index.entry request (B.calls_of finder) }
     {
         let rest = PausedSearcher {
             alloc,
@@ -116,15 +114,15 @@ impl<'p, B: BestOf<A>, A: Allocator + Copy> Searcher<'p, B, A> {
 
     /// Returns the sum of the looks that the finder's calls took, `u64::MAX` if they are more, and begins it anew.
     pub fn take_sum(&mut self) -> u64
-        ensures sum { result ≡ self.old.looks }
-        ensures most { 0 < self.old.asked.since → result ≤ (self.old.calls + 1 - self.old.asked.since) * call_looks self.old.asked.plan.plan }
-        ensures begun { self.new.asked ≡ record self.old.asked { since = self.old.calls + 1 } }
+        ensures sum { result ≡ looks_since self.old.asked.before self.old.calls }
+        ensures go_on { GoOn self.old.asked.plan.plan self.old.asked.before self.old.calls }
+        ensures begun { self.new.asked ≡ record self.old.asked { before = self.old.calls } }
         ensures rest { IsAtRest self.new }
         ensures calls { self.new.calls ≡ self.old.calls }
     {
         let sum = self.looks;
         self.looks = 0;
-        self.summed = GhostCount::new();
+        self.summed = GhostCalls::new();
         sum
     }
 
@@ -170,8 +168,7 @@ impl<'p, B: BestOf<A>, A: Allocator + Copy> Searcher<'p, B, A> {
         requires rising { IsStrictlyIncreasing excluded.now }
         requires floor { IsFloor self.old.asked.plan.plan self.old.asked.request prefix.now excluded.now floor }
         ensures best { IfOk result (λ found. found ≡ best_for self.old.asked bound prefix.now excluded.now) }
-        ensures called { self.new.calls ≡ self.old.calls + 1 }
-        ensures counted { self.new.looks ≡ min (self.old.looks + self.new.last_looks) many_looks }
+        ensures called { self.new.calls.count ≡ self.old.calls.count + 1 }
         ensures same { self.new.asked ≡ self.old.asked }
     {
         self.index.plan().rules_hold();
@@ -189,8 +186,9 @@ impl<'p, B: BestOf<A>, A: Allocator + Copy> Searcher<'p, B, A> {
         let found = rest
             .finder
             .best_up_to(&mut rest.cache, &self.index, &rest.request, part);
-        self.looks = self.looks.saturating_add(rest.finder.looks());
-        self.summed.add();
+        let looks = rest.finder.looks();
+        self.looks = self.looks.saturating_add(looks);
+        self.summed.add(looks);
         let sought = found?;
         Ok(up_to(sought, bound))
     }
@@ -200,13 +198,13 @@ impl<B: BestOf<A>, A: Allocator + Copy> PausedSearcher<B, A> {
     /// Returns the searcher over an index of the plan that it was paused over.
     pub fn resume<'p>(self, index: Index<'p, A>) -> Searcher<'p, B, A>
         requires { IsSearchCache index self.request self.cache }
-        ensures { result ≡ searching_first index.entry self.request (B.calls_of self.finder) (B.looks_of self.finder) }
+        ensures { result ≡ searching_first index.entry self.request (B.calls_of self.finder) }
     {
         Searcher {
             index,
             rest: self,
             looks: 0,
-            summed: GhostCount::new(),
+            summed: GhostCalls::new(),
         }
     }
 

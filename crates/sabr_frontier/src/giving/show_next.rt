@@ -1,10 +1,11 @@
 //! Looking at the best route that the tree carries, and whether a route would be left after it. Nothing is given.
 
-ghost use Rattle.std.specs.Prelude.{◌≡◌, ◌+◌, ◌≤◌, ◌<◌, ◌++◌, ◌||◌, None, take, drop, length, is_some, IfOk, OnOk, IsTrue, []};
+ghost use Rattle.std.specs.Prelude.{◌≡◌, ◌+◌, ◌≤◌, ◌<◌, ◌++◌, ◌||◌, None, false, take, drop, length, is_some, IfOk, OnOk, IsTrue, []};
 ghost use Rattle.sabr_model.specs.plan.Plan.{IsPlan};
 ghost use Rattle.sabr_model.specs.routes.Route.{is_route};
 ghost use Rattle.sabr_frontier.specs.listing.Listing.{next_route, searches_in};
-ghost use Rattle.sabr_frontier.specs.giving.Detours.{detour_looks};
+ghost use Rattle.sabr_frontier.specs.giving.Detours.{HasLooks, detour_looks};
+ghost use Rattle.sabr_index.specs.Looks.{looks_taken};
 ghost use Rattle.sabr_frontier.specs.tree.Searching.{best_for, records_for, steps_for};
 ghost use Rattle.sabr_frontier.specs.tree.Left.{longer_go_on, others_carry, part_goes_on, some_carry};
 ghost use Rattle.sabr_frontier.specs.tree.Shape.{shape_of, shown};
@@ -51,8 +52,8 @@ fn longer_go_on<B: BestOf<A>, A: Allocator + Copy>(
     requires within { first ≤ length route.now }
     requires floor { IsFloor searcher.old.asked.plan.plan searcher.old.asked.request (take first route.now) [] floor }
     ensures ok { IfOk result (λ yes. yes ≡ longer_go_on (best_for searcher.old.asked None) (take first route.now) (drop first route.now)) }
-    ensures no_fewer { searcher.old.calls ≤ searcher.new.calls }
-    ensures at_most { searcher.new.calls + first ≤ searcher.old.calls + length route.now }
+    ensures no_fewer { searcher.old.calls.count ≤ searcher.new.calls.count }
+    ensures at_most { searcher.new.calls.count + first ≤ searcher.old.calls.count + length route.now }
     ensures same { searcher.new.asked ≡ searcher.old.asked }
 {
     for count in first..route.len() {
@@ -79,9 +80,10 @@ fn part_goes_on<B: BestOf<A>, A: Allocator + Copy>(
     requires floor { IsFloor searcher.old.asked.plan.plan searcher.old.asked.request (take part.now.length route.now) part.now.excluded floor }
     requires few { detour_looks searcher.old.asked.request.max_hops ≤ looks.old.left }
     ensures ok { IfOk result (λ yes. yes ≡ part_goes_on (best_for searcher.old.asked None) part.now route.now) }
-    ensures no_fewer { searcher.old.calls ≤ searcher.new.calls }
-    ensures at_most { searcher.new.calls + part.now.length ≤ searcher.old.calls + length route.now }
+    ensures no_fewer { searcher.old.calls.count ≤ searcher.new.calls.count }
+    ensures at_most { searcher.new.calls.count + part.now.length ≤ searcher.old.calls.count + length route.now }
     ensures looks { looks.old.left ≤ looks.new.left + detour_looks searcher.old.asked.request.max_hops }
+    ensures least { IfOk result (λ yes. IsTrue yes → searcher.new.calls.count ≡ searcher.old.calls.count → length route.now ≤ looks_taken looks.new) }
     ensures same { searcher.new.asked ≡ searcher.old.asked }
 {
     searcher.plan().rules_hold();
@@ -122,9 +124,10 @@ impl<A: Allocator + Copy> Tree<A> {
         requires floor { OfNode self.now.nodes.items node (λ n. IsFloor searcher.old.asked.plan.plan searcher.old.asked.request (take n.length route.now) n.excluded floor) }
         requires few { detour_looks searcher.old.asked.request.max_hops ≤ looks.old.left }
         ensures ok { IfOk result (λ yes. OfNode self.now.nodes.items node (λ n. yes ≡ (others_carry self.now.nodes.items node || part_goes_on (best_for searcher.old.asked None) n route.now))) }
-        ensures no_fewer { searcher.old.calls ≤ searcher.new.calls }
-        ensures at_most { OfNode self.now.nodes.items node (λ n. searcher.new.calls + n.length ≤ searcher.old.calls + length route.now) }
+        ensures no_fewer { searcher.old.calls.count ≤ searcher.new.calls.count }
+        ensures at_most { OfNode self.now.nodes.items node (λ n. searcher.new.calls.count + n.length ≤ searcher.old.calls.count + length route.now) }
         ensures looks { looks.old.left ≤ looks.new.left + detour_looks searcher.old.asked.request.max_hops }
+        ensures least { IfOk result (λ yes. IsTrue yes → searcher.new.calls.count ≡ searcher.old.calls.count → others_carry self.now.nodes.items node ≡ false → length route.now ≤ looks_taken looks.new) }
         ensures same { searcher.new.asked ≡ searcher.old.asked }
     {
         if others_carry(self.nodes.as_slice(), node) {
@@ -153,9 +156,10 @@ impl<A: Allocator + Copy> Tree<A> {
         ensures more { IfOk result (λ more. more ≡ is_some (next_route searcher.old.asked.plan.plan searcher.old.asked.request (steps_for searcher.old.asked 1 (shown (shape_of self.now))).1)) }
 
         // It takes no more searches than the step would. The question stays.
-        ensures no_fewer { searcher.old.calls ≤ searcher.new.calls }
-        ensures at_most { searcher.new.calls ≤ searcher.old.calls + searches_in searcher.old.asked.plan.plan searcher.old.asked.request 1 (shown (shape_of self.now)) }
+        ensures no_fewer { searcher.old.calls.count ≤ searcher.new.calls.count }
+        ensures at_most { searcher.new.calls.count ≤ searcher.old.calls.count + searches_in searcher.old.asked.plan.plan searcher.old.asked.request 1 (shown (shape_of self.now)) }
         ensures looks { looks.old.left ≤ looks.new.left + detour_looks searcher.old.asked.request.max_hops }
+        ensures least { IfOk result (λ more. IsTrue more → searcher.new.calls.count ≡ searcher.old.calls.count → HasLooks (looks_taken looks.new) searcher.old.asked.plan.plan searcher.old.asked.request (shown (shape_of self.now))) }
         ensures same { searcher.new.asked ≡ searcher.old.asked }
     {
         let Some(node) = self.least() else {

@@ -1,12 +1,13 @@
 //! The page after which a listing isn't gone on with.
 
-ghost use Rattle.std.specs.Prelude.{◌≡◌, ◌+◌, ◌≤◌, ◌++◌, is_some, IfOk, OnOk};
+ghost use Rattle.std.specs.Prelude.{◌≡◌, ◌+◌, ◌-◌, ◌<◌, ◌≤◌, ◌++◌, is_some, IfOk, OnOk, IsTrue};
 ghost use Rattle.sabr_model.specs.plan.Plan.{IsPlan};
 ghost use Rattle.sabr_model.specs.routes.Asking.{IsRequest};
 ghost use Rattle.sabr_frontier.specs.listing.Listing.{most_routes, next_route, searches_in};
 ghost use Rattle.sabr_frontier.specs.session.LastPage.{IsLastPage};
-ghost use Rattle.sabr_frontier.specs.session.Session.{IsSound, started};
-ghost use Rattle.sabr_frontier.specs.giving.Detours.{detour_looks};
+ghost use Rattle.sabr_frontier.specs.session.Session.{IsSound, IsStarted};
+ghost use Rattle.sabr_frontier.specs.giving.Detours.{HasLooks, detour_looks};
+ghost use Rattle.sabr_index.specs.Looks.{looks_taken};
 ghost use Rattle.sabr_frontier.specs.tree.Searching.{records_for, steps_for};
 ghost use Rattle.sabr_frontier.specs.tree.Shape.{shape_of, shown};
 ghost use Rattle.sabr_frontier.specs.tree.Undo.{IsRoomy};
@@ -22,8 +23,8 @@ use std::marker::Model;
 
 /// The last page of a session. The session has ended. Its index and its finder are kept for another request.
 ///
-/// Contracts see the plan, the routes, whether one is left after them, how often the finder was called, and the looks
-/// that the page took.
+/// Contracts see the plan, the routes, whether one is left after them, the finder's calls, and the looks that the page
+/// took.
 #[derive(Drop)]
 pub struct LastPage<'p, B: BestOf<A>, A: Allocator + Copy = Global> {
     /// What found the routes.
@@ -96,9 +97,12 @@ impl<A: Allocator + Copy> Tree<A> {
         ensures more { IfOk result (λ more. more ≡ is_some (next_route searcher.old.asked.plan.plan searcher.old.asked.request (steps_for searcher.old.asked count (shown (shape_of self.old))).1)) }
 
         // It takes no more searches than the steps would. The question stays.
-        ensures no_fewer { OnOk result (searcher.old.calls ≤ searcher.new.calls) }
-        ensures at_most { OnOk result (searcher.new.calls ≤ searcher.old.calls + searches_in searcher.old.asked.plan.plan searcher.old.asked.request count (shown (shape_of self.old))) }
+        ensures no_fewer { OnOk result (searcher.old.calls.count ≤ searcher.new.calls.count) }
+        ensures at_most { OnOk result (searcher.new.calls.count ≤ searcher.old.calls.count + searches_in searcher.old.asked.plan.plan searcher.old.asked.request count (shown (shape_of self.old))) }
         ensures looks { OnOk result (looks.old.left ≤ looks.new.left + detour_looks searcher.old.asked.request.max_hops) }
+
+        // If more is known for the last route by no search, there was a detour, or another part carries a route.
+        ensures least { IfOk result (λ more. IsTrue more → 0 < count → searcher.new.calls.count ≡ searcher.old.calls.count + searches_in searcher.old.asked.plan.plan searcher.old.asked.request (count - 1) (shown (shape_of self.old)) → HasLooks (looks_taken looks.new) searcher.old.asked.plan.plan searcher.old.asked.request (steps_for searcher.old.asked (count - 1) (shown (shape_of self.old))).1) }
         ensures same { searcher.new.asked ≡ searcher.old.asked }
     {
         if count == 0 {
@@ -146,7 +150,7 @@ impl<'p, B: BestOf<A>, A: Allocator + Copy> LastPage<'p, B, A> {
     ///
     /// [`NoMemory`] if an allocation failed. The finder is dropped.
     pub fn start_again(self, request: Request) -> Result<Session<'p, B, A>, NoMemory>
-        ensures { IfOk result (λ s. s ≡ started self.entry.plan request (self.entry.calls + 1)) }
+        ensures { IfOk result (IsStarted self.entry.plan request self.entry.calls) }
     {
         let alloc = self.searcher.alloc();
         let (index, finder) = self.into_index_and_finder();

@@ -5,6 +5,7 @@ use Rattle.sabr_model.proofs.ListLemmas.ReadTexts.{Gives-nil, Gives-append}
 use Rattle.sabr_model.specs.plan.Plan.{TabledPlan}
 use Rattle.sabr_plan.specs.Canonical.{digest_of}
 use Rattle.sabr_frontier.specs.session.Session.{Seen}
+use Rattle.sabr_search.specs.questions.Calls.{Calls}
 use Rattle.sabr_session.specs.declared.session_fault.SessionFault.{SessionFault}
 use Rattle.sabr_session.specs.declared.session_fault.SessionFault.TheVariants as fault
 use Rattle.sabr_session.specs.SessionRead.{Said, ComesTo}
@@ -14,7 +15,7 @@ use Rattle.sabr_session.proofs.ReadingLemmas.SessionOutcomes.{said_of-outcome, o
 use Rattle.sabr_session.proofs.ReadingLemmas.NeverRead.{text_not_read}
 
 -- these bytes were read of a text over the plan that wasn't refused, and whatever comes after them, it comes to the same
-pub record HasGiven (plan : TabledPlan) (calls : ℕ) (old new : Input) (t : OpenText) : Type 0 where
+pub record HasGiven (plan : TabledPlan) (calls : Calls) (old new : Input) (t : OpenText) : Type 0 where
   pub given : List ℕ
   pub gives : Gives old given new
   pub over : t.plan ≡ plan
@@ -28,7 +29,7 @@ HasFed plan calls old new (Ok t) = HasGiven plan calls old new t
 HasFed plan calls old new (Err f) = ⊥
 
 -- nothing was read at first
-pub nothing_given : (plan : TabledPlan) (calls : ℕ) (old : Input) (feed : Result OpenText SessionFault) → feed ≡ Ok (opened_over plan calls) → HasFed plan calls old old feed
+pub nothing_given : (plan : TabledPlan) (calls : Calls) (old : Input) (feed : Result OpenText SessionFault) → feed ≡ Ok (opened_over plan calls) → HasFed plan calls old old feed
 nothing_given plan calls old feed is = rw is (record {
   given = [];
   gives = Gives-nil old;
@@ -39,7 +40,7 @@ nothing_given plan calls old feed is = rw is (record {
 })
 
 -- one more piece
-pub piece_given : {U : Type 0} (plan : TabledPlan) (calls : ℕ) (old mid new : Input) (feed next : Result OpenText SessionFault) (piece : List ℕ) (u : U)
+pub piece_given : {U : Type 0} (plan : TabledPlan) (calls : Calls) (old mid new : Input) (feed next : Result OpenText SessionFault) (piece : List ℕ) (u : U)
     → HasFed plan calls old mid feed → Gives mid piece new → IsFed {U = U} feed piece (Ok u) next → HasFed plan calls old new next
 piece_given plan calls old mid new (Err f) next piece u was gives fed = absurd was
 piece_given plan calls old mid new (Ok t) (Err f) piece u was gives fed = absurd fed
@@ -53,7 +54,7 @@ piece_given plan calls old mid new (Ok t) (Ok s) piece u was gives fed = record 
 }
 
 -- a piece is refused
-pub piece_refused : (plan : TabledPlan) (calls : ℕ) (old mid new : Input) (feed next : Result OpenText SessionFault) (piece : List ℕ) (f : SessionFault)
+pub piece_refused : (plan : TabledPlan) (calls : Calls) (old mid new : Input) (feed next : Result OpenText SessionFault) (piece : List ℕ) (f : SessionFault)
     → HasFed plan calls old mid feed → Gives mid piece new → new.failures ≡ old.failures → IsFed {U = Unit {0}} feed piece (Err f) next → ReadsSession plan old (Err f) new
 piece_refused plan calls old mid new (Err g) next piece f was gives fine fed = absurd was
 piece_refused plan calls old mid new (Ok t) next piece f was gives fine fed = record {
@@ -68,7 +69,7 @@ piece_refused plan calls old mid new (Ok t) next piece f was gives fine fed = re
         inr (other, λ more ended. ap (λ bytes. said_over plan bytes ended) (append_assoc was.given piece more) ∙ was.same (piece ++ more) ended ∙ refused more ended)
 
 -- the reader ended
-pub reader_ended : (plan : TabledPlan) (calls : ℕ) (old mid new : Input) (feed : Result OpenText SessionFault) (answer : Result Seen SessionFault)
+pub reader_ended : (plan : TabledPlan) (calls : Calls) (old mid new : Input) (feed : Result OpenText SessionFault) (answer : Result Seen SessionFault)
     → HasFed plan calls old mid feed → Gives mid [] new → HasEnded new → new.failures ≡ old.failures → IsFinished feed answer → ReadsSession plan old answer new
 reader_ended plan calls old mid new (Err f) answer was gives end fine finished = absurd was
 reader_ended plan calls old mid new (Ok t) answer was gives end fine finished = record {
@@ -78,7 +79,7 @@ reader_ended plan calls old mid new (Ok t) answer was gives end fine finished = 
 }
 
 -- and the session's finder was called as often as the one handed in
-pub calls_kept : (plan : TabledPlan) (calls : ℕ) (old new : Input) (feed : Result OpenText SessionFault) (answer : Result Seen SessionFault)
+pub calls_kept : (plan : TabledPlan) (calls : Calls) (old new : Input) (feed : Result OpenText SessionFault) (answer : Result Seen SessionFault)
     → HasFed plan calls old new feed → IfOk feed (λ t. IfOk answer (λ s. s.calls ≡ t.calls)) → IfOk answer (λ s. s.calls ≡ calls)
 calls_kept plan calls old new (Err f) answer was told = absurd was
 calls_kept plan calls old new (Ok t) (Err f) was told = tt

@@ -19,5 +19,5 @@ returns g c =
       | else-keep w ↦ ap is_some w.digest-is ∙ sym w.if-keep.false
     ]
     in
-    let written = rw (c.in_ok-listing.ensures {u = tt}) at c.write_page.ensures in
+    let written = rw (c.in_ok-listing.ensures {u = tt}).shows at c.write_page.ensures in
     (Ok c.in_ok-plan.plan, c.in_ok-plan.ensures.read, rw (← keeps, ← first_report_is p r c.args.count c.rules_hold.ensures, ← first_place p r c.args.count c.rules_hold.ensures) written)

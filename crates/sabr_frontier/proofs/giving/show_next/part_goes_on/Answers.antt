@@ -1,4 +1,4 @@
-use Rattle.std.proofs.Common.{◌≡◌, ℕ, List, ◌+◌, ◌≤◌, ◌||◌, None, false, arith, length, slice_index, take, drop, subst, sym, ap, ◌∙◌}
+use Rattle.std.proofs.Common.{◌≡◌, ℕ, List, ◌+◌, ◌≤◌, ◌||◌, None, Ok, Err, Result, false, arith, length, slice_index, take, drop, subst, sym, ap, ◌∙◌}
 use Rattle.std.specs.Prelude.{IfOk, IsTrue, is_some}
 use Rattle.std.specs.Cmp.{nat_cmp_total}
 use Rattle.std.specs.List.Sorted.{IsStrictlyIncreasing}
@@ -31,6 +31,11 @@ goes_otherwise-requires-clause-few g c =
     let s = c.args.route.now in
     let within : length s ≤ r.max_hops = (path_facts p r s (route_is_path p r s c.requires.route)).within in
     omega (arith, within, c.requires.few)
+
+-- what holds of each value
+all_ok : {T E : Type 0} {P : T → Type 0} (r : Result T E) → ((x : T) → P x) → IfOk r P
+all_ok (Ok x) h = h x
+all_ok (Err e) h = tt
 
 -- a route takes no more looks than one of as many hops as the request allows
 few_looks : (p : ContactPlan) (r : RouteRequest) (s : List ℕ) → IsTrue (is_route p r s) → (old new : ℕ) → old ≤ new + detour_looks (length s) → old ≤ new + detour_looks r.max_hops
@@ -98,3 +103,6 @@ returns-clause-ok g c =
     ap (λ b. longer_go_on (best_for b None) (take (n.length + 1) s) (drop (n.length + 1) s)) c.find_best.ensures.same
     ∙ ap (λ b. b || longer_go_on (best_for a None) (take (n.length + 1) s) (drop (n.length + 1) s)) (sym none) in
     subst (λ b. IfOk c.longer_go_on.result (λ more. more ≡ b)) rest c.longer_go_on.ensures.ok
+
+pub returns-clause-least : goal.returns-clause-least
+returns-clause-least g c = all_ok c.longer_go_on.result (λ _ _ same. absurd (omega (arith, same, c.longer_go_on.ensures.no_fewer, c.find_best.ensures.called)))

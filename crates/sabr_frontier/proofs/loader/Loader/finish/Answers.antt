@@ -5,6 +5,7 @@ use Rattle.sabr_model.specs.plan.Plan.{IsPlan, TabledPlan, ContactPlan}
 use Rattle.sabr_model.specs.routes.Arrival.{RouteRequest}
 use Rattle.sabr_model.specs.routes.Asking.{IsRequest}
 use Rattle.sabr_model.specs.routes.Record.{RouteRecord, record_of}
+use Rattle.sabr_search.specs.questions.Calls.{Calls}
 use Rattle.sabr_frontier.specs.declared.loader.partial_tree.PartialTree.{PartialTree}
 use Rattle.sabr_frontier.specs.declared.loader.load_fault.LoadFault.{LoadFault}
 use Rattle.sabr_frontier.specs.declared.loader.load_fault.LoadFault.TheVariants.{NoMemory}
@@ -285,7 +286,7 @@ module _ {A : Type 0} {plan : TabledPlan} {r : RouteRequest} {partial : PartialT
   tree_is : IsTree plan.plan r (loaded_tree (partial_shape_of partial) place)
   tree_is = loaded_is_tree plan.plan r (partial_shape_of partial) h.partial complete emitted last place at
 
-  module _ {calls : ℕ} {v : Loaded} (is : loaded plan r partial calls ≡ v) where
+  module _ {calls : Calls} {v : Loaded} (is : loaded plan r partial calls ≡ v) where
     formed : IsState v.plan.plan v.request (state_with v.parts emitted last)
     formed =
         subst (λ (w : Loaded). IsState w.plan.plan w.request (state_with w.parts emitted last)) is

@@ -1,7 +1,8 @@
-use Rattle.std.proofs.Common.{◌≡◌, ◌+◌, ◌-◌, ◌*◌, ◌<◌, ◌≤◌, ◌⊎◌, inl, inr, ℕ, List, [], ◌∷◌, ◌++◌, map, length, reverse, arith, ap, sym, subst, ◌∙◌, None, refl}
+use Rattle.std.proofs.Common.{◌≡◌, ◌+◌, ◌-◌, ◌<◌, ◌≤◌, ◌⊎◌, inl, inr, ℕ, List, [], ◌∷◌, ◌++◌, map, length, reverse, arith, ap, sym, subst, ◌∙◌, None, refl}
 use Rattle.sabr_model.specs.routes.Record.{record_of}
+use Rattle.sabr_search.specs.questions.Calls.{Calls}
 use Rattle.sabr_frontier.specs.declared.tree.Tree.{Tree}
-use Rattle.sabr_frontier.specs.tree.Searching.{Asked, Searching, call_looks}
+use Rattle.sabr_frontier.specs.tree.Searching.{Asked, GoOn, Searching, looks_since}
 use Rattle.sabr_frontier.specs.listing.State.{State}
 use Rattle.sabr_frontier.specs.listing.Listing.{next_route}
 use Rattle.sabr_frontier.specs.tree.Shape.{Shape, shape_of, shown}
@@ -12,7 +13,7 @@ use Rattle.sabr_frontier.specs.tree.Winners.{CarriesNone, CarriesSome}
 use Rattle.sabr_frontier.proofs.TreeLemmas.MergedIndex.{back_before, part_before}
 use Rattle.sabr_frontier.specs.listing.Fresh.{GivesNewRoutes}
 use Rattle.sabr_frontier.proofs.ListingLemmas.NewRoutes.{new_routes}
-use Rattle.sabr_frontier.proofs.GivingLemmas.Sums.{page_sum}
+use Rattle.sabr_frontier.proofs.GivingLemmas.Sums.{calls_go_on, looks_go_on, still}
 use Rattle.sabr_frontier.proofs.session.Session.page.Goals as goal
 use Rattle.sabr_frontier.proofs.session.Session.page.Goals.{then-count-eq0-via-then-count-eq0, then-count-eq0-via-else-count-eq0+then-is_empty}
 
@@ -31,6 +32,9 @@ module _ {A : Type 0} (searcher : Searching) {tree : Tree A} {pages : List ℕ} 
       carried_or_not searcher.asked.plan.plan searcher.asked.request h.rules (shape_of tree) h.sound k l some
       (subst (λ (w : Seen). (k ≡ 0) ⊎ (next_route w.plan.plan w.request w.state ≡ None)) (sym is) none)
 
+  unchanged : GoOn v.plan.plan v.calls searcher.calls
+  unchanged = subst (λ (w : Seen). GoOn w.plan.plan w.calls searcher.calls) is (still searcher.asked.plan.plan searcher.calls)
+
   no_route_twice : GivesNewRoutes v.plan.plan v.request k v.state
   no_route_twice =
       subst (λ (w : Seen). GivesNewRoutes w.plan.plan w.request k w.state) is
@@ -46,19 +50,19 @@ returns-then-count-eq0 g c =
       | then-count-eq0-via-else-count-eq0+then-is_empty w ↦ inr (w.is_empty.ensures.none w.if-is_empty.true)
     ] in
     let page = sym (nothing s.searcher c.self.invariant.0 c.self.view_is k none) in
-    let still = no_search s.searcher c.self.invariant.0 c.self.view_is k none in
+    let no_more = no_search s.searcher c.self.invariant.0 c.self.view_is k none in
     record {
       routes = c.new-given.ensures.items ∙ ap (λ (z : List (List ℕ) × State). map (record_of v.plan.plan v.request) z.0) page;
       state = ap (λ (v : Seen). v.state) c.self.view_is ∙ ap (λ (z : List (List ℕ) × State). z.1) page;
       former = ap (λ (v : Seen). v.former) c.self.view_is ∙ ap (λ (z : List (List ℕ) × State). former_then z.0 v.state v.former) page;
-      searches = sym still;
-      looks = omega arith;
-      calls = (let same = ap (λ (v : Seen). v.calls) c.self.view_is in omega (arith, same, still));
+      searches = sym no_more;
+      looks = (let same = ap (λ (v : Seen). v.calls.looks) c.self.view_is in omega (arith, same));
+      calls = (let same = ap (λ (v : Seen). v.calls.count) c.self.view_is in omega (arith, same, no_more));
+      go_on = unchanged s.searcher c.self.invariant.0 c.self.view_is k;
       plan = ap (λ (v : Seen). v.plan) c.self.view_is;
       request = ap (λ (v : Seen). v.request) c.self.view_is;
       new_routes = no_route_twice s.searcher c.self.invariant.0 c.self.view_is k;
       err = tt;
-      no_fewer = tt;
       at_most = tt;
       free = λ _. refl;
     }
@@ -95,7 +99,7 @@ invariant_of-self-in-Ok g c =
     let more : c.len-start.result < length c.give_page.new.self.journal.items = omega (arith, start, c.in-Ok.ensures.entries, ap (length {A = List ℕ}) given.2) in
     let pages : reverse c.push_reserved.new.self.items ≡ c.len-start.result ∷ reverse s.pages.items = ap reverse (c.push_reserved.ensures.items ∙ ap (λ z. z ++ c.len-start.result ∷ []) c.reserve.ensures.items) ∙ last_first s.pages.items c.len-start.result in
     let journal = ap (λ (z : Shape g.row.A.Denot). length z.journal) c.settle.ensures.same in
-    let asked = c.take_sum-self-inside.ensures.begun ∙ ap (λ (a : Asked). record a { since = c.give_page.new.searcher.calls + 1 }) c.give_page.ensures.same in (
+    let asked = c.take_sum-self-inside.ensures.begun ∙ ap (λ (a : Asked). record a { before = c.give_page.new.searcher.calls }) c.give_page.ensures.same in (
       subst (λ (a : Asked). IsSession a.plan a.request c.settle.new.self c.push_reserved.new.self.items) (sym asked) (record {
         rules = c.self.invariant.0.rules;
         limits = c.self.invariant.0.limits;
@@ -131,7 +135,7 @@ invariant_of-self-in-Err-1 g c =
     let t = shape_of s.tree in
     let start : c.len-start.result ≡ length t.journal = omega (arith, c.len-start.ensures) in
     let same : shape_of c.undo_to.new.self ≡ t = c.undo_to.ensures.former ∙ ap (λ n. tree_before n (shape_of c.give_page.new.self)) start ∙ c.in-Err.ensures.back in
-    let asked = c.take_sum.ensures.begun ∙ ap (λ (a : Asked). record a { since = c.give_page.new.searcher.calls + 1 }) c.give_page.ensures.same in (
+    let asked = c.take_sum.ensures.begun ∙ ap (λ (a : Asked). record a { before = c.give_page.new.searcher.calls }) c.give_page.ensures.same in (
       subst (λ (a : Asked). IsSession a.plan a.request c.undo_to.new.self c.reserve.new.self.items) (sym asked) (record {
         rules = c.self.invariant.0.rules;
         limits = c.self.invariant.0.limits;
@@ -172,13 +176,21 @@ returns-in-Err-clause-new_routes g c = no_route_twice c.self.inside.searcher c.s
 
 pub returns-in-Err-clause-at_most : goal.returns-in-Err-clause-at_most
 returns-in-Err-clause-at_most g c =
-    subst (λ (v : Seen). c.take_sum.new.self.calls ≤ v.calls + page_searches v c.args.count) c.self.view_is (omega (arith, c.in-Err.ensures.at_most, c.take_sum.ensures.calls))
+    subst (λ (v : Seen). c.take_sum.new.self.calls.count ≤ v.calls.count + page_searches v c.args.count) c.self.view_is (omega (arith, c.in-Err.ensures.at_most, ap (λ (z : Calls). z.count) c.take_sum.ensures.calls))
 
 pub returns-in-Ok-clause-looks : goal.returns-in-Ok-clause-looks
 returns-in-Ok-clause-looks g c =
-    let s = c.self.inside in
-    let a = s.searcher.asked in
-    let begun = ap (λ (z : Asked). z.since) c.give_page.ensures.same ∙ c.self.invariant.1 in
-    let most = subst (λ (z : Asked). 0 < c.give_page.new.searcher.asked.since → c.take_sum-self-inside.result ≤ (c.give_page.new.searcher.calls + 1 - c.give_page.new.searcher.asked.since) * call_looks z.plan.plan) c.give_page.ensures.same c.take_sum-self-inside.ensures.most in
-    subst (λ (v : Seen). c.take_sum-self-inside.result ≤ page_searches v c.args.count * call_looks v.plan.plan) c.self.view_is
-    (page_sum c.take_sum-self-inside.result s.searcher.calls c.give_page.new.searcher.calls c.give_page.new.searcher.asked.since _ (call_looks a.plan.plan) begun (omega (arith, c.in-Ok.ensures.searches, c.in-Ok.ensures.called)) most)
+    subst (λ (v : Seen). c.take_sum-self-inside.result ≡ looks_since v.calls c.take_sum-self-inside.new.self.calls) c.self.view_is
+    (looks_go_on c.self.inside.searcher c.give_page.new.searcher c.self.invariant.1 c.give_page.ensures.same _ c.take_sum-self-inside.ensures.calls _ c.take_sum-self-inside.ensures.sum)
+
+pub returns-in-Ok-clause-go_on : goal.returns-in-Ok-clause-go_on
+returns-in-Ok-clause-go_on g c =
+    subst (λ (v : Seen). GoOn v.plan.plan v.calls c.take_sum-self-inside.new.self.calls) c.self.view_is
+    (calls_go_on c.self.inside.searcher c.give_page.new.searcher c.self.invariant.1 c.give_page.ensures.same _ c.take_sum-self-inside.ensures.calls c.take_sum-self-inside.ensures.go_on)
+
+pub returns-in-Err-clause-go_on : goal.returns-in-Err-clause-go_on
+returns-in-Err-clause-go_on g c =
+    subst (λ (v : Seen). GoOn v.plan.plan v.calls c.take_sum.new.self.calls) c.self.view_is (calls_go_on c.self.inside.searcher c.give_page.new.searcher c.self.invariant.1 c.give_page.ensures.same _ c.take_sum.ensures.calls c.take_sum.ensures.go_on)
+
+pub returns-in_err-reserve-clause-go_on : goal.returns-in_err-reserve-clause-go_on
+returns-in_err-reserve-clause-go_on g c = unchanged c.self.inside.searcher c.self.invariant.0 c.self.view_is c.args.count

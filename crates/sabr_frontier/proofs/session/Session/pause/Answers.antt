@@ -9,7 +9,7 @@ pub returns-clause-seen : goal.returns-clause-seen
 returns-clause-seen g c =
     let s = c.self.inside in
     subst (λ (v : Seen). seen_over g.B.BestOf.calls_of v.plan (record { searcher = c.pause-searcher.result.0; tree = s.tree; pages = s.pages; searches = s.searches; looks = s.looks }) ≡ v) c.self.view_is
-    (λ i. seen (searching_first s.searcher.asked.plan (c.pause-searcher.ensures.request i) (c.pause-searcher.ensures.calls i) 0) s.tree s.pages.items s.searches s.looks)
+    (λ i. seen (searching_first s.searcher.asked.plan (c.pause-searcher.ensures.request i) (c.pause-searcher.ensures.calls i)) s.tree s.pages.items s.searches s.looks)
 
 pub returns-clause-paused : goal.returns-clause-paused
 returns-clause-paused g c =

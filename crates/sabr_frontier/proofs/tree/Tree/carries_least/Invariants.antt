@@ -8,6 +8,6 @@ use Rattle.sabr_frontier.proofs.tree.Tree.carries_least.Given as goal
 abbrev pub invariant-loop-node : goal.invariant-loop-node
 invariant-loop-node g l = record {
   least : (i : ℕ) (n : Node g.row.A.Denot) → i < l.node-index → slice_get l.self.nodes.items i ≡ Some n → n.route ≡ best_of l.fn.searcher.asked.plan.plan l.fn.searcher.asked.request (prefix_of l.self.leaves.items n) n.excluded;
-  called : l.searcher.calls ≡ l.fn.searcher.calls + l.node-index;
+  called : l.searcher.calls.count ≡ l.fn.searcher.calls.count + l.node-index;
   same : l.searcher.asked ≡ l.fn.searcher.asked;
 }

@@ -3,11 +3,12 @@ use Rattle.std.specs.Prelude.{is_some, Result, IfOk, OnOk, Ok, Err}
 use Rattle.sabr_model.specs.routes.Record.{record_of, RouteRecord}
 use Rattle.sabr_frontier.specs.listing.Listing.{next_route, given_first, one_step, searches_in, steps}
 use Rattle.sabr_frontier.specs.listing.State.{State}
-use Rattle.sabr_frontier.specs.giving.Detours.{detour_looks}
+use Rattle.sabr_frontier.specs.giving.Detours.{HasLooks, detour_looks}
+use Rattle.sabr_index.specs.Looks.{looks_taken}
 use Rattle.sabr_frontier.specs.tree.Searching.{Asked, records_for, steps_for}
 use Rattle.sabr_frontier.specs.tree.Shape.{Shape, shape_of, shown}
 use Rattle.sabr_frontier.specs.tree.Sound.{IsTree}
-use Rattle.sabr_frontier.proofs.SessionLemmas.CutPages.{IsSameStep, cut_next, cut_tree}
+use Rattle.sabr_frontier.proofs.SessionLemmas.CutPages.{IsSameStep, cut_looks, cut_next, cut_tree}
 use Rattle.sabr_frontier.proofs.SessionLemmas.Pages.{idle, more_is, counts_go, counts_none, counts_stop, steps_go, steps_none, steps_stop}
 use Rattle.std.proofs.lemmas.List.{map-append}
 use Rattle.sabr_model.specs.plan.Plan.{ContactPlan, IsPlan}
@@ -130,6 +131,9 @@ returns g c =
       no_fewer = always_ok c.show_next.result (omega (arith, given.called, told.no_fewer));
       at_most = always_ok c.show_next.result (omega (arith, given.called, told.at_most, all));
       looks = always_ok c.show_next.result (subst (λ (z : Asked). c.args.looks.now.left ≤ c.show_next.new.looks.left + detour_looks z.request.max_hops) same told.looks);
+      least = then_ok c.show_next.result told.least (λ more h so _ called.
+          cut_looks a (steps_for a k first).1 t c.requires.plan given.state (looks_taken c.show_next.new.looks)
+          (subst (λ (z : Asked). HasLooks (looks_taken c.show_next.new.looks) z.plan.plan z.request (shown t)) same (h so (omega (arith, called, given.called)))));
       same = told.same ∙ same;
     }
 
@@ -137,3 +141,6 @@ pub show_next-requires-clause-few : goal.show_next-requires-clause-few
 show_next-requires-clause-few g c =
     let same = c.give_page_up_to.ensures.same in
     subst (λ (z : Asked). detour_looks z.request.max_hops ≤ c.args.looks.now.left) (sym same) c.requires.few
+
+pub returns-then-count-eq0-clause-least : goal.returns-then-count-eq0-clause-least
+returns-then-count-eq0-clause-least g c _ some = absurd (omega (arith, some))

@@ -92,6 +92,6 @@ returns-clause-searches g c =
 pub returns-in_err-step-clause-at_most : goal.returns-in_err-step-clause-at_most
 returns-in_err-step-clause-at_most g c =
     let s = shown (shape_of c.loop.self) in
-    let few = subst (λ (a : Asked). c.give_next.new.searcher.calls ≤ c.loop.searcher.calls + searches_in a.plan.plan a.request 1 s) c.loop.invariant.same c.in_err-step.ensures.at_most in
+    let few = subst (λ (a : Asked). c.give_next.new.searcher.calls.count ≤ c.loop.searcher.calls.count + searches_in a.plan.plan a.request 1 s) c.loop.invariant.same c.in_err-step.ensures.at_most in
     let one = counts_first c.args.searcher.now.asked.plan.plan c.args.searcher.now.asked.request s (c.args.count - c.loop.counter) (omega (arith, c.loop-test.true)) in
     on_err c.from_residual.result (omega (arith, few, one, c.loop.invariant.sum, c.loop.invariant.called))

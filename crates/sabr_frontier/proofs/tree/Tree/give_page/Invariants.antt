@@ -11,7 +11,7 @@ invariant-loop g l = record {
   index : l.self.index.items ≡ l.fn.self.index.items;
   room : IsRoomy l.self;
   sum : l.searches + searches_in l.fn.searcher.asked.plan.plan l.fn.searcher.asked.request (l.count - l.counter) (shown (shape_of l.self)) ≡ searches_in l.fn.searcher.asked.plan.plan l.fn.searcher.asked.request l.count (shown (shape_of l.fn.self));
-  called : l.searcher.calls ≡ l.fn.searcher.calls + l.searches;
+  called : l.searcher.calls.count ≡ l.fn.searcher.calls.count + l.searches;
   few : l.searches ≤ l.counter * 20000;
   same : l.searcher.asked ≡ l.fn.searcher.asked;
 }

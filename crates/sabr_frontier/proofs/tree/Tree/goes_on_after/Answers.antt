@@ -1,5 +1,6 @@
-use Rattle.std.proofs.Common.{◌≡◌, false, ◌||◌, None, Ok, Err, arith, ap, sym, ◌∙◌}
-use Rattle.std.specs.Prelude.{IfOk}
+use Rattle.std.proofs.Common.{◌≡◌, ◌≤◌, true, false, true≢false, ◌||◌, length, None, Ok, Err, arith, ap, sym, ◌∙◌}
+use Rattle.std.specs.Prelude.{IfOk, IsTrue}
+use Rattle.sabr_index.specs.Looks.{looks_taken}
 use Rattle.sabr_frontier.specs.declared.tree.Node.{Node}
 use Rattle.sabr_frontier.specs.tree.Searching.{best_for}
 use Rattle.sabr_frontier.specs.tree.Left.{others_carry, part_goes_on}
@@ -39,3 +40,16 @@ returns-clause-at_most g c n stands =
     let here = get_there c.args.self.now.nodes.items c.args.node.0 m (omega arith) c.index.ensures in
     let same : m ≡ n = cc in
     omega (arith, c.part_goes_on.ensures.at_most, ap (λ (k : Node g.row.A.Denot). k.length) same)
+
+pub returns-then-others_carry-clause-least : goal.returns-then-others_carry-clause-least
+returns-then-others_carry-clause-least g c _ _ none =
+    let others : others_carry c.args.self.now.nodes.items c.args.node ≡ true = ap (λ z. others_carry z c.args.node) (sym c.as_slice.ensures.value) ∙ sym c.others_carry.ensures ∙ c.if-others_carry.true in
+    absurd (true≢false (sym others ∙ none))
+
+pub returns-clause-least : goal.returns-clause-least
+returns-clause-least g c =
+    elim c.part_goes_on.result as (λ r. IfOk r (λ yes. IsTrue yes → c.part_goes_on.new.searcher.calls.count ≡ c.args.searcher.now.calls.count → length c.args.route.now ≤ looks_taken c.part_goes_on.new.looks)
+    → IfOk r (λ yes. IsTrue yes → c.part_goes_on.new.searcher.calls.count ≡ c.args.searcher.now.calls.count → others_carry c.args.self.now.nodes.items c.args.node ≡ false → length c.args.route.now ≤ looks_taken c.part_goes_on.new.looks)) [
+      | Ok b ↦ λ h so same _. h so same
+      | Err _ ↦ λ _. tt
+    ] c.part_goes_on.ensures.least

@@ -1,10 +1,13 @@
-use Rattle.std.proofs.Common.{◌≡◌, ℕ, List, [], ◌∷◌, ◌++◌, ◌||◌, None, append-nil, ap, sym, subst, refl, ◌∙◌}
+use Rattle.std.proofs.Common.{◌≡◌, ◌≤◌, ℕ, List, [], ◌∷◌, ◌++◌, ◌||◌, Some, None, length, true≢false, append-nil, ap, sym, subst, refl, ◌∙◌}
 use Rattle.std.proofs.lemmas.Option.{slice_get_within}
 use Rattle.std.specs.Prelude.{IsSome, is_some}
 use Rattle.sabr_model.specs.plan.Plan.{IsPlan}
 use Rattle.sabr_model.specs.routes.Record.{RouteRecord}
 use Rattle.sabr_model.specs.routes.Route.{is_route}
 use Rattle.sabr_frontier.specs.declared.tree.Node.{Node}
+use Rattle.sabr_index.specs.Looks.{looks_taken}
+use Rattle.sabr_frontier.specs.giving.Detours.{CarriesNoOther}
+use Rattle.sabr_frontier.proofs.SessionLemmas.OnlyCarriers.{no_others}
 use Rattle.sabr_frontier.specs.listing.Listing.{next_route}
 use Rattle.sabr_frontier.specs.listing.State.{State}
 use Rattle.sabr_frontier.specs.tree.Searching.{Asked, best_for, records_for, steps_for}
@@ -13,7 +16,7 @@ use Rattle.sabr_frontier.specs.tree.Shape.{Shape, numbers_of, shape_of, shown}
 use Rattle.sabr_frontier.specs.tree.Sound.{CanExclude, IsTree}
 use Rattle.sabr_frontier.specs.tree.Winners.{CarriesNone}
 use Rattle.sabr_frontier.proofs.SessionLemmas.Pages.{counts_known, steps_stop, nothing_carried, nothing_given}
-use Rattle.sabr_frontier.proofs.TreeLemmas.CarryingNodes.{known, inside}
+use Rattle.sabr_frontier.proofs.TreeLemmas.CarryingNodes.{known, inside, next_is}
 use Rattle.sabr_frontier.proofs.TreeLemmas.SearchedTrees.{floor_known}
 use Rattle.sabr_frontier.proofs.SessionLemmas.LeftSteps.{one_route, left_after}
 use Rattle.sabr_frontier.proofs.tree.Tree.show_next.Goals as goal
@@ -83,3 +86,16 @@ pub returns-clause-at_most : goal.returns-clause-at_most
 returns-clause-at_most g c =
     let k = known c.args.searcher.now.asked c.requires.tree c.in-Some.ensures.some c.in_ok-route.ensures in
     counts_known c.requires.plan c.requires.tree k _ _ c.numbers.ensures (c.goes_on_after.ensures.at_most k.part k.stands)
+
+pub returns-clause-least : goal.returns-clause-least
+returns-clause-least g c so same x next only =
+    let a = c.args.searcher.now.asked in
+    let t = shape_of c.args.self.now in
+    let k = known a c.requires.tree c.in-Some.ensures.some c.in_ok-route.ensures in
+    let is : k.route.contacts ≡ x = let both : Some k.route.contacts ≡ Some x = sym (next_is a.plan.plan a.request t c.requires.tree c.in-Some.node k.part k.route k.stands k.carries k.least) ∙ next in cc in
+    let none = no_others a.plan.plan a.request t c.requires.tree c.in-Some.node k.part k.route k.stands k.carries (subst (CarriesNoOther (shown t)) (sym is) only) in
+    let numbers = c.numbers.ensures ∙ ap numbers_of k.copied ∙ is in
+    subst (λ s. length s ≤ looks_taken c.goes_on_after.new.looks) numbers (c.in_ok-more.ensures.least so same none)
+
+pub returns-in_default-clause-least : goal.returns-in_default-clause-least
+returns-in_default-clause-least g c so = absurd (true≢false (sym so))

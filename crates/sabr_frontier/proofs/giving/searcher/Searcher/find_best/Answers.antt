@@ -2,7 +2,8 @@ use Rattle.std.proofs.Common.{◌≤◌, ap, sym, subst, ◌∙◌}
 use Rattle.sabr_model.specs.plan.Plan.{IsPlan, TabledPlan}
 use Rattle.sabr_search.specs.questions.Bounded.{IsSought, IsWhole}
 use Rattle.sabr_frontier.specs.tree.Searching.{Searching, best_for, call_looks}
-use Rattle.sabr_frontier.proofs.GivingLemmas.Sums.{sum_on}
+use Rattle.sabr_search.specs.questions.Calls.{Calls, with_call}
+use Rattle.sabr_frontier.proofs.GivingLemmas.Sums.{same_before, sum_on}
 use Rattle.sabr_frontier.proofs.TreeLemmas.BoundedAnswers.{found_by_best}
 use Rattle.sabr_frontier.proofs.giving.searcher.Searcher.find_best.Goals as goal
 
@@ -20,7 +21,19 @@ returns-clause-best g c =
 
 pub invariant_of-self : goal.invariant_of-self
 invariant_of-self g c =
-    let s = c.self.inside in (
-      c.best_up_to-found.ensures.cache,
-      sum_on s.summed.count c.add.new.self.count (call_looks s.index.plan) s.looks c.looks.result c.saturating_add-self-inside.result c.add.ensures c.self.invariant.1 (subst (λ n. n ≤ call_looks s.index.plan) (sym c.looks.ensures) c.best_up_to-found.ensures.bound) c.saturating_add-self-inside.ensures,
-    )
+    let s = c.self.inside in
+    let called = c.best_up_to-found.ensures.called ∙ ap (with_call (g.B.BestOf.calls_of s.rest.finder)) (sym c.looks-looks.ensures) in
+    let few = subst (λ n. n ≤ call_looks s.index.plan) (sym c.looks-looks.ensures) c.best_up_to-found.ensures.bound in
+    (c.best_up_to-found.ensures.cache, sum_on _ _ _ _ _ called c.add.ensures s.index.plan s.looks c.saturating_add-self-inside.result c.self.invariant.1 few c.saturating_add-self-inside.ensures)
+
+pub returns-in_err-sought-clause-same : goal.returns-in_err-sought-clause-same
+returns-in_err-sought-clause-same g c =
+    let s = c.self.inside in
+    let called = c.best_up_to-found.ensures.called ∙ ap (with_call (g.B.BestOf.calls_of s.rest.finder)) (sym c.looks-looks.ensures) in
+    ap (λ (before : Calls). record { plan = s.index; request = s.rest.request; before = before }) (same_before _ _ _ _ _ called c.add.ensures) ∙ ap (λ (a : Searching). a.asked) c.self.view_is
+
+pub returns-clause-same : goal.returns-clause-same
+returns-clause-same g c =
+    let s = c.self.inside in
+    let called = c.best_up_to-found.ensures.called ∙ ap (with_call (g.B.BestOf.calls_of s.rest.finder)) (sym c.looks-looks.ensures) in
+    ap (λ (before : Calls). record { plan = s.index; request = s.rest.request; before = before }) (same_before _ _ _ _ _ called c.add.ensures) ∙ ap (λ (a : Searching). a.asked) c.self.view_is
