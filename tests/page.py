@@ -602,6 +602,7 @@ def finding(it, _):
     it.keys("/")
     it.keys("high", Keys.ENTER)
     yield "a node by its name", "22 high relay ✕", lambda: it.part("one").text
+    yield "after that, keys go to the picture", "chart", it.run, "return document.activeElement.id"
     wanted = len({tuple(link) for _, *link in starts_of(RELAY).values() if "22" in link})
     yield "the links of the node alone", wanted, it.run, "return rows.list.length"
     it.part("one").click()

@@ -14,7 +14,8 @@ export async function answers(text: string): Promise<(bigint | number | boolean 
   const [{ line }] = await plan.many([asked], 1);
   const [{ route }] = await plan.follow([{ ...asked, contacts: [4, 11] }]);
   const rooms: bigint[] = plan.contacts.map(({ rate, start, end }) => rate * BigInt(end - start));
-  return [first.rank, first.entry, more, next.more, hops[0].send, fault?.reason, line, route?.delivery, rooms[0], await plan.verify(session)];
+  const told = [cgrlist.HOP_FAULTS[fault?.reason ?? "WrongEnd"], cgrlist.SESSION_FAULTS.BadLine];
+  return [first.rank, first.entry, more, next.more, hops[0].send, ...told, line, route?.delivery, rooms[0], await plan.verify(session)];
 }
 
 /** What a worker answers, and what it is refused with. */

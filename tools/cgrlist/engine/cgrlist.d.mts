@@ -186,6 +186,10 @@ export const NO_PROGRAM: 125;
 export const STOPPED: 130;
 /** Of each reason for which a line of a plan is refused, its repair. */
 export const REPAIRS: Record<string, string>;
+/** Of each reason for which contacts make no route, what it means. */
+export const HOP_FAULTS: Record<string, string>;
+/** Of each reason for which a session text is refused, what is wrong with it. */
+export const SESSION_FAULTS: Record<string, string>;
 /** The bytes of the module beside this file. */
 export function moduleBytes(): Promise<Bytes>;
 /** The module of some bytes in this thread. */

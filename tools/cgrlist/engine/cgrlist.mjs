@@ -14,7 +14,7 @@ import { Program, compiledModule, engineLack } from "./program.mjs";
 import { answersIn, explanationOf, linesIn, linesOf, pageOf, standingIn, textsOf, word } from "./texts.mjs";
 
 export { Engine } from "./engine.mjs";
-export { CgrlistError, NO_PROGRAM, REPAIRS, STOPPED } from "./errors.mjs";
+export { CgrlistError, HOP_FAULTS, NO_PROGRAM, REPAIRS, SESSION_FAULTS, STOPPED } from "./errors.mjs";
 export { programTime as timeText, secondsOf } from "./texts.mjs";
 
 // ---- The module -------------------------------------------------------------------------------------------------

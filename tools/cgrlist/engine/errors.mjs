@@ -1,4 +1,4 @@
-// What is refused, and how a refused plan is repaired.
+// What is refused and why, and how a refused plan is repaired.
 
 export const NO_PROGRAM = 125; // the statuses of an engine that there isn't, and of one that was stopped
 export const STOPPED = 130;
@@ -19,6 +19,31 @@ export const REPAIRS = {
   RangeOverlap: "a range of these nodes shares a second with it: let one end where the next starts",
   TooMany: "over 20000 contacts or ranges: leave out contacts that have ended",
   NothingToDelete: "write start and nodes as in the line that added it, and below that",
+};
+
+/** Of each reason for which contacts make no route, what it means. */
+export const HOP_FAULTS = {
+  NoSuchContact: "no contact of that number stands: it was deleted, or never added",
+  NotChained: "the contact's sender isn't the node where the bundle is",
+  NodeAgain: "the contact leads to a node where the bundle was before",
+  NoLight: "no range gives a light time for the second in which the contact starts",
+  TooLate: "the contact has ended when the bundle is there",
+  AvoidedNode: "the contact leads to a node that is avoided",
+  TooManyHops: "the list has more contacts than the limit of hops allows",
+  WrongEnd: "the last contact doesn't lead to the destination",
+  SameNode: "source and destination are the same node",
+  BadAvoid: "nodes to avoid are 1 to 16, and neither source nor destination",
+};
+
+/** Of each reason for which a session text is refused, what is wrong with it. */
+export const SESSION_FAULTS = {
+  BadHeader: "its first line isn't that of a session text",
+  BadLine: "this line isn't as a session text has it",
+  OtherPlan: "it is of another plan",
+  BadRequest: "its values make no request",
+  BadRoute: "the route of this line is no route of its part",
+  NotClosed: "its parts don't fit together",
+  BadCount: "its count of routes or its last route isn't that of its parts",
 };
 
 /** What can't be answered. Its message is the program's, without the program's name. */

@@ -80,8 +80,8 @@ function listHits(isOpen) {
 
 function takeHit(hit) {
   closeFound();
-  if (hit.node !== undefined) return showLinks(shows.links, hit.node);
   chart.focus({ preventScroll: true });
+  if (hit.node !== undefined) return showLinks(shows.links, hit.node);
   if (hit.second !== undefined) return showSecond(hit.second);
   goTo(hit.link === undefined ? hit.contact : nearestOf(hit.link));
 }

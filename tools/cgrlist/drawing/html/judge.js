@@ -2,20 +2,6 @@
 
 const MOST_ROWS = 1000; // that are shown
 
-// Why contacts make no route, as docs/formats.md says it.
-const HOP_FAULTS = {
-  NoSuchContact: "no contact of that number stands: it was deleted, or never added",
-  NotChained: "the contact's sender isn't the node where the bundle is",
-  NodeAgain: "the contact leads to a node where the bundle was before",
-  NoLight: "no range gives a light time for the second in which the contact starts",
-  TooLate: "the contact has ended when the bundle is there",
-  AvoidedNode: "the contact leads to a node that is avoided",
-  TooManyHops: "the list has more contacts than the limit of hops allows",
-  WrongEnd: "the last contact doesn't lead to the destination",
-  SameNode: "source and destination are the same node",
-  BadAvoid: "nodes to avoid are 1 to 16, and neither source nor destination",
-};
-
 const judgement = { told: [], isRunning: false };
 const CHOICES = { id: "choices", placeholder: "4,11,2\n5 12 2\n4,12,2 31 1 2030-01-01T00:45:00Z" };
 const choiceField = textField("Contacts that a router chose, a line each; a request may follow", CHOICES, () => judge());

@@ -1,17 +1,6 @@
 // The panel of sessions: the text of the one after the routes that are shown can be saved; another one can be checked, and
 // the list goes on after it.
 
-// What is wrong with a session text, as docs/formats.md says it.
-const SESSION_FAULTS = {
-  BadHeader: "its first line isn't that of a session text",
-  BadLine: "this line isn't as a session text has it",
-  OtherPlan: "it is of another plan",
-  BadRequest: "its values make no request",
-  BadRoute: "the route of this line is no route of its part",
-  NotClosed: "its parts don't fit together",
-  BadCount: "its count of routes or its last route isn't that of its parts",
-};
-
 const sessionField = textField("A session text", { id: "sessionText", wrap: "off", rows: 8 }, () => checkSession());
 const sessionState = statusLine();
 

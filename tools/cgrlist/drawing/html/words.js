@@ -263,7 +263,7 @@ function next(best) {
 function toCopy() {
   if (!chosen.lost.size) return [];
   const text = element("pre", {}, [...chosen.lost].map(deletionOf).join("\n"));
-  return [text, element("button", { class: "small", onclick: () => copyText(text) }, "Copy")];
+  return [text, element("button", { class: "small", onclick: () => copyText(text) }, "Copy for the plan")];
 }
 
 // Puts a part's text where it can be pasted from, and marks it.
