@@ -137,7 +137,7 @@ def latest_seconds(room):
 
 def versions_and_environments(room):
     for tool in sorted(os.listdir(f"{TOP}/tools")):
-        if tool not in ("cgrlist", "manual_pages", "mutations", "refusals.py", "reference", "pyproject.toml", "completions"):
+        if tool not in ("cgrlist", "manual_pages", "mutations", "refusals.py", "reference", "pyproject.toml", "completions", "wheel.py"):
             yield f"the version of {tool}", f"{tool} 1.2.0", lambda: room.run(f"tools/{tool} --version").all()
     by_environment = {"CGRLIST_PLAN": f"{TOP}/examples/relay.txt", "CGRLIST_NAMES": room.names[1], "CGRLIST": room.program}
     yield ("plan, names and program by the environment", "lander > relay high > 12 > 1", lambda: parts_of("lander.*", room.run(
@@ -844,6 +844,7 @@ def programs_of_clones(room):
 [ "$CGRLIST_TRIAL" != no ] || {{ echo "cgrlist: the proved program comes first" >&2; exit 125; }}
 [ ! -e "$0.fails" ] || {{ echo "cgrlist: the trial fails" >&2; exit 125; }}
 echo "cgrlist: a trial answers" >&2
+[ ! -e "$0.keeps-none" ] || exit 0
 ln -sf {room.program} "${{0%/*}}/crates/cgrlist/out/trial"
 """)
 
@@ -863,7 +864,10 @@ ln -sf {room.program} "${{0%/*}}/crates/cgrlist/out/trial"
         "timeline --text --program /nowhere"
     room.file("clone/cgrlist.fails")
     yield "a trial that fails", "cgrlist: the trial fails\n", in_clone
-    os.remove(f"{clone}/cgrlist.fails")
+    os.rename(f"{clone}/cgrlist.fails", f"{clone}/cgrlist.keeps-none")
+    yield "a trial that isn't kept", f"cgrlist: a trial answers\nreport: the trial could not be kept as {clone}/crates/cgrlist/out/trial; a release \
+has one, and cgrlist.html answers in a browser\n", in_clone
+    os.remove(f"{clone}/cgrlist.keeps-none")
     yield "a trial answers, and one note says so", "cgrlist: a trial answers\nmore", in_clone
     yield "CGRLIST names the program", "more", lambda: in_clone(CGRLIST=room.program)
     os.symlink(room.program, f"{clone}/crates/cgrlist/out/cgrlist")

@@ -1,4 +1,7 @@
-"""The program of the clone in which the package stands: the proved one, or where that isn't built a trial of it."""
+"""Where the program is: in the clone in which the package stands, or where both were installed.
+
+In a clone, the proved program answers, or where that isn't built a trial of it.
+"""
 
 import os
 import subprocess
@@ -6,10 +9,20 @@ import subprocess
 from .errors import START_STATUS, Refused
 from .tool import Tool
 
-TOP = os.path.dirname(os.path.dirname(os.path.dirname(os.path.realpath(__file__))))
+PACKAGE = os.path.dirname(os.path.realpath(__file__))
+TOP = os.path.dirname(os.path.dirname(PACKAGE))
 SCRIPT = os.path.join(TOP, "cgrlist")
-BUILT = os.path.join(TOP, "crates/cgrlist/out/cgrlist")  # what the script runs if it is current
-TRIAL = os.path.join(TOP, "crates/cgrlist/out/trial")  # what it runs else, and compiles if it isn't there
+OUT = os.path.join(TOP, "crates/cgrlist/out")
+BUILT = os.path.join(OUT, "cgrlist")  # what the script runs if it is current
+TRIAL = os.path.join(OUT, "trial")  # what it runs else, and compiles if it isn't there
+# From the folder of the package: of what `install` or a package of Debian put there, of what pip did, and of pip's --target.
+INSTALLED = ("../../bin/cgrlist", "../../../bin/cgrlist", "bin/cgrlist")
+GET_ONE = "a release has one, and cgrlist.html answers in a browser"
+
+
+def places():
+    """Where the program may be, before the path."""
+    return [SCRIPT, *(os.path.normpath(os.path.join(PACKAGE, "..", place)) for place in INSTALLED)]
 
 
 def program(with_trial):
@@ -22,8 +35,11 @@ def program(with_trial):
         return BUILT if os.access(BUILT, os.X_OK) else SCRIPT
     if not with_trial or os.environ.get("CGRLIST_TRIAL") == "no":
         raise Refused(ran.stderr.decode(errors="replace"), START_STATUS, is_told=True)
-    if _ended(subprocess.Popen([SCRIPT, "check", "--plan", os.devnull], **_apart())) or not os.access(TRIAL, os.X_OK):
-        raise Refused(None, START_STATUS)
+    kept = {"env": {**os.environ, "CGRLIST_TRIAL": "kept"}}
+    if _ended(subprocess.Popen([SCRIPT, "check", "--plan", os.devnull], **_apart(**kept))):
+        raise Refused(None, START_STATUS)  # the script said why
+    if not os.access(TRIAL, os.X_OK):
+        raise Refused(f"the trial could not be kept as {TRIAL}; {GET_ONE}", START_STATUS)
     return TRIAL
 
 

@@ -28,13 +28,13 @@ _PROCESSES = threading.BoundedSemaphore(processors())  # no more of them run at 
 
 @functools.lru_cache(maxsize=None)
 def program_path(given=None, with_trial=True):
-    """The program that is given, or that of the clone in which the package stands, or the one in the path. Where the clone's
-    isn't built, a trial answers if that is wanted.
+    """The program that is given, or that of the clone in which the package stands, or the one that was installed with the
+    package, or the one in the path. Where the clone's isn't built, a trial answers if that is wanted.
     """
-    places = [clone.SCRIPT, "cgrlist"] if given is None else [given]
+    places = [*clone.places(), "cgrlist"] if given is None else [given]
     path = next(filter(None, map(shutil.which, places)), None)
     if not path:
-        elsewhere = f"{clone.SCRIPT} and for cgrlist in the path; --program or CGRLIST names another place"
+        elsewhere = f"it here and in the path; --program or CGRLIST names another place; {clone.GET_ONE}"
         looked = elsewhere if given is None else given or "''"
         raise Refused(f"there is no program: looked for {looked}", START_STATUS)
     return clone.program(with_trial) if path == clone.SCRIPT else path
