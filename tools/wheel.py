@@ -39,7 +39,7 @@ def package_files():
 def metadata(tag):
     """The files that say what the wheel is: each one's name, and its text."""
     points = "".join(f"cgrlist-{it.replace('_', '-')} = cgrlist.commands.{it}:main\n" for it in commands())
-    about = "Summary: Routes through contact plans, as the program cgrlist lists them\nRequires-Python: >=3.9\n"
+    about = "Summary: Routes through contact plans, as the program cgrlist lists them\nLicense: none has been chosen\nRequires-Python: >=3.9\n"
     return {
         "METADATA": f"Metadata-Version: 2.1\nName: cgrlist\nVersion: {version()}\n{about}",
         "WHEEL": f"Wheel-Version: 1.0\nGenerator: cgrlist\nRoot-Is-Purelib: {str(tag == ANYWHERE).lower()}\nTag: {tag}\n",

@@ -21,7 +21,8 @@ from .times import LAST
 from .tool import scratch_with
 
 NAME = "libcgrlist.so.1"
-PLACES = (NAME, f"../lib/{NAME}", f"../../../library/out/{NAME}")  # from the program's folder: beside it, installed, a clone's
+# From the program's folder: beside it, installed, a package's of Debian, a clone's.
+PLACES = (NAME, f"../lib/{NAME}", f"../lib/{os.uname().machine}-linux-gnu/{NAME}", f"../../../library/out/{NAME}")
 ABI = 1
 OK, NO, ROOM, MEMORY = 0, 1, 2, 3  # statuses, as cgrlist.h has them
 OF_REQUEST, OF_LINE, OF_CHANGE, OF_SESSION = 16, 32, 48, 80  # where the statuses of a kind begin
@@ -86,9 +87,15 @@ def library(program_path, is_named=False):
     """
     if os.environ.get("CGRLIST_IN_PROCESS") == "0":
         return None
-    path = None if is_named else os.environ.get("CGRLIST_LIBRARY")
+    path = None if is_named else os.environ.get("CGRLIST_LIBRARY") or _inside()
     path = path or _beside(program_path)
     return path and loaded(path)
+
+
+def _inside():
+    """The library in this package, as a wheel of a release has it, unless the environment names a program."""
+    path = os.path.join(clone.PACKAGE, NAME)
+    return path if os.path.isfile(path) and not os.environ.get("CGRLIST") else None
 
 
 def _beside(program_path):

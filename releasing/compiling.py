@@ -1,0 +1,198 @@
+"""What a release is compiled from: proves the crates, in a folder that has no others, and compiles them.
+
+First `rt ci` proves the crates; what it has proved on this machine it takes over. Then the prover proves the program's and
+the library's own crates once more, and compiles each into an object. What was compiled is kept in the crates' `out`, with a
+record of its sources, and serves again while these are the same.
+"""
+
+import hashlib
+import json
+import os
+import re
+import shutil
+import subprocess
+import tempfile
+
+from .files import TOP, put
+
+PARTS = ("src", "specs", "proofs")  # the folders of a crate that a check reads
+HERE, ARM = "x86_64-unknown-linux-gnu", "aarch64-unknown-linux-gnu"
+LOG = f"{TOP}/crates/cgrlist/out/release.log"
+MADE = {"cgrlist": "cgrlist.o", "libcgrlist": "liblibcgrlist.a"}  # of each crate, what the prover's compiler makes
+TRUSTED_IN_ONE_RUN = ("incremental=trusted", "batches=trusted", "crate-checked=trusted")
+
+
+class Failed(Exception):
+    """The release can't be made; the message says why."""
+
+
+def read(path):
+    with open(path, "rb") as file:
+        return file.read()
+
+
+def sum_of(path):
+    return hashlib.sha256(read(path)).hexdigest()
+
+
+# ---- Crates and kit ---------------------------------------------------------------------------------------------
+
+
+def uses_of():
+    """For each crate, its line of crates.txt, and the libraries that it uses."""
+    lines = [line for line in read(f"{TOP}/crates.txt").decode().splitlines() if line and line[0] != "#"]
+    return {line.split(":")[0].split()[0]: (line, line.partition(":")[2].split()) for line in lines}
+
+
+def below(crate):
+    """The crates below a crate, each after those that it uses."""
+    uses = uses_of()
+    own = [it for it in uses[crate][1] if it in uses]
+    return list(dict.fromkeys([*(low for it in own for low in below(it)), *own]))
+
+
+def with_all_below():
+    return list(dict.fromkeys(it for crate in MADE for it in [*below(crate), crate]))
+
+
+def sources_of(crate):
+    found = [f"{at}/{name}" for part in PARTS for at, _, names in os.walk(f"{TOP}/crates/{crate}/{part}") for name in names]
+    return sorted(found)
+
+
+def sum_of_sources(*crates):
+    """The sum of the sources of some crates, with their lines of crates.txt."""
+    uses = uses_of()
+    texts = [(os.path.relpath(it, TOP), sum_of(it)) for crate in crates for it in sources_of(crate)]
+    return hashlib.sha256(repr(([uses[it][0] for it in crates], texts)).encode()).hexdigest()
+
+
+class Kit:
+    """The prover, its compiler, its linker, and its C code."""
+
+    def __init__(self):
+        rt = shutil.which("rt")
+        if not rt:
+            raise Failed("there is no command rt, which proves and compiles the crates")
+        self.folder = os.path.dirname(os.path.dirname(os.path.realpath(rt)))
+        self.version = subprocess.run(["rt", "version"], stdout=subprocess.PIPE, check=True).stdout.decode().strip()
+        self.archives = [f"{self.folder}/c/{it}" for it in ("libos_c.a", "liblibc_c.a")]
+
+    def words(self, crate, target, room):
+        """The command that proves and compiles a crate, over the libraries in a folder."""
+        uses = uses_of()
+
+        def library(name):
+            own = f"{room}/crates/{name}/out/rlib/{name}.rlib"
+            return own if name in uses else f"{self.folder}/rlibs/{name}.rlib"
+
+        root = "main" if os.path.exists(f"{TOP}/crates/{crate}/src/main.rt") else "lib"
+        words = [f"{self.folder}/bin/rattle", "build", "--crate-name", crate, f"src/{root}.rt"]
+        for name in dict.fromkeys(["std", *uses[crate][1]]):
+            words += ["--extern", f"{name}={library(name)}"]
+        for name in ["std", *below(crate)]:
+            words += ["-L", f"dependency={os.path.dirname(library(name))}"]
+        words += ["--antt-project", f"{self.folder}/rattle/logic/antt-project.json", "--logic-built", f"{self.folder}/logic_built"]
+        words += ["--jobs", str(min(os.cpu_count(), 2)), "--links", f"{crate}=", "--target", target, "--backend", "llvm"]
+        words += ["--crate-type", "staticlib"] * (root == "lib")
+        return [*words, "--toolchain", f"{self.folder}/toolchain", "-o", f"{room}/{MADE[crate]}"]
+
+
+# ---- Runs -------------------------------------------------------------------------------------------------------
+
+
+def run(words, folder, log=LOG):
+    """Runs a command, and returns what it printed. The log gets it, too."""
+    os.makedirs(os.path.dirname(log), exist_ok=True)
+    ran = subprocess.run(words, cwd=folder, stdin=subprocess.DEVNULL, stdout=subprocess.PIPE, stderr=subprocess.STDOUT, check=False)
+    said = ran.stdout.decode(errors="replace")
+    with open(log, "a", encoding="utf-8") as file:
+        file.write(said)
+    if ran.returncode:
+        last = "\n".join(said.splitlines()[-20:])
+        raise Failed(f"{last}\n{os.path.basename(words[0])} failed; {log} has all that it said")
+    return said
+
+
+def copy_crates(room):
+    """Copies the crates into a folder as a repository of its own."""
+    uses = uses_of()
+    for crate in with_all_below():
+        for part in PARTS:
+            if os.path.isdir(f"{TOP}/crates/{crate}/{part}"):
+                shutil.copytree(f"{TOP}/crates/{crate}/{part}", f"{room}/crates/{crate}/{part}")
+    shutil.copy(f"{TOP}/HANDLES", room)
+    with open(f"{room}/crates.txt", "w", encoding="utf-8") as file:
+        file.writelines(f"{uses[it][0]}\n" for it in with_all_below())
+    subprocess.run(["git", "init", "--quiet", room], check=True)
+
+
+def said_of(said):
+    """What the prover said of a crate: its verdict, without what was taken in that run alone, and the axioms that it reaches."""
+    verdict = re.findall(r"^logic=proved .*$", said, re.M)
+    if not verdict:
+        raise Failed(f"the prover gave no verdict; {LOG} has all that it said")
+    words = [it for it in verdict[-1].split() if it not in TRUSTED_IN_ONE_RUN]
+    return {"verdict": " ".join(words), "axioms": sorted(set(re.findall(r"^axioms .*$", said, re.M)))}
+
+
+def functions_in(rlib):
+    """The number of functions of a proved library: those of its file, but for closures and declarations, as its verdict counts."""
+    names = [it[0] for it in json.loads(read(f"{rlib}/toolchain/mir.json"))]
+    return sum("::fn::" not in it and not it.endswith("+decl") and "++none::" not in it for it in names)
+
+
+class Compiled:
+    """What is compiled of a crate for a target, and the record of it."""
+
+    def __init__(self, kit, crate, target=HERE):
+        self.kit, self.crate, self.target = kit, crate, target
+        folder = f"{TOP}/crates/{crate}/out" + ("" if target == HERE else f"/{target}")
+        self.path, self.file = f"{folder}/{MADE[crate]}", f"{folder}/compiled.json"
+
+    def sum(self):
+        return hashlib.sha256(repr((self.kit.version, self.target, sum_of_sources(*below(self.crate), self.crate))).encode()).hexdigest()
+
+    def record(self):
+        """The record, if it is one of the sources as they stand."""
+        try:
+            record = json.loads(read(self.file))
+            is_current = record["sources"] == self.sum() and record["made"] == sum_of(self.path)
+        except (OSError, ValueError, KeyError):
+            is_current = False
+        return record if is_current else None
+
+    def compile(self, room):
+        """Proves the crate in a folder in which those below it are proved, compiles it, and keeps both."""
+        before = self.sum()
+        said = said_of(run(self.kit.words(self.crate, self.target, room), f"{room}/crates/{self.crate}"))
+        if self.sum() != before:
+            raise Failed("the sources were changed meanwhile")
+        put(f"{room}/{MADE[self.crate]}", self.path)
+        functions = {it: functions_in(f"{room}/crates/{it}/out/rlib/{it}.rlib") for it in below(self.crate)}
+        record = {"sources": before, "made": sum_of(self.path), "functions": functions, **said}
+        with open(self.file, "w", encoding="utf-8") as file:
+            json.dump(record, file, indent=1)
+
+
+def compile_all(kit, targets):
+    """Compiles what isn't compiled yet: the program, and the library for each target. Returns the records."""
+    wanted = [Compiled(kit, "cgrlist"), *(Compiled(kit, "libcgrlist", it) for it in targets)]
+    lacking = [it for it in wanted if not it.record()]
+    if lacking:
+        with tempfile.TemporaryDirectory() as room:
+            copy_crates(room)
+            run(["rt", "ci"], room)
+            for it in lacking:
+                it.compile(room)
+            leave_program(room)
+    return wanted
+
+
+def leave_program(room):
+    """Leaves the program that `rt ci` built in the clone, as ./cgrlist --prove does."""
+    out = f"{TOP}/crates/cgrlist/out"
+    shutil.copy(f"{room}/crates/cgrlist/out/cgrlist", f"{out}/cgrlist.new")
+    os.replace(f"{out}/cgrlist.new", f"{out}/cgrlist")
+    with open(f"{out}/proved", "w", encoding="utf-8") as file:
+        file.write(f"{sum_of(f'{out}/cgrlist')}  cgrlist\n")
