@@ -1,8 +1,8 @@
 """What a release is compiled from: proves the crates, in a folder that has no others, and compiles them.
 
-First `rt ci` proves the crates; what it has proved on this machine it takes over. Then the prover proves the program's and
-the library's own crates once more, and compiles each into an object. What was compiled is kept in the crates' `out`, with a
-record of its sources, and serves again while these are the same.
+First `rt ci` proves the program, and all crates below it and the library; what it has proved on this machine it takes over.
+Then the prover proves the program's own crate once more, and the library's, and compiles each. What was compiled is kept in
+the crates' `out`, with a record of its sources, and serves again while these are the same.
 """
 
 import hashlib
@@ -11,6 +11,7 @@ import os
 import re
 import shutil
 import subprocess
+import sys
 import tempfile
 
 from .files import TOP, put
@@ -51,8 +52,9 @@ def below(crate):
     return list(dict.fromkeys([*(low for it in own for low in below(it)), *own]))
 
 
-def with_all_below():
-    return list(dict.fromkeys(it for crate in MADE for it in [*below(crate), crate]))
+def proved_by_ci():
+    """The program's crate, and all that are below it or the library."""
+    return [*dict.fromkeys([*below("libcgrlist"), *below("cgrlist"), "cgrlist"])]
 
 
 def sources_of(crate):
@@ -101,30 +103,40 @@ class Kit:
 # ---- Runs -------------------------------------------------------------------------------------------------------
 
 
-def run(words, folder, log=LOG):
+def run(words, folder):
     """Runs a command, and returns what it printed. The log gets it, too."""
-    os.makedirs(os.path.dirname(log), exist_ok=True)
     ran = subprocess.run(words, cwd=folder, stdin=subprocess.DEVNULL, stdout=subprocess.PIPE, stderr=subprocess.STDOUT, check=False)
     said = ran.stdout.decode(errors="replace")
-    with open(log, "a", encoding="utf-8") as file:
+    os.makedirs(os.path.dirname(LOG), exist_ok=True)
+    with open(LOG, "a", encoding="utf-8") as file:
         file.write(said)
     if ran.returncode:
         last = "\n".join(said.splitlines()[-20:])
-        raise Failed(f"{last}\n{os.path.basename(words[0])} failed; {log} has all that it said")
+        raise Failed(f"{last}\n{os.path.basename(words[0])} failed; {LOG} has all that it said")
     return said
 
 
-def copy_crates(room):
-    """Copies the crates into a folder as a repository of its own."""
+def copy_crate(crate, room):
+    """Copies what a check reads of a crate, and what its program is run on."""
+    folder = f"{TOP}/crates/{crate}"
+    for name in (*PARTS, "data"):
+        if os.path.isdir(f"{folder}/{name}"):
+            shutil.copytree(f"{folder}/{name}", f"{room}/crates/{crate}/{name}")
+    for name in ("args", "stdin", "stdout", "status"):
+        if os.path.isfile(f"{folder}/{name}"):
+            shutil.copy(f"{folder}/{name}", f"{room}/crates/{crate}")
+
+
+def prove(room):
+    """Proves crates in a folder, as a repository of its own."""
     uses = uses_of()
-    for crate in with_all_below():
-        for part in PARTS:
-            if os.path.isdir(f"{TOP}/crates/{crate}/{part}"):
-                shutil.copytree(f"{TOP}/crates/{crate}/{part}", f"{room}/crates/{crate}/{part}")
+    for crate in proved_by_ci():
+        copy_crate(crate, room)
     shutil.copy(f"{TOP}/HANDLES", room)
     with open(f"{room}/crates.txt", "w", encoding="utf-8") as file:
-        file.writelines(f"{uses[it][0]}\n" for it in with_all_below())
+        file.writelines(f"{uses[it][0]}\n" for it in proved_by_ci())
     subprocess.run(["git", "init", "--quiet", room], check=True)
+    run(["rt", "ci"], room)
 
 
 def said_of(said):
@@ -162,30 +174,55 @@ class Compiled:
             is_current = False
         return record if is_current else None
 
+    def write_record(self, sources, said, top):
+        """Notes what was compiled over the libraries in a folder, and what the prover said."""
+        functions = {it: functions_in(f"{top}/crates/{it}/out/rlib/{it}.rlib") for it in below(self.crate)}
+        with open(self.file, "w", encoding="utf-8") as file:
+            json.dump({"sources": sources, "made": sum_of(self.path), "functions": functions, **said_of(said)}, file, indent=1)
+
+    def adopt(self):
+        """Takes over what library/build had compiled of these sources, if it did."""
+        folder = os.path.dirname(self.path)
+        places = [f"{TOP}/crates.txt", *(f"{TOP}/crates/{it}/{part}" for it in [*below(self.crate), self.crate] for part in PARTS)]
+        newer = ["find", *filter(os.path.exists, places), "-newer", self.path, "-print", "-quit"]
+        try:
+            is_made = read(f"{folder}/library.prover").decode().strip() == self.kit.version and os.path.exists(self.path)
+            if is_made and not subprocess.run(newer, stdout=subprocess.PIPE, check=True).stdout:
+                self.write_record(self.sum(), read(f"{folder}/library.log").decode(errors="replace"), TOP)
+        except (OSError, Failed):
+            pass  # then it is compiled
+
     def compile(self, room):
         """Proves the crate in a folder in which those below it are proved, compiles it, and keeps both."""
         before = self.sum()
-        said = said_of(run(self.kit.words(self.crate, self.target, room), f"{room}/crates/{self.crate}"))
+        if not os.path.exists(f"{room}/crates/{self.crate}"):
+            copy_crate(self.crate, room)
+        said = run(self.kit.words(self.crate, self.target, room), f"{room}/crates/{self.crate}")
         if self.sum() != before:
             raise Failed("the sources were changed meanwhile")
         put(f"{room}/{MADE[self.crate]}", self.path)
-        functions = {it: functions_in(f"{room}/crates/{it}/out/rlib/{it}.rlib") for it in below(self.crate)}
-        record = {"sources": before, "made": sum_of(self.path), "functions": functions, **said}
-        with open(self.file, "w", encoding="utf-8") as file:
-            json.dump(record, file, indent=1)
+        self.write_record(before, said, room)
+        if self.crate == "libcgrlist" and self.target == HERE:
+            with open(f"{os.path.dirname(self.path)}/library.prover", "w", encoding="utf-8") as file:
+                file.write(f"{self.kit.version}\n")  # by which library/build sees that the archive is proved
 
 
 def compile_all(kit, targets):
-    """Compiles what isn't compiled yet: the program, and the library for each target. Returns the records."""
-    wanted = [Compiled(kit, "cgrlist"), *(Compiled(kit, "libcgrlist", it) for it in targets)]
+    """Compiles what isn't compiled yet: the program, and the library for each target."""
+    program, *libraries = wanted = [Compiled(kit, "cgrlist"), *(Compiled(kit, "libcgrlist", it) for it in targets)]
+    if not libraries[0].record():
+        libraries[0].adopt()
     lacking = [it for it in wanted if not it.record()]
     if lacking:
+        os.makedirs(os.path.dirname(LOG), exist_ok=True)
+        open(LOG, "w", encoding="utf-8").close()
+        print(f"release: proving and compiling {', '.join(f'{it.crate} for {it.target}' for it in lacking)}; the log is {LOG}", file=sys.stderr)
         with tempfile.TemporaryDirectory() as room:
-            copy_crates(room)
-            run(["rt", "ci"], room)
+            prove(room)
             for it in lacking:
                 it.compile(room)
-            leave_program(room)
+            if program in lacking:
+                leave_program(room)
     return wanted
 
 
