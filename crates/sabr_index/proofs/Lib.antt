@@ -2,7 +2,7 @@ pub mod PassNumbers
 pub mod LinkLemmas
 pub mod TableLemmas
 pub mod InRows
-pub mod CountingLemmas
+pub mod GroupingLemmas
 pub mod IncomingLemmas
 pub mod ContactOrders
 pub mod SenderLemmas

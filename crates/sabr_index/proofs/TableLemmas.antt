@@ -1,6 +1,6 @@
 -- The parts of nodes in the lists of all links and passes.
-use Rattle.std.proofs.Common.{◌≡◌, ℕ, ◌+◌, ◌-◌, ◌≤◌, List, [], ◌∷◌, ◌++◌, length, take, drop, refl, sym, ap, ◌∙◌, arith, length-append, length-drop}
-use Rattle.std.proofs.lemmas.List.{drop_at, drop-append-le, take-append-le, map-append}
+use Rattle.std.proofs.Common.{◌≡◌, ℕ, ◌+◌, ◌-◌, ◌<◌, ◌≤◌, List, [], ◌∷◌, ◌++◌, get_or, length, length-take, take, drop, refl, sym, ap, ◌∙◌, arith, length-append, length-drop}
+use Rattle.std.proofs.lemmas.List.{drop_at, drop-append-le, take-append-le, map-append, length-map, get_or-map, get_or_default, get_or-take, get_or-drop}
 use Rattle.std.proofs.lemmas.List.Elements.{All-head, All-tail, All-push, All-weaker}
 use Rattle.std.proofs.lemmas.Slice.{between_to_end}
 use Rattle.sabr_model.specs.plan.Plan.{TabledPlan}
@@ -8,6 +8,7 @@ use Rattle.sabr_index.specs.declared.link.Link.{Link}
 use Rattle.sabr_index.specs.declared.link.Pass.{Pass}
 use Rattle.sabr_index.specs.declared.table.NodePart.{NodePart}
 use Rattle.sabr_index.specs.Links.{NodeLinks}
+use Rattle.sabr_index.specs.Incoming.{links_of, no_link}
 use Rattle.sabr_index.specs.Table.{part_of, parts_of, LiesIn, AreParts, IsPartMore}
 
 module _ {X : Type 0} where
@@ -52,3 +53,21 @@ part_more p numbers nodes links new_links passes new_passes n lie h =
           (λ m l. record { links_rise = l.links_rise; links_end = omega (arith, l.links_end, many_links); passes_rise = l.passes_rise; passes_end = omega (arith, l.passes_end, many_passes) }) nodes lie)
           (record { links_rise = omega (arith, h.first_link, h.end_link, many_links); links_end = omega (arith, h.end_link); passes_rise = omega (arith, h.first_pass, h.end_pass, many_passes); passes_end = omega (arith, h.end_pass) }),
     )
+
+-- the link at a place of a node's part
+pub link_in_part : (nodes : List NodePart) (links : List Link) (passes : List Pass) (index place : ℕ) (n : NodePart) (l : Link) → index < length (parts_of nodes links passes) → place < length (links_of (parts_of nodes links passes) index) → n ≡ get_or nodes index n
+    → l ≡ get_or links (n.first_link + place) l → l ≡ get_or (links_of (parts_of nodes links passes) index) place no_link
+link_in_part nodes links passes index place n l inside there at_n at_l =
+    let lt : index < length nodes = omega (arith, inside, length-map nodes (part_of links passes)) in
+    let rest = drop n.first_link links in
+    let count = n.end_link - n.first_link in
+    let is : links_of (parts_of nodes links passes) index ≡ take count rest =
+    ap (λ (s : NodeLinks). s.links) (get_or-map (part_of links passes) nodes index n (record { links = []; passes = [] }) lt) ∙ ap (λ (m : NodePart). take (m.end_link - m.first_link) (drop m.first_link links)) (sym at_n) in
+    let many = ap (λ (ls : List Link). length ls) is in
+    let within : place < count = omega (arith, there, many, length-take count rest) in
+    let lies : n.first_link + place < length links = omega (arith, there, many, length-take count rest, length-drop n.first_link links) in
+    at_l
+    ∙ get_or_default links (n.first_link + place) l no_link lies
+    ∙ sym (get_or-drop n.first_link links place no_link)
+    ∙ sym (get_or-take count rest place no_link within)
+    ∙ ap (λ (ls : List Link). get_or ls place no_link) (sym is)

@@ -1,7 +1,7 @@
 pub mod Links
 pub mod Linking
 pub mod Table
-pub mod Counting
+pub mod Grouping
 pub mod Incoming
 pub mod Order
 pub mod Index

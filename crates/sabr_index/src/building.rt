@@ -6,8 +6,8 @@ ghost use Rattle.sabr_index.specs.Links.{links_in};
 ghost use Rattle.sabr_index.specs.Linking.{HasNoLight, IsPassOfNumber, ArePassesMore, AreLinked};
 ghost use Rattle.sabr_index.specs.Table.{IsPartMore};
 
+use crate::grouping::Grouped;
 use crate::link::{Link, Pass};
-use crate::order::ContactOrder;
 use crate::rows::link_rows;
 use crate::table::{LinkTable, NodePart};
 use sabr_model::Plan;
@@ -17,17 +17,17 @@ use std::alloc::{AllocError, Allocator};
 pub fn link_nodes<A: Allocator + Copy>(
     alloc: A,
     plan: &Plan<A>,
-    order: ContactOrder<A>,
+    order: Grouped<u16, A>,
 ) -> Result<LinkTable<A>, AllocError>
-    requires { AreByNode plan.now.plan plan.now.table order.starts.items order.places.items }
+    requires { AreByNode plan.now.plan plan.now.table order.starts.items order.items.items }
     ensures linked { IfOk result (λ t. AreLinked plan.now t) }
     ensures as_many { IfOk result (λ t. length t ≡ length plan.now.table) }
     ensures few { IfOk result (λ t. links_in t < 2 ^ 16) }
 {
     let count = plan.nodes();
     let mut nodes = Vec::with_capacity(alloc, count)?;
-    let mut links = Vec::with_capacity(alloc, order.places.len())?;
-    let mut passes = Vec::with_capacity(alloc, order.places.len())?;
+    let mut links = Vec::with_capacity(alloc, order.items.len())?;
+    let mut passes = Vec::with_capacity(alloc, order.items.len())?;
     for index in 0..count {
         let node = add_node(plan, order.of(index), &mut links, &mut passes)?;
         nodes.push(node)?;

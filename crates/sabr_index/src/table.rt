@@ -1,6 +1,7 @@
 //! The table of the links of all nodes.
 
-ghost use Rattle.std.specs.Prelude.{◌≡◌, ◌<◌, Some, length, slice_get};
+ghost use Rattle.std.specs.Prelude.{◌≡◌, ◌<◌, Some, length, slice_get, slice_index_or};
+ghost use Rattle.sabr_index.specs.Incoming.{links_of, no_link};
 ghost use Rattle.sabr_index.specs.Table.{parts_of, AreParts};
 
 use crate::link::{Link, Links, Pass};
@@ -72,5 +73,16 @@ impl<A: Allocator + Copy> LinkTable<A> {
             links: &self.links[node.first_link..node.end_link],
             passes: &self.passes[node.first_pass..node.end_pass],
         }
+    }
+
+    /// The link at a place of those of the node at an index.
+    #[inline(always)]
+    pub fn link(&self, index: usize, place: usize) -> Link
+        requires node { index < length self.now }
+        requires place { place < length (links_of self.now index) }
+        ensures { result ≡ slice_index_or (links_of self.now index) place no_link }
+    {
+        let node = self.nodes[index];
+        self.links[node.first_link + place]
     }
 }

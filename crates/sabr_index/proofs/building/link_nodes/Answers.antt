@@ -16,7 +16,7 @@ of-requires g c = record { node = omega (arith, c.loop-index-test.true, c.nodes-
 
 pub add_node-requires : goal.add_node-requires
 add_node-requires g c =
-    let places = c.args.order.places.items in
+    let places = c.args.order.items.items in
     let start = get_or c.args.order.starts.items c.loop-index.index 0 in
     let count = get_or c.args.order.starts.items (c.loop-index.index + 1) 0 - start in
     let contacts = c.args.plan.now.plan.contacts in
@@ -31,7 +31,7 @@ loop-index-preserved g c =
     let p = c.args.plan.now in
     let i = c.loop-index.index in
     let is = c.loop-index.invariant in
-    let places = c.args.order.places.items in
+    let places = c.args.order.items.items in
     let start = get_or c.args.order.starts.items i 0 in
     let end = get_or c.args.order.starts.items (i + 1) 0 in
     let span = c.requires.spans i (omega (arith, c.loop-index-test.true, c.nodes-count.ensures.table, c.requires.begins)) in

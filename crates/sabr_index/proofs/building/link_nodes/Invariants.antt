@@ -10,5 +10,5 @@ invariant-loop-index g l = record {
   parts : AreParts l.nodes.items l.links.items l.passes.items;
   linked : AreLinked l.plan (parts_of l.nodes.items l.links.items l.passes.items);
   few : links_in (parts_of l.nodes.items l.links.items l.passes.items) ≤ get_or l.order.starts.items l.index 0;
-  low : links_in (parts_of l.nodes.items l.links.items l.passes.items) ≤ length l.order.places.items;
+  low : links_in (parts_of l.nodes.items l.links.items l.passes.items) ≤ length l.order.items.items;
 }
