@@ -102,8 +102,11 @@ class Package:
                 "Maintainer": self.release.maintainer, "Installed-Size": size // 1024, "Priority": "optional", **fields}
         control = "".join(f"{name}: {value}\n" for name, value in kept.items())
         files.write(f"{self.root}/DEBIAN/control", f"{control}Description: {about}\n{ABOUT}")
-        for at, _, _ in os.walk(self.root):
+        for at, _, names in os.walk(self.root, topdown=False):
+            for name in names:
+                os.utime(f"{at}/{name}", (self.release.when,) * 2, follow_symlinks=False)
             os.chmod(at, 0o755)
+            os.utime(at, (self.release.when,) * 2)
         path = f"{into}/{self.name}_{self.release.full}_{self.architecture}.deb"
         words = ["dpkg-deb", "--root-owner-group", "-Zgzip", "--build", self.root, path]
         subprocess.run(words, env={**os.environ, "SOURCE_DATE_EPOCH": str(self.release.when)}, check=True, stdout=subprocess.DEVNULL)

@@ -113,6 +113,84 @@ def what_is_refused(room):
     yield "words that it doesn't know", 2, lambda: room.run("./release --nowhere").status
 
 
+MADE_OF_STAND_INS = """import os, sys
+sys.dont_write_bytecode = True
+from importlib.machinery import SourceFileLoader
+room, shared, *instead = sys.argv[1:]
+release = SourceFileLoader("release", "release").load_module()
+release.files.stage(f"{room}/stage", dict(zip(instead, ["/bin/true"] * len(instead))))
+os.mkdir(f"{room}/dist")
+made = release.debian.Release("1.2.3", 1893456000, "0" * 40, "somebody <somebody@example.org>")
+release.make_of_stage(made, f"{room}/stage", ("x86_64", "amd64"), "proof", f"{room}/dist")
+print(release.sums(f"{room}/dist"), end="")
+"""
+
+
+def what_needs_no_prover(room):
+    """Archives of stand-ins, made twice, and what the archive's `install` does."""
+    if not (shutil.which("dpkg-deb") and shutil.which("readelf")):
+        told("archives of stand-ins are left out: there is no dpkg-deb or no readelf")
+        return
+    instead = [line.split()[2] for line in room.run("./install --list").out.splitlines() if "/out/" in line]
+    shared = next(os.path.basename(it) for it in instead if ".so." in it)
+    found = []
+    for name, mask, zone in (("one", "022", "UTC"), ("the other", "077", "Asia/Kolkata")):
+        os.mkdir(f"{room.path}/{name}")
+        ran = room.run("sh -c", [f'umask {mask}; exec "$@"'], "sh python3 -c", [MADE_OF_STAND_INS, f"{room.path}/{name}", shared], instead,
+                       TZ=zone, HOME=room.path)
+        found.append(ran.all())
+    yield "they are made", 5, lambda: len(found[0].splitlines())
+    yield "twice the same bytes", found[0], lambda: found[1]
+    room.run("tar xzf", glob.glob(f"{room.path}/one/dist/*.tar.gz"), at=room.path)
+    top, home = glob.glob(f"{room.path}/cgrlist-*")[0], f"{room.path}/a home"
+    files = open(f"{top}/share/cgrlist/files", encoding="utf-8").read().splitlines()
+    yield "`install` has all files", files, lambda: sorted(
+        it for it in room.below(top) if it.startswith(("bin/", "include/", "lib/", "share/")) and not (
+            os.path.isdir(f"{top}/{it}") and not os.path.islink(f"{top}/{it}")))
+    yield from what_install_does(room, top, home, files)
+
+
+def what_install_does(room, top, home, files):
+    ran = room.alone([f"{top}/install", home])
+    yield "it installs, and prints each file", (0, [f"{home}/{it}" for it in files]), lambda: (ran.status, ran.out.splitlines())
+    yield "the prefix stands in cgrlist.pc", f"prefix={home}", lambda: room.read("a home/lib/pkgconfig/cgrlist.pc").partition("\n")[0]
+    installed = room.below(home)
+    room.file("a home/bin/cgrlist-old")
+    with open(f"{home}/share/cgrlist/files", "a", encoding="utf-8") as file:
+        file.write("bin/cgrlist-old\n")
+    room.alone([f"{top}/install", home])
+    yield "an upgrade takes away what is no more", installed, room.below, home
+    yield from full_disks(room, top)
+    room.file("a home/other")
+    ran = room.alone([f"{top}/install"], "--uninstall", [home])
+    yield "uninstalling leaves what others put there", (0, ["other"]), lambda: (ran.status, room.below(home))
+    os.remove(f"{home}/other")
+    for title, words in (("a fresh prefix", [home]), ("DESTDIR", ["/usr"])):
+        further = {"DESTDIR": home} if title == "DESTDIR" else {}
+        shutil.rmtree(home, ignore_errors=True)
+        room.alone([f"{top}/install"], words, **further)
+        room.alone([f"{top}/install"], "--uninstall", words, **further)
+        yield f"uninstalling leaves nothing: {title}", [], lambda: [it for it in room.below(home) if not os.path.isdir(f"{home}/{it}")]
+    yield "a fresh prefix is gone", False, lambda: (room.alone([f"{top}/install"], [f"{home}/new"]),
+                                                  room.alone([f"{top}/install"], "--uninstall", [f"{home}/new"]), os.path.exists(f"{home}/new"))[2]
+    yield "nothing to uninstall", 1, lambda: room.alone([f"{top}/install"], "--uninstall", [home]).status
+    yield "words that it refuses", "install: PREFIX must begin with /: usr\nstatus 2", lambda: room.alone([f"{top}/install"], "usr").all()
+    room.file("no folder")
+    yield "a file in the place of PREFIX", 1, lambda: room.alone([f"{top}/install"], [f"{room.path}/no folder"]).status
+
+
+def full_disks(room, top):
+    """On a disk that is too small, what was there stays, and nothing half made."""
+    small = f"{room.path}/small"
+    os.mkdir(small)
+    mount = f'mount -t tmpfs -o size=300k none "{small}" || exit 9; "$@"; echo $?; ls -A "{small}"'
+    ran = room.alone("unshare -rm sh -c", [mount], "sh", [f"{top}/install", small])
+    if ran.status == 9 or "unshare" in ran.err:
+        told("a full disk is left out: unshare mounts none here")
+    else:
+        yield "a full disk", ("1\n", True), lambda: (ran.out, "No space left on device; nothing was changed" in ran.err or ran.err)
+
+
 # ---- The files --------------------------------------------------------------------------------------------------
 
 
@@ -156,23 +234,9 @@ def the_archive(room):
         yield "it runs where nothing else is", FIRST, lambda: room.run(
             "unshare -r chroot", [room.top], f"/bin/cgrlist first --plan /examples/relay.txt {ASKED}").out
     yield from each_tool(room, "in place", f"{room.top}/bin")
-    ran = room.alone([f"{room.top}/install", home])
-    files = room.read(f"{room.name}/share/cgrlist/files").splitlines()
-    yield "it is installed, and prints each file", (0, sorted(f"{home}/{it}" for it in files)), lambda: (ran.status, sorted(ran.out.splitlines()))
+    room.alone([f"{room.top}/install", home])
     yield from each_tool(room, "installed", f"{home}/bin")
     yield from what_an_installation_has(room, home)
-    # A release before that had another file, and a folder of its own.
-    room.file("home/bin/cgrlist-old")
-    with open(f"{home}/share/cgrlist/files", "a", encoding="utf-8") as file:
-        file.write("bin/cgrlist-old\n")
-    installed = [it for it in room.below(home) if it != "bin/cgrlist-old"]
-    room.alone([f"{room.top}/install", home])
-    yield "an upgrade takes away what is no more", installed, room.below, home
-    yield from full_disks(room)
-    ran = room.alone([f"{room.top}/install"], "--uninstall", [home])
-    yield "uninstalling leaves nothing", (0, False), lambda: (ran.status, os.path.exists(home))
-    yield "nothing to uninstall", 1, lambda: room.alone([f"{room.top}/install"], "--uninstall", [home]).status
-    yield "words that it refuses", "install: PREFIX must begin with /: usr\nstatus 2", lambda: room.alone([f"{room.top}/install"], "usr").all()
 
 
 def each_tool(room, where, folder):
@@ -184,7 +248,6 @@ def each_tool(room, where, folder):
 
 
 def what_an_installation_has(room, home):
-    yield "the prefix stands in cgrlist.pc", f"prefix={home}", lambda: room.read("home/lib/pkgconfig/cgrlist.pc").partition("\n")[0]
     if shutil.which("cc") and shutil.which("pkg-config"):
         further = {"PKG_CONFIG_PATH": f"{home}/lib/pkgconfig", "LD_LIBRARY_PATH": f"{home}/lib"}
         made = f"cc {TOP}/examples/router.c $(pkg-config --cflags --libs cgrlist) -o router && ./router {TOP}/examples/a.txt 1 3 1893456000"
@@ -195,16 +258,6 @@ def what_an_installation_has(room, home):
             yield f"man {page}", True, lambda page=page: room.alone("man -w", page, MANPATH=f"{home}/share/man").status == 0
     complete = f'source "{home}/share/bash-completion/completions/cgrlist"; COMP_WORDS=(cgrlist ve) COMP_CWORD=1; _cgrlist; echo "${{COMPREPLY[@]}}"'
     yield "a completion", "verify\n", lambda: room.alone("bash -c", [complete]).out
-
-
-def full_disks(room):
-    """On a disk that is too small, what was there stays, and nothing half made."""
-    mount = f'mkdir "{room.path}/small" && mount -t tmpfs -o size=600k none "{room.path}/small" || exit 9; "$@"; echo $?; ls -A "{room.path}/small"'
-    ran = room.alone("unshare -rm sh -c", [mount], "sh", [f"{room.top}/install", f"{room.path}/small"])
-    if ran.status == 9 or "unshare" in ran.err:
-        told("a full disk is left out: unshare mounts none here")
-    else:
-        yield "a full disk", ("1\n", True), lambda: (ran.out, "No space left on device; nothing was changed" in ran.err)
 
 
 def the_wheel(room):
@@ -291,7 +344,7 @@ class Before(Room):
 
 
 def checks(asked):
-    yield from checks_of("release", Before(), [what_names_the_version, the_package, what_is_refused])
+    yield from checks_of("release", Before(), [what_names_the_version, what_needs_no_prover, the_package, what_is_refused])
     if asked.trials or not is_proved():
         told("what is made is left out: " + ("a trial isn't released" if asked.trials else "./cgrlist --prove and library/build come first"))
         return
