@@ -158,8 +158,8 @@ judged_on form text piece j is = record {
   few = is.few;
   within = omega (arith, is.within, length-append text piece);
   same = λ more.
-  ap (λ (b : List ℕ). fault_in form 1 b) (append_assoc text piece more)
-  ∙ is.same (piece ++ more)
-  ∙ ap (λ (b : List ℕ). fault_in form j.number b) (sym (append_assoc (drop j.bytes text) piece more))
-  ∙ ap (λ (b : List ℕ). fault_in form j.number (b ++ more)) (sym (drop-append-le j.bytes text piece is.within));
+      ap (λ (b : List ℕ). fault_in form 1 b) (append_assoc text piece more)
+      ∙ is.same (piece ++ more)
+      ∙ ap (λ (b : List ℕ). fault_in form j.number b) (sym (append_assoc (drop j.bytes text) piece more))
+      ∙ ap (λ (b : List ℕ). fault_in form j.number (b ++ more)) (sym (drop-append-le j.bytes text piece is.within));
 }
