@@ -5,6 +5,9 @@ mod FollowLemmas
 mod HopLemmas
 mod LoadLemmas
 mod PlaceValues
+mod PlanTextLemmas
+mod PlanTextLines
+mod PlanTextPieces
 mod StandingLemmas
 mod Values
 mod VerifyLemmas

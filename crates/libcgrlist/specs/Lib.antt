@@ -10,6 +10,7 @@ pub mod Opened
 pub mod Owned
 pub mod Pages
 pub mod Paused
+pub mod PlanTexts
 pub mod Reading
 pub mod Request
 pub mod Standing

@@ -1,5 +1,6 @@
-//! A law of listings, the contract of a function that does nothing.
+//! Laws of listings and of texts of plans, the contracts of functions that do nothing.
 
+ghost use Rattle.libcgrlist.specs.PlanTexts.{PlanTextsReadBack};
 ghost use Rattle.libcgrlist.specs.Standing.{BackActs, LoadedBegin, NextActs, OpenedBegin};
 
 /// States where a listing stands in the list of all routes of its request. One that was opened begins before the first
@@ -11,4 +12,10 @@ pub fn listings_stand()
     ensures loaded { LoadedBegin }
     ensures next { NextActs }
     ensures back { BackActs }
+{}
+
+/// States that reading the text of a plan, as [`text_of_plan`](crate::text_of_plan) writes it, makes the plan again: its
+/// contacts with their numbers, its ranges, and the largest number given.
+pub fn plan_texts_read_back()
+    ensures { PlanTextsReadBack }
 {}

@@ -14,6 +14,7 @@ mod listing;
 mod listing_load;
 mod listing_text;
 mod opened;
+mod plan_text;
 mod plans;
 mod request;
 mod rows;
@@ -32,7 +33,7 @@ pub use first::cgrlist_first;
 pub use follow::cgrlist_follow;
 pub use handle::{Loose, Place, PlanHandle};
 pub use hops::cgrlist_hops;
-pub use laws::listings_stand;
+pub use laws::{listings_stand, plan_texts_read_back};
 pub use listing::{
     ListingPlace, cgrlist_listing_back, cgrlist_listing_close, cgrlist_listing_next,
     cgrlist_listing_open, cgrlist_listing_place,
@@ -40,6 +41,7 @@ pub use listing::{
 pub use listing_load::cgrlist_listing_load;
 pub use listing_text::cgrlist_listing_text;
 pub use opened::Opened;
+pub use plan_text::text_of_plan;
 pub use plans::{cgrlist_plan_close, cgrlist_plan_new, cgrlist_plan_read};
 pub use rows::{Page, RouteRow};
 pub use texts::{cgrlist_abi, cgrlist_fault_text, cgrlist_status_text, cgrlist_version};
