@@ -35,7 +35,7 @@ PLANS = ["relay-mars-2000", "relay-mars-20000", "walker-66-5000", "grid-8", "spa
 IN_A_ROW = 3  # runs and calls before the other one's turn
 WARMING = 5  # calls that aren't measured
 MEGABYTE = 1 << 20
-MOST = {1: 1.3, 1000: 1.8, 10000: 1.5}  # times the program's, of so many routes in Chromium
+MOST = {1: 1.3, 1000: 1.8, 10000: 1.5}  # by the number of routes, times the program's in Chromium
 MOST_OPENING = 500  # milliseconds from opening the page to an answer in Chromium
 
 # What the page waits for an answer, several times, and the report.

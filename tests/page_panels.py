@@ -235,6 +235,8 @@ def judging(it, room):
     rows = table_of(it, ROWS)
     yield "a row", ["3", "2", "2030/01/01-06:27:22", "3 h 40 min", "5 12 2"], lambda: [text.replace("\xa0", " ") for text in rows[2]]
     yield "a row of a fault", ["4", "hop 2: NotChained", "4 12 2"], lambda: rows[3]
+    words = "return document.querySelector('.judged td.bad').title"
+    yield "what it means, under the mouse", "Hop 2, contact 12 (low relay → south station): the contact's sender isn't the node where the bundle is", it.run, words
     press(it, "judge", "Line 4")
     told = it.run("return document.querySelector('.judged .more:not([hidden])').innerText")
     hops = room.hops_of(RELAY, [4])

@@ -60,7 +60,7 @@ export function answersIn(report, head) {
   return answers;
 }
 
-/** The route of a line; its rank is undefined if that isn't told. */
+/** The route of a line; its rank is undefined if the line has none. */
 export function routeOf(line) {
   const words = line.split(" ");
   const rank = words[0] === "delivery" ? undefined : Number(words.shift());

@@ -14,7 +14,7 @@ const judgeTable = element("div", { class: "judged" });
 // Judges the choices in the field over the plan as it is now.
 async function judge() {
   if (judgement.isRunning) return;
-  const plan = textWithout(lossesNow()), ask = (run, texts) => askEngine(run, { ...texts, plan }); // not kept: they may be many
+  const plan = textWithout(lossesNow()), ask = (run, texts) => askEngine(run, { ...texts, plan }); // not stored: they may be many
   const choices = choicesOf(choiceField.area.value, Number(firstNumber.value));
   if (!choices.length) return void (judgeState.textContent = "There is no choice yet.");
   tellJudging(true);
@@ -55,7 +55,7 @@ function judgedRows(it, most, isOpen) {
   return [element("tr", { class: isWrong(it, most) ? "wrong" : "" }, ...cells), below];
 }
 
-const faultCell = (it) => element("td", { colspan: 3, class: "bad" }, it.fault);
+const faultCell = (it) => element("td", { colspan: 3, class: "bad", title: faultText(it) }, it.fault);
 
 // What a choice is, in words, and its hops as far as they go.
 function aboutChoice(it) {

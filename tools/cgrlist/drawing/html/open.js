@@ -1,7 +1,7 @@
 // Opening another plan: a file that is chosen or dropped, or a text that is pasted.
 
 // Opens another plan, and asks a question of it, or else that of the plan before, if it has their nodes. What is no plan
-// changes nothing; it is told why.
+// changes nothing; the page says why.
 async function openPlan(name, text, question = null) {
   stopAsking();
   const opened = ++turn, answers = [await askEngine("canonical", { plan: text }), await askEngine("check", { plan: text })];

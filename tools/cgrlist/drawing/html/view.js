@@ -1,6 +1,6 @@
 // What is in view: the state, the rows of links, places on the canvas, and how the view moves.
 
-const HUES = look.light[0].length; // so many routes have a colour of their own
+const HUES = look.light[0].length; // the number of routes with a colour of their own
 const AXIS = 46, BAR = 16, STRIP = BAR + 2, LANE = 12, PLAIN = 28, ABOVE = 5; // heights
 const SIDE = 14; // the right margin
 const SHORTEST = 10; // seconds of the shortest span in view
