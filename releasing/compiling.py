@@ -202,9 +202,12 @@ class Compiled:
             raise Failed("the sources were changed meanwhile")
         put(f"{room}/{MADE[self.crate]}", self.path)
         self.write_record(before, said, room)
-        if self.crate == "libcgrlist" and self.target == HERE:
-            with open(f"{os.path.dirname(self.path)}/library.prover", "w", encoding="utf-8") as file:
-                file.write(f"{self.kit.version}\n")  # by which library/build sees that the archive is proved
+
+    def tell_library_build(self):
+        """Leaves what library/build looks at to see that the archive is proved: the prover, and an archive newer than sources."""
+        with open(f"{os.path.dirname(self.path)}/library.prover", "w", encoding="utf-8") as file:
+            file.write(f"{self.kit.version}\n")
+        os.utime(self.path)
 
 
 def compile_all(kit, targets):
@@ -223,6 +226,7 @@ def compile_all(kit, targets):
                 it.compile(room)
             if program in lacking:
                 leave_program(room)
+    libraries[0].tell_library_build()
     return wanted
 
 
