@@ -29,12 +29,12 @@ def module():
         return json.load(file)
 
 
-def text(release, kit, compiled, linked, with_changes):
+def text(release, kit, compiled, linked, found):
     """The text of PROOF."""
     program, libraries = compiled[0], compiled[1:]
     of_module = module()
     parts = [
-        f"cgrlist {release.version}\ncommit {release.commit}{' and changes that no commit has' if with_changes else ''}\nprover {kit.version}",
+        f"cgrlist {release.version}\ncommit {release.commit}{''.join(f', and {it}: a draft' for it in found)}\nprover {kit.version}",
         textwrap.fill(
             "Each function of these crates meets its contract. The prover checked it, and compiled what it had checked. What the contracts "
             "say is in docs/proved.md of that commit, and what has to be trusted besides. A line has a crate, the number of its functions, "
