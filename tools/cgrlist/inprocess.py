@@ -20,10 +20,10 @@ from .routes import HOPS, MARGIN, Answer, Fault, Hop, Route
 from .times import LAST
 from .tool import scratch_with
 
-NAME = "libcgrlist.so.1"
+ABI = 1
+NAME = f"libcgrlist.so.{ABI}"
 # From the program's folder: beside it, installed, a package's of Debian, a clone's.
 PLACES = (NAME, f"../lib/{NAME}", f"../lib/{os.uname().machine}-linux-gnu/{NAME}", f"../../../library/out/{NAME}")
-ABI = 1
 OK, NO, ROOM, MEMORY = 0, 1, 2, 3  # statuses, as cgrlist.h has them
 OF_REQUEST, OF_LINE, OF_CHANGE, OF_SESSION = 16, 32, 48, 80  # where the statuses of a kind begin
 MEMORY_STATUS = 6  # the program's
