@@ -18,11 +18,12 @@ import subprocess
 import sys
 import time
 
-from checking import TOP, Room, checks_of, last_of
+from checking import TOP, Ran, Room, checks_of, last_of
 
 sys.path.insert(0, f"{TOP}/tools")
 import wheel
 
+COMPILING = 3600  # the most seconds
 ASKED = "--from 31 --to 1 --at 2030/01/01-00:45:00 --count 1"
 FIRST = "1 delivery 2030/01/01-02:47:22 hops 3 entry 22 until 2030/01/01-02:20:00 contacts 4 11 2\nmore\n"
 TOOLS = [it.replace("_", "-") for it in wheel.commands()]
@@ -51,7 +52,9 @@ class Released(Room):
         self.program = program
         self.dist = f"{self.path}/dist"
         shutil.copy(f"{TOP}/examples/relay.txt", self.path)
-        self.made = self.run(f"{TOP}/release --draft --into", [self.dist])
+        words = [f"{TOP}/release", "--draft", "--into", self.dist]
+        ran = subprocess.run(words, stdout=subprocess.PIPE, stderr=subprocess.PIPE, timeout=COMPILING, check=False)
+        self.made = Ran(ran.returncode, ran.stdout.decode(), ran.stderr.decode())
         self.name = f"cgrlist-{wheel.version()}-linux-x86_64"
         self.top = f"{self.path}/{self.name}"
 
@@ -195,7 +198,7 @@ def full_disks(room, top):
 
 
 def what_is_made(room):
-    yield "it is made", (0, ""), lambda: (room.made.status, room.made.err)
+    yield "it is made", (0, ""), lambda: (room.made.status, "" if room.made.status == 0 else room.made.err)
     yield "the sums are those of the files", 0, lambda: room.run("sha256sum --check --quiet SHA256SUMS", at=room.dist).status
     yield "it prints them", room.read("dist/SHA256SUMS"), lambda: room.made.out
     proof = room.read("dist/PROOF")
@@ -217,7 +220,7 @@ def the_same_bytes(room):
         for name in names.split():
             shutil.copy(f"{TOP}/crates/{crate}/out/{name}", f"{other}/crates/{crate}/out")
     ran = room.run("sh -c", ['umask 077; exec "$@"'], "sh", [f"{other}/release"], "--draft", TZ="Asia/Kolkata", LC_ALL="C", HOME=room.path)
-    yield "another clone makes the same bytes", room.made.out, ran.all
+    yield "another clone makes the same bytes", (0, room.made.out), lambda: (ran.status, ran.out or ran.err)
 
 
 def the_archive(room):
