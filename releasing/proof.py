@@ -47,7 +47,7 @@ def text(release, kit, compiled, linked, found):
         textwrap.fill(
             "The program was linked statically by the system's compiler, with its C library, and the C library cgrlist by library/build. "
             "No proof covers these:", 100) + "\n" + "\n".join(f"    {name}: {value}" for name, value in linked.items()),
-        f"The same bytes again, in a clone, with this prover and these linkers:\n    git checkout {release.commit}\n    ./release"
+        f"The same bytes again, in a clone, with this prover and these linkers:\n    git checkout {release.commit}\n    ./release{' --arm' if len(libraries) > 1 else ''}"
         "\n    cd dist && sha256sum --check PLACE/SHA256SUMS",
     ]
     return "\n\n".join(parts) + "\n"

@@ -33,7 +33,8 @@ print(type(plan.asked).__name__, plan.first(31, 1, at="2030-01-01T00:45:00Z", co
 """
 # What a tool is asked, and what is in its answer.
 ANSWERS = {
-    "check": ("--plan relay.txt", "contacts 20"), "compare": ("--plan relay.txt --with relay.txt", ""),
+    "check": ("--plan relay.txt", "contacts 20"), "compare": ("relay.txt relay.txt", ""),
+    "from-ionrc": ("relay.txt", "a contact "),
     "latest": ("--plan relay.txt --from 31 --to 1 --by 2030/01/01-06:27:22", "contacts 6 12 2"),
     "report": (f"--plan relay.txt {ASKED}", "31 > 22 > 12 > 1"), "timeline": (f"--plan relay.txt {ASKED} --text", "delivery"),
     "timetable": ("--plan relay.txt --from 31 --to 1 --between 2030/01/01-00:00:00 2030/01/01-00:01:00", ""),
