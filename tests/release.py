@@ -243,10 +243,15 @@ def the_archive(room):
     yield from what_an_installation_has(room, home)
 
 
+def answered(ran, wanted):
+    """What a run printed that doesn't have what is wanted; empty if it has."""
+    return "" if ran.status == 0 and wanted in ran.out else ran.all()
+
+
 def each_tool(room, where, folder):
     for tool, (words, wanted) in ANSWERS.items():
         ran = room.alone([f"{folder}/cgrlist-{tool}"], words)
-        yield f"cgrlist-{tool} {where}", (0, "", True), lambda: (ran.status, ran.err, wanted in ran.out)
+        yield f"cgrlist-{tool} {where}", "", answered, ran, wanted
     yield f"it answers in process {where}", "InProcess", lambda: room.alone(
         "python3 -B -c", [IN_PROCESS], PYTHONPATH=f"{os.path.dirname(folder)}/share/cgrlist").all().split(" ")[0]
 
@@ -273,7 +278,7 @@ def the_wheel(room):
     yield "its program answers", FIRST, lambda: room.alone([f"{at}/bin/cgrlist"], f"first --plan relay.txt {ASKED}").out
     for tool, (words, wanted) in ANSWERS.items():
         ran = room.alone([f"{at}/bin/cgrlist-{tool}"], words)
-        yield f"cgrlist-{tool} of the wheel", (0, "", True), lambda: (ran.status, ran.err, wanted in ran.out)
+        yield f"cgrlist-{tool} of the wheel", "", answered, ran, wanted
     room.alone(pip, "uninstall --yes --quiet cgrlist")
     yield "uninstalling leaves nothing", before, lambda: [it for it in room.below(at) if "pycache" not in it or it in before]
 
