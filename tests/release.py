@@ -316,7 +316,7 @@ as 'man -w cgrlist && man -w 3 cgrlist' | wc -l
 as 'cp /usr/share/doc/cgrlist/examples/router.c* . && gunzip -f router.c.gz 2>/dev/null; cc router.c $(pkg-config --cflags --libs cgrlist) -o router && ./router /usr/share/doc/cgrlist/examples/a.txt 1 3 1893456000' | head -n 1
 as 'python3 -m venv e && e/bin/pip install --no-index --quiet /release/*.whl && e/bin/cgrlist-report --plan /usr/share/doc/cgrlist/examples/relay.txt ASKED' | tail -n 1
 dpkg --purge cgrlist libcgrlist-dev $(dpkg-query -f '${Package}\n' -W 'libcgrlist[0-9]*') >/dev/null
-as 'tar xzf /release/*.tar.gz && cgrlist-*/install $HOME/.local >/dev/null && .local/bin/cgrlist first --plan cgrlist-*/examples/relay.txt ASKED'
+as 'tar xzf /release/*.tar.gz && cgrlist-*/install $HOME/.local >/dev/null 2>&1 && .local/bin/cgrlist first --plan cgrlist-*/examples/relay.txt ASKED'
 as 'cgrlist-*/install --uninstall $HOME/.local >/dev/null; ls -A .local 2>/dev/null' || true
 """.replace("ASKED", ASKED)
 TOLD_IN_A_ROOT = f"{FIRST}1\n2\nto node 2 first, there at 1893456015, over 1 4\nmore\n{FIRST}"
