@@ -17,7 +17,7 @@ from collections import Counter
 from datetime import datetime, timezone
 from itertools import groupby
 
-from checking import SECONDS, TOP, Room, checks_of, last_of, lines_with, parts_of, without_progress
+from checking import SECONDS, TOP, Room, checks_of, differing, last_of, lines_with, parts_of, unlike, without_progress
 
 DAY = "2030/01/01"
 RELAY_DIGEST = "1742355ab40bb9304358b80eea1f07137fa6c7a830d70d3ebaadf26f2add99e2"
@@ -315,15 +315,16 @@ latest 2030-01-01T03:18:59Z
     begin = datetime.fromtimestamp(int(time.time()) - 86400, timezone.utc)
     plan = room.file("now.txt", f"@ {begin:%Y/%m/%d-%H:%M:%S}\na range +0 +1 1 2 0\na contact +0 +172800 1 2 1\n")
 
-    def is_now(at, seconds):
-        """Whether what is delivered at once is delivered now, but for so many seconds."""
+    def off_by(at, seconds):
+        """How long before or after now what is delivered at once is delivered, but for so many seconds; 0 if it is now."""
         before = int(time.time())
         text = room.told("report --from 1 --to 2 --count 1 --iso --plan", [plan], f"--at {at}")
         told = datetime.strptime(re.search(r"\n +1 +(\S*)", text)[1], "%Y-%m-%dT%H:%M:%SZ").replace(tzinfo=timezone.utc)
-        return before <= told.timestamp() - seconds <= time.time()
+        second = told.timestamp() - seconds
+        return min(second - before, 0) or max(second - time.time(), 0)
 
     for at, seconds in (("now", 0), ("now+90s", 90), ("now+30m", 1800), ("now-2h", -7200)):
-        yield at, True, is_now, at, seconds
+        yield at, 0, off_by, at, seconds
 
 
 def hops_and_room(room):
@@ -596,9 +597,8 @@ def a_testers_hour(room):
     4 after that has ended, some it forgets the last hop, and some it takes the second route, which delivers later."""
     tried = functools.cache(lambda: judged_choices(room))
     yield "a tester's hour: wrong in three ways", ["", "WrongEnd", "hop 1: TooLate"], lambda: sorted(set(tried()[0].values()))
-    yield "a tester's hour: each wrong choice is named, and no other", True, lambda: tried()[0] == tried()[1] or tried()
-    yield "a tester's hour: the counts and the status", True, lambda: (
-        lambda wrong, _, said, status: (said, status) == (wrong_text(wrong), 1) or (said, status))(*tried())
+    yield "a tester's hour: each wrong choice is named, and no other", "", lambda: differing(*map(sorted, map(dict.items, tried()[:2])))
+    yield "a tester's hour: the counts and the status", "", lambda: differing(tried()[2:], (wrong_text(tried()[0]), 1))
 
 
 def wrong_text(wrong):
@@ -886,7 +886,8 @@ WORDS = ["", "+0", "+5", "+000000000007", "+9999999999999", "-1", "2030/01/01-00
 EMPTY = f"digest {hashlib.sha256(b'cgr-plan 1' + bytes([10]) + b'end' + bytes([10])).hexdigest()}"
 JUDGES = """import sys
 sys.path.insert(0, "tools")
-from cgrlist import Plan, Refused
+from cgrlist.errors import Refused
+from cgrlist.plans import Plan
 for path in sys.argv[1:]:
     try:
         print("digest", Plan.from_file(path).digest)
@@ -918,14 +919,15 @@ def plans_judged_alike(room):
              "@ 2030/01/01-00:00:00\n" + "".join(f"a range +{at} +{at + 1} 1 2 5\n" for at in range(20001))]
     paths = [room.file(f"drawn-{place}", text) for place, text in enumerate([*edges, *drawn_plans(300)])]
 
-    def by_the_program():
-        told = (room.run([room.program, "check", "--plan", path]) for path in paths)
-        return [last_of(it.out) if it.status == 0 else it.err.strip().partition(": ")[2] for it in told]
+    def by_the_program(path):
+        told = room.run([room.program, "check", "--plan", path])
+        return {0: last_of(told.out), 3: told.err.strip().partition(": ")[2]}.get(told.status, told.all())
 
     def judged(*paths):
-        return room.run("python3 -B -c", [JUDGES], paths).out.splitlines()
+        told = room.run("python3 -B -c", [JUDGES], paths, CGRLIST="/none")
+        return told.out.splitlines() + told.err.splitlines()
 
-    yield "plans are judged alike", True, lambda: judged(*paths) == by_the_program()
+    yield "plans are judged alike", "", lambda: differing(judged(*paths), [*map(by_the_program, paths)])
     yield "they are of all kinds", 14, lambda: len({re.sub(r"digest \w+|line \d+", "", it) for it in judged(*paths)})
     yield ("a plan of too many lines", ["plan line 1000001: TooMany", EMPTY],
            lambda: judged(room.file("lines", "#\n" * 1000000 + "\n"), room.file("fewer", "#\n" * 1000000)))
@@ -996,9 +998,9 @@ digest {RELAY_DIGEST}"""
         ("a route is missing", text.replace("part - / 4 5 / 6 12 2", "part - / 4 5 / -"), "its text is sound, but its routes aren't the best ones.*"),
     ):
         other = room.file(f"session-{len(title)}", changed)
-        yield f"why a session is none: {title}", True, lambda: bool(re.fullmatch(
+        yield f"why a session is none: {title}", "", lambda: unlike(
             f"session no\ncheck: {re.escape(other)}: {why}\nstatus 1",
-            room.told("check --plan examples/relay.txt --session", [other]).partition("\nsession ")[2].join(["session ", ""])))
+            room.told("check --plan examples/relay.txt --session", [other]).partition("\nsession ")[2].join(["session ", ""]))
 
 
 def checks(asked):

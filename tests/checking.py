@@ -10,6 +10,7 @@ import tempfile
 import unittest
 from dataclasses import dataclass, field
 from functools import partial
+from itertools import zip_longest
 from typing import NamedTuple
 
 from trial import TOP, Broken, compiled
@@ -197,6 +198,17 @@ def without_progress(text):
 def parts_of(pattern, text):
     """What a pattern finds in a text, a line each."""
     return "\n".join(re.findall(pattern, text, re.M))
+
+
+def differing(found, wanted):
+    """What differs of two sequences, a line for each place; empty if nothing does."""
+    pairs = enumerate(zip_longest(found, wanted, fillvalue="nothing"), 1)
+    return "\n".join(f"at {place} {one!r}, wanted {other!r}" for place, (one, other) in pairs if one != other)
+
+
+def unlike(pattern, text):
+    """A text that isn't like a pattern, with the pattern; empty if it is."""
+    return "" if re.fullmatch(pattern, text) else f"{text!r}, wanted one like {pattern!r}"
 
 
 def lines_with(pattern, text):

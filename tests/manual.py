@@ -31,7 +31,7 @@ def of_the_program(room):
         ("fault", set(re.findall("[A-Z][A-Za-z]+", cells)), 21),
         ("message", {it for it in re.findall("cgrlist: [^`]+", "\n".join(messages)) if not re.search("REASON|FAULT", it)}, 9),
     ):
-        yield f"there are {what}s", True, lambda: len(names) >= least
+        yield f"there are {what}s", least, lambda: min(len(names), least)
         yield f"each {what} has its place", [], lambda: [it for it in sorted(names) if not re.search(rf"\b{re.escape(it)}\b", page)]
 
 

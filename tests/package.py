@@ -187,7 +187,7 @@ def what_is_refused(room):
     ):
         yield f"it is refused: {title}", wanted, lambda further=further: refused(plan.first, 31, 1, at=AT, **further)
     yield "the value", 20000, lambda: int(error_of(plan, count=20000).value)
-    yield "it is a ValueError", True, lambda: isinstance(error_of(plan, count=0), ValueError)
+    yield "it is a ValueError", ValueError, lambda: type(error_of(plan, count=0)).__base__
     yield "equal nodes", "cgrlist: request: SameNode [2]", refused, plan.first, 31, 31, AT
     yield "a node that is none", "no node's number and no name: 0 [2]", refused, plan.first, 0, 31, AT
     yield "one of many", "cgrlist: request: SameNode [2]", lambda: refused(lambda: [*plan.many([room.morning, plan.request(1, 1, AT)])])
@@ -222,7 +222,7 @@ def hints_of_types(room):
     yield "hints that can be read", [], lambda: [*unread()]
     yield ("what a field is", (typing.Tuple[int, ...], typing.Optional[int]),
            lambda: (typing.get_type_hints(cgrlist.Route)["contacts"], typing.get_type_hints(cgrlist.Route)["rank"]))
-    yield "the package says that it has them", True, lambda: os.path.exists(f"{TOP}/tools/cgrlist/py.typed")
+    yield "the package says that it has them", 1, os.listdir(f"{TOP}/tools/cgrlist").count, "py.typed"
     yield "a version", f"cgrlist {cgrlist.__version__}", lambda: room.run([room.program, "--version"]).err.strip()
 
 
@@ -472,7 +472,7 @@ def at_the_same_time(room):
     plan = asking("InProcess", cgrlist.Plan.from_file, f"{TOP}/examples/relay.txt")
     one, other = room.morning, plan.request(1, 31, AT)
     alone = [[it.contacts for it in plan.routes(asked)] for asked in (one, other)]
-    yield "lists with routes", True, lambda: min(map(len, alone)) > 0
+    yield "lists with routes", [True, True], lambda: [*map(bool, alone)]
     yield "lists in turn", alone, lambda: in_turn(plan, [one, other])
     yield "a list that isn't read to its end", alone[0][:3], lambda: [
         [it.contacts for it in itertools.islice(plan.routes(one), 3)] for _ in range(3)][-1]

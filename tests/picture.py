@@ -8,7 +8,7 @@ import subprocess
 import sys
 from collections import Counter
 
-from checking import TOP, Room, checks_of, last_of, lines_with, parts_of
+from checking import TOP, Room, checks_of, last_of, lines_with, parts_of, unlike
 from picture_faults import looked_at
 
 sys.path.insert(0, f"{TOP}/tools")
@@ -111,8 +111,8 @@ esac
     # From 00:45:00 to 06:27:22, with a twentieth and a second at both sides.
     yield "all of it lies at its time", "6 ticks, 7 bars, 9 hops, 9 waits", looked_at, picture, "2030/01/01-00:27:52", "2030/01/01-06:44:30"
     left = re.sub('class="begin" d="M.', 'class="begin" d="M9', picture)
-    yield "a fault: the second at the source", True, lambda: looked_at(left, "2030/01/01-00:27:52", "2030/01/01-06:44:30").startswith(
-        "bundle at the source 2030/01/01-00:45:00: 2030/01/01-00:45:00 is drawn at 9")
+    yield "a fault: the second at the source", "", lambda: unlike(
+        "(?s)bundle at the source 2030/01/01-00:45:00: 2030/01/01-00:45:00 is drawn at 9.*", looked_at(left, "2030/01/01-00:27:52", "2030/01/01-06:44:30"))
 
 
 def told_faults(text):
