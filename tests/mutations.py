@@ -40,7 +40,7 @@ for name, body in functions:
         print(f"fn low::{name}: {told[name]}")
 print(f"only={len(told)} proved={[*told.values()].count('proved')}")
 """
-LIBRARY = "clone/crates/base/src"
+LIBRARY, MUTATIONS = "clone/crates/base/src", "clone/crates/low/mutations.txt"
 UNKNOWN = "src/lib.rt:1:1: error[unknown-name]: cannot find value `unknown` in this scope"
 
 
@@ -49,7 +49,7 @@ class Tried(Room):
 
     def __init__(self):
         super().__init__()
-        for folder in ("bin", "clone/tools", "clone/crates/low/src", "clone/crates/low/mutations", "clone/docs", LIBRARY):
+        for folder in ("bin", "clone/tools", "clone/crates/low/src", "clone/docs", LIBRARY):
             os.makedirs(f"{self.path}/{folder}")
         for tool in ("mutations", "refusals.py"):
             shutil.copy(f"{TOP}/tools/{tool}", f"{self.path}/clone/tools")
@@ -63,13 +63,10 @@ class Tried(Room):
 
     def try_edits(self, *texts):
         """What is said of mutations with these texts, in order of the alphabet; and what the prover ran."""
-        folder, places = "clone/crates/low/mutations", range(1, len(texts) + 1)
+        places = range(1, len(texts) + 1)
         self.file("clone/crates/low/src/lib.rt", "law right\n" + "".join(f"fn f{it}() {{ right {it} }}\n" for it in places))
-        shutil.rmtree(f"{self.path}/{folder}")
-        os.mkdir(f"{self.path}/{folder}")
         self.forget()
-        for it, text in zip(places, texts):
-            self.file(f"{folder}/m{it}.edit", f"file: src/lib.rt\n{text}")
+        self.file(MUTATIONS, "\n".join(f"m{it}\nfile: src/lib.rt\n{text}" for it, text in zip(places, texts)))
         return self.tried()
 
     def forget(self):
@@ -132,7 +129,15 @@ compiles 2, {asked(7, 1, 2, 3, 4, 5, 7, 8)}", [*wrong * 5, *unknown, *wrong * 2]
         ("one that says nothing of functions", "it changes no function, and has no line 'fails: FUNCTION'", law),
         ("one whose text isn't there", "its text stands 0 times in src/lib.rt: law left", "old: law left\nnew: law wrong\n"),
     ):
-        yield title, f"FAILED: m1.edit: {told}", lambda: room.try_edits(text)[0].splitlines()[0]
+        yield title, f"FAILED: m1: {told}", lambda: room.try_edits(text)[0].splitlines()[0]
+    room.try_them("wrong")
+    good = room.read(MUTATIONS)
+    for title, told, text in (
+        ("a name that another one has", "m1: another one has this name", good),
+        ("a paragraph without a name", "file: src/lib.rt: this is no name", good.partition("\n")[2]),
+    ):
+        room.file(MUTATIONS, f"{good}\n\n{text}")
+        yield title, f"FAILED: {told}\n{refused(1)[0]}\n1 passed, 1 failed\nstatus 1", lambda: room.tried("--anew")[0]
 
 
 def what_was_refused_before(room):
@@ -144,8 +149,10 @@ def what_was_refused_before(room):
         ("only the others are tried again", "f2 0, f2 1", "notes", ""),
         ("all over another source", whole, "clone/crates/low/src/lib.rt", f"// a comment\n{source}"),
         ("all over another library", whole, f"{LIBRARY}/lib.rt", "fn more() {}\n"),
-        ("one that is another", "f1 f2 0, f1 f2 2, f2 1", "clone/crates/low/mutations/m1.edit",
-         "file: src/lib.rt\nold: right 1 }\nnew: wrong }\n"),
+        ("one that is another", "f1 f2 0, f1 f2 2, f2 1", MUTATIONS,
+         room.read(MUTATIONS).replace("old: { right 1 }\nnew: { wrong }\n", "old: right 1 }\nnew: wrong }\n")),
+        ("none that is about something else now", "f2 0, f2 1", MUTATIONS,
+         room.read(MUTATIONS).replace("old: { right 1 }\nnew: { wrong }\n", "about: it\nold: right 1 }\nnew: wrong }\n")),
     ):
         room.file(name, text)
         told, found = room.tried()
@@ -164,9 +171,9 @@ def what_the_gate_tries(room):
         ("another, if it isn't asked for those of the gate", "f2 0, f2 1", "--only", "2"),
     ):
         yield title, ran, lambda: room.tried("--anew", *words)[1]
-    head, low = "| About | Mutations |\n|---|---|\n", "crates/low/mutations"
-    tables = (f"{head}| a promise | `{low}/m3.edit` |\n\n{head}| `low::B`: `first`, `last` | `{low}/{{m4,m1}}.edit` |\n\n"
-              f"{head}| `low`: `x` | `{low}/m2.edit` |")
+    head = "| About | Mutations |\n|---|---|\n"
+    tables = (f"{head}| a promise | of `low`: m3 |\n\n{head}| `low::B`: `first`, `last` | of `low`: m4, m1 |\n\n"
+              f"{head}| `low`: `x` | of `low`: m2 |")
     yield "the tables of what they are about", tables, lambda: room.run(f"{room.path}/clone/tools/mutations --tables").all()
 
 
@@ -174,7 +181,7 @@ def what_is_recorded(room):
     """Two of three mutations are refused, and the repository's record has them."""
     bodies = {1: "wrong", 2: "fine", 3: "wrong"}
     room.try_edits(*(f"about: it\ngate: yes\nold: {{ right {it} }}\nnew: {{ {body} }}\n" for it, body in bodies.items()))
-    record = "clone/crates/low/mutations/refused"
+    record = "clone/crates/low/mutations_refused"
     room.tried("--record")
     yield "their names", ["m1", "m3"], lambda: [it.split()[1] for it in room.read(record).splitlines()]
     room.forget()

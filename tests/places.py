@@ -5,7 +5,7 @@ In docs/proofs.md a table's row is about the crate that it names first, as `crat
 crate that the cell names.
 
 In each Markdown file, a name in backquotes that begins with a folder of the clone must be a file or a folder, where
-`{a,b}` stands for a and for b, and `*` for any name. A name `NAME.rt` must be a source of some crate. A link within the clone must lead to a
+`{a,b}` stands for a and for b, and `*` for any name; after a colon, a line of the file. A name `NAME.rt` must be a source of some crate. A link within the clone must lead to a
 file or a folder, and to a heading of it.
 
 In docs/architecture.md the table of crates must name for each crate the kit's libraries that crates.txt has. The words
@@ -88,6 +88,12 @@ def quoted_places(text):
                 yield from ((number, place) for place in spelled_out(name.split()[0]))
 
 
+def is_there(place, top):
+    """Whether there is a file or a folder, and in the file the line that a place names after a colon."""
+    path, _, line = place.partition(":")
+    return any(not line or line in read(f"{top}/{it}").split("\n") for it in places_like(path, top))
+
+
 def quoted_sources(text):
     """Each bare `NAME.rt` in backquotes, and its line."""
     for number, line in enumerate(text.split("\n"), 1):
@@ -155,7 +161,7 @@ def looked_at(top):
             yield PROOFS, number, "" if there else f"names {name}, but there is no {' nor '.join(places)}"
     for document, text in texts.items():
         for number, place in quoted_places(text):
-            yield document, number, "" if places_like(place, top) else f"names {place}, which isn't there"
+            yield document, number, "" if is_there(place, top) else f"names {place}, which isn't there"
         for number, name in quoted_sources(text):
             yield document, number, "" if name in sources else f"names {name}, which no crate has"
         for number, wrong in wrong_links(document, text, top):
