@@ -1,5 +1,6 @@
 """What the parts of tests/run share: checks with names, the rows that are asked for, and how a failure is told."""
 
+import inspect
 import os
 import pty
 import re
@@ -18,6 +19,7 @@ from trial import TOP, Broken, compiled
 SHOWN = 10  # failures that are shown of one name
 SEEN = "shown already"  # a failure that is counted alone
 SECONDS = 600
+MOST_SEEN = 300  # characters that are shown of a value
 
 
 @dataclass
@@ -175,7 +177,14 @@ class Room:
 def compared(title, wanted, act, given):
     """How what a check found isn't what it wanted, which is empty if it is."""
     found = act(*given)
-    yield "" if found == wanted else f"FAILED: {title}: wanted\n{wanted}\nfound\n{found}"
+    yield "" if found == wanted else f"FAILED: {title}: wanted\n{wanted}\nfound\n{found}{seen(act, given) if found is False else ''}"
+
+
+def seen(act, given):
+    """What a check was given, and the values that its function takes from around it: all that False says nothing of."""
+    around = inspect.getclosurevars(act).nonlocals if inspect.isfunction(act) else {}
+    told = [*map(repr, given), *(f"{name} = {value!r}" for name, value in around.items() if not callable(value))]
+    return "".join(f"\nof {it[:MOST_SEEN]}" for it in told)
 
 
 def checks_of(part, room, sections):
