@@ -185,7 +185,7 @@ def refusals(room):
         yield (f"no deadline: {by}", f"latest: argument --by: no time of the years 1970 to 9998: {by}; {TIMES}; see --help\nstatus 2",
                room.from_a, "--by", by)
     names = room.file("bad-names", "lander 31\n")
-    yield ("bad names are no answer", "latest: names line 1: it doesn't begin with a node's number: lander 31\nstatus 2",
+    yield ("bad names are no answer", "latest: names line 1: it doesn't begin with a node's number: lander 31\nstatus 4",
            room.from_a, f"--by {DAY}-00:01:00 --names", [names])
     yield ("words that are missing", "report: these words are missing: --at, --count or --by; see --help\nstatus 2",
            room.told, "report --plan examples/a.txt --from 1 --to 3")
@@ -199,7 +199,7 @@ def refusals(room):
             ask = f"{tool} --plan examples/a.txt --from 1 --to 3 {words}"
             yield f"{tool}: {title}", wanted.replace("TOOL", tool), lambda: room.told(ask, by=program)
     raves = room.stub("raves", "#!/bin/sh\necho 1 delivery\n")
-    yield ("what is no report is no answer", "latest: this is no line of a report: 1 delivery\nstatus 2",
+    yield ("what is no report is no answer", "latest: this is no line of a report: 1 delivery\nstatus 4",
            lambda: room.from_a(f"--by {DAY}-00:00:00", by=raves))
 
 
@@ -242,7 +242,7 @@ report: hint: nothing leaves node 31 after {DAY}-17:34:00: its last contact ends
     for title, wanted, words in (
         ("a node that is none", "argument --via: no node's number: relay; see --help\nstatus 2", "--via relay"),
         ("no contacts", "argument --without: no numbers of contacts, joined by commas: 1,; see --help\nstatus 2", "--without 1,"),
-        ("a contact that isn't there to be lost", "the plan has no contact 8\nstatus 1", "--without 8"),
+        ("a contact that isn't there to be lost", "the plan has no contact 8\nstatus 2", "--without 8"),
         ("an option that is given twice", "argument --count: it is given twice; see --help\nstatus 2", "--count 1"),
     ):
         yield title, f"report: {wanted}", room.from_lander, f"--at {DAY}-00:45:00 --count 1", words
@@ -262,26 +262,26 @@ def reports_that_are_read(room):
 end
 report: 2 routes are shown of 3 looked at""", room.read_report, paged, "--distinct contacts"
     for title, wanted, given, *words in (
-        ("a page that is cut", f"{CUT}\nstatus 1", FIRST.replace("more\n", "")),
-        ("nothing", f"{CUT}\nstatus 1", ""),
-        ("no report", "this is no line of a report: refused: Empty\nstatus 1", "refused: Empty\n"),
-        ("a time that is none", "this is no time of a report: 2030/13/01-00:01:30\nstatus 1", NEXT.replace(f"{DAY}-", "2030/13/01-")),
-        ("a report of a plan that has lost a contact", "the plan has no contact 4\nstatus 1", FIRST, "--without 4"),
+        ("a page that is cut", f"{CUT}\nstatus 4", FIRST.replace("more\n", "")),
+        ("nothing", f"{CUT}\nstatus 4", ""),
+        ("no report", "this is no line of a report: refused: Empty\nstatus 4", "refused: Empty\n"),
+        ("a time that is none", "this is no time of a report: 2030/13/01-00:01:30\nstatus 4", NEXT.replace(f"{DAY}-", "2030/13/01-")),
+        ("a report of a plan that has lost a contact", "the plan has no contact 4\nstatus 4", FIRST, "--without 4"),
         ("a report and a count", "--report takes the place of --count and --by; see --help\nstatus 2", "", "--count 1"),
         ("hops of a report need its request", "these words of the report's request are missing: --to, --at; see --help\nstatus 2",
          "", "--from 1 --hops"),
     ):
         yield title, f"report: {wanted}", room.read_report, given, *words
     for title, wanted, plan in (
-        ("a contact that is not there", "the plan has no contact 4\nstatus 1", lost),
-        ("another plan", "route 1 isn't one of this plan: its contacts don't go from node to node\nstatus 1", "examples/relay.txt"),
+        ("a contact that is not there", "the plan has no contact 4\nstatus 4", lost),
+        ("another plan", "route 1 isn't one of this plan: its contacts don't go from node to node\nstatus 4", "examples/relay.txt"),
     ):
         yield title, f"report: {wanted}", lambda: room.read_report(FIRST, plan=plan)
     following = ["report --plan examples/a.txt --from 1 --to 3 --hops --report", [room.file("next", NEXT)], "--at"]
     yield ("hops of a report", f"{HEAD}\n{row_3}\n      hop 1  contact 3  1 > 3  send {DAY}-00:00:50  arrive {DAY}-00:01:30\nend",
            room.told, *following, "2030-01-01")
     yield ("another request", f"report: route 3 isn't one of this request: cgrlist explain says delivery {DAY}-00:01:31 hops 1 \
-entry 3 until {DAY}-00:01:30 contacts 3\nstatus 1", room.told, *following, "2030-01-01T00:00:51Z")
+entry 3 until {DAY}-00:01:30 contacts 3\nstatus 4", room.told, *following, "2030-01-01T00:00:51Z")
     yield ("room is a choice", "rank,delivery,hops,entry,until,contacts,nodes\n3,2030-01-01 00:01:30,1,3,2030-01-01 00:01:30,3,1 > 3",
            room.read_report, NEXT, "--csv")
     long = room.file("long", FIRST.splitlines()[0].join(["", "\n"]) * 10000 + "end\n")
@@ -309,7 +309,7 @@ latest 2030-01-01T03:18:59Z
            room.told, "report --plan examples/relay.txt --from 31 --to earth --at 2030-01-01 --count 1", room.names)
     for name in ("22", "a>b", "a,b"):
         why = "its name is the number of another node" if name == "22" else "its name has '>' or ',', which join nodes"
-        yield (f"a name that is refused: {name}", f"report: names line 1: {why}: 31 {name}\nstatus 1",
+        yield (f"a name that is refused: {name}", f"report: names line 1: {why}: 31 {name}\nstatus 4",
                room.from_lander, f"--at {DAY}-00:45:00 --count 1 --names", [room.file("refused", f"31 {name}\n")])
     # A contact from yesterday to tomorrow, over which light takes no time.
     begin = datetime.fromtimestamp(int(time.time()) - 86400, timezone.utc)
@@ -464,7 +464,7 @@ line  rank  delivery             later  contacts  fault
    4                                    1 3       hop 1: NotChained
    5     1  {DAY}-02:47:22      0  4 11 2""", room.from_lander, morning, "--choices", [choices]
     yield ("a choice that is none", "report: choices line 1: the plan has no contact with these nodes and that start: 31>22@2030-01-02\n\
-status 1", lambda: room.from_lander(morning, "--choices /dev/stdin", given="31>22@2030-01-02\n"))
+status 4", lambda: room.from_lander(morning, "--choices /dev/stdin", given="31>22@2030-01-02\n"))
 
     def as_json(*words):
         return json.loads(room.ask(*words).out)
@@ -503,7 +503,7 @@ line,from,to,at,margin_ppm,max_hops,avoid,rank,delivery,later,contacts,fault
         morning, "--first-number 0 --choices -", given="3,10,1\n"))
     for line, why in (("0,1 31 1 2030-01-01", "contacts are counted from 1 without --first-number 0"), ("4,11,2 31 1", "it needs contacts, from, to and at"),
                       ("4,11,2 31 earth 2030-01-01", "after its contacts, it names no two nodes")):
-        yield (f"a bad choice: {line}", f"report: choices line 1: {why}: {line}\nstatus 1",
+        yield (f"a bad choice: {line}", f"report: choices line 1: {why}: {line}\nstatus 4",
                lambda: room.told("report --plan examples/relay.txt --choices -", given=f"{line}\n"))
     yield ("words without choices", "report: these words need --choices: --exit-code, --later; see --help\nstatus 2",
            room.from_lander, morning, "--count 1 --exit-code --later 5")
@@ -627,6 +627,139 @@ def judged_choices(room):
     return wrong, found, without_progress(ran.err), ran.status
 
 
+def choices_of_routers(room):
+    """Choices as routers print them: none, JSON, seconds since 1970. At 00:45:00 there are routes from the lander, and none from the
+    second day on."""
+    lines = f"""\
+- 31 1 2030-01-02
+- 31 1 1893458700
+4,11,2 31 1 1893458700
+[4, 11, 2] 31 1 1893458700
+""".splitlines()
+    told = ["report --plan examples/relay.txt --csv --choices -"]
+    yield "no route, where there is none and where there is one, and seconds since 1970", [
+        "1,31,1,2030-01-02 00:00:00,0,,,,,,-,", "2,31,1,2030-01-01 00:45:00,0,,,,,,-,HasRoute",
+        "3,31,1,2030-01-01 00:45:00,0,,,1,2030-01-01 02:47:22,0,4 11 2,"], lambda: room.ask(*told, given="\n".join(lines[:3])).out.splitlines()[1:]
+    yield "how many miss a route", """\
+report: of 3 choices 0 are no routes, 1 miss the routes that there are, and 0 deliver more than 0 s after the best
+status 1""", lambda: lines_with("^report: of|status", room.told(*told, "--exit-code", given="\n".join(lines[:3])))
+    request = {"from": 31, "to": "lander", "at": 1893458700}
+    flat = {"contacts": [4, 11, 2], **request, "to": 1}
+    as_json = [flat, {"contacts": [4, 11, 2], "request": {**flat, "avoid": [21], "max_hops": 5}}, {**flat, "contacts": None}]
+    yield "lines of JSON", ["1,31,1,2030-01-01 00:45:00,0,,,1,2030-01-01 02:47:22,0,4 11 2,",
+                            "2,31,1,2030-01-01 00:45:00,0,5,21,1,2030-01-01 02:47:22,0,4 11 2,",
+                            "3,31,1,2030-01-01 00:45:00,0,,,,,,-,HasRoute"], lambda: room.ask(
+        *told, given="\n".join(map(json.dumps, as_json))).out.splitlines()[1:]
+    yield "a list of JSON for the request of the words", "   1     1  2030/01/01-02:47:22      0  4 11 2", lambda: last_of(
+        room.from_lander(f"--at {DAY}-00:45:00 --choices -", given="[4, 11, 2]\n"))
+    for line, why in (
+        ("4,11,2", "it needs contacts, from, to and at"), ("-", "it needs contacts, from, to and at"), ("[4, 11, 2]", "it has no from, to, at"),
+        ('{"contacts":[4],"from":31,"to":1}', "it has no at"), ('{"contacts":4}', "its contacts are no list of numbers or texts"),
+        ('{"from":31,"to":1,"at":1893458700}', "it has no contacts"), ('{"contacts":[4],"request":4}', "its request is no object"), ('{"contacts":[4]', "it is no JSON"), ("[" * 100000, "it is no JSON"),
+        ('{"contacts":[4],"from":31,"to":1,"at":[]}', "no time: []"),
+        ('{"contacts":[4],"from":31,"to":1,"at":1893458700,"max_hops":"1 2"}', "its max_hops is no number"),
+    ):
+        yield f"a bad choice: {line[:60]}", f"report: choices line 1: {why}: {line}\nstatus 4", lambda: room.told(
+            "report --plan examples/relay.txt --choices -", given=f"{line}\n")
+    refused = "4,11,2 31 1 1893458700\n" * 2600 + "\n# a comment\n- 31 1 1893458700\n4,11,2 31 31 1893458700\n"
+    yield "a request of a choice that is refused, by its line", "report: choices line 2604: SameNode\nstatus 4", lambda: room.told(
+        "report --plan examples/relay.txt --choices -", given=refused)
+    yield "a request of a choice of no route that is refused", "report: choices line 2: SameNode\nstatus 4", lambda: room.told(
+        "report --plan examples/relay.txt --choices -", given="- 31 1 1893458700\n- 31 31 1893458700\n")
+    for title, words in (("names", "--count 1 --names"), ("requests", "--count 1 --requests"), ("a report", "--report")):
+        ends = "" if title != "names" else f"--from 31 --to 1 --at {DAY}-00:45:00"
+        yield f"{title} that can't be used have a status of their own", "status 4", lambda: last_of(room.told(
+            "report --plan examples/relay.txt", ends, words, "-" if title == "requests" else "/dev/stdin", given="lander\n"))
+
+
+def what_has_no_end(room):
+    """What has no end, or is too long, takes little time and memory."""
+    for title, given, told in (
+        ("zeros", "/dev/zero", "check: a line is bad"), ("lines", "<(yes)", "check: at least 10000 lines are bad"),
+        ("a disk", "/dev/full", "check: a line is bad"),
+    ):
+        yield f"a plan without an end: {title}", f"{told}\nstatus 3", lambda: "\n".join(room.run(
+            "bash -c", [f"ulimit -v 2000000; tools/check --plan {given}"]).all().splitlines()[-2:])
+    request = f"--from 31 --to 1 --at {DAY}-00:45:00"
+    yield "a request over it", "cgrlist: plan line 1: LineTooLong", lambda: room.told(f"report --plan /dev/zero {request} --count 1").partition("\n")[0]
+    for word in ("--names", "--choices", "--requests", "--report"):
+        ends = request if word in ("--names", "--choices") else ""
+        yield f"{word} without an end", "report: /dev/zero: it has more than 1000000", lambda: room.told(
+            "report --plan examples/relay.txt", ends, "--count 1" if word in ("--names", "--requests") else "", word, "/dev/zero").partition(
+                " lines")[0].replace("10000000", "1000000")
+    yield "a converter without an end", "from_ionrc: /dev/zero: it has more than 256000000 bytes\nstatus 5", lambda: room.run("tools/from_ionrc /dev/zero").all()
+
+
+def standard_error_and_memory(room):
+    """Without standard error an answer is what it is. What ends a tool early leaves no traceback."""
+    answer = room.from_a(f"--by {DAY}-00:00:15")
+    for title, closed in (("closed", "2>&-"), ("full", "2>/dev/full")):
+        yield f"standard error is {title}", answer, lambda: room.run(
+            "bash -c", [f"tools/latest --program {room.program} --plan examples/a.txt --from 1 --to 3 --by {DAY}-00:00:15 {closed}"]).all()
+        yield f"standard error is {title}, and the plan is refused", "status 5", lambda: room.run(
+            "bash -c", [f"tools/latest --program {room.program} --plan /none --from 1 --to 3 --by {DAY}-00:00:15 {closed}"]).all()
+    runs = "import sys; sys.path.insert(0, 'tools'); from cgrlist.tool import Tool, run_tool; Tool.name = 'latest'"
+    for title, error, told in (("memory", "MemoryError()", "no memory"), ("a thread", 'RuntimeError("can\'t start new thread")', "no memory for a thread")):
+        yield f"no memory for {title}", f"latest: {told}\nstatus 6", lambda: room.run(
+            "python3 -B -c", [f"{runs}; run_tool(lambda: (_ for _ in ()).throw({error}))"]).all()
+    os.mkdir(f"{room.path}/early")
+    room.file("early/argparse.py", "import os, signal\nos.kill(os.getpid(), signal.SIGINT)\n")
+    for tool in ("check", "compare", "from_ionrc", "latest", "report", "timeline", "timetable"):
+        yield f"Ctrl-C while {tool} begins", (-signal.SIGINT, ""), lambda: (lambda ran: (ran.status, ran.all().removesuffix("status -2")))(
+            room.run(f"tools/{tool} --help", PYTHONPATH=f"{room.path}/early"))
+
+
+def what_is_printed_of_others(room):
+    """Bytes of a plan and names of nodes do nothing to terminals and spreadsheets."""
+    escapes = room.file("escapes.txt", "@ 2030/01/01-00:00:00\na contact \033[2J\033]0;owned\a +5 1 2 5\n")
+    yield "a bad line", r"   2  BadByte         a contact \x1b[2J\x1b]0;owned\x07 +5 1 2 5", lambda: room.told("check --plan", [escapes]).splitlines()[1]
+    yield "and its hint", r"latest: hint: plan line 2 is: a contact \x1b[2J\x1b]0;owned\x07 +5 1 2 5", lambda: lines_with("line 2 is", room.told(
+        f"latest --plan {escapes} --from 1 --to 3 --by 2030-01-02"))
+    names = room.file("formulas", "31 =cmd|' /C calc'!A0\n22 @sum\n12 -12\n1 +1\n11 -\n")
+    rows = room.from_lander(f"--at {DAY}-00:45:00 --count 1 --csv --names", [names]).splitlines()
+    yield "cells that begin as formulas do", f"1,2030-01-01 02:47:22,3,'@sum,2030-01-01 02:20:00,4 11 2,'=cmd|' /C calc'!A0 > @sum > -12 > +1", \
+        lambda: rows[1]
+    given = room.file("mine.txt", read("examples/relay.txt"))
+    yield "a page isn't written over the plan of standard input", f"timeline: --html: {given} is the file of --plan; it would be lost\nstatus 2", \
+        lambda: room.run(
+            "bash -c", [f"tools/timeline --program {room.program} --plan - --html {given} <{given}"]).all()
+
+
+def how_far_long_runs_are(room):
+    """A program that takes a second or more for each run."""
+    slow = room.stub("slowly", f"#!/bin/sh\nsleep 1.3\nexec {room.program} \"$@\"\n")
+    request = f"--plan examples/relay.txt --from 31 --to 1 --at {DAY}-00:45:00 --count 2"
+    for title, told, words in (
+        ("a check", "check: cgrlist checks the plan, for 1 s", "check --plan examples/relay.txt"),
+        ("lost contacts", r"report: \d of 5 contacts are lost", f"report {request} --lost"),
+        ("a page", "timeline: routes without nodes are looked for, for 1 s", f"timeline {request} --html {room.path}/slow.html"),
+        ("a page's seconds", "timeline: the best routes by the second at the source are looked for, for 1 s",
+         f"timeline {request} --html {room.path}/slow.html"),
+    ):
+        tool, *words = words.split()
+        shown = functools.cache(lambda tool=tool, words=words: room.on_a_terminal([f"{TOP}/tools/{tool}", "--program", slow, *words], "shown"))
+        yield f"how far is {title}", told, lambda: told if re.search(told, shown()) else shown()
+
+
+def routes_chosen(room):
+    """Direct routes share no relay; a rate of 0 isn't known; without a route nothing can be lost."""
+    links = [(1, 2, 0, 10), (1, 2, 50, 10), (1, 3, 0, 0), (3, 2, 0, 10)]
+    plan = room.file("direct.txt", f"@ {DAY}-00:00:00\n" + "".join(f"a range +0 +1000 {it} 1\n" for it in ("1 2", "1 3", "3 2")) + "".join(
+        f"a contact +{start} +{start + 100} {one} {other} {rate}\n" for one, other, start, rate in links))
+    request = f"--from 1 --to 2 --at {DAY}-00:00:00"
+    for words in ("--count 5", "--count 5 --via 2"):
+        yield f"direct routes share no relay: {words}", ["1", "3 4", "2"], lambda: re.findall(
+            r"  (\d+(?: \d+)*) +1 >", room.told(f"report --plan {plan} {request} --distinct nodes {words}"))
+    fits = [f"report --plan {plan} {request} --count 5 --csv --room --fits"]
+    yield "a rate of 0 isn't known", [("1", "1000"), ("2", "990"), ("3", "1000")], lambda: [
+        (row[0], row[-1]) for row in (line.split(",") for line in room.ask(*fits, "900").out.splitlines()[1:])]
+    yield "and limits nothing", ["1", "3"], lambda: [line[0] for line in room.ask(*fits, "991").out.splitlines()[1:]]
+    yield "nothing can be lost", """\
+lost  link  delivery  later  contacts  nodes
+report: there is no route, so no contact can be lost
+report: hint: nothing leaves node 2: it sends in no contact""", room.told, f"report --plan {plan} --from 2 --to 1 --at {DAY}-00:00:00 --count 2 --lost"
+
+
 def plans_compared(room):
     """A pass of the lander over the high relay is ten minutes later, that relay's pass to the south is gone, the low relay's have
     another rate, and a contact came. Without the high relay's pass, routes 2 and 3 come first."""
@@ -740,14 +873,14 @@ lander,1,2030-01-01 23:00:00,0,,,,,,,,,,
         ("31 1", "it has fewer than three words: from to at"), ("31 1 noon", "no time of the years 1970 to 9998: noon"),
         ("31 earth 2030-01-01", "it names no two nodes"), ("31 2030-01-01", "it has fewer than three words: from to at"),
     ):
-        yield (f"a bad line: {line}", f"report: requests line 2: {why}: {line}\nstatus 2",
+        yield (f"a bad line: {line}", f"report: requests line 2: {why}: {line}\nstatus 4",
                room.of_requests, f"31 1 2030-01-01\n{line}\n")
     yield ("a request that is refused: those before it are answered",
-           "more\ncgrlist: request: SameNode\nreport: requests line 2: it is refused\nstatus 2",
+           "more\ncgrlist: request: SameNode\nreport: requests line 2: it is refused\nstatus 4",
            lambda: room.of_requests("31 1 2030-01-01\n1 1 2030-01-01\n").split("\n", 3)[3])
     for limit, why in (("--margin-ppm 1000001", "bad --margin-ppm"), ("--max-hops 0", "bad --max-hops"),
                        ("--avoid 31", "request: BadAvoid"), ("--margin-ppm '0 4'", "bad --margin-ppm")):
-        yield (f"a limit that is refused: {limit}", f"cgrlist: {why}\nreport: requests line 1: it is refused\nstatus 2",
+        yield (f"a limit that is refused: {limit}", f"cgrlist: {why}\nreport: requests line 1: it is refused\nstatus 4",
                room.of_requests, "31 1 2030-01-01\n", limit)
     yield ("a bad count", "cgrlist: bad --count\nstatus 2",
            lambda: room.told("report --plan examples/relay.txt --requests - --count 0", given="31 1 2030-01-01\n"))
@@ -768,7 +901,7 @@ lander,1,2030-01-01 23:00:00,0,,,,,,,,,,
     seconds = "".join(f"31 1 {DAY}-00:{minute}:{second}\n" for minute in range(10, 60) for second in range(10, 60))
     shared = room.of_requests(seconds)
     yield "many requests are shared among processors", (2500, 2500), lambda: (shared.count("request "), shared.count(" 4 11 2 "))
-    yield ("no requests", "report: there is no request in /dev/null\nstatus 2",
+    yield ("no requests", "report: there is no request in /dev/null\nstatus 4",
            room.told, "report --plan examples/relay.txt --requests /dev/null --count 1")
     yield ("requests and a request", "report: --requests takes the place of --from, --to, --at and --report; see --help\nstatus 2",
            many, "--to 1")
@@ -1006,4 +1139,6 @@ digest {RELAY_DIGEST}"""
 def checks(asked):
     return checks_of("answers", Tools(asked.program("cgrlist")), [
         latest_seconds, versions_and_environments, refusals, reports, reports_that_are_read, times_and_names, hops_and_room, many_routes,
-        a_planners_questions, in_process, a_testers_hour, plans_compared, many_requests, hints, programs_of_clones, plans_judged_alike, refused_plans, plans_checked])
+        a_planners_questions, in_process, a_testers_hour, choices_of_routers, what_has_no_end, standard_error_and_memory,
+        what_is_printed_of_others, how_far_long_runs_are, routes_chosen, plans_compared, many_requests, hints, programs_of_clones,
+        plans_judged_alike, refused_plans, plans_checked])

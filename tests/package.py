@@ -26,10 +26,12 @@ from checking import SECONDS, TOP, Room, checks_of
 
 sys.path.insert(0, f"{TOP}/tools")
 import cgrlist
+from cgrlist.choosing import Choice, judged
 from cgrlist.inprocess import InProcess, library, loaded
 from cgrlist.listing import asked_again
 from cgrlist.program import Program
-from cgrlist.tool import bytes_of
+from cgrlist.reading import plan_bytes
+from cgrlist.tool import Progress, Tool
 
 AT = "2030-01-01T00:45:00Z"
 BEGIN = 1893456000  # 2030-01-01T00:00:00Z
@@ -119,9 +121,14 @@ def forms_of_calls(room):
     # Route 4 of the list delivers at 15:17:21, the best one at 02:47:22.
     yield ("a router's choices", [(1, 0), (4, 44999), (None, None)],
            lambda: [(it.rank, it.later) for it in plan.choices([HIGH, NORTH, (1, 3)], 31, 1, at=AT)])
+    yield ("a router's choice of no route", [("HasRoute", True), (None, False)], lambda: [
+        (it.told and it.told.text, it.is_wrong(0)) for at in (AT, BEGIN + 86400) for it in plan.choices([()], 31, 1, at=at)])
     # Without contact 4 or 11 the bundle takes contacts 5 12 2, and without contact 2 it goes by the northern station.
     yield ("losses", [(4, SOUTH), (11, SOUTH), (2, NORTH)],
            lambda: [(it.contact, it.route.contacts) for it in plan.losses(31, 1, at=AT, count=1)])
+    # Without contact 2 the plan's best route is the fourth of all. Without another one, a route of the two is the best.
+    yield ("losses of two routes, with ranks in the list of all", [(4, 2), (11, 2), (2, None), (5, 1), (12, 1)],
+           lambda: [(it.contact, it.route.rank) for it in plan.losses(31, 1, at=AT, count=2)])
     # The last pass of the lander that reaches Earth by 06:27:22 ends at 05:12:00.
     yield ("the last second", ("2030-01-01T05:11:59+00:00", (6, 12, 2)),
            lambda: (lambda it: (it.time.isoformat(), it.route.contacts))(plan.latest(31, 1, by="2030/01/01-06:27:22")))
@@ -135,6 +142,22 @@ def forms_of_calls(room):
     text = SESSION.replace("DIGEST", a.digest)
     yield "the text of a place", True, lambda: a.verify(text)
     yield "and without a route", False, lambda: cgrlist.verify(a, text.replace("emitted 2", "emitted 1").encode())
+
+
+class Library:
+    """What refuses a request as the library does, whichever of some it is."""
+
+    def follow(self, lists):
+        for _, request in lists:
+            if request.source == request.destination:
+                raise cgrlist.Refused("cgrlist: request: SameNode\n", 2, is_told=True)
+        return []
+
+
+def refused_choices(room):
+    """The line of the request that is refused is named."""
+    chosen = [Choice(line, (), cgrlist.Request(31, to, MORNING)) for line, to in ((3, 1), (7, 31), (8, 31))]
+    yield "a choice whose request the library refuses", "choices line 7: SameNode [4]", lambda: refused(lambda: [*judged(Library(), chosen, 1)])
 
 
 def said_by(kind, act, *given):
@@ -177,6 +200,27 @@ def answers_and_plans(room):
     yield "a plan that was kept", [SOUTH], lambda: contacts_of(
         pickle.loads(pickle.dumps(cgrlist.Plan(lines).without([11]))).first(31, 1, at=AT, count=1))
     yield "no contacts", (0, True), lambda: (len(cgrlist.Plan([])), bool(cgrlist.Plan([])))
+    for title, names in (("a mapping", {31: "lander", 12: "south"}), ("a text", "31 lander\n12 south\n"), ("lines", ["31 lander", "12 south"])):
+        yield f"names: {title}", ("lander", 12), lambda names=names: (cgrlist.Names(names).of(31), cgrlist.Names(names).node("south"))
+    yield "names of a plan as a mapping", [HIGH], lambda: contacts_of(
+        cgrlist.Plan.from_file(f"{TOP}/examples/relay.txt", {31: "lander"}).first("lander", 1, AT, count=1))
+    yield "names that are none", "names line 1: its name has '>' or ',', which join nodes: 31 a>b [4]", lambda: refused(cgrlist.Names, {31: "a>b"})
+
+
+def what_is_told(room):
+    """A call tells nobody how far it is."""
+    yield "a call is no tool", None, lambda: (Progress(), Tool.progress)[1]
+
+
+def flat_rows(room):
+    """What pandas takes for a table."""
+    answer = room.relay.first(room.morning, count=2)
+    row = {"source": 31, "destination": 1, "at": MORNING, "rank": 1, "hops": 3, "entry": 22, "delivery": BEGIN + 10042, "until": BEGIN + 8400,
+           "send_by": None, "contacts": "4 11 2", "nodes": "31 22 12 1"}
+    yield "flat rows", (2, row), lambda: (len(answer.to_records()), answer.to_records()[0])
+    times = {name: datetime.fromtimestamp(row[name], timezone.utc) for name in ("at", "delivery", "until")}
+    yield "with datetimes", {**row, **times}, lambda: answer.to_records(datetime)[0]
+    yield "of a page of a list, whose request isn't known", [*row][3:], lambda: [*cgrlist.Answer(answer.routes, None).to_records()[0]]
 
 
 def what_is_refused(room):
@@ -236,7 +280,7 @@ def in_notebooks(room):
         yield f"the page: {title}", "<!DOCTYPE html>", lambda it=it: it.page().partition("\n")[0]
     yield "an answer without hops: the table alone", (1, []), lambda: (
         bare._repr_html_().count("<table>"), images(bare._repr_html_()))
-    yield ("it can't be drawn", "the hops of the routes aren't known: first and hops=True tell them [1]", refused, bare.svg)
+    yield ("it can't be drawn", "the hops of the routes aren't known: first and hops=True tell them [4]", refused, bare.svg)
     yield "the page knows what is best without contact 2 and node 12, which both routes have", ["2", "12"], lambda: losses_on(answer.page())
 
 
@@ -436,7 +480,7 @@ def refusals_in_process(room):
         ("a list of none", lambda plan: plan.follow([HIGH, ()], room.morning)), ("a contact 0", lambda plan: plan.follow([(0,)], room.morning)),
     ):
         yield f"it is refused in process: {title}", "the same", same, *(functools.partial(refusal_of, act, it) for it in plans.values())
-    routers = Program(room.program, bad), InProcess(loaded(LIBRARY), bytes_of(bad), bad)
+    routers = Program(room.program, bad), InProcess(loaded(LIBRARY), plan_bytes(bad), bad)
     yield "it is refused in process: a plan", "the same", same, *(functools.partial(refusal_of, digest_of, it) for it in routers)
     texts = [SESSION.replace("DIGEST", digest) for digest in (plans["Program"].digest, "0" * 64)]
     yield "session texts in process", "the same", same, *(lambda plan=it: [*map(plan.verify, (*texts, "", "x"))] for it in plans.values())
@@ -506,7 +550,7 @@ LIBRARY = os.environ.get("CGRLIST_LIBRARY") or f"{TOP}/library/out/libcgrlist.so
 
 def checks(asked):
     os.environ.pop("CGRLIST_LIBRARY", None)
-    sections = [nodes_to_avoid, times, forms_of_calls, answers_and_plans, what_is_refused, hints_of_types, in_notebooks, signals]
+    sections = [nodes_to_avoid, times, forms_of_calls, answers_and_plans, what_is_told, refused_choices, flat_rows, what_is_refused, hints_of_types, in_notebooks, signals]
     if os.path.exists(LIBRARY) or os.path.exists(f"{TOP}/library/build"):
         sections += [refusals_in_process, at_the_same_time, worked_plans, drawn_plans, satellites]
     else:

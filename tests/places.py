@@ -5,8 +5,8 @@ In docs/proofs.md a table's row is about the crate that it names first, as `crat
 crate that the cell names.
 
 In each Markdown file, a name in backquotes that begins with a folder of the clone must be a file or a folder, where
-`{a,b}` stands for a and for b, and `*` for any name; after a colon, a line of the file. A name `NAME.rt` must be a source of some crate. A link within the clone must lead to a
-file or a folder, and to a heading of it.
+`{a,b}` stands for a and for b, and `*` for any name; after a colon, a line of the file. A name `NAME.rt` must be a source
+of some crate. A link within the clone must lead to a file or a folder, and to a heading of it.
 
 In docs/architecture.md the table of crates must name for each crate the kit's libraries that crates.txt has. The words
 that 'Where to change what' searches for must be words of the sources.

@@ -28,7 +28,8 @@ class Plan(plans.Plan):
 
     The calls that take a request take a `Request`, or its parts: source, destination and the time at the source, and by
     name `margin_ppm`, `max_hops` and `avoid`. `file` is the path of the plan's text, None for a plan made of lines, and
-    `names` may say names of its nodes. In a notebook the plan shows itself as a table of its contacts and as a picture.
+    `names` may say names of its nodes, as `Names`, `{31: "lander"}` or a file's path. In a notebook the plan shows itself as
+    a table of its contacts and as a picture.
     """
 
     def __init__(self, lines, file=None, names=None):
@@ -139,7 +140,8 @@ class Plan(plans.Plan):
     def choices(self, lists: Iterable[Sequence[int]], source: Source, destination: Optional[Node] = None, at: Optional[Time] = None,
                 look: int = LOOK, **limits) -> List[Judged]:
         """What lists of contact numbers that a router chose do for a request, for each a `Judged`: a route, with its rank if
-        it is among so many that are looked at, and how many seconds later it delivers than the best; or a fault.
+        it is among so many that are looked at, and how many seconds later it delivers than the best; or a fault. An empty
+        list is a choice of no route.
         """
         request = self.request(source, destination, at, **limits)
         chosen = [Choice(place, tuple(numbers), request) for place, numbers in enumerate(lists, 1)]

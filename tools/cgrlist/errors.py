@@ -1,7 +1,9 @@
 """What is refused, and the statuses with which the program and its tools end."""
 
-# As the program and its script use them.
-NO_STATUS, WORDS_STATUS, PLAN_STATUS, REQUESTS_STATUS, FILE_STATUS, START_STATUS = 1, 2, 3, 4, 5, 125
+# As the program and its script use them. INPUT_STATUS is for a text besides the plan that can't be used: names, requests,
+# choices, a report.
+NO_STATUS, WORDS_STATUS, PLAN_STATUS, INPUT_STATUS, FILE_STATUS, MEMORY_STATUS, START_STATUS = 1, 2, 3, 4, 5, 6, 125
+REQUESTS_STATUS = INPUT_STATUS  # of a line of requests or of lists, as the program has it
 
 
 class Refused(ValueError):
@@ -12,7 +14,7 @@ class Refused(ValueError):
     may help to repair it.
     """
 
-    def __init__(self, message, status=1, is_told=False, hints=(), value=None):
+    def __init__(self, message, status=INPUT_STATUS, is_told=False, hints=(), value=None):
         super().__init__(message)
         self.message, self.status, self.is_told, self.hints = message, status, is_told, tuple(hints)
         self.value = value

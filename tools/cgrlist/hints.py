@@ -5,8 +5,8 @@ import re
 import shlex
 
 from .errors import FILE_STATUS, Refused
-from .reading import Bad, Reader, lines_in
-from .tool import bytes_of, tell
+from .reading import Bad, Reader, lines_in, plan_bytes
+from .tool import printable, tell
 
 MOST = 10  # so many hints are told
 SHOWN = 80  # so much of a line
@@ -53,7 +53,7 @@ def of_refusal(path, message):
     """Hints about a plan that the program refuses with a message: the line and its repair, the line with which it doesn't
     go, and what other programs leave in a text.
     """
-    lines, found = lines_in(bytes_of(path)), re.search(r"plan line (\d+): (\w+)", message)
+    lines, found = lines_in(plan_bytes(path)), re.search(r"plan line (\d+): (\w+)", message)
     if not found or int(found[1]) > len(lines):
         return [*of_text(lines, path)]
     bad = Bad(int(found[1]), found[2], lines[int(found[1]) - 1])
@@ -69,7 +69,7 @@ def of_bad_line(bad, path, lines):
 
 def shown(line):
     """The beginning of a line whose characters are bytes."""
-    text = line.encode("latin-1").decode("utf-8", "replace").strip()
+    text = printable(line.encode("latin-1").decode("utf-8", "replace").strip())
     return f"{text[:SHOWN]}{' ..' if text[SHOWN:] else ''}"
 
 

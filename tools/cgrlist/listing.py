@@ -17,7 +17,7 @@ LOOK = 100000  # so many routes are looked at for distinct ones if no other numb
 
 DISTINCT = {  # what a route has that no other shown one may have
     "entry": lambda route: [route.entry],
-    "nodes": lambda route: route.nodes[1:-1] or [None],  # the relays; routes without any have that in common
+    "nodes": lambda route: route.nodes[1:-1],  # the relays, of which direct routes have none
     "contacts": lambda route: route.contacts,
 }
 
@@ -98,13 +98,18 @@ class Listing:
         it = self._choice
         if it.via is not None and it.via not in route.nodes:
             return False
-        if it.fits is not None and self._asked.plan.room(route) < it.fits:
+        if it.fits is not None and not self._fits(route):
             return False
         values = DISTINCT[it.distinct](route) if it.distinct else ()
         if not self._values.isdisjoint(values):
             return False
         self._values.update(values)
         return True
+
+    def _fits(self, route):
+        """Whether a route has room for the bytes that are asked for, or its room isn't known."""
+        room = self._asked.plan.room(route)
+        return room is None or self._choice.fits <= room
 
     def _told(self):
         """How far the choice is."""
@@ -117,7 +122,7 @@ def asked_again(program, plan, request, distinct):
     before, a page for each. What their places are in the list of all routes isn't known. That list holds each of them, in
     the same order (sabr_laws::fewer_contacts_take_their_routes).
     """
-    passing, lost, taken = {}, set(), set()
+    passing, lost = {}, set()
     while True:
         (route,) = program.without(lost).best([request])
         if route is None:
@@ -126,11 +131,9 @@ def asked_again(program, plan, request, distinct):
         passing = passing or _passing(plan.contacts, request, distinct)  # once the program has accepted the plan
         route = plan.with_nodes(route)
         yield Answer((route.having(rank=None),), False, request)
-        values = DISTINCT[distinct](route)
-        if not taken.isdisjoint(values):
+        if not lost.isdisjoint(route.contacts):
             raise Refused("the program lists a route over what was taken out of the plan")
-        taken.update(values)
-        lost.update(number for value in values for number in passing[value])
+        lost.update([number for value in DISTINCT[distinct](route) for number in passing[value]] or route.contacts)
 
 
 def _passing(contacts, request, distinct):
@@ -142,7 +145,7 @@ def _passing(contacts, request, distinct):
         if distinct == "contacts":
             found[it.number].append(it.number)
         elif distinct == "nodes":
-            for node in it.link if it.link != (request.source, request.destination) else [None]:
+            for node in it.link:
                 found[node].append(it.number)
         elif it.sender == request.source:
             found[it.receiver].append(it.number)

@@ -5,12 +5,14 @@ from dataclasses import dataclass, field, replace
 from typing import Dict, Optional
 
 from .routes import Answer, Route
-from .tool import in_order
+from .tool import Progress, in_order, waiting
 
 
 @dataclass(frozen=True)
 class Loss:
-    """A contact that is lost, and the best route then; None if there is none."""
+    """A contact that is lost, and the best route then; None if there is none. Its rank is that in the list of all routes, None
+    if that isn't known.
+    """
 
     contact: int
     route: Optional[Route]
@@ -34,13 +36,19 @@ def losses(program, plan, request, routes):
     # the routes that don't have it, in the same order (sabr_laws::lost_contacts_take_their_routes).
     begins = [route.rank for route in routes] == [*range(1, len(routes) + 1)]
     numbers = dict.fromkeys(number for route in routes for number in route.contacts)
-    return [*in_order(functools.partial(_loss, program, plan, request, routes if begins else ()), numbers)]
+    progress, found = Progress(), []
+    for it in in_order(functools.partial(_loss, program, plan, request, routes if begins else ()), numbers):
+        found.append(it)
+        progress.tell(f"{len(found)} of {len(numbers)} contacts are lost")
+    progress.end()
+    return found
 
 
 def _loss(program, plan, request, listed, number):
     route = next((it for it in listed if number not in it.contacts), None)
     if route is None:
         (route,) = program.without({number}).best([request])
+        route = route and route.having(rank=None)
     return Loss(number, route and plan.with_nodes(route))
 
 
@@ -49,9 +57,10 @@ def best_without(program, plan, request, routes):
     contacts = {it.contact: it.route for it in losses(program, plan, request, routes)}
     nodes = sorted({hop.receiver for route in routes for hop in route.hops[:-1]})
     without = [replace(request, avoid=tuple(sorted({*request.avoid, node}))) for node in nodes]
-    answers = (program.many(without, 1) if nodes else None) or ()  # more nodes may be avoided than the program takes
-    of_nodes = {node: next(iter(answer), None) for node, answer in zip(nodes, answers)}
-    found = Lost(contacts, of_nodes)
-    (answer,) = program.with_hops([Answer(tuple(found.routes()), None, request)])
+    with waiting("routes without nodes are looked for"):
+        answers = (program.many(without, 1) if nodes else None) or ()  # more nodes may be avoided than the program takes
+        of_nodes = {node: next(iter(answer), None) for node, answer in zip(nodes, answers)}
+        found = Lost(contacts, of_nodes)
+        (answer,) = program.with_hops([Answer(tuple(found.routes()), None, request)])
     with_hops = iter(answer.routes)
     return Lost(*({of: route and next(with_hops) for of, route in it.items()} for it in (contacts, of_nodes)))

@@ -1,6 +1,7 @@
 """Names of nodes. A node is its number, from 1 to 2^64 - 1; the program knows no names."""
 
 import re
+from collections.abc import Mapping
 
 from .errors import Refused
 from .tool import lines_of
@@ -9,11 +10,11 @@ NODE = re.compile(r"[1-9]\d{0,19}", re.ASCII)
 
 
 class Names:
-    """Names of nodes, from a file with lines as `31 lander`; `#` begins a comment's line."""
+    """Names of nodes: a mapping as `{31: "lander"}`, or lines as `31 lander`, also as one text; `#` begins a comment's line."""
 
-    def __init__(self, lines=()):
+    def __init__(self, names=()):
         self._names = {}
-        for place, line in enumerate(map(str.strip, lines), 1):
+        for place, line in enumerate(map(str.strip, _lines(names)), 1):
             if line and not line.startswith("#"):
                 try:
                     self._take(line)
@@ -24,6 +25,13 @@ class Names:
     def from_file(cls, path):
         """Reads the names of a file; no path, no names."""
         return cls(lines_of(path) if path else ())
+
+    @classmethod
+    def made_of(cls, names):
+        """Names as they are, of a mapping, or of a file's path; none of None."""
+        if isinstance(names, cls):
+            return names
+        return cls(names) if isinstance(names, Mapping) else cls.from_file(names)
 
     def of(self, node):
         """The node's name, or its number if it has none."""
@@ -55,3 +63,10 @@ class Names:
         if int(number) in self._names or name in self._names.values():
             raise ValueError("the node or the name stands in a line above")
         self._names[int(number)] = name
+
+
+def _lines(names):
+    """The lines of names, which may be a mapping or a text."""
+    if isinstance(names, Mapping):
+        return [f"{node} {name}" for node, name in names.items()]
+    return names.split("\n") if isinstance(names, str) else names

@@ -6,11 +6,11 @@ from collections import defaultdict
 from typing import NamedTuple, Optional
 
 from . import hints
-from .errors import PLAN_STATUS, Refused
+from .errors import PLAN_STATUS, WORDS_STATUS, Refused
 from .names import Names
-from .reading import Reader, lines_in
+from .reading import Reader, lines_in, plan_bytes
 from .times import time_text
-from .tool import bytes_of, scratch_with
+from .tool import scratch_with
 
 
 class Contact(NamedTuple):
@@ -46,11 +46,11 @@ class Plan:
     """What stands after the last line of a plan's text, its bytes or its lines, which is judged as `cgrlist check` does.
 
     `file` is the path of the plan's text, which the program reads again, and None for a plan made of lines. `names` may
-    say names of its nodes.
+    say names of its nodes: `Names`, a mapping of numbers to names, or a file's path.
     """
 
     def __init__(self, lines, file=None, names=None):
-        self.file, self.names = file, names or Names()
+        self.file, self.names = file, Names.made_of(names)
         lines, reader = _lines(lines), Reader()
         for bad in reader.bad_lines(lines):
             raise Refused(bad.message, PLAN_STATUS, hints=hints.of_bad_line(bad, file, lines))
@@ -62,8 +62,8 @@ class Plan:
 
     @classmethod
     def from_file(cls, path, names=None):
-        """Reads the plan of a file; the names may be a file's path, too."""
-        return cls(bytes_of(path), path, names if isinstance(names, Names) else Names.from_file(names))
+        """Reads the plan of a file."""
+        return cls(plan_bytes(path), path, names)
 
     @property
     def contacts(self):
@@ -100,8 +100,10 @@ class Plan:
 
     def without(self, numbers):
         """The plan without the contacts with some numbers, of which there must be some; the others keep theirs."""
-        plan = copy.copy(self)
-        lost = {self.contact(number).number for number in numbers}
+        plan, lost = copy.copy(self), set(numbers)
+        missing = sorted(lost - self._numbered.keys())
+        if missing:
+            raise Refused(f"the plan has no contact {missing[0]}", WORDS_STATUS)
         plan._numbered = {number: it for number, it in self._numbered.items() if number not in lost}
         plan.file = self.file and with_lines(self.file, [self.contact(number).deletion() for number in sorted(lost)])
         return plan
@@ -120,13 +122,13 @@ class Plan:
         return route.having(nodes=(senders[0], *receivers))
 
     def room_of(self, hop):
-        """The bytes that a hop's contact can send from the hop's sending on."""
+        """The bytes that a hop's contact can send from the hop's sending on; None if its rate is 0, which is unknown."""
         contact = self.contact(hop.contact)
-        return contact.rate * (contact.end - hop.send)
+        return contact.rate * (contact.end - hop.send) or None
 
     def room(self, route):
-        """The most bytes that fit into a route by its contacts alone; None if its hops aren't known."""
-        return min(map(self.room_of, route.hops), default=None)
+        """The most bytes that fit into a route by the rates of its contacts that are known; None if none is."""
+        return min(filter(None, map(self.room_of, route.hops)), default=None)
 
     def path_text(self, nodes):
         """Nodes by their names, with arrows between them."""
@@ -142,4 +144,4 @@ def _lines(lines):
 
 def with_lines(file, lines):
     """The path of a copy of a plan's text with further lines."""
-    return scratch_with(bytes_of(file) + "".join(f"\n{line}" for line in lines).encode() + b"\n")
+    return scratch_with(plan_bytes(file) + "".join(f"\n{line}" for line in lines).encode() + b"\n")

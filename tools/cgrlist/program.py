@@ -6,7 +6,6 @@ import os
 import re
 import shutil
 import subprocess
-import sys
 import threading
 from dataclasses import dataclass, replace
 from typing import NamedTuple
@@ -15,7 +14,8 @@ from . import clone, hints
 from .errors import NO_STATUS, PLAN_STATUS, REQUESTS_STATUS, START_STATUS, Refused
 from .router import Router
 from .routes import followed, parts_of, whole_report_of
-from .tool import Tool, beginning, bytes_of, in_order, processors, scratch, scratch_with
+from .reading import plan_bytes
+from .tool import Tool, beginning, in_order, processors, say, scratch, scratch_with
 
 MOST = 10000  # routes that the program gives at a time
 LISTS = 2500  # of contacts that a run follows, so that several processors share many
@@ -125,7 +125,7 @@ class Program(Router):
     def follow(self, lists):
         """What lists of contacts do, each with its request: for each a route with its hops, or a `Fault`."""
         lists = list(lists)
-        parts = (lists[start : start + LISTS] for start in range(0, len(lists), LISTS))
+        parts = ((start, lists[start : start + LISTS]) for start in range(0, len(lists), LISTS))
         return [told for part in in_order(self._followed, parts) for told in part]
 
     def apart(self):
@@ -135,7 +135,7 @@ class Program(Router):
     @property
     def text(self):
         """The bytes of the plan's text."""
-        return bytes_of(self.plan_file)
+        return plan_bytes(self.plan_file)
 
     @contextlib.contextmanager
     def over(self, text):
@@ -144,9 +144,15 @@ class Program(Router):
         yield replace(self, plan_file=path)
         os.unlink(path)
 
-    def _followed(self, lists):
+    def _followed(self, part):
+        start, lists = part
         lines = [f"{','.join(map(str, contacts))} {request.line()}" for contacts, request in lists]
-        return [*map(followed, self._over_lines("follow", "--lists", lines))]
+        try:
+            return [*map(followed, self._over_lines("follow", "--lists", lines))]
+        except Refused as refused:
+            if refused.status == REQUESTS_STATUS:  # its line counts from the part's first one
+                refused.message = re.sub(r"(?<= line )\d+", lambda it: str(int(it[0]) + start), refused.message)
+            raise
 
     def _over_lines(self, command, option, lines, *words, but=None):
         """The parts of what a command answers to a file of lines, a part for each; None if its status is that one."""
@@ -173,7 +179,7 @@ class Program(Router):
         if status:
             found = hints.of_refusal(self.plan_file, told) if status == PLAN_STATUS else ()
             raise Refused(told, status, is_told=True, hints=found, value=_value_of(told, words))
-        sys.stderr.write(told)
+        say(told)
         return said
 
 

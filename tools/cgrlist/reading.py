@@ -1,10 +1,12 @@
 """The lines of a plan's text, judged as `cgrlist check` judges them: what stands after the last line, and each bad line."""
 
+import os
 import re
 from bisect import bisect_left
 from typing import NamedTuple
 
 from .times import LAST, kept, seconds_of
+from .tool import beginning_of, scratch_with
 
 MOST = 20000  # contacts that a plan can give, and ranges that can stand in it at a time
 LINES = 1000000  # of a plan
@@ -18,10 +20,24 @@ _NODE = re.compile(r"[1-9]\d{0,19}", re.ASCII)
 _NUMBER = re.compile(r"0|[1-9]\d{0,19}", re.ASCII)
 
 
+def plan_bytes(path):
+    """The bytes of a plan's text. Of what has no end, or more than a plan can have, they are the beginning, in which a line is
+    bad, too.
+    """
+    return beginning_of(path, LINES, LINES * (LINE + 1))[0]
+
+
 def lines_in(data):
-    """The lines of a plan's bytes, each byte a character of its own."""
-    lines = data.decode("latin-1").split("\n")
-    return lines if lines[-1] else lines[:-1]
+    """The lines of a plan's bytes, each byte a character of its own: as many as a plan can have, and one more."""
+    lines = data.decode("latin-1").split("\n", LINES + 1)
+    return (lines if lines[-1] else lines[:-1])[: LINES + 1]
+
+
+def kept_file(path):
+    """The path of a plan's file that can be read more than once: of a copy, if it is a pipe or standard input."""
+    if path != "-" and (os.path.isfile(path) or os.path.isdir(path) or not os.path.exists(path)):
+        return path
+    return scratch_with(plan_bytes(path))
 
 
 class Bad(NamedTuple):

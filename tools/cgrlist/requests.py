@@ -3,9 +3,9 @@
 import re
 from dataclasses import dataclass
 
-from .errors import WORDS_STATUS, Refused
-from .routes import Request
-from .times import time_of
+from .errors import Refused
+from .routes import Request, listed
+from .times import second_of, time_of
 from .tool import lines_of, processors
 
 MOST_OF_PART = 500  # requests that one run answers, so that progress can be told, and memory doesn't grow
@@ -28,15 +28,34 @@ def requests_of(lines, names, limits):
             try:
                 found.append(Line(place, _request(line.split(), names, limits)))
             except ValueError as error:
-                raise Refused(f"requests line {place}: {error}: {line}", WORDS_STATUS) from error
+                raise Refused(f"requests line {place}: {error}: {line}") from error
     return found
+
+
+FIELDS = ("from", "to", "at", "margin_ppm", "max_hops", "avoid")  # of a request in JSON
+
+
+def request_of(told, names, limits):
+    """The request of an object of JSON, with limits if it has none. ValueError if it is none."""
+    if not isinstance(told, dict):
+        raise ValueError("its request is no object")
+    missing = [field for field in FIELDS[:3] if told.get(field) is None]
+    if missing:
+        raise ValueError(f"it has no {', '.join(missing)}")
+    given = {field: told[field] for field in FIELDS[3:5] if told.get(field) is not None}
+    for field, value in given.items():
+        if not _LIMIT.fullmatch(str(value)):
+            raise ValueError(f"its {field} is no number")
+    avoid = tuple(sorted(names.node(str(it)) for it in listed(told.get("avoid") or ())))
+    ends = names.node(str(told["from"])), names.node(str(told["to"]))
+    return Request(*ends, second_of(told["at"]), **({**given, "avoid": avoid} if given or avoid else limits))
 
 
 def requests_in(asked):
     """The requests of the file that a tool's words name, of which there must be one."""
     lines = requests_of(lines_of(asked.words.requests), asked.names, asked.limits)
     if not lines:
-        raise Refused(f"there is no request in {asked.words.requests}", WORDS_STATUS)
+        raise Refused(f"there is no request in {asked.words.requests}")
     return lines
 
 

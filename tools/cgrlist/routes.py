@@ -7,13 +7,14 @@ import re
 from dataclasses import dataclass, field
 from datetime import datetime
 from numbers import Integral
-from typing import Iterator, NamedTuple, Optional, Tuple, Union
+from typing import Dict, Iterator, List, NamedTuple, Optional, Tuple, Union
 
 from .errors import Refused
 from .plans import Plan
 from .times import date_of, kept, seconds_of, time_text
 
 MARGIN, HOPS = "0", "20000"  # of a request without limits
+REPORT_LINES = 10000000  # the most of a report or of explanations
 
 
 @dataclass(frozen=True)
@@ -177,6 +178,16 @@ class Answer:
     def __getitem__(self, place):
         return self.routes[place]
 
+    def to_records(self, times: type = int) -> List[Dict[str, Union[int, str, datetime, None]]]:
+        """The routes as flat rows, as pandas.DataFrame takes them: each a mapping of names to values, with the request's ends and
+        time if it is known. Contacts and nodes are texts with blanks between. Times are seconds since 1970, or with
+        `datetime` in place of `int` they are in UTC.
+        """
+        at = {int: int, datetime: date_of}[times]
+        asked = self.request
+        ends = {"source": asked.source, "destination": asked.destination, "at": at(asked.at)} if asked else {}
+        return [{**ends, **_record(route, at)} for route in self.routes]
+
     def svg(self) -> str:
         """A picture of the routes in time, as an SVG. It needs the plan and the hops."""
         from . import showing
@@ -193,6 +204,14 @@ class Answer:
         from . import showing
 
         return showing.answer_html(self)
+
+
+def _record(route, at):
+    """A route as a flat row, with times as a function gives them."""
+    send_by = None if route.send_by is None else at(route.send_by)
+    times = {"delivery": at(route.delivery), "until": at(route.until), "send_by": send_by}
+    texts = {name: " ".join(map(str, getattr(route, name))) for name in ("contacts", "nodes")}
+    return {"rank": route.rank, "hops": len(route.contacts), "entry": route.entry, **times, **texts}
 
 
 # ---- What the program prints ------------------------------------------------------------------------------------

@@ -10,12 +10,15 @@ import html
 import io
 import itertools
 import json
+import re
 from typing import NamedTuple
 
 from .times import iso_text
 from .version import VERSION
 
 TEXT, CSV, JSON = "text", "csv", "json"  # the forms of a table
+FORMULAS = ("=", "+", "-", "@", "\t", "\r")  # how a cell begins that spreadsheets compute
+NUMERAL = re.compile(r"[+-]?\d*", re.ASCII)
 EXACT = 2**53 - 1  # up to here, numbers of JSON are read exactly everywhere
 
 
@@ -36,8 +39,14 @@ class Columns:
 def csv_lines(rows):
     """Rows of cells as lines of comma-separated values."""
     text = io.StringIO()
-    csv.writer(text, lineterminator="\n").writerows(rows)
+    csv.writer(text, lineterminator="\n").writerows(map(_cell, row) for row in rows)
     return text.getvalue()
+
+
+def _cell(value):
+    """A cell that no spreadsheet takes for a formula: an apostrophe is before what begins as one, unless it is a number."""
+    is_formula = str(value)[:1] in FORMULAS and not NUMERAL.fullmatch(str(value)) if value else False
+    return f"'{value}" if is_formula else value
 
 
 def html_table(head, rows):

@@ -18,6 +18,7 @@ _CLOCK = r"(\d\d):(\d\d)(?::(\d\d))?(?:Z|([+-])(\d\d):?(\d\d))?"
 _ISO = re.compile(rf"{_DATE}(?:(?:T|-| ){_CLOCK})?", re.ASCII)
 _FRACTION = re.compile(r"[-/\d]+[T -]\d\d:\d\d:\d\d[.,]\d.*", re.ASCII)
 _NOW = re.compile(r"now(?:([+-]\d{1,12})([smhd]))?", re.ASCII)
+_SECONDS = re.compile(r"[1-9]\d{8,11}", re.ASCII)  # since 1970, from 1973 on
 _UNITS = {"s": 1, "m": 60, "h": 3600, "d": DAY, None: 1}
 _ORIGIN = date(1970, 1, 1).toordinal()
 
@@ -60,6 +61,8 @@ def time_of(text):
 def _second_of(text):
     if found := _NOW.fullmatch(text):
         return NOW + int(found[1] or 0) * _UNITS[found[2]]
+    if _SECONDS.fullmatch(text):
+        return int(text)
     found = _ISO.fullmatch(text)
     if not found:
         return -1

@@ -12,14 +12,16 @@ import threading
 import time
 from concurrent.futures import ThreadPoolExecutor
 
-from .errors import FILE_STATUS, Refused
+from .errors import FILE_STATUS, MEMORY_STATUS, Refused
 
 
 class Tool:
     """The tool that runs: its name, a folder of its own if it needed one, what tells how far it is, the processes that it
-    waits for, how many are about to begin, the signal that waits for these, and what is to be told if a signal ends it.
+    waits for, how many are about to begin, the signal that waits for these, and what is to be told if a signal ends it. Where
+    the package is a library, no tool is running, and nothing is told.
     """
 
+    is_running = False
     name = os.path.basename(sys.argv[0])
     progress = None
     folder = None
@@ -46,39 +48,73 @@ def scratch_with(data):
     return path
 
 
-def bytes_of(path):
-    """The bytes of a file, or of standard input for `-`."""
-    with open("/dev/stdin" if path == "-" else path, "rb") as file:
-        return file.read()
+PIECE = 1 << 20  # bytes that are read at a time; a longer line is none of a text
 
 
-def lines_of(path):
-    """The lines of a file, without their line feeds."""
-    return bytes_of(path).decode("utf-8", "replace").split("\n")
+def opened(path):
+    """A file that is read by bytes, or standard input for `-`."""
+    return open("/dev/stdin" if path == "-" else path, "rb")
 
 
-def kept_file(path):
-    """The path of a file that can be read more than once: of a copy, if it is a pipe or standard input."""
-    if path != "-" and (os.path.isfile(path) or os.path.isdir(path) or not os.path.exists(path)):
-        return path
-    return scratch_with(bytes_of(path))
+def bytes_of(path, most):
+    """The bytes of a file, or of standard input for `-`; refused if there are more than so many."""
+    with opened(path) as file:
+        data = file.read(most + 1)
+    if len(data) > most:
+        raise Refused(f"{path}: it has more than {most} bytes", FILE_STATUS)
+    return data
+
+
+def beginning_of(path, most_lines, most=None):
+    """The bytes of a text, and whether these are all. It is read until it has more than so many lines or bytes, or a line that
+    is longer than a piece, so that what has no end takes no more memory.
+    """
+    pieces, lines, size = [], 0, 0
+    with opened(path) as file:
+        while piece := file.read(PIECE):
+            pieces.append(piece)
+            lines, size = lines + piece.count(b"\n"), size + len(piece)
+            if lines > most_lines or (most and size > most) or (len(piece) == PIECE and b"\n" not in piece):
+                return b"".join(pieces), False
+    return b"".join(pieces), True
+
+
+def lines_of(path, most=1000000):
+    """The lines of a text, without their line feeds; refused if there are more than so many, or one has more than a MB."""
+    data, is_whole = beginning_of(path, most)
+    if not is_whole:
+        raise Refused(f"{path}: it has more than {most} lines, or a line of more than {PIECE} bytes", FILE_STATUS)
+    return data.decode("utf-8", "replace").split("\n")
+
+
+def printable(text):
+    """A text in which what can't be printed is spelled as Python does."""
+    return "".join(it if it.isprintable() else repr(it)[1:-1] for it in text)
+
+
+def say(text):
+    """Writes a text on standard error. If that is closed or full, it is lost, and nothing else is."""
+    with contextlib.suppress(OSError, AttributeError):
+        sys.stderr.write(text)
+        sys.stderr.flush()
+        return
+    sys.stderr = None
 
 
 def tell(message):
     """Prints a line on standard error."""
     if Tool.progress:
         Tool.progress.clear()
-    line = "".join(it if it.isprintable() else repr(it)[1:-1] for it in message)
-    print(f"{Tool.name}: {line}", file=sys.stderr)
+    say(f"{Tool.name}: {printable(message)}\n")
 
 
 class Progress:
     """Tells on standard error how far a tool is: on a terminal once it has taken a second and then in one line, else in
-    a line every ten seconds. One within another tells nothing.
+    a line every ten seconds. One within another tells nothing, nor does one in a library.
     """
 
     def __init__(self):
-        self._is_first = Tool.progress is None
+        self._is_first = Tool.is_running and Tool.progress is None
         if self._is_first:
             Tool.progress = self
         self._is_terminal = sys.stderr is not None and sys.stderr.isatty()
@@ -90,7 +126,7 @@ class Progress:
             return
         self._due = time.monotonic() + (0.2 if self._is_terminal else 10)
         if self._is_terminal:
-            print(f"\r\033[K{Tool.name}: {text}", end="", file=sys.stderr, flush=True)
+            say(f"\r\033[K{Tool.name}: {text}")
             self._is_shown = True
         else:
             tell(text)
@@ -98,7 +134,7 @@ class Progress:
     def clear(self):
         """Takes the text from a terminal."""
         if self._is_shown:
-            print("\r\033[K", end="", file=sys.stderr, flush=True)
+            say("\r\033[K")
             self._is_shown = False
 
     def end(self):
@@ -106,6 +142,28 @@ class Progress:
         self.clear()
         if self._is_first:
             Tool.progress = None
+
+
+@contextlib.contextmanager
+def waiting(text):
+    """Tells what a tool waits for, and for how long it has, as `Progress` does."""
+    if not Tool.is_running:
+        yield
+        return
+    progress, over, begun = Progress(), threading.Event(), time.monotonic()
+
+    def tell_on():
+        while not over.wait(0.2):
+            progress.tell(f"{text}, for {time.monotonic() - begun:.0f} s")
+
+    telling = threading.Thread(target=tell_on, daemon=True)
+    telling.start()
+    try:
+        yield
+    finally:
+        over.set()
+        telling.join()
+        progress.end()
 
 
 # ---- Work on several processors ---------------------------------------------------------------------------------
@@ -178,6 +236,9 @@ def _end(number, _):
 def run_tool(tool):
     """Prints the text that a tool returns, or its pieces. If it is refused, says why and ends with that status."""
     gc.disable()  # answers have no cycles, and looking for some takes a sixth of the time of many
+    Tool.is_running = True
+    if sys.stderr is None:
+        _take_the_place_of_standard_error()
     for number in (signal.SIGINT, signal.SIGTERM, signal.SIGHUP):
         if number == signal.SIGINT or signal.getsignal(number) != signal.SIG_IGN:
             signal.signal(number, _end)
@@ -191,6 +252,14 @@ def run_tool(tool):
             Tool.folder.cleanup()
         signal.signal(ended.args[0], signal.SIG_DFL)
         os.kill(os.getpid(), ended.args[0])
+
+
+def _take_the_place_of_standard_error():
+    """Opens the null device where standard error is closed, so that no file that is opened later gets its number."""
+    null = os.open(os.devnull, os.O_WRONLY)
+    if null != 2:
+        os.dup2(null, 2)
+        os.close(null)
 
 
 def _run(tool):
@@ -211,6 +280,12 @@ def _run(tool):
     except OSError as error:
         where = f"{error.filename}: " if error.filename else ""
         _give_up(Refused(f"{where}{error.strerror}", FILE_STATUS))
+    except MemoryError:
+        _give_up(Refused("no memory", MEMORY_STATUS))
+    except RuntimeError as error:  # the one of a thread that can't begin
+        if "thread" not in str(error):
+            raise
+        _give_up(Refused("no memory for a thread", MEMORY_STATUS))
 
 
 def _keep_what_was_found():
@@ -224,7 +299,7 @@ def _keep_what_was_found():
 def _give_up(refused):
     """Ends a tool, with one line that says why, unless it was printed already."""
     if refused.is_told:
-        sys.stderr.write(refused.message.rstrip("\n") + "\n")
+        say(refused.message.rstrip("\n") + "\n")
     elif refused.message is not None:
         tell(refused.message)
     for hint in refused.hints:

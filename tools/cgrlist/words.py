@@ -20,10 +20,11 @@ from .inprocess import answering
 from .names import Names
 from .plans import Plan
 from .program import Program, program_path
+from .reading import kept_file, plan_bytes
 from .routes import Request
 from .tables import CSV, JSON, TEXT, Spelling
 from .times import TIMES, iso_text, sheet_text, time_of, time_text
-from .tool import Tool, bytes_of, kept_file
+from .tool import Tool
 from .version import VERSION
 
 # ---- The parser -------------------------------------------------------------------------------------------------
@@ -148,7 +149,7 @@ def named_program(words):
 
 def router_over(file, words):
     """What answers over the plan of a file: the library, or else the program that the words name."""
-    return answering(lambda: program_path(named_program(words)), bytes_of(file), file, words.program is not None)
+    return answering(lambda: program_path(named_program(words)), plan_bytes(file), file, words.program is not None)
 
 
 class Asked:
@@ -215,7 +216,6 @@ class Asked:
             return self.plan_file
         router_over(self.plan_file, self.words).check()
         return self.plan.file
-
 
     def is_plan_checked(self):
         """Whether there is a program, not a trial, which then accepts the plan. One that is named has to be there."""

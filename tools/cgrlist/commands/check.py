@@ -8,25 +8,27 @@
 
 A bad line has its number, the reason for which `cgrlist check` refuses it, the number of the other line that it repeats
 or overlaps, and its text. Below them is a repair for each reason. A bad line adds nothing, so another line may be bad
-because of it alone: the first one is the one that `cgrlist check` names. If there is a program, it checks the plan, too;
-else standard error says that there is none. F may be - for standard input, and a pipe.
+because of it alone: the first one is the one that `cgrlist check` names. At most 10000 are looked for. If there is a
+program, it checks the plan, too; else standard error says that there is none. F may be - for standard input, and a pipe.
 
-Status 0: the plan is good. 1: the session isn't. 2: the words or the names can't be used. 3: the plan is bad. 5: a file
-can't be read. 125: --session needs a program. Any other status is the program's.
+Status 0: the plan is good. 1: the session isn't. 2: the words can't be used. 3: the plan is bad. 4: the names can't be
+used. 5: a file can't be read. 125: --session needs a program. Any other status is the program's.
 """
 
+import itertools
 import json
 
-from ..errors import PLAN_STATUS, START_STATUS, Refused
+from ..errors import NO_STATUS, PLAN_STATUS, START_STATUS, Refused
 from ..hints import REPAIRS, of_text, shown
-from ..reading import Reader, lines_in
+from ..reading import Reader, lines_in, plan_bytes
 from ..tables import JSON, NUMBER, TEXT, TIME, WORD, Table, json_of, object_text
-from ..tool import bytes_of, run_tool, tell
+from ..tool import run_tool, tell, waiting
 from ..version import VERSION
 from ..words import Asked, Words, add_further_words, add_plan_word
 
 BAD = {"line": NUMBER, "reason": WORD, "other": NUMBER, "text": WORD}
 SHOWN = 1000  # bad lines that a table has
+MOST = 10000  # bad lines that are looked for
 
 
 def read_words():
@@ -51,9 +53,14 @@ def bad_text(bad, how):
     """The bad lines, and repairs for their reasons, in pieces."""
     yield from Table(BAD, [map(bad_row, bad[:SHOWN])], how).text()
     if bad[SHOWN:]:
-        yield f"and {len(bad) - SHOWN} more\n"
+        yield f"and {counted(bad, SHOWN)} more\n"
     reasons = list(dict.fromkeys(it.reason for it in bad))
     yield "".join(f"{reason}: {REPAIRS[reason]}\n" for reason in reasons)
+
+
+def counted(bad, shown=0):
+    """How many bad lines there are besides those that are shown."""
+    return f"{'at least ' * (len(bad) == MOST)}{len(bad) - shown}"
 
 
 def bad_json(bad, how):
@@ -120,22 +127,24 @@ def is_checked(asked):
 def tool():
     """The bad lines of a plan, or what stands in it, in pieces."""
     asked = read_words()
-    how, lines = asked.spelling, lines_in(bytes_of(asked.plan_file))
-    bad = [*Reader().bad_lines(lines)]
+    how, lines = asked.spelling, lines_in(plan_bytes(asked.plan_file))
+    with waiting("lines are read"):
+        bad = [*itertools.islice(Reader().bad_lines(lines), MOST)]
     for hint in of_text(lines, asked.words.plan) if bad else ():
         tell(f"hint: {hint}")
     if bad:
         yield from (bad_json if asked.words.form == JSON else bad_text)(bad, how)
-        raise Refused(f"{len(bad)} lines are bad" if bad[1:] else "a line is bad", PLAN_STATUS)
-    is_checked(asked)
-    why = why_not(asked) if asked.words.session else None
+        raise Refused(f"{counted(bad)} lines are bad" if bad[1:] else "a line is bad", PLAN_STATUS)
+    with waiting("cgrlist checks the plan"):
+        is_checked(asked)
+        why = why_not(asked) if asked.words.session else None
     session = {"session": "no" if why else "yes"} if asked.words.session else {}
     if asked.words.form == JSON:
         yield facts_json(asked.plan, how, {**session, **({"fault": why} if session else {})})
     else:
         yield facts_text(asked.plan, how) + "".join(f"session {it}\n" for it in session.values())
     if why:
-        raise Refused(f"{asked.words.session}: {why}")
+        raise Refused(f"{asked.words.session}: {why}", NO_STATUS)
 
 
 def main():

@@ -24,8 +24,8 @@ plan; what went is crossed out. With a request it also has the links of the rout
 T is 2031/03/03-01:00:00, 2031-03-03T01:00:00Z, 2031-03-03, now, or now+2h with s, m, h or d. All times are UTC. OLD, NEW
 or G may be - for standard input, and plans may be pipes.
 
-Status 0: done. 1: with --exit-code, something differs; or the names can't be used. 2: the words can't be used. 3: a plan
-is refused. 5: a file can't be read. 125: there is no program. Any other status is the program's.
+Status 0: done. 1: with --exit-code, something differs. 2: the words can't be used. 3: a plan is refused. 4: the names or
+the requests can't be used. 5: a file can't be read. 125: there is no program. Any other status is the program's.
 """
 
 import json
@@ -36,13 +36,14 @@ from typing import Optional
 from .. import hints
 from ..choosing import RANK, ranks_of
 from ..comparing import Change, contact_changes, route_changes, same_contacts
-from ..errors import PLAN_STATUS, Refused
+from ..errors import NO_STATUS, PLAN_STATUS, Refused
 from ..listing import LOOK
 from ..plans import Plan
+from ..reading import kept_file
 from ..requests import requests_in
 from ..routes import Fault, Request, Route
 from ..tables import (JSON, NUMBER, NUMBERS, PATH, TEXT, TIME, WORD, Kind, Spelling, Table, json_of, request_json, request_text)
-from ..tool import kept_file, run_tool
+from ..tool import run_tool
 from ..version import VERSION
 from ..words import Asked, Words, add_further_words, add_request_words, router_over
 
@@ -295,7 +296,7 @@ def tool():
     contacts, answers = both.contacts(), []
     yield from FORMS[words.form](both, contacts, kept(both.answers(requests, words.count), answers), how)
     if words.exit_code and (any(it.changes for it in answers) if requests else contacts.changes):
-        raise Refused(None)
+        raise Refused(None, NO_STATUS)
 
 
 def kept(them, into):

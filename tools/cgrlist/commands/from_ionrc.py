@@ -27,7 +27,7 @@ from collections import Counter, defaultdict
 from dataclasses import dataclass
 from itertools import groupby
 
-from ..errors import Refused
+from ..errors import NO_STATUS, Refused
 from ..hdtn import lines_of_hdtn
 from ..reading import GREATEST, LIGHT, LINE, LINES, MOST
 from ..times import LAST, seconds_of, time_text
@@ -37,6 +37,7 @@ from ..words import Words, time_word
 NODES = range(1, GREATEST + 1)
 RATES = range(GREATEST + 1)
 LIGHTS = range(LIGHT + 1)
+MOST_BYTES = LINES * (LINE + 1)  # of a file: as many as of a plan
 
 
 # ---- Lines that are left out ------------------------------------------------------------------------------------
@@ -538,7 +539,7 @@ def read_words():
 
 def tool():
     words = read_words()
-    files = [(name, bytes_of(name)) for name in words.files]
+    files = [(name, bytes_of(name, MOST_BYTES)) for name in words.files]
     made = Filter(words.reference, words.files, words.form)
     for name, data in files:
         made.read(name, data)
@@ -548,7 +549,7 @@ def tool():
     sys.stdout.writelines(f"{line}\n" for line in made.plan.lines)
     sys.stdout.flush()
     if made.reports and not words.lenient:
-        raise Refused(None)
+        raise Refused(None, NO_STATUS)
     return ""
 
 

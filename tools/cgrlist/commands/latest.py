@@ -17,22 +17,20 @@ arrives earlier (EveryWayIsListed in docs/proved.md of the sources).
 
 Hints on standard error name what may be mistyped. They change neither the answer nor the status.
 
-Status 0: there is such a second. 1: there is none, and one line names the best delivery. 2: the words or the names
-can't be used. 125: there is no program. Any other status is the program's, as its message is.
+Status 0: there is such a second. 1: there is none, and one line names the best delivery. 2: the words can't be used. 4:
+the names can't be used. 125: there is no program. Any other status is the program's, as its message is.
 """
 
 import json
 import sys
 
-from ..errors import WORDS_STATUS, Refused
+from ..errors import NO_STATUS, Refused
 from ..forms import ROUTE, route_row
 from ..tables import JSON, TEXT, about, json_of
 from ..times import iso_text
 from ..timetable import Start, latest_start
 from ..tool import run_tool
 from ..words import Asked, Words, add_plan_words, add_request_words, time_word
-
-NONE_STATUS = 1
 
 
 def none_text(start, time_text):
@@ -92,16 +90,12 @@ def answer(asked):
 
 
 def tool():
-    """What is printed. Status 1 is for the answer that there is no start: whatever else has it in other tools has 2."""
-    try:
-        text, is_found = answer(read_words())
-    except Refused as refused:
-        refused.status = max(refused.status, WORDS_STATUS)
-        raise
+    """What is printed."""
+    text, is_found = answer(read_words())
     if not is_found:
         sys.stdout.write(text)
         sys.stdout.flush()
-        raise Refused(None, NONE_STATUS)
+        raise Refused(None, NO_STATUS)
     return text
 
 

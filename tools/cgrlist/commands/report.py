@@ -24,9 +24,9 @@ What of them, and how:
     --send-by                       the last second at which a bundle at the source still arrives over these contacts
     --lost                          in place of the routes: for each of their contacts what is best if it is lost, and how
                                     many seconds later it delivers
-    --choices G                     in place of --count: what a router chose, a file with lines as `4,11,2` or
-                                    `31>22@2030-01-01T01:00:00Z,..`. For each line its fault, or its delivery, how many
-                                    seconds that is after the best one, and its rank, up to N of --look
+    --choices G                     in place of --count: what a router chose, a file with lines as `4,11,2`,
+                                    `31>22@2030-01-01T01:00:00Z,..`, or `-` for no route. For each line its fault, or its
+                                    delivery, how many seconds that is after the best one, and its rank, up to N of --look
     --csv                           comma-separated values; a time is 2030-01-01 02:47:22; with --hops a line a hop
     --json                          JSON, with `end` for whether the list ends there; with --requests a line a request
     --names FILE                    nodes by their names, which can be given in place of numbers, too; JSON has both
@@ -39,34 +39,39 @@ Routes are printed as they come. After Ctrl-C, standard error has a command that
 Each distinct route is searched by itself, over the plan without what those before it have. So it has no rank. With
 --via, --fits or --report, the list is gone through, and routes have ranks.
 
+Where the words have no request, each line of --choices goes on with one, as in a file of requests. A line may also be JSON:
+[4, 11, 2], or {"contacts": [4, 11, 2], "from": 31, "to": 1, "at": 1893458700}. A time may be seconds since 1970. `-` is
+wrong if there is a route: its fault is then HasRoute.
+
 Room is information and no promise. At a hop it is the rate times the seconds from sending to the contact's end, and for
-a route the smallest of its hops. It leaves out other traffic, and that a later hop has to wait for bytes that an
+a route the smallest of its hops. A rate of 0 counts as unknown: the hop has no room and limits none, and --fits leaves no
+route out for it. Room leaves out other traffic, and that a later hop has to wait for bytes that an
 earlier, slower one is still sending. If --report gives the routes, --room, --hops and --send-by need the request's
 --from, --to and --at. Where the plan has nodes above 2^53 - 1, which many readers of JSON would round, nodes are texts in JSON; and
 so are rooms if they can be so large.
 
 Hints on standard error name what may be mistyped. They change neither the answer nor the status.
 
-Status 0: done. 1: the report or the names can't be used, or the report isn't one of this plan. 2: the words can't be
-used. 3: the plan is refused. 5: a file can't be read. 125: there is no program. Any other status is the program's.
+Status 0: done. 1: with --exit-code, a choice is wrong. 2: the words can't be used. 3: the plan is refused. 4: the
+choices, the requests, the report or the names can't be used, or the report isn't one of this plan. 5: a file can't be
+read. 125: there is no program. Any other status is the program's.
 """
 
 import functools
 import os
 import shlex
 import shutil
-import sys
 import tempfile
 
 from ..choosing import JUDGING, add_judging_words, choices_text
-from ..errors import Refused
+from ..errors import INPUT_STATUS, WORDS_STATUS, Refused
 from ..forms import Form
 from ..listing import add_choice_words, added, check_choice_words, is_counted, listing_of, pages_of, tell_looked
 from ..lost import losses
 from ..requests import parts_of, requests_in
-from ..routes import whole_report_of
+from ..routes import REPORT_LINES, whole_report_of
 from ..tables import NUMBER, NUMBERS, PATH, TIME, Table, about
-from ..tool import Progress, Tool, in_order, lines_of, run_tool, tell
+from ..tool import Progress, Tool, in_order, lines_of, run_tool, say, tell
 from ..words import Asked, Words, add_form_words, add_plan_words, add_request_words
 
 
@@ -83,7 +88,7 @@ def only_answer(asked):
     """The answer to the request of the words, or to their report: no request, and a listing."""
     words = asked.words
     request = asked.request() if words.at is not None else None
-    pages = [whole_report_of(lines_of(words.report), request)] if words.report else pages_of(asked, request)
+    pages = [whole_report_of(lines_of(words.report, REPORT_LINES), request)] if words.report else pages_of(asked, request)
     Tool.when_ended = functools.partial(tell_how_to_go_on, words, pages)
     listing = listing_of(asked, pages, *([adding(asked)] * bool(request)))
     yield None, listing
@@ -133,9 +138,10 @@ def line_answered(asked, line, add):
         return listing_of(asked, pages_of(asked, line.request), add).read()
     except Refused as refused:
         if refused.is_told:
-            sys.stderr.write(refused.message.rstrip("\n") + "\n")
+            say(refused.message.rstrip("\n") + "\n")
         message = "it is refused" if refused.is_told else refused.message
-        raise Refused(f"requests line {line.place}: {message}", refused.status) from refused
+        status = INPUT_STATUS if refused.status == WORDS_STATUS else refused.status
+        raise Refused(f"requests line {line.place}: {message}", status) from refused
 
 
 # ---- Lost contacts, and a router's choices ----------------------------------------------------------------------
@@ -149,6 +155,8 @@ def losses_table(asked):
     routes = listing_of(asked, pages_of(asked, request)).routes()
     best = next((route for route in routes if route.rank == 1), None) or next(iter(asked.router.first(request, 1)), None)
     rows = [loss_row(it, plan, best) for it in losses(asked.router, plan, request, routes)]
+    if not rows:
+        tell("there is no route, so no contact can be lost")
     asked.tell_hints([request])
     return Table(LOSS, [rows], asked.spelling, "lost", lambda: about(asked.spelling, plan, request))
 

@@ -38,9 +38,9 @@ dragged. At most 1024 seconds are asked for, and all between two with the same b
 line goes to the nearest second that is known. A print has all rows that are chosen, and the first 100 routes. The page
 begins with at most 1000 routes without --all. Its address keeps what is chosen, as H#lost=11&theme=dark.
 
-Status 0: done. 1: the routes or the names can't be used, or the routes are not of this plan. 2: the words can't be
-used, or the picture is too high. 3: the plan can't be read. 5: a file can't be read, or writing failed. 125: there is
-no program. Any other status is the program's.
+Status 0: done. 2: the words can't be used, or the picture is too high. 3: the plan can't be read. 4: the routes or the
+names can't be used, or the routes are not of this plan. 5: a file can't be read, or writing failed. 125: there is no
+program. Any other status is the program's.
 """
 
 import os
@@ -54,9 +54,10 @@ from ..drawing.text import Text
 from ..drawing.told import Told, told_of
 from ..errors import FILE_STATUS, WORDS_STATUS, Refused
 from ..listing import add_choice_words, added, check_choice_words, listing_of, pages_of, tell_looked
-from ..routes import Answer, explained_routes, report_of
+from ..reading import plan_bytes
+from ..routes import REPORT_LINES, Answer, explained_routes, report_of
 from ..tables import JSON, NODE, NUMBER, PATH, TEXT, TIME, Table, about
-from ..tool import bytes_of, lines_of, run_tool
+from ..tool import lines_of, run_tool
 from ..words import Asked, Words, add_form_words, add_plan_words, add_request_words, time_word
 
 NEEDED = ("from", "to", "at")  # the words that a request has to have
@@ -164,7 +165,7 @@ def answer_of(asked):
     """The routes that are asked for, with their hops; None if none are."""
     words = asked.words
     if words.explained is not None:
-        return Answer(tuple(explained_routes(lines_of(words.explained))), None)
+        return Answer(tuple(explained_routes(lines_of(words.explained, REPORT_LINES))), None)
     if not asks_for_routes(words):
         return None
     request = asked.request()
@@ -185,7 +186,7 @@ def ranked(routes):
 
 def given_report(path, request):
     """The routes of a report's file, as of a report that may go on."""
-    return replace(report_of(lines_of(path), request), is_whole=False)
+    return replace(report_of(lines_of(path, REPORT_LINES), request), is_whole=False)
 
 
 def check_count(words, count):
@@ -243,7 +244,7 @@ def write_page(asked, view, answer):
         told = Told(answer or Answer((), None))
     else:
         told = told_of(asked.router, asked.plan, replace(answer, routes=tuple(ranked(answer.routes))))
-    text = Page(view, asked.whole_plan, bytes_of(asked.plan_file), told, asked.lost).html()
+    text = Page(view, asked.whole_plan, plan_bytes(asked.plan_file), told, asked.lost).html()
     if words.html == "-":
         return text
     write_whole(words.html, text)
@@ -252,6 +253,7 @@ def write_page(asked, view, answer):
 
 def check_apart(word, path, page):
     """Refuses a page's file that is read, too."""
+    path = "/dev/stdin" if path == "-" else path
     if path is not None and page != "-" and os.path.isfile(page) and os.path.exists(path) and os.path.samefile(path, page):
         raise Refused(f"--html: {page} is the file of --{word}; it would be lost", WORDS_STATUS)
 

@@ -17,7 +17,7 @@ T is 2031/03/03-01:00:00, 2031-03-03T01:00:00Z, 2031-03-03, now, or now+2h with 
 
 Hints on standard error name what may be mistyped. They change neither the answer nor the status.
 
-Status 0: done. 1: the names can't be used. 2: the words can't be used. 3: the plan is refused. 5: a file can't be read.
+Status 0: done. 2: the words can't be used. 3: the plan is refused. 4: the names can't be used. 5: a file can't be read.
 125: there is no program. Any other status is the program's.
 """
 

@@ -6,7 +6,7 @@ from collections import defaultdict
 from dataclasses import dataclass
 from functools import cached_property
 
-from ..errors import Refused
+from ..errors import WORDS_STATUS, Refused
 from ..names import Names
 from ..plans import links_of
 from ..routes import Hop
@@ -112,9 +112,9 @@ class Choice:
     def check(self, links):
         """Refuses links and nodes that no contact of a plan has."""
         for sender, receiver in sorted((self.links or set()) - set(links)):
-            raise Refused(f"--links: the plan has no contact from {sender} to {receiver}")
+            raise Refused(f"--links: the plan has no contact from {sender} to {receiver}", WORDS_STATUS)
         for node in sorted(set(self.nodes or ()).difference(*links)):
-            raise Refused(f"--nodes: the plan has no contact of node {node}")
+            raise Refused(f"--nodes: the plan has no contact of node {node}", WORDS_STATUS)
 
 
 # ---- The scene --------------------------------------------------------------------------------------------------

@@ -7,6 +7,7 @@ from ..lost import Lost, best_without
 from ..routes import Answer, Route
 from ..times import time_text
 from ..timetable import Stretch, known_stretches
+from ..tool import waiting
 
 STARTS = 1024  # seconds at the source that are asked for, at most
 
@@ -49,10 +50,11 @@ def _starts(router, plan, request):
     to its last end.
     """
     span = min(request.at, *(it.start for it in plan.contacts)), max(it.end for it in plan.contacts)
-    stretches = known_stretches(router, request, span, STARTS)
-    firsts = {it.route.contacts: it for it in reversed(stretches) if it.route}
-    asked = [Answer((it.route,), None, replace(request, at=it.first)) for it in firsts.values()]
-    return Starts(stretches, [route for answer in router.with_hops(asked) for route in answer.routes])
+    with waiting("the best routes by the second at the source are looked for"):
+        stretches = known_stretches(router, request, span, STARTS)
+        firsts = {it.route.contacts: it for it in reversed(stretches) if it.route}
+        asked = [Answer((it.route,), None, replace(request, at=it.first)) for it in firsts.values()]
+        return Starts(stretches, [route for answer in router.with_hops(asked) for route in answer.routes])
 
 
 # ---- Texts ------------------------------------------------------------------------------------------------------
