@@ -14,7 +14,7 @@ _cgrlist_words() {
         follow) echo --plan --lists --help ;;
         cgrlist-check) echo --help --version --plan --session --json --names --iso --program ;;
         cgrlist-compare) echo --help --version --from --to --at --margin-ppm --max-hops --avoid --requests --count --json --svg --exit-code --names --iso --program ;;
-        cgrlist-from-ionrc) echo --help --version --reference --form --lenient ;;
+        cgrlist-from-ionrc) echo --help --version --reference --form --round --lenient ;;
         cgrlist-latest) echo --help --version --by --after --plan --without --names --iso --program --from --to --margin-ppm --max-hops --avoid --json ;;
         cgrlist-report) echo --help --version --plan --without --names --iso --program --from --to --at --margin-ppm --max-hops --avoid --report --requests --count --by --via --fits --distinct --look --hops --room --choices --exit-code --later --wrong --first-number --lost --send-by --csv --json ;;
         cgrlist-timeline) echo --help --version --plan --without --names --iso --program --from --to --at --margin-ppm --max-hops --avoid --count --by --via --fits --distinct --look --report --explained --between --used --unused --links --nodes --order --text --list --csv --json --html --columns --width --all ;;
@@ -43,6 +43,7 @@ _cgrlist() {
     case $before in
         --plan | --session | --session-out | --names | --program | --report | --requests | --lists | --choices | --explained | --html) files=yes ;;
         --form) mapfile -t COMPREPLY < <(compgen -W 'ion hdtn dtnsim' -- "$word") ;;
+        --round) mapfile -t COMPREPLY < <(compgen -W 'up down' -- "$word") ;;
         --distinct) mapfile -t COMPREPLY < <(compgen -W 'entry nodes contacts' -- "$word") ;;
         --first-number) mapfile -t COMPREPLY < <(compgen -W '0 1' -- "$word") ;;
         --order) mapfile -t COMPREPLY < <(compgen -W 'link route' -- "$word") ;;

@@ -77,6 +77,7 @@ complete -c cgrlist-from-ionrc -l help -d 'show this help message and exit'
 complete -c cgrlist-from-ionrc -l version -d 'print the version'
 complete -c cgrlist-from-ionrc -l reference -d 'from when relative times count' --exclusive
 complete -c cgrlist-from-ionrc -l form -d 'whose files these are; ION\'s if not given' --exclusive -a 'ion hdtn dtnsim'
+complete -c cgrlist-from-ionrc -l round -d 'which way times, light times and rates go that aren\'t whole' --exclusive -a 'up down'
 complete -c cgrlist-from-ionrc -l lenient -d 'status 0 though lines are left out'
 complete -c cgrlist-latest -f
 complete -c cgrlist-latest -l help -d 'show this help message and exit'

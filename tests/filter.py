@@ -295,9 +295,21 @@ a contact {DAY}-00:16:40 {DAY}-00:50:00 102 10 10
 a range {DAY}-00:33:20 {DAY}-00:50:00 102 10 1
 status 0"""
     yield "a plan of HDTN, whose contacts of a pair overlap", hdtn, room.filtered, HDTN, REFERENCE, "--form hdtn"
+    yield "a plan of HDTN with the old key of rates", hdtn, room.filtered, HDTN.replace("rateBitsPerSec", "rate"), REFERENCE, "--form hdtn"
+    spelled = HDTN.replace("10000000", "1e7").replace("2000", "2000.0")
+    yield "a plan of HDTN whose whole numbers are spelled otherwise", hdtn, room.filtered, spelled, REFERENCE, "--form hdtn"
+    fractions = HDTN.replace('"startTime": 1000', '"startTime": 999.5').replace('"owlt": 2', '"owlt": 1.25').replace("80", "84.8")
+    for way, seconds, light, rate in (("up", "00:16:40", 2, 11), ("down", "00:16:39", 1, 10)):
+        rounded = hdtn.replace("00:16:40", seconds).replace("10 1 2\n", f"10 1 {light}\n").replace("102 10 10\n", f"102 10 {rate}\n")
+        yield f"a plan of HDTN, rounded {way}", rounded, room.filtered, fractions, REFERENCE, "--form hdtn --round", [way]
     for title, old, new, why in (
         ("a loopback", '"dest": 1,', '"dest": 10,', "loopback, so contacts after it have other numbers: a contact +0 +2000 10 10 1250000"),
-        ("no rate", '"rateBitsPerSec": 80', '"rate": 80', "rateBitsPerSec: no whole number"),
+        ("no rate", '"rateBitsPerSec": 80', '"speed": 80', "rateBitsPerSec: no number from 0 on, so contacts after it have other numbers: contact 2"),
+        ("a text as a rate", '"rateBitsPerSec": 80', '"rateBitsPerSec": "80"', "rateBitsPerSec: no number from 0 on, so"),
+        ("no node", '"dest": 1,', '"dest": -1,', "dest: no number from 0 on, so"),
+        ("a light time that isn't whole", '"owlt": 2', '"owlt": 0.25',
+         "no light time: 0.25: a range +0 +2000 10 1 0.25; --round up or --round down makes it whole"),
+        ("a number without bounds", '"owlt": 2', '"owlt": 1e999', "owlt: no number from 0 on, so"),
         ("another number", '"contact": 2', '"contact": 5', "it has the number 5"),
         ("no JSON", "{", "", "no contact plan of HDTN: "),
         ("no contacts", '"contacts"', '"others"', "no contact plan of HDTN: it has no list of contacts"),
@@ -305,6 +317,14 @@ status 0"""
         yield f"a plan of HDTN: {title}", (1, why), lambda: (
             lambda ran: (ran.status, why if why in ran.err else ran.err))(
                 room.filter(REFERENCE, "--form hdtn", [room.file("plan.json", HDTN.replace(old, new, 1))]))
+    doubles = "a contact +10.5 +20 1 2 9.6e3\na range +10.0 +20.9 1 2 .25\n"
+    for way, start, end, light in (("up", 11, 21, 1), ("down", 10, 20, 0)):
+        yield f"fractions, rounded {way}", f"""\
+a contact {DAY}-00:00:{start} {DAY}-00:00:20 1 2 9600
+a range {DAY}-00:00:10 {DAY}-00:00:{end} 1 2 {light}
+status 0""", room.filtered, doubles, REFERENCE, "--round", [way]
+    yield "fractions that nobody rounds", "no time: +10.5; --round up or --round down makes it whole; line 2: no light time: .25; --round up or \
+--round down makes it whole", lambda: room.ending(doubles, REFERENCE).partition("line 1: ")[2]
     yield "a plan of DtnSim", f"""\
 # contacts
 a contact {DAY}-00:00:10 {DAY}-00:00:20 1 2 100

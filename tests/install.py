@@ -22,7 +22,7 @@ CURRENT=$#; source "$0"', f"{TOP}/completions/_cgrlist"],
 }
 FILES = "--plan --session --names --program --report --requests --choices --explained --html".split()
 CHOICES = {**dict.fromkeys(FILES, ["a plan.txt"]), "--distinct": ["contacts", "entry", "nodes"], "--order": ["link", "route"],
-           "--form": ["dtnsim", "hdtn", "ion"], "--first-number": ["0", "1"]}
+           "--form": ["dtnsim", "hdtn", "ion"], "--first-number": ["0", "1"], "--round": ["down", "up"]}
 
 
 def words_in_table(shell, command):

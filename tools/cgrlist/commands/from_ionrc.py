@@ -3,6 +3,7 @@
     tools/from_ionrc [--reference T] FILE.. > plan.txt
     tools/from_ionrc --form hdtn --reference T FILE.. > plan.txt
     tools/from_ionrc --form dtnsim --reference T FILE.. > plan.txt
+    tools/from_ionrc .. --round up|down      times, light times and rates that aren't whole, as 0.25 or 9.6e3
 
 All contacts and ranges go into the one plan, in the order of the files and of their lines, with absolute times.
 T is the time from which each file counts relative times until its first line `@`: 2031/03/03-01:00:00 or now, as other
@@ -10,7 +11,11 @@ tools take it. ION takes the moment at which it reads the file. What is left out
 says why. Standard error has a line for each file: what was taken, and what was left out, regions and confidences too if
 there are any. `c contact` changes the rate of a contact, which gets a new number. FILE may be - for standard input.
 
-A plan of HDTN is JSON. Each contact has a light time of its own, and contact 0 there is contact 1 here. In a plan of
+A plan has whole seconds and whole bytes a second. A line with another number, as 0.25 or 9.6e3, is left out, unless --round
+says which way its numbers go.
+
+A plan of HDTN is JSON. Each contact has a light time of its own, and contact 0 there is contact 1 here. Its rate is
+rateBitsPerSec, or in older plans rate, which is taken for bits a second, too. In a plan of
 DtnSim, which has ION's lines, light takes no time over a link that has no range. Both forms were tried on files that
 were made for that, not on files of these projects.
 
@@ -19,12 +24,14 @@ or a file adds nothing to the plan; a message names each such line; with --lenie
 be used. 5: a file can't be read, and no plan is written, or writing failed.
 """
 
+import math
 import os
 import re
 import sys
 from bisect import bisect_left, insort
 from collections import Counter, defaultdict
 from dataclasses import dataclass
+from fractions import Fraction
 from itertools import groupby
 
 from ..errors import NO_STATUS, Refused
@@ -37,6 +44,7 @@ from ..words import Words, time_word
 NODES = range(1, GREATEST + 1)
 RATES = range(GREATEST + 1)
 LIGHTS = range(LIGHT + 1)
+OFFSETS = range(10**12)  # of relative times
 MOST_BYTES = LINES * (LINE + 1)  # of a file: as many as of a plan
 
 
@@ -72,6 +80,10 @@ class Unclear(LeftOut):
 
 class NoReference(Unclear):
     advice = " (yyyy/mm/dd-hh:mm:ss, the moment at which ION reads the file)"
+
+
+class NotWhole(Unclear):
+    advice = "; --round up or --round down makes it whole"
 
 
 class Printed(Unclear):
@@ -141,11 +153,23 @@ def checked(seconds, word):
     return seconds
 
 
-def number(word, bounds, what):
-    """The number that a word spells."""
-    if not re.fullmatch("[0-9]{1,20}", word) or int(word) not in bounds:
+FRACTION = re.compile(r"([0-9]{1,20}(?:\.[0-9]{0,20})?|\.[0-9]{1,20})(?:[eE][+-]?[0-9]{1,2})?")
+
+
+def number(word, bounds, what, rounded=None):
+    """The number that a word spells, which a function makes whole if there is one."""
+    digits = word.removeprefix("+") if bounds is OFFSETS else word
+    if re.fullmatch("[0-9]{1,20}", digits):
+        value = int(digits)
+    elif not FRACTION.fullmatch(digits):
         raise Unclear(f"no {what}: {word}")
-    return int(word)
+    elif rounded is None:
+        raise NotWhole(f"no {what}: {word}")
+    else:
+        value = rounded(Fraction(digits))
+    if value not in bounds:
+        raise Unclear(f"no {what}: {word}")
+    return value
 
 
 def node(word):
@@ -154,6 +178,8 @@ def node(word):
     if found:
         authority, before_service, alone = found.groups()
         word = str(int(authority or 0) * 2**32 + int(before_service or alone))
+    if not word.isdecimal():
+        raise Unclear(f"no node: {word}")
     return number(word, NODES, "node")
 
 
@@ -303,8 +329,8 @@ def printable(text):
 class Reader:
     """Reads the lines of a file into a plan, and counts them."""
 
-    def __init__(self, plan, reference, given):
-        self.plan, self.reference, self.given = plan, reference, given
+    def __init__(self, plan, reference, given, rounded=None):
+        self.plan, self.reference, self.given, self.rounded = plan, reference, given, rounded
         self.reference_is_unclear = False
         self.counts = Counter()
         self.commands = {
@@ -321,9 +347,13 @@ class Reader:
             self._take(line)
             return None
         except LeftOut as why:
-            self.plan.comment(f"# left out, {why}: {line}")
-            self.counts[why.kind] += 1
-            return why
+            return self.leave_out(line, why)
+
+    def leave_out(self, line, why):
+        """Makes a line a comment that says why, and counts it. Returns the reason."""
+        self.plan.comment(f"# left out, {why}: {line}")
+        self.counts[why.kind] += 1
+        return why
 
     def _take(self, line):
         words = line.split()
@@ -356,13 +386,14 @@ class Reader:
 
     def _time(self, word):
         """The seconds since 1970 of a time."""
-        if not re.fullmatch(r"\+[0-9]{1,12}", word):
+        if not word.startswith("+"):
             return absolute(word)
+        offset = number(word, OFFSETS, "time", self.rounded)
         if self.reference_is_unclear:
             raise Unclear("a relative time after a line @ that is unclear")
         if self.reference is None:
             raise NoReference("a relative time, and no --reference was given")
-        return checked(self.reference + int(word), word)
+        return checked(self.reference + offset, word)
 
     def _window(self, words, light=0):
         start, end = map(self._time, words)
@@ -379,14 +410,14 @@ class Reader:
         if words[:2] == ["-1", "-1"] and words[2] == words[3]:
             raise LeftOut("registration")
         pair, window = pair_of(words[2:4]), self._window(words[:2])
-        self.plan.add_contact(pair, window, number(words[4], RATES, "rate"))
+        self.plan.add_contact(pair, window, number(words[4], RATES, "rate", self.rounded))
         self.counts["contacts"] += 1
         self.counts["confidences"] += len(words) > 5
 
     def _add_range(self, words):
         if len(words) != 5:
             raise Unclear("not five words")
-        pair, light = pair_of(words[2:4]), number(words[4], LIGHTS, "light time")
+        pair, light = pair_of(words[2:4]), number(words[4], LIGHTS, "light time", self.rounded)
         self.counts["ranges"] += self.plan.add_range(pair, self._window(words[:2], light))
 
     def _change_contact(self, words):
@@ -395,7 +426,7 @@ class Reader:
         pair, start = pair_of(words[1:3]), self._time(words[0])
         if start not in self.plan.starts("contact", pair):
             raise Unclear("nothing of the kind stands")
-        self.plan.change_rate(pair, start, number(words[3], RATES, "rate"))
+        self.plan.change_rate(pair, start, number(words[3], RATES, "rate", self.rounded))
         self.counts["changes"] += 1
         self.counts["confidences"] += len(words) > 4
 
@@ -453,11 +484,14 @@ def summary(counts):
     return f"{', '.join(taken)}; left out: {', '.join(left_out)}"
 
 
+ROUNDED = {"up": math.ceil, "down": math.floor}
+
+
 class Filter:
     """Reads files into one plan, and keeps what is to be said about them."""
 
-    def __init__(self, reference, given, form="ion"):
-        self.reference, self.given, self.form = reference, given, form
+    def __init__(self, reference, given, form="ion", rounded=None):
+        self.reference, self.given, self.form, self.rounded = reference, given, form, rounded
         self.plan = Plan()
         self.reports = defaultdict(lambda: defaultdict(list))  # the lines of each file, by what is reported of them
         self.summaries = []
@@ -466,7 +500,7 @@ class Filter:
         """Reads a file with a name."""
         counted = "no reference given" if self.reference is None else f"relative times from {time_text(self.reference)}"
         self.plan.comment(f"# from {os.path.basename(name)}, {counted}")
-        reader, data = Reader(self.plan, self.reference, self.given), data.removeprefix(b"\xef\xbb\xbf")
+        reader, data = Reader(self.plan, self.reference, self.given, self.rounded), data.removeprefix(b"\xef\xbb\xbf")
         if self.form == "hdtn":
             self._read_hdtn(name, data, reader)
         elif foreign := foreign_form(data):
@@ -492,13 +526,15 @@ class Filter:
         """Reads the contacts of HDTN's JSON. What is left out gives those after it other numbers, so it is reported."""
         try:
             lines = list(lines_of_hdtn(data))
-        except ValueError as error:
+        except (ValueError, RecursionError) as error:
             self._report(f"no contact plan of HDTN: {error}", name)
             return
         for line in lines:
-            why = reader.read(line)
+            why = reader.leave_out(line.text, Unclear(line.wrong)) if line.wrong else reader.read(line.text)
+            line = line.text
             if why and not isinstance(why, Repeated):
-                self._report(f"{why}, so contacts after it have other numbers: {line}"[:LINE], name)
+                later = "" if line.startswith("a range") else ", so contacts after it have other numbers"
+                self._report(f"{why}{later}: {line}"[:LINE] + why.advice, name)
             elif why and line.startswith("a contact"):
                 self._report(f"the contact stands twice, so contacts after it have other numbers: {line}", name)
 
@@ -529,6 +565,7 @@ def read_words():
     words = Words(__doc__)
     words.add_argument("--reference", type=time_word, metavar="T", help="from when relative times count")
     words.add_argument("--form", choices=("ion", "hdtn", "dtnsim"), default="ion", help="whose files these are; ION's if not given")
+    words.add_argument("--round", choices=ROUNDED, help="which way times, light times and rates go that aren't whole")
     words.add_argument("--lenient", action="store_true", help="status 0 though lines are left out")
     words.add_argument("files", nargs="+", metavar="FILE", help="what ionadmin reads, or a plan of that form")
     given = words.parse_args()
@@ -540,7 +577,7 @@ def read_words():
 def tool():
     words = read_words()
     files = [(name, bytes_of(name, MOST_BYTES)) for name in words.files]
-    made = Filter(words.reference, words.files, words.form)
+    made = Filter(words.reference, words.files, words.form, ROUNDED.get(words.round))
     for name, data in files:
         made.read(name, data)
     made.end()
