@@ -60,14 +60,17 @@ Those over a plan. Lists are numbers, `-` for none:
     fits PREFIX             whether the prefix fits
     best PREFIX / EXCLUDED  the least route of a part, `none`, or `no prefix`; then
     looks                   how many looks it took
+    beside PREFIX / EXCLUDED        as `best`, with an index of the plan and a new cache
     follow CONTACTS         the delivery, or the fault
     start                   a session that begins
     read                    that of the session's text
     load, part PREFIX / EXCLUDED / ROUTE, .. finish EMITTED LAST        one that is loaded part by part
     feed, piece TEXT, held, .. finish           one of a text that is fed by the piece; `held` is what is kept of a line
     verify                  whether the session's text is that of a place
-    page COUNT              a page of the session: each route on a line, `CONTACTS / DELIVERY UNTIL ENTRY`, or `none`
+    page COUNT              a page of the session: each route on a line, `CONTACTS / DELIVERY UNTIL ENTRY`, or `none`; then
+    page-looks              how many looks its searches took
     last COUNT              the last page of the session, which is gone then: the routes, and `more` or `end`
+    last-looks COUNT, last-detours COUNT        the looks of such a page's searches, and those besides
     back                    whether a page was taken back
     certify                 whether the session is that of its place
     place                   `emitted N last CONTACTS more|end parts N back|- searches N`

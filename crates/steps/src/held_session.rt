@@ -6,7 +6,7 @@ use crate::fresh::Fresh;
 use crate::loading::{fed, loaded};
 use crate::sessions::session_step;
 use crate::words::{Words, small_number};
-use sabr_frontier::{Loader, Session};
+use sabr_frontier::{LastPage, Loader, Session};
 use sabr_model::Plan;
 use sabr_plan::digest;
 use sabr_session::{SessionFeed, read_session, verify};
@@ -35,6 +35,11 @@ impl<'p, B: Fresh<A>, A: Allocator + Copy> HeldSession<'p, B, A> {
         self.plan
     }
 
+    /// The allocator.
+    pub fn alloc(&self) -> A {
+        self.alloc
+    }
+
     /// Does a step of the session.
     pub fn step(
         &mut self,
@@ -47,11 +52,33 @@ impl<'p, B: Fresh<A>, A: Allocator + Copy> HeldSession<'p, B, A> {
 
     /// The last page of the session, at most 10000 routes, and whether there are more. The session is gone then.
     pub fn last(&mut self, desk: &Desk<'_>, words: &mut Words<'_>) -> Option<String> {
-        let count = small_number(words)?.min(10000);
-        match self.session.take()?.last_page(count) {
-            Ok(last) => routes_and_more(desk.alloc, last.routes(), last.more()),
-            Err(_) => no_memory(desk.alloc),
+        match self.last_page(words)? {
+            Some(last) => routes_and_more(desk.alloc, last.routes(), last.more()),
+            None => no_memory(desk.alloc),
         }
+    }
+
+    /// The looks of the searches of the session's last page. The session is gone then.
+    pub fn last_looks(&mut self, desk: &Desk<'_>, words: &mut Words<'_>) -> Option<String> {
+        match self.last_page(words)? {
+            Some(last) => format!(in desk.alloc; "{}", last.looks()).ok(),
+            None => no_memory(desk.alloc),
+        }
+    }
+
+    /// The looks of the session's last page besides those of its searches. The session is gone then.
+    pub fn last_detours(&mut self, desk: &Desk<'_>, words: &mut Words<'_>) -> Option<String> {
+        match self.last_page(words)? {
+            Some(last) => format!(in desk.alloc; "{}", last.detour_looks()).ok(),
+            None => no_memory(desk.alloc),
+        }
+    }
+
+    /// The last page of the session, at most 10000 routes. It is `Some(None)` if memory was refused, and `None` without a
+    /// session or a number.
+    fn last_page(&mut self, words: &mut Words<'_>) -> Option<Option<LastPage<'p, B, A>>> {
+        let count = small_number(words)?.min(10000);
+        Some(self.session.take()?.last_page(count).ok())
     }
 
     /// Holds a session in place of the one before.

@@ -4,7 +4,7 @@ use crate::answers::done;
 use crate::desk::Desk;
 use crate::fresh::Fresh;
 use crate::held_session::HeldSession;
-use crate::parts::part_step;
+use crate::parts::{best_beside, part_step};
 use crate::words::Words;
 use sabr_model::Plan;
 use std::alloc::Allocator;
@@ -57,8 +57,11 @@ fn step<A: Allocator + Copy, B: Fresh<A>>(
         "feed" => held.feed(desk),
         "verify" => held.verify(desk),
         "fits" | "best" | "looks" | "follow" => part_step(held.plan(), finder, desk, name, words),
+        "beside" => best_beside(held.alloc(), held.plan(), finder, desk, words),
         "last" => held.last(desk, words),
-        "page" | "back" | "certify" | "place" | "parts" | "write" | "keep" => {
+        "last-looks" => held.last_looks(desk, words),
+        "last-detours" => held.last_detours(desk, words),
+        "page" | "page-looks" | "back" | "certify" | "place" | "parts" | "write" | "keep" => {
             held.step(desk, name, words)
         }
         _ => desk.step(name, words),

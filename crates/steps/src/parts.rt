@@ -3,8 +3,9 @@
 use crate::answers::{no_memory, put_route, refused, yes_or_no};
 use crate::desk::Desk;
 use crate::words::{Words, numbers};
-use sabr_model::{Plan, Request, follow};
-use sabr_search::{BestOf, Part, fits};
+use sabr_index::Index;
+use sabr_model::{NoMemory, Plan, Request, Route, follow};
+use sabr_search::{BestOf, Excluded, Part, SearchCache, fits};
 use std::alloc::{Allocator, Global};
 
 /// Does a step of a finder, or one that asks the plan.
@@ -82,7 +83,42 @@ fn best<A: Allocator + Copy, B: BestOf<A>>(
     if !fits(plan, request, part) {
         return String::from_str(alloc, "no prefix").ok();
     }
-    match finder.best(plan, request, part) {
+    found_text(finder.best(plan, request, part), alloc)
+}
+
+/// Asks for the best route of the part PREFIX / EXCLUDED, with an index of the plan and a new cache.
+pub fn best_beside<A: Allocator + Copy, B: BestOf<A>>(
+    over: A,
+    plan: &Plan<A>,
+    finder: &mut B,
+    desk: &Desk<'_>,
+    words: &mut Words<'_>,
+) -> Option<String> {
+    let request = desk.asked.request().ok()?;
+    let prefix = numbers(desk.alloc, words)?;
+    let excluded = numbers(desk.alloc, words)?;
+    let part = Part {
+        prefix: &prefix,
+        excluded: &excluded,
+    };
+    if !fits(plan, &request, part) {
+        return String::from_str(desk.alloc, "no prefix").ok();
+    }
+    let Ok(index) = Index::new(over, plan) else {
+        return no_memory(desk.alloc);
+    };
+    let mut cache = SearchCache::new(over);
+    let others = Excluded::of(&excluded);
+    let found = finder.best_beside(&mut cache, &index, &request, &prefix, others);
+    found_text(found, desk.alloc)
+}
+
+/// The route that a finder found, or what it answered instead.
+fn found_text<A: Allocator + Copy>(
+    found: Result<Option<Route<A>>, NoMemory>,
+    alloc: Global,
+) -> Option<String> {
+    match found {
         Ok(Some(route)) => {
             let mut text = String::from_str(alloc, "route").ok()?;
             put_route(&mut text, &route, alloc)?;

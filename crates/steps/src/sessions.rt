@@ -19,6 +19,7 @@ pub fn session_step<A: Allocator + Copy, B: BestOf<A>>(
 ) -> Option<String> {
     match name {
         "page" => page(session, desk.alloc, small_number(words)),
+        "page-looks" => format!(in desk.alloc; "{}", session.looks()).ok(),
         "back" => yes_or_no(desk.alloc, session.back()),
         "certify" => certified(session, desk.alloc),
         "place" => place(session, desk.alloc),
