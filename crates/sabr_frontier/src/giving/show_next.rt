@@ -87,6 +87,7 @@ fn part_goes_on<B: BestOf<A>, A: Allocator + Copy>(
     ensures same { searcher.new.asked ≡ searcher.old.asked }
 {
     searcher.plan().rules_hold();
+    looks.left();
     let request = searcher.request();
     let excluded = part.excluded.as_slice();
     if goes_otherwise(

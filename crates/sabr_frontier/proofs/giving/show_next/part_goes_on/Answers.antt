@@ -106,3 +106,6 @@ returns-clause-ok g c =
 
 pub returns-clause-least : goal.returns-clause-least
 returns-clause-least g c = all_ok c.longer_go_on.result (λ _ _ same. absurd (omega (arith, same, c.longer_go_on.ensures.no_fewer, c.find_best.ensures.called)))
+
+pub returns-then-branch-clause-least : goal.returns-then-branch-clause-least
+returns-then-branch-clause-least g c _ _ = omega (arith, c.in_ok-goes_otherwise.ensures.least c.if-branch.true)
