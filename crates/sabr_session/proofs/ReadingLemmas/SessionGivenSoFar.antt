@@ -24,7 +24,7 @@ pub record HasGiven (plan : TabledPlan) (calls : Calls) (old new : Input) (t : O
   pub fine : outcome_of t [] false ≡ Err fault.Read
 
 -- the text that a feed holds is such
-abbrev pub HasFed : TabledPlan → ℕ → Input → Input → Result OpenText SessionFault → Type 0
+abbrev pub HasFed : TabledPlan → Calls → Input → Input → Result OpenText SessionFault → Type 0
 HasFed plan calls old new (Ok t) = HasGiven plan calls old new t
 HasFed plan calls old new (Err f) = ⊥
 
