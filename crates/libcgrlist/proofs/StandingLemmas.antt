@@ -5,6 +5,7 @@ use Rattle.sabr_model.specs.plan.Plan.{IsPlan}
 use Rattle.sabr_model.specs.routes.Arrival.{RouteRequest}
 use Rattle.sabr_model.specs.routes.Listing.{routes}
 use Rattle.sabr_plan.specs.Canonical.{digest_of}
+use Rattle.sabr_search.specs.questions.Calls.{no_calls}
 use Rattle.sabr_frontier.specs.listing.Listing.{state_at}
 use Rattle.sabr_frontier.specs.listing.State.{State}
 use Rattle.sabr_frontier.specs.session.Session.{Seen, next_page, session_over}
@@ -36,11 +37,11 @@ module _ (o n : OpenPlan) (bytes : List ℕ) where
   abbrev IsRead : Seen → Type 0
   IsRead s =
       IsSessionOf o.plan.plan (digest_of o.plan.plan) bytes true (Ok (s.request, s.state))
-      × (n ≡ record o { listing = Some (listing_of (session_over o.plan s.request s.state 0)) })
+      × (n ≡ record o { listing = Some (listing_of (session_over o.plan s.request s.state no_calls)) })
 
   begins_at : IsPlan o.plan.plan → (text : IsSessionText o.plan.plan bytes) → (s : Seen) → n.listing ≡ Some s → IsRead s → Begins o text.request text.place s
   begins_at rules text s is_open (read, after) =
-      let is : s ≡ listing_of (session_over o.plan s.request s.state 0) = some_same _ _ (sym is_open ∙ ap (λ (m : OpenPlan). m.listing) after) in
+      let is : s ≡ listing_of (session_over o.plan s.request s.state no_calls) = some_same _ _ (sym is_open ∙ ap (λ (m : OpenPlan). m.listing) after) in
       let place = texts_are_placed o.plan.plan bytes (s.request, s.state) rules text read in
       let plan : s.plan ≡ o.plan = ap (λ (t : Seen). t.plan) is in
       let request : s.request ≡ text.request = ap (λ (x : RouteRequest × State). x.0) place in
