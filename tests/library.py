@@ -113,7 +113,7 @@ def the_libraries(room):
         re.findall(r" [A-Z] (\w+)$", room.run("nm -g --defined-only", [f"{room.folder}/libcgrlist.a"]).out, re.M))
     yield "the shared library has its name", "libcgrlist.so.1", lambda: re.findall(
         r"soname: \[(.*)\]|$", room.run("readelf -d", [shared]).out)[0]
-    yield "it is one with the link's", os.path.realpath(shared), os.path.realpath, f"{room.folder}/libcgrlist.so"
+    yield "it is one with the link's", os.stat(shared).st_ino, lambda: os.stat(f"{room.folder}/libcgrlist.so").st_ino
     room.file("v.c", '#include "cgrlist.h"\n#include <stdio.h>\nint main(void) { char t[9]; '
               'printf("%.*s %d\\n", (int)cgrlist_version(t, sizeof t), t, cgrlist_abi() == CGRLIST_ABI); return 0; }\n')
     ran = room.run(f"cc -I{TOP}/library v.c -o v", [f"-L{room.folder}", f"-Wl,-rpath,{room.folder}", "-lcgrlist"], at=room.path)
