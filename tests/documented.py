@@ -8,6 +8,7 @@ too, and aren't checked. The lines that docs/formats.md shows for refusals are t
 command's document and line, and after the command's first words.
 """
 
+import glob
 import os
 import re
 import shutil
@@ -16,8 +17,9 @@ import sys
 
 from checking import TOP, Room, checks_of, without_progress
 
-DOCUMENTS = ["README.md", "examples/README.md", "examples/scripts.md", "docs/formats.md", "docs/cgrlist.1"]
+DOCUMENTS = ["README.md", "examples/README.md", "examples/scripts.md", "docs/formats.md", "docs/proved.md", "docs/cgrlist.1"]
 NAMED = ["examples", "tools", "docs", "tests", "completions", "install"]  # what commands name of the clone
+SOURCES = ["src", "specs", "proofs"]  # the folders of a crate that commands read
 SECONDS = 300
 
 # A command that holds such a text isn't run, and the reason is printed.
@@ -106,6 +108,10 @@ class Shown(Room):
                 shutil.copytree(f"{TOP}/{name}", f"{folder}/{name}", ignore=shutil.ignore_patterns("__pycache__"))
             else:
                 shutil.copy2(f"{TOP}/{name}", folder)
+        for part in (it for name in SOURCES for it in glob.glob(f"{TOP}/crates/*/{name}")):
+            link = f"{folder}/{os.path.relpath(part, TOP)}"
+            os.makedirs(os.path.dirname(link), exist_ok=True)
+            os.symlink(part, link)
         for place in ("cgrlist", "crates/cgrlist/out/cgrlist", "bin/cgrlist"):
             os.symlink(self.program, f"{folder}/{place}")
         os.symlink(PYTHON or sys.executable, f"{folder}/bin/python3")
