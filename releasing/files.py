@@ -7,6 +7,7 @@ import os
 import shutil
 import subprocess
 import tarfile
+import tempfile
 
 TOP = os.path.dirname(os.path.dirname(os.path.realpath(__file__)))
 EXAMPLES = "share/doc/cgrlist/examples"
@@ -49,9 +50,13 @@ def stage(root, instead, but=()):
     left out.
     """
     files, links = listing()
-    for mode, place, target in files:
-        if target not in but:
-            put(instead.get(place, f"{TOP}/{place}"), f"{root}/{target}", int(mode, 8))
+    with tempfile.TemporaryDirectory() as made:
+        for tool in ("manual_pages", "completions"):
+            subprocess.run([f"{TOP}/tools/{tool}", made], check=True)
+        instead = {**{f"made/{it}": f"{made}/{it}" for it in os.listdir(made)}, **instead}
+        for mode, place, target in files:
+            if target not in but:
+                put(instead.get(place, f"{TOP}/{place}"), f"{root}/{target}", int(mode, 8))
     for held, target in links:
         link(held, f"{root}/{target}")
 
