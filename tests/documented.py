@@ -18,7 +18,7 @@ import sys
 from checking import TOP, Room, checks_of, without_progress
 
 DOCUMENTS = ["README.md", "examples/README.md", "examples/scripts.md", "docs/formats.md", "docs/proved.md", "docs/cgrlist.1"]
-NAMED = ["examples", "tools", "docs", "tests", "completions", "install"]  # what commands name of the clone
+NAMED = ["examples", "tools", "docs", "tests", "install"]  # what commands name of the clone
 SOURCES = ["src", "specs", "proofs"]  # the folders of a crate that commands read
 SECONDS = 300
 

@@ -10,25 +10,22 @@ from checking import TOP, Room, checks_of, last_of, lines_with, parts_of
 
 TOOLS = ("check", "compare", "from_ionrc", "latest", "report", "timeline", "timetable")
 COMMANDS = "check explain first follow help many next verify".split()
-# What each shell runs to tell what it offers after some words, the last of which is to be completed. In zsh, the commands of
-# the line editor have stubs.
+# What each shell runs to tell what it offers after some words, the last of which is to be completed, and its file of
+# completions. In zsh, the commands of the line editor have stubs.
 SHELLS = {
-    "bash": ["bash", "-c", r'source "$0"; COMP_WORDS=("$@") COMP_CWORD=$(($# - 1)); _cgrlist; printf "%s\n" "${COMPREPLY[@]}"',
-             f"{TOP}/completions/cgrlist.bash"],
-    "zsh": ["zsh", "-f", "-c", 'compadd() { shift; print -l -- "$@"; }; compset() { :; }; _files() { print -l -- *; }; _describe() { \
+    "bash": (["bash", "-c", r'source "$0"; COMP_WORDS=("$@") COMP_CWORD=$(($# - 1)); _cgrlist; printf "%s\n" "${COMPREPLY[@]}"'], "cgrlist.bash"),
+    "zsh": (["zsh", "-f", "-c", 'compadd() { shift; print -l -- "$@"; }; compset() { :; }; _files() { print -l -- *; }; _describe() { \
 print -l -- "${(@)${(@P)2}%%:*}"; }; words=("$@") \
-CURRENT=$#; source "$0"', f"{TOP}/completions/_cgrlist"],
-    "fish": ["fish", "--no-config", "-c", 'source $argv[1]; complete -C "$argv[2..]"', f"{TOP}/completions/cgrlist.fish"],
+CURRENT=$#; source "$0"'], "_cgrlist"),
+    "fish": (["fish", "--no-config", "-c", 'source $argv[1]; complete -C "$argv[2..]"'], "cgrlist.fish"),
 }
 FILES = "--plan --session --names --program --report --requests --choices --explained --html".split()
 CHOICES = {**dict.fromkeys(FILES, ["a plan.txt"]), "--distinct": ["contacts", "entry", "nodes"], "--order": ["link", "route"],
            "--form": ["dtnsim", "hdtn", "ion"], "--first-number": ["0", "1"], "--round": ["down", "up"]}
 
 
-def words_in_table(shell, command):
+def words_in_table(text, shell, command):
     """The words of a command in the file of completions of zsh or fish."""
-    with open(SHELLS[shell][-1], encoding="utf-8") as file:
-        text = file.read()
     if shell == "zsh":
         return sorted(re.findall(r"^ +'(-*[a-z-]+):", re.search(rf"^    {command}\)\n((?: {{8}}.*\n)*)", text, re.M)[1], re.M))
     where = {"cgrlist": "cgrlist -n __fish_use_subcommand", "help": "cgrlist -n '__fish_seen_subcommand_from help'"}.get(
@@ -55,6 +52,8 @@ class Installing(Room):
         self.program = program
         os.mkdir(f"{self.path}/files")
         self.file("files/a plan.txt")
+        os.mkdir(f"{self.path}/made")
+        self.run("tools/completions", [f"{self.path}/made"])
 
     def words_of_help(self, *command):
         """The words that help lists: the commands, and the long form of each option. After the command `help` the other commands
@@ -67,8 +66,13 @@ class Installing(Room):
 
     def offered(self, shell, *words):
         """What a shell offers after some words."""
-        out = self.run([*SHELLS[shell], *words], at=f"{self.path}/files").out
+        offering, name = SHELLS[shell]
+        out = self.run([*offering, f"{self.path}/made/{name}", *words], at=f"{self.path}/files").out
         return sorted(filter(None, (line.partition("\t")[0] for line in out.splitlines())))
+
+    def words_in_table(self, shell, command):
+        """The words of a command in the file of completions of zsh or fish."""
+        return words_in_table(self.read(f"made/{SHELLS[shell][1]}"), shell, command)
 
     def installed(self):
         """What stands below the folder in which it was installed: type, mode, and place, a line each."""
@@ -103,7 +107,7 @@ def completions_of_the_program(room):
         for command in ((), *((it,) for it in COMMANDS)):
             wanted, what = room.words_of_help(*command), f"the words of cgrlist {''.join(command)}"
             if shell != "bash":
-                yield f"{shell}: {what}, in its table", wanted, words_in_table, shell, "".join(command) or "cgrlist"
+                yield f"{shell}: {what}, in its table", wanted, room.words_in_table, shell, "".join(command) or "cgrlist"
             if shutil.which(shell):
                 # Without dashes, fish offers no options.
                 dashes = "--" if shell == "fish" and command not in ((), ("help",)) else ""
@@ -120,13 +124,6 @@ def completions_of_the_program(room):
             yield f"{shell}: nothing after {option}", [], room.offered, shell, "cgrlist", "first", option, ""
 
 
-def completions_made(room):
-    room.run("tools/completions", [room.path])
-    for name in ("cgrlist.bash", "_cgrlist", "cgrlist.fish"):
-        with open(f"{TOP}/completions/{name}", encoding="utf-8") as file:
-            yield f"{name} is what tools/completions makes", file.read(), room.read, name
-
-
 def completions_of_the_tools(room):
     help_of = {tool: room.run(f"tools/{tool} --help", COLUMNS="1000").out for tool in TOOLS}
     for shell in SHELLS:
@@ -139,7 +136,7 @@ def completions_of_the_tools(room):
 
             words = sorted(set(options(".*")) - {"-h, "})
             if shell != "bash":
-                yield f"{shell}: the words of {command}, in its table", words, words_in_table, shell, command
+                yield f"{shell}: the words of {command}, in its table", words, room.words_in_table, shell, command
             if not shutil.which(shell):
                 continue
             yield f"{shell}: the words of {command}", words, room.offered, shell, command, "--"
@@ -275,4 +272,4 @@ def what_fails(room):
 
 def checks(asked):
     return checks_of("install", Installing(asked.program("cgrlist")), [
-        completions_of_the_program, completions_made, completions_of_the_tools, the_installation, what_fails])
+        completions_of_the_program, completions_of_the_tools, the_installation, what_fails])

@@ -1,6 +1,6 @@
 """Holds the manual pages to what mandoc asks of them, if mandoc is there. That of the program has each fault and each message
 of the tables in docs/formats.md. That of the library has the functions and the statuses of its header. Those of the tools are
-what tools/manual_pages makes of their help and of the guide."""
+made by tools/manual_pages."""
 
 import re
 import shutil
@@ -21,7 +21,7 @@ def read(name):
 def of_the_program(room):
     if shutil.which("mandoc"):
         yield "mandoc has nothing to say", "", lambda: lines_with(
-            f"^(?!.*({NO_FAULT}))", room.run("mandoc -T lint", [f"docs/{name}" for name in ["cgrlist.1", "cgrlist.3", *TOOLS]]).out)
+            f"^(?!.*({NO_FAULT}))", room.run("mandoc -T lint docs/cgrlist.1 docs/cgrlist.3", [f"{room.path}/{name}" for name in TOOLS]).out)
     else:
         print("manual: mandoc is left out, it is not here")
     page, formats = read("cgrlist.1"), read("formats.md")
@@ -50,10 +50,8 @@ def of_the_library(room):
 
 
 def of_the_tools(room):
-    room.run("tools/manual_pages", [room.path])
     for name in TOOLS:
-        page = read(name)
-        yield f"{name} is what tools/manual_pages makes", page, room.read, name
+        page = room.read(name)
         lines = "\n".join(line for line in page.splitlines() if '.\\"' not in line)
         yield f"{name} names installed commands", "", parts_of, r"(?:tools/|\.\.?/)[a-z_]+", lines
         yield (f"{name} has what is asked of a page", "NAME\nSYNOPSIS\nDESCRIPTION\nEXIT STATUS\nEXAMPLES\nSEE ALSO",
@@ -63,4 +61,6 @@ def of_the_tools(room):
 
 
 def checks(_):
-    return checks_of("manual", Room(), [of_the_program, of_the_library, of_the_tools])
+    room = Room()
+    room.run("tools/manual_pages", [room.path])
+    return checks_of("manual", room, [of_the_program, of_the_library, of_the_tools])

@@ -24,7 +24,7 @@ from checking import TOP, Check
 PROOFS = "docs/proofs.md"
 ARCHITECTURE = "docs/architecture.md"
 DOCUMENTS = ("*.md", "docs/*.md", "examples/*.md", "bench/*.md")
-FOLDERS = ("crates/", "docs/", "tests/", "tools/", "bench/", "examples/", "completions/", "page/", "releasing/")
+FOLDERS = ("crates/", "docs/", "tests/", "tools/", "bench/", "examples/", "page/", "releasing/")
 QUOTED = re.compile(r"`([^`\n]+)`")
 CHANGES = "## Where to change what"
 SOURCES = ("crates/*/src/**/*.rt", "crates/*/specs/**/*.antt")
