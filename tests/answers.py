@@ -12,6 +12,7 @@ import re
 import shutil
 import signal
 import subprocess
+import textwrap
 import time
 from collections import Counter
 from datetime import datetime, timezone
@@ -156,6 +157,16 @@ def versions_and_environments(room):
     yield "the list as JSON", listed, lambda: json.loads(room.ask("timeline --plan examples/a.txt --list --json").out)["contacts"][2]
     yield ("the list as CSV", "3,1,3,2030-01-01 00:00:50,2030-01-01 00:01:30,1000,40",
            lambda: room.told("timeline --plan examples/a.txt --list --csv").splitlines()[3])
+
+
+def help_of_tools(room):
+    """The examples of each tool's help print what stands below them, and its lines have room in a narrow terminal, but for examples."""
+    for tool in ("check", "compare", "from_ionrc", "latest", "report", "timeline", "timetable"):
+        told, examples, ends = re.split(r"\nExamples:\n|\nExit status:\n", room.run(f"tools/{tool} --help", COLUMNS="80").out)
+        yield f"{tool}: no line of help is too long", [], lambda: [it for it in (told + ends).splitlines() if len(it) > 84]
+        for command, answer in re.findall(r"^\$ (.*)\n((?:(?!\$ ).*\n)*)", textwrap.dedent(examples), re.M):
+            yield f"{tool}: an example of help: {command}", answer.rstrip("\n"), lambda: without_progress(
+                room.run("bash -c", [f"exec 2>&1; {command}"], CGRLIST=room.program).out).rstrip("\n")
 
 
 def refusal(tool):
@@ -1138,7 +1149,7 @@ digest {RELAY_DIGEST}"""
 
 def checks(asked):
     return checks_of("answers", Tools(asked.program("cgrlist")), [
-        latest_seconds, versions_and_environments, refusals, reports, reports_that_are_read, times_and_names, hops_and_room, many_routes,
+        latest_seconds, versions_and_environments, help_of_tools, refusals, reports, reports_that_are_read, times_and_names, hops_and_room, many_routes,
         a_planners_questions, in_process, a_testers_hour, choices_of_routers, what_has_no_end, standard_error_and_memory,
         what_is_printed_of_others, how_far_long_runs_are, routes_chosen, plans_compared, many_requests, hints, programs_of_clones,
         plans_judged_alike, refused_plans, plans_checked])

@@ -212,11 +212,15 @@ def ranks_of(pages, wanted, look):
 
 
 def add_judging_words(parser):
-    """Adds the words about choices to a parser of the command line."""
-    parser.add_argument("--exit-code", action="store_true", help="status 1 if a choice is wrong, and how many are")
-    parser.add_argument("--later", type=number_word, metavar="S", help="a choice is wrong if it delivers more than S seconds later; 0 if not given")
-    parser.add_argument("--wrong", action="store_true", help="only the choices that are wrong")
-    parser.add_argument("--first-number", choices=("0", "1"), help="the router's number of the first contact; 1 if not given")
+    """Adds the group of options about choices."""
+    group = parser.add_argument_group("Choices of a router, in place of routes")
+    choices = "judge what a router chose, a line for each choice; - is standard input"
+    group.add_argument("--choices", metavar="G", help=choices)
+    group.add_argument("--exit-code", action="store_true", help="status 1 if a choice is wrong; standard error counts the wrong ones")
+    later = "a choice is wrong if it delivers more than S seconds after the best route; 0 if not given"
+    group.add_argument("--later", type=number_word, metavar="S", help=later)
+    group.add_argument("--wrong", action="store_true", help="only the wrong choices")
+    group.add_argument("--first-number", choices=("0", "1"), help="the router's number of the plan's first contact; 1 if not given")
 
 
 def choices_text(asked):

@@ -163,13 +163,17 @@ def number_word(text):
 
 
 def add_choice_words(parser):
-    """Adds the words that choose routes to a parser of the command line."""
-    parser.add_argument("--count", metavar="K", help="how many routes")
-    parser.add_argument("--by", type=time_word, metavar="T", help="all routes that deliver by T")
-    parser.add_argument("--via", metavar="N", help="only the routes through this node")
-    parser.add_argument("--fits", type=number_word, metavar="BYTES", help="only the routes with room for that many bytes")
-    parser.add_argument("--distinct", choices=DISTINCT, help="only the first of routes that have this in common")
-    parser.add_argument("--look", type=number_word, metavar="N", help="how many routes are searched at most")
+    """Adds the group of options that choose routes, which it returns."""
+    group = parser.add_argument_group("Which routes")
+    count = "the first K routes, 1 to 10000, of which --via and --fits keep some; with --by or --distinct, at most K routes are shown"
+    group.add_argument("--count", metavar="K", help=count)
+    group.add_argument("--by", type=time_word, metavar="T", help="all routes that deliver by T")
+    group.add_argument("--via", metavar="N", help="only routes through node N")
+    group.add_argument("--fits", type=number_word, metavar="BYTES", help="only routes with enough room for BYTES")
+    group.add_argument("--distinct", choices=DISTINCT, help="only the first of routes that share their entry node, a relay or a contact")
+    look = f"search only the first N routes, for --distinct with --via or --fits; {LOOK} if not given"
+    group.add_argument("--look", type=number_word, metavar="N", help=look)
+    return group
 
 
 def check_choice_words(parser, words):

@@ -5,6 +5,7 @@ A tool reads its words and what they ask for as follows; a bad word is refused i
     parser = words.Words(__doc__)
     words.add_plan_words(parser)
     words.add_request_words(parser)
+    words.add_other_words(parser)
     asked = words.Asked(parser)
 """
 
@@ -12,6 +13,7 @@ import argparse
 import functools
 import os
 import re
+import textwrap
 from concurrent.futures import ThreadPoolExecutor
 
 from . import hints
@@ -50,16 +52,18 @@ class Flag(Once):
 
 
 class Words(argparse.ArgumentParser):
-    """A parser of a tool's command line, whose help is the tool's own text. A bad word has a message of one line."""
+    """A parser of a tool's command line. Its help is the tool's text: the forms of the command line, a sentence, the options in
+    groups, and then the rest of the text. A bad word has a message of one line.
+    """
 
     def __init__(self, text):
-        shape = argparse.RawDescriptionHelpFormatter
-        text = with_commands(text) if Tool.name.startswith("cgrlist-") else text
-        super().__init__(prog=Tool.name, description=text, formatter_class=shape, allow_abbrev=False)
+        sentence, forms, rest = (with_commands(text) if Tool.name.startswith("cgrlist-") else text).split("\n\n", 2)
+        forms = textwrap.indent(textwrap.dedent(forms), " " * len("usage: ")).strip()
+        shape = {"formatter_class": argparse.RawDescriptionHelpFormatter, "allow_abbrev": False, "add_help": False}
+        super().__init__(prog=Tool.name, usage=forms, description=sentence, epilog=rest, **shape)
         self.register("action", None, Once)
         self.register("action", "store_true", Flag)
         self.register("action", "store_const", Flag)
-        self.add_argument("--version", action="version", version=f"{Tool.name} {VERSION}", help="print the version")
 
     def error(self, message):
         """Refuses the words."""
@@ -67,13 +71,15 @@ class Words(argparse.ArgumentParser):
 
 
 def with_commands(text):
-    """A tool's text with the commands of installed tools, `cgrlist-report` for `tools/report`; columns stay."""
-    # A column begins after two spaces or more, and there are two more for the two letters that a command is longer.
-    of_line = re.compile(r"tools/(\w+)((?:(?!  ).)*)(?:  (?=  ))?")
-    return of_line.sub(lambda it: f"cgrlist-{it[1].replace('_', '-')}{it[2]}", text)
+    """A tool's text with the commands of installed tools, `cgrlist-report` for `tools/report`, and in its messages, too."""
+    tool = Tool.name.removeprefix("cgrlist-").replace("-", "_")
+    command = lambda it: f"cgrlist-{it[1].replace('_', '-')}" if it[1] else Tool.name
+    return re.sub(rf"(?m)tools/(\w+)|(?<=^    ){tool}(?=: )", command, text)
 
 
 # ---- Words of all tools -----------------------------------------------------------------------------------------
+
+TIME_FORMS = "A time T is 2031/03/03-01:00:00, 2031-03-03T01:00:00Z, 2031-03-03,\nnow, or now+2h with s, m, h or d. All times are UTC."
 
 
 def time_word(text):
@@ -91,47 +97,66 @@ def numbers_word(text):
     return sorted(set(map(int, text.split(","))))
 
 
-def add_plan_word(parser):
-    """Adds the plan to a parser of the command line."""
+def add_plan_word(group):
+    """Adds the plan to a group of options."""
     plan = os.environ.get("CGRLIST_PLAN") or None
-    parser.add_argument("--plan", default=plan, required=not plan, metavar="F", help="the plan's file, or - for standard input")
+    group.add_argument("--plan", default=plan, required=not plan, metavar="F", help="the plan's file, or - for standard input")
+
+
+def add_names_word(group):
+    """Adds the names of nodes."""
+    names = {"default": os.environ.get("CGRLIST_NAMES") or None, "metavar": "FILE"}
+    group.add_argument("--names", **names, help="names of nodes, a line for each, '31 lander': for the options and the answer")
 
 
 def add_plan_words(parser):
-    """Adds the words about the plan, the program and the way to print to a parser of the command line."""
-    add_plan_word(parser)
-    parser.add_argument("--without", type=numbers_word, metavar="LIST", help="contacts that are lost, by number")
-    add_further_words(parser)
-
-
-def add_further_words(parser):
-    """Adds the words about names, times and the program."""
-    names = {"default": os.environ.get("CGRLIST_NAMES") or None, "metavar": "FILE"}
-    parser.add_argument("--names", **names, help="names of nodes: lines as '31 lander'; '#' begins a comment")
-    parser.add_argument("--iso", action="store_true", help="print times as 2031-03-03T01:00:00Z")
-    places = "if not given, the clone's script cgrlist, or else the one in the path"
-    parser.add_argument("--program", metavar="P", help=f"the program; {places}")
-
-
-def add_form_words(parser):
-    """Adds the words that choose the form of a table."""
-    form = parser.add_mutually_exclusive_group()
-    form.add_argument("--csv", dest="form", action="store_const", const=CSV, help="comma-separated values")
-    form.add_argument("--json", dest="form", action="store_const", const=JSON, help="JSON")
-    parser.set_defaults(form=TEXT)
-    return form
+    """Adds the group of options about the plan."""
+    group = parser.add_argument_group("Plan")
+    add_plan_word(group)
+    lost = "answer as if these contacts were lost: numbers, joined by commas; the other contacts keep their numbers"
+    group.add_argument("--without", type=numbers_word, metavar="LIST", help=lost)
+    add_names_word(group)
 
 
 def add_request_words(parser, required=(), without=()):
-    """Adds the words of a request to a parser of the command line."""
-    for name, meaning in (("from", "the source"), ("to", "the destination")):
-        parser.add_argument(f"--{name}", metavar="N", help=meaning, required=name in required)
+    """Adds the group of options about the request, which it returns."""
+    group = parser.add_argument_group("Request", TIME_FORMS)
+    for name, meaning in (("from", "the source, a node's number or name"), ("to", "the destination")):
+        group.add_argument(f"--{name}", metavar="N", help=meaning, required=name in required)
     if "at" not in without:
-        meaning = "when the bundle is at the source, UTC"
-        parser.add_argument("--at", type=time_word, metavar="T", help=meaning, required="at" in required)
-    parser.add_argument("--margin-ppm", metavar="P", help="a margin on each light time, in parts in a million of it")
-    parser.add_argument("--max-hops", metavar="H", help="the most contacts of a route")
-    parser.add_argument("--avoid", metavar="LIST", help="nodes that no route may pass, joined by commas")
+        meaning = "the time from which the bundle is at the source"
+        group.add_argument("--at", type=time_word, metavar="T", help=meaning, required="at" in required)
+    margin = "a margin on each light time, in parts in a million of it, rounded up to seconds: 0 to 1000000; 0 if not given"
+    group.add_argument("--margin-ppm", metavar="P", help=margin)
+    group.add_argument("--max-hops", metavar="H", help="only routes of at most H contacts: 1 to 20000")
+    group.add_argument("--avoid", metavar="LIST", help="only routes that pass none of these nodes: at most 16, joined by commas")
+    return group
+
+
+FORMS = {CSV: "comma-separated values, with times as 2030-01-01 02:47:22", JSON: "JSON"}
+
+
+def add_form_words(parser, **further):
+    """Adds the group of options about the form of the answer, which it returns, and the choice of one in it. What is further
+    said of a form stands after its meaning.
+    """
+    group = parser.add_argument_group("Form of the answer")
+    choice = group.add_mutually_exclusive_group()
+    for form, meaning in FORMS.items():
+        if form in further:
+            choice.add_argument(f"--{form}", dest="form", action="store_const", const=form, help=f"{meaning}{further[form]}")
+    parser.set_defaults(form=TEXT)
+    group.add_argument("--iso", action="store_true", help="times as 2030-01-01T02:47:22Z, as JSON always has them")
+    return group, choice
+
+
+def add_other_words(parser, has_program=True):
+    """Adds the last group of options."""
+    group = parser.add_argument_group("Other options")
+    if has_program:
+        group.add_argument("--program", metavar="P", help="the program; if not given, the one of this clone, or else the one in the path")
+    group.add_argument("-h", "--help", action="help", help="show this help")
+    group.add_argument("--version", action="version", version=f"{Tool.name} {VERSION}", help="print the version")
 
 
 def node_word(parser, names, word, text):

@@ -1,18 +1,44 @@
-"""Checks a plan: names all its bad lines and how to repair them, or shows what it holds.
+"""Names all bad lines of a plan and their repair, or counts what a plan holds.
 
-    tools/check --plan F             the bad lines, or counts, nodes, first start and last end, and the digest
-    tools/check .. --session G       and whether the session text G is one of the plan and has the best routes; if not, why
-    tools/check .. --json            JSON
-    tools/check .. --names FILE      nodes by their numbers and names
-    tools/check .. --iso             times as 2030-01-01T02:47:22Z
+    tools/check --plan F [--session G] [OPTION ..]
 
-A bad line has its number, the reason for which `cgrlist check` refuses it, the number of the other line that it repeats
-or overlaps, and its text. Below them is a repair for each reason. A bad line adds nothing, so another line may be bad
-because of it alone: the first one is the one that `cgrlist check` names. At most 10000 are looked for. If there is a
-program, it checks the plan, too; else standard error says that there is none. F may be - for standard input, and a pipe.
+A bad line is shown with its number, the reason for which `cgrlist check`
+refuses it, the number of the other line that it repeats or overlaps, and its
+text. Below them is a repair for each reason. A bad line adds nothing to the
+plan, so a later line may be bad only because of it; the first bad line is the
+one that `cgrlist check` names. At most 10000 bad lines are looked for.
 
-Status 0: the plan is good. 1: the session isn't. 2: the words can't be used. 3: the plan is bad. 4: the names can't be
-used. 5: a file can't be read. 125: --session needs a program. Any other status is the program's.
+Of a good plan it shows counts, nodes, the first start, the last end, and the
+digest. If there is a program, it checks the plan, too; if there is none,
+standard error says so.
+
+Examples:
+
+    $ printf '@ 2030/01/01-00:00:00\\na contact +0 +10 1 1 9\\n' | tools/check --plan -
+    line  reason    other  text
+       2  SelfPair         a contact +0 +10 1 1 9
+    SelfPair: a loopback, as in ION's examples: take it out
+    check: a line is bad
+
+    $ tools/check --plan examples/a.txt
+    contacts 4
+    ranges 3
+    nodes 3: 1, 2, 3
+    without light 0
+    first start 2030/01/01-00:00:00
+    last end 2030/01/01-00:03:20
+    digest 141332fc8a469d56442d0323b136f9e5ff2f4859004f96653cdeb76015a2a51f
+
+Exit status:
+  0      the plan is good, and so is the session
+  1      the session isn't one of the plan, or its routes aren't the best
+  2      the options are invalid
+  3      the plan is bad
+  4      the names can't be used
+  5      a file can't be read, or the answer can't be written
+  6      no memory
+  125    there is no program, which --session needs
+  128+N  signal N ended the program
 """
 
 import itertools
@@ -21,24 +47,27 @@ import json
 from ..errors import NO_STATUS, PLAN_STATUS, START_STATUS, Refused
 from ..hints import REPAIRS, of_text, shown
 from ..reading import Reader, lines_in, plan_bytes
-from ..tables import JSON, NUMBER, TEXT, TIME, WORD, Table, json_of, object_text
+from ..tables import JSON, NUMBER, TIME, WORD, Table, json_of, object_text
 from ..tool import run_tool, tell, waiting
 from ..version import VERSION
-from ..words import Asked, Words, add_further_words, add_plan_word
+from ..words import Asked, Words, add_form_words, add_names_word, add_other_words, add_plan_word
 
 BAD = {"line": NUMBER, "reason": WORD, "other": NUMBER, "text": WORD}
 SHOWN = 1000  # bad lines that a table has
 MOST = 10000  # bad lines that are looked for
 
 
-def read_words():
-    """What the words of the command line ask for."""
+def parser_of_words():
+    """A parser of the command line."""
     parser = Words(__doc__)
-    add_plan_word(parser)
-    parser.add_argument("--session", metavar="G", help="a session text of this plan")
-    parser.add_argument("--json", dest="form", action="store_const", const=JSON, default=TEXT, help="JSON")
-    add_further_words(parser)
-    return Asked(parser)
+    group = parser.add_argument_group("Plan")
+    add_plan_word(group)
+    add_names_word(group)
+    session = "also check a session text: whether it is one of this plan and its routes are the best ones; if not, why"
+    group.add_argument("--session", metavar="G", help=session)
+    add_form_words(parser, json="")
+    add_other_words(parser)
+    return parser
 
 
 # ---- Bad lines --------------------------------------------------------------------------------------------------
@@ -126,7 +155,7 @@ def is_checked(asked):
 
 def tool():
     """The bad lines of a plan, or what stands in it, in pieces."""
-    asked = read_words()
+    asked = Asked(parser_of_words())
     how, lines = asked.spelling, lines_in(plan_bytes(asked.plan_file))
     with waiting("lines are read"):
         bad = [*itertools.islice(Reader().bad_lines(lines), MOST)]

@@ -1,31 +1,49 @@
-"""Compares two plans, and the answers to requests over them.
+"""Compares two plans, and the routes of requests over them.
 
-    tools/compare OLD NEW            the contacts that came, went, moved or changed
-    tools/compare OLD NEW --from N --to N --at T --count K [--margin-ppm P] [--max-hops H] [--avoid LIST]
-                                     and the first K routes of a request that came, went or moved
-    tools/compare OLD NEW --requests G --count K
-                                     the same for each request of a file, as for tools/report
-    tools/compare .. --json          JSON, in which `old` has what was otherwise
-    tools/compare .. --svg           a picture: the links that differ over both plans, and the routes over each
-    tools/compare .. --exit-code     status 1 if a contact differs, or with requests if a route does
-    tools/compare .. --names FILE    nodes by their names, which can be given in place of numbers, too
-    tools/compare .. --iso           times as 2030-01-01T02:47:22Z
+    tools/compare OLD NEW [OPTION ..]
+    tools/compare OLD NEW --from N --to N --at T --count K [OPTION ..]
+    tools/compare OLD NEW --requests G --count K [OPTION ..]
 
-Contacts are compared by their nodes and their start, not by their numbers, since one more contact gives all those after
-it another number. A contact that is left of a link has moved if one that is left in the other plan is no further away
-than the longer of both is long, the nearest first. `number` is the contact's number in the new plan, or in the old one if
-it went. Routes are compared by their contacts. A route has its rank and its delivery over the old plan and over the new
-one, and `later` says how many seconds later it delivers now. Ranks are looked for among the first 100000 routes.
+Contacts are the same if their nodes and their start are, whatever their
+numbers, since one more contact gives all those after it another number. Of
+the others of a link, old and new ones are paired, the nearest first. A pair
+counts as `moved` if the gap between the two is at most the length of the
+longer one. `number` is that in the new plan, or in the old plan if the
+contact went.
 
-The picture has the links that differ. What came, moved or changed has a colour, and stands below as it was in the old
-plan; what went is crossed out. With a request it also has the links of the routes: those over the new plan, and as `old
-1` those over the old one that went or moved, over its contacts as they were.
+Routes are the same if their contacts are. A route is shown with its rank and
+its delivery over the old plan and over the new one, and `later` is how many
+seconds later it delivers now. Ranks are searched among the first 100000
+routes.
 
-T is 2031/03/03-01:00:00, 2031-03-03T01:00:00Z, 2031-03-03, now, or now+2h with s, m, h or d. All times are UTC. OLD, NEW
-or G may be - for standard input, and plans may be pipes.
+A picture has the links that differ. What came, moved or changed has a colour,
+with the old contact below it; what went is crossed out. With a request it
+also has the links of the routes: the routes over the new plan, and as `old 1`
+those over the old plan that went or moved.
 
-Status 0: done. 1: with --exit-code, something differs. 2: the words can't be used. 3: a plan is refused. 4: the names or
-the requests can't be used. 5: a file can't be read. 125: there is no program. Any other status is the program's.
+Examples:
+
+    $ sed '1a a contact +1 +20 2 3 1000' examples/a.txt | tools/compare examples/a.txt - --from 1 --to 3 --at 2030-01-01 --count 1
+    contacts: 4 stay, 1 came, 0 went, 0 moved, 0 changed
+    change  number  nodes  start                end                  rate  light  old
+    came         1  2 > 3  2030/01/01-00:00:01  2030/01/01-00:00:20  1000      5
+
+    request from 1 to 3 at 2030/01/01-00:00:00
+    routes: 0 stay, 1 came, 0 went, 1 moved
+    change  old rank  rank  old delivery         delivery             later  contacts  nodes
+    came           -     1  -                    2030/01/01-00:00:15      -  2 1       1 > 2 > 3
+    moved          1     2  2030/01/01-00:00:15  2030/01/01-00:00:15      0  2 5       1 > 2 > 3
+
+Exit status:
+  0      the answer was printed
+  1      with --exit-code, a contact differs, or with requests a route
+  2      the options are invalid
+  3      a plan is refused
+  4      the names or the requests can't be used
+  5      a file can't be read, or the answer can't be written
+  6      no memory
+  125    there is no program
+  128+N  signal N ended the program
 """
 
 import json
@@ -45,7 +63,7 @@ from ..routes import Fault, Request, Route
 from ..tables import (JSON, NUMBER, NUMBERS, PATH, TEXT, TIME, WORD, Kind, Spelling, Table, json_of, request_json, request_text)
 from ..tool import run_tool
 from ..version import VERSION
-from ..words import Asked, Words, add_further_words, add_request_words, router_over
+from ..words import Asked, Words, add_form_words, add_names_word, add_other_words, add_request_words, router_over
 
 SVG = "svg"
 LIGHT = Kind(str.rjust, lambda it, how: str(it), lambda it, how: None if it == "-" else it)
@@ -55,19 +73,26 @@ ROUTE = {"change": WORD, "old_rank": RANK, "rank": RANK, "old_delivery": TIME, "
          "nodes": PATH}
 
 
+def parser_of_words():
+    """A parser of the command line."""
+    parser = Words(__doc__)
+    group = parser.add_argument_group("Plans")
+    group.add_argument("old", metavar="OLD", help="the old plan's file, or - for standard input")
+    group.add_argument("new", metavar="NEW", help="the new plan's file, likewise")
+    add_names_word(group)
+    group = add_request_words(parser)
+    group.add_argument("--requests", metavar="G", help="requests of a file, in place of --from, --to and --at: a line FROM TO AT for each")
+    group.add_argument("--count", metavar="K", help="the first K routes of each request: 1 to 10000")
+    group, form = add_form_words(parser, json=", in which `old` is what was otherwise")
+    form.add_argument("--svg", dest="form", action="store_const", const=SVG, help="a picture of both plans, with the routes over each")
+    group.add_argument("--exit-code", action="store_true", help="status 1 if a contact differs, or with requests a route")
+    add_other_words(parser)
+    return parser
+
+
 def read_words():
     """What the words of the command line ask for."""
-    parser = Words(__doc__)
-    parser.add_argument("old", metavar="OLD", help="the old plan's file")
-    parser.add_argument("new", metavar="NEW", help="the new plan's file")
-    add_request_words(parser)
-    parser.add_argument("--requests", metavar="G", help="a file of requests, in place of --from, --to and --at")
-    parser.add_argument("--count", metavar="K", help="how many routes of each request")
-    form = parser.add_mutually_exclusive_group()
-    form.add_argument("--json", dest="form", action="store_const", const=JSON, default=TEXT, help="JSON")
-    form.add_argument("--svg", dest="form", action="store_const", const=SVG, help="a picture of both plans")
-    parser.add_argument("--exit-code", action="store_true", help="status 1 if something differs")
-    add_further_words(parser)
+    parser = parser_of_words()
     asked = Asked(parser)
     check_words(parser, asked.words)
     return asked

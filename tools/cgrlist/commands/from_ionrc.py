@@ -1,27 +1,39 @@
-"""Makes a plan that `cgrlist check` accepts from files that ION's ionadmin reads, or of HDTN or DtnSim.
+"""Makes a plan of the files of ION, HDTN or DtnSim.
 
-    tools/from_ionrc [--reference T] FILE.. > plan.txt
-    tools/from_ionrc --form hdtn --reference T FILE.. > plan.txt
-    tools/from_ionrc --form dtnsim --reference T FILE.. > plan.txt
-    tools/from_ionrc .. --round up|down      times, light times and rates that aren't whole, as 0.25 or 9.6e3
+    tools/from_ionrc [--reference T] FILE .. >plan.txt
+    tools/from_ionrc --form hdtn|dtnsim --reference T FILE .. >plan.txt
 
-All contacts and ranges go into the one plan, in the order of the files and of their lines, with absolute times.
-T is the time from which each file counts relative times until its first line `@`: 2031/03/03-01:00:00 or now, as other
-tools take it. ION takes the moment at which it reads the file. What is left out is in the plan as a comment that
-says why. Standard error has a line for each file: what was taken, and what was left out, regions and confidences too if
-there are any. `c contact` changes the rate of a contact, which gets a new number. FILE may be - for standard input.
+All contacts and ranges go into one plan, which `cgrlist check` accepts, in
+the order of the files and of their lines, with absolute times. What is left
+out is in the plan as a comment that says why. Standard error counts for each
+file what was taken and what was left out. `c contact` changes the rate of a
+contact, which gets a new number.
 
-A plan has whole seconds and whole bytes a second. A line with another number, as 0.25 or 9.6e3, is left out, unless --round
-says which way its numbers go.
+A plan has whole seconds and whole bytes a second. A line with another number,
+such as 0.25 or 9.6e3, is left out without --round.
 
-A plan of HDTN is JSON. Each contact has a light time of its own, and contact 0 there is contact 1 here. Its rate is
-rateBitsPerSec, or in older plans rate, which is taken for bits a second, too. In a plan of
-DtnSim, which has ION's lines, light takes no time over a link that has no range. Both forms were tried on files that
-were made for that, not on files of these projects.
+A plan of HDTN is JSON. Its contact 0 is contact 1 here, and each contact has
+a light time of its own. Rates are those of rateBitsPerSec, or in older plans
+of rate, which is taken for bits a second, too. A plan of DtnSim has the lines
+of ION, and light takes no time over a link without a range. Both forms were
+tried on files made for the tests, not on files of these projects.
 
-Status 0: done. 1: a line was left out that may be about a contact or a range, or names a file of them that isn't given,
-or a file adds nothing to the plan; a message names each such line; with --lenient the status is 0. 2: the words can't
-be used. 5: a file can't be read, and no plan is written, or writing failed.
+Examples:
+
+    $ printf 'a contact +0 +60 1 2 1000\\na range +0 +60 1 2 5\\n' | tools/from_ionrc --reference 2030-01-01 -
+    from_ionrc: -: contacts 1, ranges 1, deletions 0; left out: loopbacks 0, repeated 0, unclear 0, other lines 0
+    # from -, relative times from 2030/01/01-00:00:00
+    a contact 2030/01/01-00:00:00 2030/01/01-00:01:00 1 2 1000
+    a range 2030/01/01-00:00:00 2030/01/01-00:01:00 1 2 5
+
+Exit status:
+  0    the plan was written
+  1    a line was left out that may be about a contact or a range, or names a
+       file that isn't given; or a file adds nothing; a message says which.
+       With --lenient the status is 0
+  2    the options are invalid
+  5    a file can't be read, and no plan is written, or writing failed
+  6    no memory
 """
 
 import math
@@ -39,7 +51,7 @@ from ..hdtn import lines_of_hdtn
 from ..reading import GREATEST, LIGHT, LINE, LINES, MOST
 from ..times import LAST, seconds_of, time_text
 from ..tool import bytes_of, run_tool, tell
-from ..words import Words, time_word
+from ..words import Words, add_other_words, time_word
 
 NODES = range(1, GREATEST + 1)
 RATES = range(GREATEST + 1)
@@ -560,14 +572,23 @@ class Filter:
 # ---- The command line -------------------------------------------------------------------------------------------
 
 
+def parser_of_words():
+    """A parser of the command line."""
+    parser = Words(__doc__)
+    group = parser.add_argument_group("Files")
+    group.add_argument("files", nargs="+", metavar="FILE", help="what ionadmin reads, or a plan of that form; - is standard input")
+    group.add_argument("--form", choices=("ion", "hdtn", "dtnsim"), default="ion", help="whose files these are; ION's if not given")
+    reference = "the time from which relative times count before a first line `@`, such as 2031/03/03-01:00:00 or now; ION takes the time at which it reads the file"
+    group.add_argument("--reference", type=time_word, metavar="T", help=reference)
+    group.add_argument("--round", choices=ROUNDED, help="make times, light times and rates whole, up or down")
+    group.add_argument("--lenient", action="store_true", help="status 0 even if lines are left out")
+    add_other_words(parser, has_program=False)
+    return parser
+
+
 def read_words():
     """The words of the command line."""
-    words = Words(__doc__)
-    words.add_argument("--reference", type=time_word, metavar="T", help="from when relative times count")
-    words.add_argument("--form", choices=("ion", "hdtn", "dtnsim"), default="ion", help="whose files these are; ION's if not given")
-    words.add_argument("--round", choices=ROUNDED, help="which way times, light times and rates go that aren't whole")
-    words.add_argument("--lenient", action="store_true", help="status 0 though lines are left out")
-    words.add_argument("files", nargs="+", metavar="FILE", help="what ionadmin reads, or a plan of that form")
+    words = parser_of_words()
     given = words.parse_args()
     if given.form != "ion" and given.reference is None:
         words.error(f"--form {given.form} needs --reference, from when all times count")

@@ -1,24 +1,35 @@
-"""Prints the latest second at which a bundle can be at the source and still be at the destination in time.
+"""Finds the last second at the source from which a bundle is delivered in time.
 
-    tools/latest --plan F --from N --to N --by T [--after T] [--margin-ppm P] [--max-hops H] [--avoid LIST]
-    tools/latest .. --without LIST  as if these contacts were lost; the others keep their numbers
-    tools/latest .. --names FILE    the route's nodes by their names, which can be given in place of numbers, too
-    tools/latest .. --iso           times as 2030-01-01T02:47:22Z
-    tools/latest .. --json          JSON, with the route's nodes and the request
+    tools/latest --plan F --from N --to N --by T [OPTION ..]
 
-It prints that second, and the best route from then on, as `cgrlist first` prints it. A delivery at T is in time. The
-`until` of a report isn't that second: it is the earliest end among a route's contacts, which is often later.
+The answer is that second, and the best route from then on, as `cgrlist first`
+prints it. The `until` of a route is another time: the earliest end of its
+contacts, which is often later.
 
-T is 2031/03/03-01:00:00, 2031-03-03T01:00:00Z, 2031-03-03, now, or now+2h with s, m, h or d. All times are UTC.
+It asks for the best route at hundreds of seconds, four or five times, each
+time between the last second in time and the first one that is too late. This
+misses none: it is proved that a bundle that starts later never arrives
+earlier (EveryWayIsListed in docs/proved.md of the sources).
 
-The program is asked for the best route at hundreds of seconds, four or five times, each time between the last one that is
-in time and the first one that is too late. This misses none: it is proved that a bundle that is at the source later never
-arrives earlier (EveryWayIsListed in docs/proved.md of the sources).
+Hints on standard error point out what may be mistyped. They change neither
+the answer nor the status.
 
-Hints on standard error name what may be mistyped. They change neither the answer nor the status.
+Examples:
 
-Status 0: there is such a second. 1: there is none, and one line names the best delivery. 2: the words can't be used. 4:
-the names can't be used. 125: there is no program. Any other status is the program's, as its message is.
+    $ tools/latest --plan examples/relay.txt --from 31 --to 1 --by 2030-01-01T06:30:00Z
+    latest 2030/01/01-05:11:59
+    1 delivery 2030/01/01-06:27:22 hops 3 entry 21 until 2030/01/01-05:12:00 contacts 6 12 2
+
+Exit status:
+  0      the answer was printed
+  1      no second is in time; one line has the best delivery
+  2      the options are invalid
+  3      the plan is refused
+  4      the names can't be used
+  5      a file can't be read, or the answer can't be written
+  6      no memory
+  125    there is no program
+  128+N  signal N ended the program
 """
 
 import json
@@ -30,7 +41,7 @@ from ..tables import JSON, TEXT, about, json_of
 from ..times import iso_text
 from ..timetable import Start, latest_start
 from ..tool import run_tool
-from ..words import Asked, Words, add_plan_words, add_request_words, time_word
+from ..words import Asked, Words, add_form_words, add_other_words, add_plan_words, add_request_words, time_word
 
 
 def none_text(start, time_text):
@@ -50,17 +61,16 @@ def nodes_text(route, plan, names):
     return " > ".join(map(names.of, plan.nodes_of(route.contacts))) + "\n"
 
 
-def read_words():
-    """What the words of the command line ask for."""
-    parser = Words(__doc__)
-    time = {"type": time_word, "metavar": "T"}
-    parser.add_argument("--by", required=True, **time, help="the deadline")
-    parser.add_argument("--after", default=0, **time, help="no second before T; 1970 if not given")
+def parser_of_words():
+    """A parser of the command line."""
+    parser, time = Words(__doc__), {"type": time_word, "metavar": "T"}
     add_plan_words(parser)
-    add_request_words(parser, required=("from", "to"), without=("at",))
-    json_word = {"dest": "form", "action": "store_const", "const": JSON, "default": TEXT}
-    parser.add_argument("--json", **json_word, help="JSON: the second, its route and the request")
-    return Asked(parser)
+    group = add_request_words(parser, required=("from", "to"), without=("at",))
+    group.add_argument("--by", required=True, **time, help="the deadline; a delivery at T is in time")
+    group.add_argument("--after", default=0, **time, help="only seconds from T on; 1970 if not given")
+    add_form_words(parser, json=", with the nodes of the route and the request")
+    add_other_words(parser)
+    return parser
 
 
 def answer_json(asked, request, start, is_found):
@@ -91,7 +101,7 @@ def answer(asked):
 
 def tool():
     """What is printed."""
-    text, is_found = answer(read_words())
+    text, is_found = answer(Asked(parser_of_words()))
     if not is_found:
         sys.stdout.write(text)
         sys.stdout.flush()

@@ -1,60 +1,70 @@
-"""Prints routes with the nodes that they pass: as a table for people, or for spreadsheets and scripts.
+"""Lists routes with the nodes that they pass, as a table, CSV or JSON.
 
-    tools/report --plan F --from N --to N --at T --count K [--margin-ppm P] [--max-hops H] [--avoid LIST]
-                                    the first K routes of a request
-    tools/report .. --by T          all routes that deliver by T, in as many pages as that takes, or the first K of them
-    tools/report .. --requests G    in place of --from, --to and --at: requests of a file, a line `from to at` for each;
-                                    a line may go on with a margin, a limit on hops and nodes to avoid, as for many
-    tools/report --plan F --report G
-                                    the routes of a report, or of pages one after the other
+    tools/report --plan F --from N --to N --at T --count K [OPTION ..]
+    tools/report --plan F --from N --to N --at T --by T [OPTION ..]
+    tools/report --plan F --from N --to N --at T --count K --lost [OPTION ..]
+    tools/report --plan F --requests G --count K [OPTION ..]
+    tools/report --plan F --choices G [--from N --to N --at T] [OPTION ..]
+    tools/report --plan F --report G [OPTION ..]
 
-Which routes:
-    --without LIST                  as if these contacts were lost; the others keep their numbers
-    --via N                         only routes through node N; K counts the routes before they are chosen
-    --fits BYTES                    only routes with room for that many bytes; K counts as for --via
-    --distinct entry|nodes|contacts
-                                    of routes that share their entry node, a relay or a contact, only the first; here K
-                                    counts those that are shown
-    --look N                        for --distinct with --via or --fits, and for --choices: search only the first N routes;
-                                    100000 if not given, but 100 for choices of several requests
+Routes are printed as they are found. The answer ends with `more`, or with
+`end` if there are no further routes. After Ctrl-C, standard error shows a
+command that goes on.
 
-What of them, and how:
-    --hops                          each hop with its contact, nodes, sending and arrival
-    --room                          the most bytes that fit by the rates of the contacts
-    --send-by                       the last second at which a bundle at the source still arrives over these contacts
-    --lost                          in place of the routes: for each of their contacts what is best if it is lost, and how
-                                    many seconds later it delivers
-    --choices G                     in place of --count: what a router chose, a file with lines as `4,11,2`,
-                                    `31>22@2030-01-01T01:00:00Z,..`, or `-` for no route. For each line its fault, or its
-                                    delivery, how many seconds that is after the best one, and its rank, up to N of --look
-    --csv                           comma-separated values; a time is 2030-01-01 02:47:22; with --hops a line a hop
-    --json                          JSON, with `end` for whether the list ends there; with --requests a line a request
-    --names FILE                    nodes by their names, which can be given in place of numbers, too; JSON has both
-    --iso                           times as 2030-01-01T02:47:22Z, which JSON always has
+For --distinct, each route is found in the plan without the contacts, or
+nodes, of the routes already shown. Its rank in the list of all routes is
+therefore unknown. With --via, --fits or --report, that list is searched, and
+routes have ranks.
 
-T is 2031/03/03-01:00:00, 2031-03-03T01:00:00Z, 2031-03-03, now, or now+2h with s, m, h or d. All times are UTC. G may
-be /dev/stdin, or - for requests. An answer ends as a report does: with `more`, or `end` if there are no further routes.
-Routes are printed as they come. After Ctrl-C, standard error has a command that goes on.
+Room is an estimate, not a promise. At a hop it is the rate times the seconds
+from sending to the end of the contact, and for a route the smallest of its
+hops. A rate of 0 is unknown and limits nothing. Room ignores other traffic,
+and the delay when a slow hop is still sending to the next one.
 
-Each distinct route is searched by itself, over the plan without what those before it have. So it has no rank. With
---via, --fits or --report, the list is gone through, and routes have ranks.
+A choice is `4,11,2`, or `31>22@2030-01-01T01:00:00Z,..` by nodes and starts,
+or `-` if the router found no route. Then comes its request, if the options
+give none, as in a file of requests. A choice may also be JSON: [4, 11, 2], or
+{"contacts": [4, 11, 2], "from": 31, "to": 1, "at": 1893458700}; and a time
+seconds since 1970. The answer shows the rank and the delivery of each choice,
+and how many seconds after the best route that is; or its fault. The fault of
+`-` is HasRoute if there is a route. Ranks are searched among the first N
+routes of --look: if not given, 100000 for one request, and 100 for several.
 
-Where the words have no request, each line of --choices goes on with one, as in a file of requests. A line may also be JSON:
-[4, 11, 2], or {"contacts": [4, 11, 2], "from": 31, "to": 1, "at": 1893458700}. A time may be seconds since 1970. `-` is
-wrong if there is a route: its fault is then HasRoute.
+In JSON, nodes and rooms are texts if some may be above 2^53 - 1, which many
+readers of JSON would round.
 
-Room is information and no promise. At a hop it is the rate times the seconds from sending to the contact's end, and for
-a route the smallest of its hops. A rate of 0 counts as unknown: the hop has no room and limits none, and --fits leaves no
-route out for it. Room leaves out other traffic, and that a later hop has to wait for bytes that an
-earlier, slower one is still sending. If --report gives the routes, --room, --hops and --send-by need the request's
---from, --to and --at. Where the plan has nodes above 2^53 - 1, which many readers of JSON would round, nodes are texts in JSON; and
-so are rooms if they can be so large.
+Hints on standard error point out what may be mistyped. They change neither
+the answer nor the status.
 
-Hints on standard error name what may be mistyped. They change neither the answer nor the status.
+Examples:
 
-Status 0: done. 1: with --exit-code, a choice is wrong. 2: the words can't be used. 3: the plan is refused. 4: the
-choices, the requests, the report or the names can't be used, or the report isn't one of this plan. 5: a file can't be
-read. 125: there is no program. Any other status is the program's.
+    $ tools/report --plan examples/relay.txt --from 31 --to 1 --at 2030-01-01T00:45:00Z --count 2
+    rank  delivery             hops  until                contacts  nodes
+       1  2030/01/01-02:47:22     3  2030/01/01-02:20:00  4 11 2    31 > 22 > 12 > 1
+       2  2030/01/01-06:27:22     3  2030/01/01-03:19:00  5 12 2    31 > 21 > 12 > 1
+    more
+
+    $ tools/report --plan examples/relay.txt --from 31 --to 1 --at 2030-01-01T00:45:00Z --count 1 --lost
+    lost  link     delivery             later  contacts  nodes
+       4  31 > 22  2030/01/01-06:27:22  13200  5 12 2    31 > 21 > 12 > 1
+      11  22 > 12  2030/01/01-06:27:22  13200  5 12 2    31 > 21 > 12 > 1
+       2  12 > 1   2030/01/01-15:17:21  44999  5 13 1    31 > 21 > 11 > 1
+
+    $ echo '5,12,2 31 1 2030-01-01T00:45:00Z' | tools/report --plan examples/relay.txt --choices -
+    line  from  to  at                   rank  delivery             later  contacts  fault
+       1  31    1   2030/01/01-00:45:00     2  2030/01/01-06:27:22  13200  5 12 2
+
+Exit status:
+  0      the answer was printed
+  1      with --exit-code, a choice is wrong
+  2      the options are invalid
+  3      the plan is refused
+  4      the choices, requests, report or names can't be used, or the report
+         isn't one of this plan
+  5      a file can't be read, or the answer can't be written
+  6      no memory
+  125    there is no program
+  128+N  signal N ended the program
 """
 
 import functools
@@ -72,7 +82,7 @@ from ..requests import parts_of, requests_in
 from ..routes import REPORT_LINES, whole_report_of
 from ..tables import NUMBER, NUMBERS, PATH, TIME, Table, about
 from ..tool import Progress, Tool, in_order, lines_of, run_tool, say, tell
-from ..words import Asked, Words, add_form_words, add_plan_words, add_request_words
+from ..words import Asked, Words, add_form_words, add_other_words, add_plan_words, add_request_words
 
 
 # ---- Answers ----------------------------------------------------------------------------------------------------
@@ -172,21 +182,29 @@ def loss_row(loss, plan, best):
 # ---- The command line -------------------------------------------------------------------------------------------
 
 
-def read_words():
-    """What the words of the command line ask for."""
+def parser_of_words():
+    """A parser of the command line."""
     parser = Words(__doc__)
     add_plan_words(parser)
-    add_request_words(parser)
-    parser.add_argument("--report", metavar="G", help="a report of this plan, in place of --count or --by")
-    parser.add_argument("--requests", metavar="G", help="a file of requests, in place of --from, --to and --at")
-    add_choice_words(parser)
-    parser.add_argument("--hops", action="store_true", help="each hop, too")
-    parser.add_argument("--room", action="store_true", help="how many bytes fit, too")
-    parser.add_argument("--choices", metavar="G", help="a router's choices, a line each, in place of --count or --by")
+    requests = "requests of a file, in place of --from, --to and --at: a line FROM TO AT for each, which may go on with a margin, a limit on hops and nodes to avoid; - is standard input"
+    add_request_words(parser).add_argument("--requests", metavar="G", help=requests)
+    report = "the routes of this report, or of its pages, in place of --count or --by; --hops, --room and --send-by then need its request"
+    add_choice_words(parser).add_argument("--report", metavar="G", help=report)
+    group = parser.add_argument_group("What is shown of them")
+    group.add_argument("--hops", action="store_true", help="also each hop: its contact, nodes, sending and arrival; in CSV a line for each")
+    group.add_argument("--room", action="store_true", help="also the most bytes that fit, by the rates of the contacts")
+    group.add_argument("--send-by", action="store_true", help="also the last second at the source for exactly these contacts")
+    lost = "in place of the routes, for each of their contacts: the best route without it, and how many seconds later that delivers"
+    group.add_argument("--lost", action="store_true", help=lost)
     add_judging_words(parser)
-    parser.add_argument("--lost", action="store_true", help="for each contact of the routes, what is best if it is lost")
-    parser.add_argument("--send-by", action="store_true", help="the last second at the source for these contacts, too")
-    add_form_words(parser)
+    add_form_words(parser, csv="", json="; its `end` says whether the list ends there; with --requests a line for each request")
+    add_other_words(parser)
+    return parser
+
+
+def read_words():
+    """What the words of the command line ask for."""
+    parser = parser_of_words()
     asked = Asked(parser)
     check_words(parser, asked.words)
     return asked

@@ -1,46 +1,57 @@
-"""Draws a contact plan in time: a row for each link, its windows as bars, and the routes below the bars that they use.
+"""Draws a plan in time, with the routes of a request.
 
-    tools/timeline --plan F                    the plan, as an SVG on standard output
-    tools/timeline --plan F --from N --to N --at T --count K [--margin-ppm P] [--max-hops H] [--avoid LIST]
-                                               with the first K routes, which the program is asked for
-    tools/timeline --plan F --from N --to N --at T .. --by T
-                                               with all routes that deliver by T
-    tools/timeline --plan F --from N --to N --at T .. --report G
-                                               with the routes of the report G, which the program explains
-    tools/timeline --plan F --explained G      with the routes of the explanations in G
-    tools/timeline .. --between T T            a span of time; if not given, that of the routes, or else of the plan
-    tools/timeline .. --unused                 also the links that no route uses
-    tools/timeline .. --links 'A>B,..'         only these links
-    tools/timeline .. --nodes A,..             only the links from and to these nodes
-    tools/timeline .. --order link             the links by their nodes, and not as the routes go
-    tools/timeline .. --width PX [--all]       how wide the picture is; it is at most 20000 high without --all
-    tools/timeline .. --text [--columns N]     the same as text
-    tools/timeline .. --html H                 an interactive page, which is the program, too: the file H,
-                                               which needs no network; `-` is standard output
-    tools/timeline --plan F --list [--csv|--json]
-                                               each contact with its number, one a line
+    tools/timeline --plan F [OPTION ..] >picture.svg
+    tools/timeline --plan F --from N --to N --at T --count K [OPTION ..]
+    tools/timeline --plan F --explained G [OPTION ..]
+    tools/timeline --plan F [--from N --to N --at T --count K] --html H
+    tools/timeline --plan F --list [--csv | --json]
 
-Each option may go with the others. With routes, only the links that they use are shown, those of the first route first
-and in its order, and so on, as if --used and --order route were given. --links and --nodes choose among all links, and
---list has all links unless --used is given. --via, --fits, --distinct and --look choose routes as for tools/report.
---without draws the routes that are left if contacts are lost, and crosses these contacts out. A plan is one that `cgrlist
-check` accepts. T is 2031/03/03-01:00:00, 2031-03-03T01:00:00Z, 2031-03-03, now, or now+2h with s, m, h or d.
-All times are UTC. A and B are nodes, by their numbers or by the names of --names. G may be /dev/stdin.
+A row is a link, with its contacts as bars, and the routes below the bars that
+they use. With routes, only the links of the routes are shown, those of the
+first route on top, in order, so that the route descends like stairs. Contacts
+that are lost are crossed out. A picture has at most 20000 pixels of height,
+and a page at most 1000 routes, unless --all is given.
 
-The page is the program: opened from a disk or a mail, it answers any request over any plan, by the proved program, which
-runs in the browser. It begins with the plan and the question of these words, and their answers, so that a browser without
-64-bit memory in WebAssembly shows these. It has the picture, which mouse, touch and keys zoom and move, and the list of
-routes; `?` lists the keys. It shows what each contact and route is, and finds contacts, nodes, links as 31 > 22, and times
-by a field. It shows all links if there are at most 60, or else those of the routes, and a button the others, under a row for
-each sender. A click on a contact, or Enter, shows the best route without it; further ones, and nodes, can be lost with it.
-The timetable below the picture has the best delivery by the second at the source, over the whole plan, and its line can be
-dragged. At most 1024 seconds are asked for, and all between two with the same best route and delivery follow from them; the
-line goes to the nearest second that is known. A print has all rows that are chosen, and the first 100 routes. The page
-begins with at most 1000 routes without --all. Its address keeps what is chosen, as H#lost=11&theme=dark.
+The page is the program: one file that any browser opens, without a network,
+and that answers any request over any plan. It begins with the plan and the
+question of the command line, and their answers. Without a program in the
+browser, which needs 64-bit memory in WebAssembly, it shows these. A click on
+a contact shows the best route without it. You can mark more contacts, or
+nodes, as lost. The timetable below the picture asks for at most 1024 start
+times. Between two of them with the same route and delivery, the answer is the
+same. `?` lists the keys, and the address keeps what is chosen.
 
-Status 0: done. 2: the words can't be used, or the picture is too high. 3: the plan can't be read. 4: the routes or the
-names can't be used, or the routes are not of this plan. 5: a file can't be read, or writing failed. 125: there is no
-program. Any other status is the program's.
+Examples:
+
+    $ tools/timeline --plan examples/relay.txt --from 31 --to 1 --at 2030-01-01T00:45:00Z --count 1 --text --columns 72
+                       2030/01/01
+    UTC                01:00       01:30       02:00       02:30
+    31 > 22            4===============================
+      route 1    ......#
+    22 > 12                                                11========
+      route 1          ....................................########
+    12 > 1     2=====================================================
+      route 1                                                     #
+    = contact, with its number   # sending to arrival   . wait
+    route 1: delivery 2030/01/01-02:47:22, contacts 4 11 2
+
+    $ tools/timeline --plan examples/a.txt --list
+    contact  from  to  start                end                  rate  light
+          1     1   2  2030/01/01-00:00:00  2030/01/01-00:01:40  1000     10
+          2     2   3  2030/01/01-00:00:20  2030/01/01-00:01:00  1000      5
+          3     1   3  2030/01/01-00:00:50  2030/01/01-00:01:30  1000     40
+          4     2   3  2030/01/01-00:00:00  2030/01/01-00:03:20  1000      5
+
+Exit status:
+  0      the answer was written
+  2      the options are invalid, or the picture is too high
+  3      the plan is refused
+  4      the names or the routes can't be used, or the routes aren't of this
+         plan
+  5      a file can't be read, or the answer can't be written
+  6      no memory
+  125    there is no program
+  128+N  signal N ended the program
 """
 
 import os
@@ -58,7 +69,7 @@ from ..reading import plan_bytes
 from ..routes import REPORT_LINES, Answer, explained_routes, report_of
 from ..tables import JSON, NODE, NUMBER, PATH, TEXT, TIME, Table, about
 from ..tool import lines_of, run_tool
-from ..words import Asked, Words, add_form_words, add_plan_words, add_request_words, time_word
+from ..words import Asked, Words, add_form_words, add_other_words, add_plan_words, add_request_words, time_word
 
 NEEDED = ("from", "to", "at")  # the words that a request has to have
 NOT_CHECKED = "cgrlist did not check this plan: there is no program"
@@ -73,33 +84,39 @@ def parser_of_words():
     parser = Words(__doc__)
     add_plan_words(parser)
     add_request_words(parser)
-    add_choice_words(parser)
-    parser.add_argument("--report", metavar="G", help="the routes of this report of the request")
-    parser.add_argument("--explained", metavar="G", help="the routes of these explanations")
+    group = add_choice_words(parser)
+    group.add_argument("--report", metavar="G", help="the routes of this report of the request, in place of --count or --by")
+    group.add_argument("--explained", metavar="G", help="the routes of these explanations, in place of a request")
     add_view_words(parser)
+    add_shape_words(parser)
+    add_other_words(parser)
     return parser
 
 
 def add_view_words(parser):
-    """Adds the words that say what is shown and how."""
+    """Adds the group of options that say what is shown."""
+    group = parser.add_argument_group("Which part of the plan")
     span = {"nargs": 2, "type": time_word, "metavar": ("T", "T")}
-    parser.add_argument("--between", **span, help="the span of time")
-    used = parser.add_mutually_exclusive_group()
-    used.add_argument("--used", action="store_true", default=None, help="only the links that the routes use")
+    group.add_argument("--between", **span, help="a span of time; if not given, that of the routes, or else of the plan")
+    used = group.add_mutually_exclusive_group()
+    used.add_argument("--used", action="store_true", default=None, help="only the links that the routes use, also with --links, --nodes or --list")
     unused = {"action": "store_false", "dest": "used", "default": None}
-    used.add_argument("--unused", **unused, help="the links that no route uses, too")
-    parser.add_argument("--links", metavar="LIST", help="only these links: 'A>B', joined by commas")
-    parser.add_argument("--nodes", metavar="LIST", help="only the links from and to these nodes, joined by commas")
-    parser.add_argument("--order", choices=("link", "route"), help="rows by nodes, or as routes go")
-    shape = parser.add_mutually_exclusive_group()
+    used.add_argument("--unused", **unused, help="also the links that no route uses")
+    group.add_argument("--links", metavar="LIST", help="only these links: 'A>B', joined by commas")
+    group.add_argument("--nodes", metavar="LIST", help="only the links from and to these nodes, joined by commas")
+    group.add_argument("--order", choices=("link", "route"), help="links by their nodes, or in the order of the routes, as if not given")
+
+
+def add_shape_words(parser):
+    """Adds the group of options that say how it is shown: as a picture, or otherwise."""
+    group, _ = add_form_words(parser, csv="; for --list", json=", for --list")
+    shape = group.add_mutually_exclusive_group()
     shape.add_argument("--text", action="store_true", help="draw with characters")
-    shape.add_argument("--list", action="store_true", help="list the contacts by number")
-    add_form_words(parser)
-    shape.add_argument("--html", metavar="H", help="write an interactive page into this file")
-    parser.add_argument("--columns", type=int, default=100, metavar="N", help="how wide a text is; 100 if not given")
-    parser.add_argument("--width", type=int, metavar="PX", help="how wide a picture is")
-    more = f"a picture that is higher than {MOST}, and a page with more routes, too"
-    parser.add_argument("--all", action="store_true", help=more)
+    shape.add_argument("--list", action="store_true", help="list the contacts, each with its number")
+    shape.add_argument("--html", metavar="H", help="write an interactive page into the file H; - is standard output")
+    group.add_argument("--columns", type=int, default=100, metavar="N", help="the width of --text; 100 if not given")
+    group.add_argument("--width", type=int, metavar="PX", help="the width of a picture, in pixels")
+    group.add_argument("--all", action="store_true", help=f"also a picture higher than {MOST}, and a page with more than {MOST_ROUTES} routes")
 
 
 def check_words(parser, words):

@@ -1,24 +1,38 @@
-"""Shows for each second at which a bundle may be at the source when it is delivered at the earliest, and by which route.
+"""Lists the best route for each second at the source.
 
-    tools/timetable --plan F --from N --to N --between T T [--margin-ppm P] [--max-hops H] [--avoid LIST]
-    tools/timetable .. --csv         comma-separated values; --json: JSON
-    tools/timetable .. --svg         a plot of delivery by second at the source
-    tools/timetable .. --without LIST  as if these contacts were lost; the others keep their numbers
-    tools/timetable .. --names FILE  nodes by their names, which can be given in place of numbers, too
-    tools/timetable .. --iso         times as 2030-01-01T02:47:22Z
+    tools/timetable --plan F --from N --to N --between T T [OPTION ..]
 
-A line covers a span of seconds, from column `from` to column `to` inclusive, over which the same route is best. A bundle
-that is at the source at the first second is delivered at `delivery`, and at the last second at `last delivery`: the same
-time, or as many seconds later as it comes later. Where there is no route, a line has no delivery. Lines are printed as
-they are found, and hold for all seconds of the span, though the program isn't asked about each: it is proved that a
-bundle that is at the source later never arrives earlier (EveryWayIsListed in docs/proved.md of the sources).
+A line covers all seconds between `from` and `to`, both included, over which
+one route is best. A bundle that is at the source at the first of them is
+delivered at `delivery`, and at the last of them at `last delivery`: either the
+same time, or later by as many seconds as the bundle starts later. Without a
+route, a line has no delivery.
 
-T is 2031/03/03-01:00:00, 2031-03-03T01:00:00Z, 2031-03-03, now, or now+2h with s, m, h or d. All times are UTC.
+Lines are printed as they are found. They hold at every second, though the
+program isn't asked at each: it is proved that a bundle that starts later never
+arrives earlier (EveryWayIsListed in docs/proved.md of the sources).
 
-Hints on standard error name what may be mistyped. They change neither the answer nor the status.
+Hints on standard error point out what may be mistyped. They change neither
+the answer nor the status.
 
-Status 0: done. 2: the words can't be used. 3: the plan is refused. 4: the names can't be used. 5: a file can't be read.
-125: there is no program. Any other status is the program's.
+Examples:
+
+    $ tools/timetable --plan examples/a.txt --from 1 --to 3 --between 2030-01-01 2030-01-01T00:02:00Z
+    from                 to                   delivery             last delivery        contacts  nodes
+    2030/01/01-00:00:00  2030/01/01-00:00:09  2030/01/01-00:00:15  2030/01/01-00:00:24  1 4       1 > 2 > 3
+    2030/01/01-00:00:10  2030/01/01-00:00:49  2030/01/01-00:00:25  2030/01/01-00:01:04  1 2       1 > 2 > 3
+    2030/01/01-00:00:50  2030/01/01-00:01:39  2030/01/01-00:01:05  2030/01/01-00:01:54  1 4       1 > 2 > 3
+    2030/01/01-00:01:40  2030/01/01-00:02:00
+
+Exit status:
+  0      the answer was printed
+  2      the options are invalid
+  3      the plan is refused
+  4      the names can't be used
+  5      a file can't be read, or the answer can't be written
+  6      no memory
+  125    there is no program
+  128+N  signal N ended the program
 """
 
 from dataclasses import replace
@@ -28,20 +42,27 @@ from ..tables import NUMBERS, PATH, TIME, Table, about
 from ..times import time_text
 from ..timetable import stretches
 from ..tool import Progress, run_tool
-from ..words import Asked, Words, add_form_words, add_plan_words, add_request_words, time_word
+from ..words import Asked, Words, add_form_words, add_other_words, add_plan_words, add_request_words, time_word
 
 STRETCH = {"from": TIME, "to": TIME, "delivery": TIME, "last_delivery": TIME, "contacts": NUMBERS, "nodes": PATH}
 
 
-def read_words():
-    """What the words of the command line ask for."""
+def parser_of_words():
+    """A parser of the command line."""
     parser = Words(__doc__)
     add_plan_words(parser)
-    add_request_words(parser, required=("from", "to"), without=("at",))
     span = {"nargs": 2, "type": time_word, "metavar": ("T", "T"), "required": True}
-    parser.add_argument("--between", **span, help="the first second at the source, and the last")
-    add_form_words(parser).add_argument("--svg", action="store_true", help="a plot")
-    asked = Asked(parser)
+    group = add_request_words(parser, required=("from", "to"), without=("at",))
+    group.add_argument("--between", **span, help="the first second at the source, and the last")
+    _, form = add_form_words(parser, csv="", json="")
+    form.add_argument("--svg", action="store_true", help="a plot of the delivery by the second at the source")
+    add_other_words(parser)
+    return parser
+
+
+def read_words():
+    """What the words of the command line ask for."""
+    asked = Asked(parser_of_words())
     if asked.words.between[0] > asked.words.between[1]:
         raise Refused("--between: the first time is after the second; see --help", WORDS_STATUS)
     return asked
