@@ -14,17 +14,13 @@ import subprocess
 import sys
 import tempfile
 
-from .files import TOP, put
+from .files import TOP, Failed, put, said_by
 
 PARTS = ("src", "specs", "proofs")  # the folders of a crate that a check reads
 HERE, ARM = "x86_64-unknown-linux-gnu", "aarch64-unknown-linux-gnu"
 LOG = f"{TOP}/crates/cgrlist/out/release.log"
 MADE = {"cgrlist": "cgrlist.o", "libcgrlist": "liblibcgrlist.a"}  # of each crate, what the prover's compiler makes
 TRUSTED_IN_ONE_RUN = ("incremental=trusted", "batches=trusted", "crate-checked=trusted")
-
-
-class Failed(Exception):
-    """The release can't be made; the message says why."""
 
 
 def read(path):
@@ -77,7 +73,7 @@ class Kit:
         if not rt:
             raise Failed("there is no command rt, which proves and compiles the crates")
         self.folder = os.path.dirname(os.path.dirname(os.path.realpath(rt)))
-        self.version = subprocess.run(["rt", "version"], stdout=subprocess.PIPE, check=True).stdout.decode().strip()
+        self.version = said_by("rt", "version").strip()
         self.archives = [f"{self.folder}/c/{it}" for it in ("libos_c.a", "liblibc_c.a")]
 
     def words(self, crate, target, room):
@@ -104,13 +100,23 @@ class Kit:
 
 
 def run(words, folder):
-    """Runs a command, and returns what it printed. The log gets it, too."""
-    ran = subprocess.run(words, cwd=folder, stdin=subprocess.DEVNULL, stdout=subprocess.PIPE, stderr=subprocess.STDOUT, check=False)
-    said = ran.stdout.decode(errors="replace")
+    """Runs a command, and returns what it printed, which goes to the log as it comes. A release that is stopped stops it by one
+    signal: by a second one, as a terminal would send it, rt would leave what it started.
+    """
     os.makedirs(os.path.dirname(LOG), exist_ok=True)
-    with open(LOG, "a", encoding="utf-8") as file:
-        file.write(said)
-    if ran.returncode:
+    with open(LOG, "ab+") as log:
+        before = log.tell()
+        how = {"stdin": subprocess.DEVNULL, "stdout": log, "stderr": subprocess.STDOUT, "start_new_session": True}
+        with subprocess.Popen(words, cwd=folder, **how) as running:
+            try:
+                running.wait()
+            except KeyboardInterrupt:
+                running.terminate()
+                running.wait()
+                raise
+        log.seek(before)
+        said = log.read().decode(errors="replace")
+    if running.returncode:
         last = "\n".join(said.splitlines()[-20:])
         raise Failed(f"{last}\n{os.path.basename(words[0])} failed; {LOG} has all that it said")
     return said
@@ -135,7 +141,7 @@ def prove(room):
     shutil.copy(f"{TOP}/HANDLES", room)
     with open(f"{room}/crates.txt", "w", encoding="utf-8") as file:
         file.writelines(f"{uses[it][0]}\n" for it in proved_by_ci())
-    subprocess.run(["git", "init", "--quiet", room], check=True)
+    said_by("git", "init", "--quiet", room)
     run(["rt", "ci"], room)
 
 
@@ -187,7 +193,7 @@ class Compiled:
         newer = ["find", *filter(os.path.exists, places), "-newer", self.path, "-print", "-quit"]
         try:
             is_made = read(f"{folder}/library.prover").decode().strip() == self.kit.version and os.path.exists(self.path)
-            if is_made and not subprocess.run(newer, stdout=subprocess.PIPE, check=True).stdout:
+            if is_made and not said_by(*newer):
                 self.write_record(self.sum(), read(f"{folder}/library.log").decode(errors="replace"), TOP)
         except (OSError, Failed):
             pass  # then it is compiled
@@ -200,7 +206,8 @@ class Compiled:
         said = run(self.kit.words(self.crate, self.target, room), f"{room}/crates/{self.crate}")
         if self.sum() != before:
             raise Failed("the sources were changed meanwhile")
-        put(f"{room}/{MADE[self.crate]}", self.path)
+        put(f"{room}/{MADE[self.crate]}", f"{self.path}.new")
+        os.replace(f"{self.path}.new", self.path)
         self.write_record(before, said, room)
 
     def tell_library_build(self):

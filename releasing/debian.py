@@ -2,7 +2,6 @@
 
 import gzip
 import os
-import subprocess
 import tempfile
 from email.utils import formatdate
 from typing import NamedTuple
@@ -108,8 +107,7 @@ class Package:
             os.chmod(at, 0o755)
             os.utime(at, (self.release.when,) * 2)
         path = f"{into}/{self.name}_{self.release.full}_{self.architecture}.deb"
-        words = ["dpkg-deb", "--root-owner-group", "-Zgzip", "--build", self.root, path]
-        subprocess.run(words, env={**os.environ, "SOURCE_DATE_EPOCH": str(self.release.when)}, check=True, stdout=subprocess.DEVNULL)
+        files.said_by("dpkg-deb", "--root-owner-group", "-Zgzip", "--build", self.root, path)
 
 
 # ---- The packages -----------------------------------------------------------------------------------------------

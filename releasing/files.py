@@ -15,12 +15,23 @@ PAGE = "share/doc/cgrlist/cgrlist.html"
 LIST = "share/cgrlist/files"  # of the names of all others, which `install` reads
 
 
+class Failed(Exception):
+    """The release can't be made; the message says why."""
+
+
+def said_by(*words):
+    """What a command prints. If it fails, its message is the release's."""
+    ran = subprocess.run(words, stdin=subprocess.DEVNULL, stdout=subprocess.PIPE, stderr=subprocess.PIPE, check=False)
+    if ran.returncode:
+        raise Failed(f"{os.path.basename(words[0])} failed: {(ran.stderr or ran.stdout).decode(errors='replace').strip()}")
+    return ran.stdout.decode()
+
+
 def listing():
     """What `install` installs: for files mode, place in the clone, and place below the prefix; for links what each holds,
     and its place.
     """
-    told = subprocess.run([f"{TOP}/install", "--list"], stdout=subprocess.PIPE, check=True).stdout.decode()
-    rows = [line.split(" ") for line in told.splitlines()]
+    rows = [line.split(" ") for line in said_by(f"{TOP}/install", "--list").splitlines()]
     return [row[1:] for row in rows if row[0] == "file"], [row[1:] for row in rows if row[0] == "link"]
 
 

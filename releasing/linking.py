@@ -6,8 +6,8 @@ import filecmp
 import os
 import subprocess
 
-from .compiling import HERE, Failed, run, sum_of
-from .files import TOP
+from .compiling import HERE, sum_of
+from .files import TOP, Failed, said_by
 
 FLAGS = ["-static", "-no-pie", "-s", "-Wl,--build-id=none,-z,relro,-z,now,-z,noexecstack"]
 COMPILER = os.environ.get("CC", "cc")
@@ -30,14 +30,14 @@ def linkers(with_arm):
 
 def link_arm(archive, folder):
     """Links the C library for 64-bit ARM in a folder."""
-    run([f"{TOP}/library/build", "--arm", archive, folder], TOP)
+    said_by(f"{TOP}/library/build", "--arm", archive, folder)
 
 
 def link_program(kit, made, program):
     """Links the program. The prover's linker, given the same object, must make the program that `rt ci` ran."""
     again = f"{program}.again"
-    run([f"{kit.folder}/bin/rattle-link", "--target", HERE, "--toolchain", f"{kit.folder}/toolchain", "-o", again, made, *kit.archives], TOP)
+    said_by(f"{kit.folder}/bin/rattle-link", "--target", HERE, "--toolchain", f"{kit.folder}/toolchain", "-o", again, made, *kit.archives)
     if not filecmp.cmp(again, f"{TOP}/crates/cgrlist/out/cgrlist", shallow=False):
         raise Failed(f"{made} isn't the object of crates/cgrlist/out/cgrlist: remove it, and run this again")
     os.remove(again)
-    run([COMPILER, *FLAGS, "-o", program, made, *kit.archives], TOP)
+    said_by(COMPILER, *FLAGS, "-o", program, made, *kit.archives)

@@ -15,18 +15,13 @@ import os
 import re
 import shutil
 import subprocess
-import sys
 import time
 
-from checking import TOP, Ran, Room, checks_of, last_of
-
-sys.path.insert(0, f"{TOP}/tools")
-import wheel
+from checking import TOP, Ran, checks_of, last_of
+from releasing import ASKED, Apart, fresh_environment
 
 COMPILING = 3600  # the most seconds
-ASKED = "--from 31 --to 1 --at 2030/01/01-00:45:00 --count 1"
 FIRST = "1 delivery 2030/01/01-02:47:22 hops 3 entry 22 until 2030/01/01-02:20:00 contacts 4 11 2\nmore\n"
-TOOLS = [it.replace("_", "-") for it in wheel.commands()]
 IN_PROCESS = """import cgrlist
 plan = cgrlist.Plan.from_file("relay.txt")
 print(type(plan.asked).__name__, plan.first(31, 1, at="2030-01-01T00:45:00Z", count=1)[0].contacts)
@@ -45,7 +40,7 @@ def told(note):
     print(f"release: {note}")
 
 
-class Released(Room):
+class Released(Apart):
     """A release, and where it is tried."""
 
     def __init__(self, program):
@@ -56,143 +51,11 @@ class Released(Room):
         words = [f"{TOP}/release", "--draft", "--into", self.dist]
         ran = subprocess.run(words, stdout=subprocess.PIPE, stderr=subprocess.PIPE, timeout=COMPILING, check=False)
         self.made = Ran(ran.returncode, ran.stdout.decode(), ran.stderr.decode())
-        self.name = f"cgrlist-{wheel.version()}-linux-x86_64"
-        self.top = f"{self.path}/{self.name}"
+        self.archive = self.file_like("*.tar.gz")
+        self.top = f"{self.path}/{os.path.basename(self.archive)[:-7]}"
 
     def file_like(self, pattern):
         return (glob.glob(f"{self.dist}/{pattern}") or [f"{self.dist}/{pattern}"])[0]
-
-    def alone(self, *words, **further):
-        """Runs words in the room, with nothing of the clone or of this machine's programs named."""
-        for name in ("CGRLIST", "CGRLIST_LIBRARY", "CGRLIST_IN_PROCESS", "PYTHONPATH"):
-            os.environ.pop(name, None)
-        return self.run(*words, at=self.path, **{"PATH": "/usr/bin:/bin", **further})
-
-    def below(self, folder):
-        """The files, links and folders below a folder."""
-        return sorted(os.path.relpath(f"{at}/{it}", folder) for at, folders, names in os.walk(folder) for it in [*folders, *names])
-
-
-def fresh_environment(room, name):
-    """Makes an environment of Python, and returns the words that begin a call of pip for it."""
-    room.run("python3 -m venv --without-pip", [f"{room.path}/{name}"])
-    return [sys.executable, "-m", "pip", "--python", f"{room.path}/{name}/bin/python"]
-
-
-# ---- Without the program ----------------------------------------------------------------------------------------
-
-
-def what_names_the_version(room):
-    yield "each file names one version", f"the version is {wheel.version()}\n", lambda: room.run("./release --check").out
-
-
-def the_package(room):
-    """pip takes the package from a clone that can't be written, without a network, and leaves nothing there."""
-    shutil.copytree(f"{TOP}/tools", f"{room.path}/tools", ignore=shutil.ignore_patterns("__pycache__"))
-    before = room.below(f"{room.path}/tools")
-    room.run("chmod -R a-w", [f"{room.path}/tools"])
-    pip = fresh_environment(room, "plain")
-    ran = room.alone(pip, "install --no-index --quiet ./tools")
-    yield "pip installs the package", "", ran.all
-    yield "it leaves nothing in the clone", before, room.below, f"{room.path}/tools"
-    yield "its commands are there", [f"cgrlist-{it}" for it in TOOLS], lambda: sorted(
-        os.path.basename(it) for it in glob.glob(f"{room.path}/plain/bin/cgrlist*"))
-    yield ("without a program it says how to get one",
-           "cgrlist-report: there is no program: looked for it here and in the path; --program or CGRLIST names another place; a release has "
-           "one, and cgrlist.html answers in a browser\nstatus 125", lambda: room.alone(
-               [f"{room.path}/plain/bin/cgrlist-report"], f"--plan relay.txt {ASKED}").all())
-    room.run("chmod -R u+w", [f"{room.path}/tools"])
-
-
-def what_is_refused(room):
-    room.run("git clone --quiet --local", [TOP, f"{room.path}/changed"])
-    with open(f"{room.path}/changed/README.md", "a", encoding="utf-8") as file:
-        file.write("\n")
-    shutil.copy(f"{TOP}/release", f"{room.path}/changed")
-    shutil.copytree(f"{TOP}/releasing", f"{room.path}/changed/releasing", dirs_exist_ok=True)
-    shutil.copy(f"{TOP}/tools/wheel.py", f"{room.path}/changed/tools")
-    yield "changes that no commit has", (1, True), lambda: (lambda it: (it.status, "README.md" in it.err))(
-        room.run([f"{room.path}/changed/release"]))
-    yield "then nothing is made", False, os.path.exists, f"{room.path}/changed/dist"
-    yield "words that it doesn't know", 2, lambda: room.run("./release --nowhere").status
-
-
-MADE_OF_STAND_INS = """import os, sys
-sys.dont_write_bytecode = True
-from importlib.machinery import SourceFileLoader
-room, shared, *instead = sys.argv[1:]
-release = SourceFileLoader("release", "release").load_module()
-release.files.stage(f"{room}/stage", dict(zip(instead, ["/bin/true"] * len(instead))))
-os.mkdir(f"{room}/dist")
-made = release.debian.Release("1.2.3", 1893456000, "0" * 40, "somebody <somebody@example.org>")
-release.make_of_stage(made, f"{room}/stage", ("x86_64", "amd64"), "proof", f"{room}/dist")
-print(release.sums(f"{room}/dist"), end="")
-"""
-
-
-def what_needs_no_prover(room):
-    """Archives of stand-ins, made twice, and what the archive's `install` does."""
-    if not (shutil.which("dpkg-deb") and shutil.which("readelf")):
-        told("archives of stand-ins are left out: there is no dpkg-deb or no readelf")
-        return
-    instead = [line.split()[2] for line in room.run("./install --list").out.splitlines() if "/out/" in line]
-    shared = next(os.path.basename(it) for it in instead if ".so." in it)
-    found = []
-    for name, mask, zone in (("one", "022", "UTC"), ("the other", "077", "Asia/Kolkata")):
-        os.mkdir(f"{room.path}/{name}")
-        ran = room.run("sh -c", [f'umask {mask}; exec "$@"'], "sh python3 -c", [MADE_OF_STAND_INS, f"{room.path}/{name}", shared], instead,
-                       TZ=zone, HOME=room.path)
-        found.append(ran.all())
-    yield "they are made", 5, lambda: len(found[0].splitlines())
-    yield "twice the same bytes", found[0], lambda: found[1]
-    room.run("tar xzf", glob.glob(f"{room.path}/one/dist/*.tar.gz"), at=room.path)
-    top, home = glob.glob(f"{room.path}/cgrlist-*")[0], f"{room.path}/a home"
-    files = open(f"{top}/share/cgrlist/files", encoding="utf-8").read().splitlines()
-    yield "`install` has all files", files, lambda: sorted(
-        it for it in room.below(top) if it.startswith(("bin/", "include/", "lib/", "share/")) and not (
-            os.path.isdir(f"{top}/{it}") and not os.path.islink(f"{top}/{it}")))
-    yield from what_install_does(room, top, home, files)
-
-
-def what_install_does(room, top, home, files):
-    ran = room.alone([f"{top}/install", home])
-    yield "it installs, and prints each file", (0, [f"{home}/{it}" for it in files]), lambda: (ran.status, ran.out.splitlines())
-    yield "the prefix stands in cgrlist.pc", f"prefix={home}", lambda: room.read("a home/lib/pkgconfig/cgrlist.pc").partition("\n")[0]
-    installed = room.below(home)
-    room.file("a home/bin/cgrlist-old")
-    with open(f"{home}/share/cgrlist/files", "a", encoding="utf-8") as file:
-        file.write("bin/cgrlist-old\n")
-    room.alone([f"{top}/install", home])
-    yield "an upgrade takes away what is no more", installed, room.below, home
-    yield from full_disks(room, top)
-    room.file("a home/other")
-    ran = room.alone([f"{top}/install"], "--uninstall", [home])
-    yield "uninstalling leaves what others put there", (0, ["other"]), lambda: (ran.status, room.below(home))
-    os.remove(f"{home}/other")
-    for title, words in (("a fresh prefix", [home]), ("DESTDIR", ["/usr"])):
-        further = {"DESTDIR": home} if title == "DESTDIR" else {}
-        shutil.rmtree(home, ignore_errors=True)
-        room.alone([f"{top}/install"], words, **further)
-        room.alone([f"{top}/install"], "--uninstall", words, **further)
-        yield f"uninstalling leaves nothing: {title}", [], lambda: [it for it in room.below(home) if not os.path.isdir(f"{home}/{it}")]
-    yield "a fresh prefix is gone", False, lambda: (room.alone([f"{top}/install"], [f"{home}/new"]),
-                                                  room.alone([f"{top}/install"], "--uninstall", [f"{home}/new"]), os.path.exists(f"{home}/new"))[2]
-    yield "nothing to uninstall", 1, lambda: room.alone([f"{top}/install"], "--uninstall", [home]).status
-    yield "words that it refuses", "install: PREFIX must begin with /: usr\nstatus 2", lambda: room.alone([f"{top}/install"], "usr").all()
-    room.file("no folder")
-    yield "a file in the place of PREFIX", 1, lambda: room.alone([f"{top}/install"], [f"{room.path}/no folder"]).status
-
-
-def full_disks(room, top):
-    """On a disk that is too small, what was there stays, and nothing half made."""
-    small = f"{room.path}/small"
-    os.mkdir(small)
-    mount = f'mount -t tmpfs -o size=300k none "{small}" || exit 9; "$@"; echo $?; ls -A "{small}"'
-    ran = room.alone("unshare -rm sh -c", [mount], "sh", [f"{top}/install", small])
-    if ran.status == 9 or "unshare" in ran.err:
-        told("a full disk is left out: unshare mounts none here")
-    else:
-        yield "a full disk", ("1\n", True), lambda: (ran.out, "No space left on device; nothing was changed" in ran.err or ran.err)
 
 
 # ---- The files --------------------------------------------------------------------------------------------------
@@ -210,12 +73,7 @@ def what_is_made(room):
 
 def the_same_bytes(room):
     """Another clone, in another folder, with what was compiled of the same sources; what compiles is tried before a release."""
-    other = f"{room.path}/another folder/clone"
-    room.run("git clone --quiet --local", [TOP, other])
-    for name in room.run("git diff --name-only HEAD").out.splitlines() + room.run("git ls-files --others --exclude-standard").out.splitlines():
-        if os.path.exists(f"{TOP}/{name}"):
-            os.makedirs(os.path.dirname(f"{other}/{name}"), exist_ok=True)
-            shutil.copy(f"{TOP}/{name}", f"{other}/{name}")
+    other = room.clone("another folder")
     for crate, names in (("cgrlist", "cgrlist cgrlist.o proved compiled.json"), ("libcgrlist", "liblibcgrlist.a library.prover compiled.json")):
         os.makedirs(f"{other}/crates/{crate}/out")
         for name in names.split():
@@ -225,7 +83,7 @@ def the_same_bytes(room):
 
 
 def the_archive(room):
-    room.run("tar xzf", [room.file_like("*.tar.gz")], at=room.path)
+    room.run("tar xzf", [room.archive], at=room.path)
     program, home = f"{room.top}/bin/cgrlist", f"{room.path}/home"
     yield "it needs no library and no loader", "", lambda: re.sub(".*INTERP.*|.*NEEDED.*", "found", "".join(
         re.findall(".*(?:INTERP|NEEDED).*", room.run("readelf -ld", [program]).out)))
@@ -342,18 +200,7 @@ def is_proved():
     return has_program and os.path.exists(f"{TOP}/library/out/libcgrlist.a")
 
 
-class Before(Room):
-    """Where what needs no release is tried."""
-
-    below, alone = Released.below, Released.alone
-
-    def __init__(self):
-        super().__init__()
-        shutil.copy(f"{TOP}/examples/relay.txt", self.path)
-
-
 def checks(asked):
-    yield from checks_of("release", Before(), [what_names_the_version, what_needs_no_prover, the_package, what_is_refused])
     if asked.trials or not is_proved():
         told("what is made is left out: " + ("a trial isn't released" if asked.trials else "./cgrlist --prove and library/build come first"))
         return
