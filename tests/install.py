@@ -111,7 +111,8 @@ def completions_of_the_program(room):
             if shutil.which(shell):
                 # Without dashes, fish offers no options.
                 dashes = "--" if shell == "fish" and command not in ((), ("help",)) else ""
-                yield f"{shell}: {what}", wanted, room.offered, shell, "cgrlist", *command, dashes
+                offered = wanted if dashes or shell != "fish" else [it for it in wanted if it[0] != "-"]
+                yield f"{shell}: {what}", offered, room.offered, shell, "cgrlist", *command, dashes
         if not shutil.which(shell):
             continue
         for command, option in (("next", "--plan"), ("next", "--session"), ("next", "--session-out"), ("many", "--requests"),
