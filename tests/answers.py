@@ -412,16 +412,13 @@ for last; do :; done
 : >"$last"
 case $1 in
 first) echo '1 delivery {DAY}-00:00:02 hops 2 entry 2 until {DAY}-00:16:40 contacts 1 2' && echo more && sleep 1.1 ;;
-next) : >"{room.path}/next-begins"; [ -z "$SLEEP" ] || exec sleep $SLEEP; echo end ;;
+next) : >"{room.path}/next-begins"; [ -z "$SLEEP" ] || exec sleep $SLEEP; sleep 0.5; echo end ;;
 esac
 """)
     words = [f"{TOP}/tools/report", "--program", slow, *request, "--by", f"{DAY}-01:00:00"]
 
-    def on_a_terminal():
-        """The first of what is told: a busy machine has time for more."""
-        return parts_of(r"report: [^\r\n]*", room.on_a_terminal(words, "shown")).partition("\n")[0]
-
-    yield "how far it is", f"report: 1 routes of 1 looked at, the last delivers at {DAY}-00:00:02", on_a_terminal
+    far = f"report: 1 routes of 1 looked at, the last delivers at {DAY}-00:00:02"
+    yield "how far it is", far, lambda: parts_of(f"(?<=\033\\[K){far}", room.on_a_terminal(words, "shown")).partition("\n")[0]
     os.mkdir(f"{room.path}/tmp")
 
     def ended_by(number):
@@ -717,7 +714,7 @@ def standard_error_and_memory(room):
     room.file("early/argparse.py", "import os, signal\nos.kill(os.getpid(), signal.SIGINT)\n")
     for tool in ("check", "compare", "from_ionrc", "latest", "report", "timeline", "timetable"):
         yield f"Ctrl-C while {tool} begins", (-signal.SIGINT, ""), lambda: (lambda ran: (ran.status, ran.all().removesuffix("status -2")))(
-            room.run(f"tools/{tool} --help", PYTHONPATH=f"{room.path}/early"))
+            room.run(f"env --default-signal=INT tools/{tool} --help", PYTHONPATH=f"{room.path}/early"))
 
 
 def what_is_printed_of_others(room):
@@ -736,11 +733,19 @@ def what_is_printed_of_others(room):
             "bash -c", [f"tools/timeline --program {room.program} --plan - --html {given} <{given}"]).all()
 
 
+LATEST = f"latest --plan examples/a.txt --from 1 --to 3 --by {DAY}-00:01:15"
+TIMETABLE = f"timetable --plan examples/relay.txt --from 31 --to 1 --between {DAY} {DAY}-12:00:00"
+
+
 def how_far_long_runs_are(room):
     """A program that takes a second or more for each run."""
     slow = room.stub("slowly", f"#!/bin/sh\nsleep 1.3\nexec {room.program} \"$@\"\n")
     request = f"--plan examples/relay.txt --from 31 --to 1 --at {DAY}-00:45:00 --count 2"
     for title, told, words in (
+        ("an answer", "report: working for 1 s", f"report {request}"), ("a last second", "latest: working for 1 s", LATEST),
+        ("a comparison", "compare: working for 1 s", "compare examples/a.txt examples/relay.txt"),
+        ("a timetable", f"timetable: told up to {DAY}-0", TIMETABLE),
+        ("a picture", "timeline: working for 1 s", f"timeline {request}"),
         ("a check", "check: cgrlist checks the plan, for 1 s", "check --plan examples/relay.txt"),
         ("lost contacts", r"report: \d of 5 contacts are lost", f"report {request} --lost"),
         ("a page", "timeline: routes without nodes are looked for, for 1 s", f"timeline {request} --html {room.path}/slow.html"),

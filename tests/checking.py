@@ -196,7 +196,7 @@ def checks_of(part, room, sections):
 
 
 # What a tool tells each ten seconds of how far it is, as it may on a busy machine.
-PROGRESS = r"^\w+: (\d+ routes of \d+ looked at|\d+ of \d+ requests are answered|told up to ).*\n?"
+PROGRESS = r"^\w+: (\d+ routes of \d+ looked at|\d+ of \d+ (requests are answered|contacts are lost)|told up to |.*for \d+ s$).*\n?"
 
 
 def without_progress(text):

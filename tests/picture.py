@@ -4,7 +4,6 @@ the tool draws, whatever is drawn lies at its time, and a plan is listed and dra
 import os
 import re
 import shutil
-import subprocess
 import sys
 from collections import Counter
 

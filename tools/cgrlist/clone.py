@@ -49,11 +49,14 @@ def _apart(**further):
 
 def _ended(process):
     """The status of the script, which is told to end if the tool is ended first: it then ends what it runs."""
-    if Tool.progress:
-        Tool.progress.clear()
+    if Tool.line:
+        Tool.line.hold()  # the script says itself how far it is
     try:
         return process.wait()
     except BaseException:
         process.terminate()
         process.wait()
         raise
+    finally:
+        if Tool.line:
+            Tool.line.hold(False)

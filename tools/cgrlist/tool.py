@@ -16,13 +16,14 @@ from .errors import FILE_STATUS, MEMORY_STATUS, Refused
 
 
 class Tool:
-    """The tool that runs: its name, a folder of its own if it needed one, what tells how far it is, the processes that it
-    waits for, how many are about to begin, the signal that waits for these, and what is to be told if a signal ends it. Where
-    the package is a library, no tool is running, and nothing is told.
+    """The tool that runs: its name, a folder of its own if it needed one, the line that says how far it is, and what that says,
+    the processes that it waits for, how many are about to begin, the signal that waits for these, and what is to be told if a
+    signal ends it. Where the package is a library, no tool is running, and nothing is told.
     """
 
     is_running = False
     name = os.path.basename(sys.argv[0])
+    line = None
     progress = None
     folder = None
     children = set()
@@ -93,6 +94,13 @@ def printable(text):
 
 
 def say(text):
+    """Writes a text on standard error, in place of the line that says how far the tool is."""
+    if Tool.line:
+        Tool.line.clear()
+    _write(text)
+
+
+def _write(text):
     """Writes a text on standard error. If that is closed or full, it is lost, and nothing else is."""
     with contextlib.suppress(OSError, AttributeError):
         sys.stderr.write(text)
@@ -103,66 +111,84 @@ def say(text):
 
 def tell(message):
     """Prints a line on standard error."""
-    if Tool.progress:
-        Tool.progress.clear()
     say(f"{Tool.name}: {printable(message)}\n")
 
 
-class Progress:
-    """Tells on standard error how far a tool is: on a terminal once it has taken a second and then in one line, else in
-    a line every ten seconds. One within another tells nothing, nor does one in a library.
+# ---- How far a tool is ------------------------------------------------------------------------------------------
+
+
+class Line:
+    """The line on standard error that says how far the tool is: on a terminal, once it has run for a second, one line that
+    changes; else a further line every ten seconds, if there is something new to say.
     """
 
     def __init__(self):
-        self._is_first = Tool.is_running and Tool.progress is None
-        if self._is_first:
-            Tool.progress = self
+        self._begun, self._over, self._lock = time.monotonic(), threading.Event(), threading.Lock()
         self._is_terminal = sys.stderr is not None and sys.stderr.isatty()
-        self._is_shown, self._due = False, time.monotonic() + (1 if self._is_terminal else 10)
+        self._due = self._begun + (1 if self._is_terminal else 10)
+        self._shown, self._last, self._is_held = False, None, False
+        with contextlib.suppress(RuntimeError):  # no memory for a thread: then there is no line
+            threading.Thread(target=self._run, daemon=True).start()
 
-    def tell(self, text):
-        """Shows a text, on a terminal in place of the last one."""
-        if not self._is_first or time.monotonic() < self._due:
-            return
-        self._due = time.monotonic() + (0.2 if self._is_terminal else 10)
+    def _run(self):
+        while not self._over.wait(0.2):
+            with self._lock:
+                if not self._is_held and time.monotonic() >= self._due:
+                    self._show((Tool.progress and Tool.progress.text()) or f"working for {time.monotonic() - self._begun:.0f} s")
+
+    def _show(self, text):
         if self._is_terminal:
-            say(f"\r\033[K{Tool.name}: {text}")
-            self._is_shown = True
-        else:
-            tell(text)
+            _write(f"\r\033[K{Tool.name}: {printable(text)}")
+            self._shown = True
+        elif text != self._last:
+            _write(f"{Tool.name}: {printable(text)}\n")
+            self._last, self._due = text, time.monotonic() + 10
 
     def clear(self):
-        """Takes the text from a terminal."""
-        if self._is_shown:
-            say("\r\033[K")
-            self._is_shown = False
+        """Takes the line from a terminal."""
+        with self._lock:
+            if self._shown:
+                _write("\r\033[K")
+            self._shown = False
+
+    def hold(self, is_held=True):
+        """Shows no line from now on, while something else is written, or shows it again."""
+        self._is_held = is_held
+        self.clear()
 
     def end(self):
-        """Ends the telling."""
-        self.clear()
+        """Ends the line."""
+        self._over.set()
+        self.hold()
+
+
+class Progress:
+    """What a tool says of how far it is. One within another says nothing, nor does one in a library."""
+
+    def __init__(self):
+        self._is_first = Tool.is_running and Tool.progress is None
+        self.text = lambda: None
+        if self._is_first:
+            Tool.progress = self
+
+    def tell(self, text):
+        """Says a text in place of the last one."""
+        self.text = lambda: text
+
+    def end(self):
+        """Ends what is said."""
         if self._is_first:
             Tool.progress = None
 
 
 @contextlib.contextmanager
 def waiting(text):
-    """Tells what a tool waits for, and for how long it has, as `Progress` does."""
-    if not Tool.is_running:
-        yield
-        return
-    progress, over, begun = Progress(), threading.Event(), time.monotonic()
-
-    def tell_on():
-        while not over.wait(0.2):
-            progress.tell(f"{text}, for {time.monotonic() - begun:.0f} s")
-
-    telling = threading.Thread(target=tell_on, daemon=True)
-    telling.start()
+    """Says what a tool waits for, and for how long it has."""
+    progress, begun = Progress(), time.monotonic()
+    progress.text = lambda: f"{text}, for {time.monotonic() - begun:.0f} s"
     try:
         yield
     finally:
-        over.set()
-        telling.join()
         progress.end()
 
 
@@ -242,6 +268,7 @@ def run_tool(tool):
     for number in (signal.SIGINT, signal.SIGTERM, signal.SIGHUP):
         if number == signal.SIGINT or signal.getsignal(number) != signal.SIG_IGN:
             signal.signal(number, _end)
+    Tool.line = Line()
     try:
         _run(tool)
     except Ended as ended:
@@ -250,8 +277,11 @@ def run_tool(tool):
             _keep_what_was_found()
         if Tool.folder:
             Tool.folder.cleanup()
+        Tool.line.end()
         signal.signal(ended.args[0], signal.SIG_DFL)
         os.kill(os.getpid(), ended.args[0])
+    finally:
+        Tool.line.end()
 
 
 def _take_the_place_of_standard_error():
@@ -269,10 +299,10 @@ def _run(tool):
     try:
         told = tool()
         for piece in [told] if isinstance(told, str) else told:
-            if Tool.progress:
-                Tool.progress.clear()
+            Tool.line.hold()
             sys.stdout.write(piece)
             sys.stdout.flush()  # who reads a pipe has it at once
+            Tool.line.hold(sys.stdout.isatty() and not piece.endswith("\n"))
     except Refused as refused:
         _give_up(refused)
     except BrokenPipeError as error:  # as the signal would end it

@@ -37,7 +37,7 @@ import sys
 
 from ..errors import NO_STATUS, Refused
 from ..forms import ROUTE, route_row
-from ..tables import JSON, TEXT, about, json_of
+from ..tables import JSON, about, json_of
 from ..times import iso_text
 from ..timetable import Start, latest_start
 from ..tool import run_tool
