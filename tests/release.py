@@ -1,13 +1,9 @@
 """Tries what `./release` makes, as somebody who has neither a clone nor the prover.
 
 The release is made of the clone as it stands, twice: the second time in another folder, in another zone and with another
-mask. Then the archive is unpacked, run in place, also in a root that has nothing else, and installed, upgraded and removed;
-the wheel goes into a fresh environment of Python without a network; the packages of Debian are unpacked, and lintian looks
-at them if it is here. If root runs this, and CGRLIST_ROOTS names a folder of roots, as
-
-    debootstrap --variant=minbase --include=python3,python3-venv,man-db,gcc,libc6-dev,pkg-config bookworm ROOTS/bookworm
-
-makes one, then each is tried with the packages and the archive, by a user of its own. What is left out is told.
+mask. Then the archive is unpacked, run in place, also in a root that has nothing else, and installed; the wheel goes into a
+fresh environment of Python without a network; the packages of Debian are unpacked, and lintian looks at them if it is here.
+release_roots.py tries it in roots of Debian. What is left out is told.
 """
 
 import glob
@@ -18,22 +14,10 @@ import subprocess
 import time
 
 from checking import TOP, Ran, checks_of, last_of
+from release_roots import ANSWERS, COMPLETED, FIRST, IN_PROCESS, ROUTED, answered, roots
 from releasing import ASKED, Apart, fresh_environment
 
 COMPILING = 3600  # the most seconds
-FIRST = "1 delivery 2030/01/01-02:47:22 hops 3 entry 22 until 2030/01/01-02:20:00 contacts 4 11 2\nmore\n"
-IN_PROCESS = """import cgrlist
-plan = cgrlist.Plan.from_file("relay.txt")
-print(type(plan.asked).__name__, plan.first(31, 1, at="2030-01-01T00:45:00Z", count=1)[0].contacts)
-"""
-# What a tool is asked, and what is in its answer.
-ANSWERS = {
-    "check": ("--plan relay.txt", "contacts 20"), "compare": ("relay.txt relay.txt", ""),
-    "from-ionrc": ("relay.txt", "a contact "),
-    "latest": ("--plan relay.txt --from 31 --to 1 --by 2030/01/01-06:27:22", "contacts 6 12 2"),
-    "report": (f"--plan relay.txt {ASKED}", "31 > 22 > 12 > 1"), "timeline": (f"--plan relay.txt {ASKED} --text", "delivery"),
-    "timetable": ("--plan relay.txt --from 31 --to 1 --between 2030/01/01-00:00:00 2030/01/01-00:01:00", ""),
-}
 
 
 def told(note):
@@ -101,11 +85,6 @@ def the_archive(room):
     yield from what_an_installation_has(room, home)
 
 
-def answered(ran, wanted):
-    """What a run printed that doesn't have what is wanted; empty if it has."""
-    return "" if ran.status == 0 and wanted in ran.out else ran.all()
-
-
 def each_tool(room, where, folder):
     for tool, (words, wanted) in ANSWERS.items():
         ran = room.alone([f"{folder}/cgrlist-{tool}"], words)
@@ -118,12 +97,12 @@ def what_an_installation_has(room, home):
     if shutil.which("cc") and shutil.which("pkg-config"):
         further = {"PKG_CONFIG_PATH": f"{home}/lib/pkgconfig", "LD_LIBRARY_PATH": f"{home}/lib"}
         made = f"cc {TOP}/examples/router.c $(pkg-config --cflags --libs cgrlist) -o router && ./router {TOP}/examples/a.txt 1 3 1893456000"
-        yield "a program in C", "to node 2 first, there at 1893456015, over 1 4", lambda: (
+        yield "a program in C", ROUTED, lambda: (
             room.alone("sh -c", [made], **further).all().partition("\n")[0])
     if shutil.which("man"):
         for page in ("1 cgrlist", "1 cgrlist-report", "3 cgrlist"):
             yield f"man {page}", True, lambda page=page: room.alone("man -w", page, MANPATH=f"{home}/share/man").status == 0
-    complete = f'source "{home}/share/bash-completion/completions/cgrlist"; COMP_WORDS=(cgrlist ve) COMP_CWORD=1; _cgrlist; echo "${{COMPREPLY[@]}}"'
+    complete = f'source "{home}/share/bash-completion/completions/cgrlist"; {COMPLETED}'
     yield "a completion", "verify\n", lambda: room.alone("bash -c", [complete]).out
 
 
@@ -159,38 +138,6 @@ def the_rows_of_tests(room):
     """All rows of runs, over the program of the release."""
     ran = room.run("tests/run runs --cgrlist", [f"{room.top}/bin/cgrlist"])
     yield "the rows of tests/run", "0 failed", lambda: last_of(ran.out).partition(", ")[2] or ran.all()
-
-
-# ---- Roots of Debian --------------------------------------------------------------------------------------------
-
-IN_A_ROOT = r"""set -e
-cd /release
-useradd -m somebody 2>/dev/null || true
-dpkg --unpack --force-depends *.deb >/dev/null && dpkg --configure -a >/dev/null
-as() { su somebody -s /bin/sh -c "cd && $1"; }
-as 'cgrlist first --plan /usr/share/doc/cgrlist/examples/relay.txt ASKED'
-as 'cgrlist-report --plan /usr/share/doc/cgrlist/examples/relay.txt ASKED --json' | grep -c '"delivery"'
-as 'man -w cgrlist && man -w 3 cgrlist' | wc -l
-as 'cp /usr/share/doc/cgrlist/examples/router.c* . && gunzip -f router.c.gz 2>/dev/null; cc router.c $(pkg-config --cflags --libs cgrlist) -o router && ./router /usr/share/doc/cgrlist/examples/a.txt 1 3 1893456000' | head -n 1
-as 'python3 -m venv e && e/bin/pip install --no-index --quiet /release/*.whl && e/bin/cgrlist-report --plan /usr/share/doc/cgrlist/examples/relay.txt ASKED' | tail -n 1
-dpkg --purge cgrlist libcgrlist-dev $(dpkg-query -f '${Package}\n' -W 'libcgrlist[0-9]*') >/dev/null
-as 'tar xzf /release/*.tar.gz && cgrlist-*/install $HOME/.local >/dev/null 2>&1 && .local/bin/cgrlist first --plan cgrlist-*/examples/relay.txt ASKED'
-as 'cgrlist-*/install --uninstall $HOME/.local >/dev/null; ls -A .local 2>/dev/null' || true
-""".replace("ASKED", ASKED)
-TOLD_IN_A_ROOT = f"{FIRST}1\n2\nto node 2 first, there at 1893456015, over 1 4\nmore\n{FIRST}"
-
-
-def roots(room):
-    folder = os.environ.get("CGRLIST_ROOTS")
-    if not folder or os.getuid():
-        told("roots of Debian are left out: " + ("CGRLIST_ROOTS names none" if not folder else "this isn't root"))
-        return
-    for root in sorted(it for it in glob.glob(f"{folder}/*") if os.path.isdir(f"{it}/usr")):
-        shutil.rmtree(f"{root}/release", ignore_errors=True)
-        shutil.copytree(room.dist, f"{root}/release")
-        room.run("chmod -R a+rX", [f"{root}/release"])
-        yield f"in {os.path.basename(root)}", TOLD_IN_A_ROOT, lambda: room.alone(
-            "unshare -n chroot", [root], "sh -c", [IN_A_ROOT], PATH="/usr/sbin:/usr/bin:/sbin:/bin").all()
 
 
 def is_proved():
