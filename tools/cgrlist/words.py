@@ -159,6 +159,15 @@ def add_other_words(parser, has_program=True):
     group.add_argument("--version", action="version", version=f"{Tool.name} {VERSION}", help="print the version")
 
 
+REQUEST = ("from", "to", "at")  # the options that a request needs
+
+
+def request_words(words):
+    """The options of a request that are given, and those that are missing."""
+    given = [f"--{name}" for name in REQUEST if vars(words)[name] is not None]
+    return given, [f"--{name}" for name in REQUEST if f"--{name}" not in given]
+
+
 def node_word(parser, names, word, text):
     """The node that a word's value says, by its number or its name."""
     try:
@@ -202,7 +211,7 @@ class Asked:
 
     def request_or_none(self):
         """The request, if the words have a whole one."""
-        return self.request() if None not in map(vars(self.words).get, ("from", "to", "at")) else None
+        return self.request() if not request_words(self.words)[1] else None
 
     @functools.cached_property
     def spelling(self):

@@ -63,7 +63,7 @@ from ..routes import Fault, Request, Route
 from ..tables import (JSON, NUMBER, NUMBERS, PATH, TEXT, TIME, WORD, Kind, Spelling, Table, json_of, request_json, request_text)
 from ..tool import run_tool
 from ..version import VERSION
-from ..words import Asked, Words, add_form_words, add_names_word, add_other_words, add_request_words, router_over
+from ..words import Asked, Words, add_form_words, add_names_word, add_other_words, add_request_words, request_words, router_over
 
 SVG = "svg"
 LIGHT = Kind(str.rjust, lambda it, how: str(it), lambda it, how: None if it == "-" else it)
@@ -100,14 +100,13 @@ def read_words():
 
 def check_words(parser, words):
     """Refuses words without those that they need, and words that take each other's place."""
-    request = {f"--{name}": vars(words)[name] for name in ("from", "to", "at")}
-    given = [name for name, value in request.items() if value is not None]
+    given, missing = request_words(words)
     if words.requests and words.form == SVG:
         parser.error("--svg has the routes of one request: --from, --to and --at")
     if words.requests and given:
         parser.error("--requests takes the place of --from, --to and --at")
-    if (given or words.count) and not words.requests and len(given) < 3:
-        parser.error(f"these words are missing: {', '.join(name for name in request if name not in given)}")
+    if (given or words.count) and not words.requests and missing:
+        parser.error(f"these words are missing: {', '.join(missing)}")
     if bool(words.count) != bool(given or words.requests):
         parser.error("a request and --count need each other")
 

@@ -82,7 +82,7 @@ from ..requests import parts_of, requests_in
 from ..routes import REPORT_LINES, whole_report_of
 from ..tables import NUMBER, NUMBERS, PATH, TIME, Table, about
 from ..tool import Progress, Tool, in_order, lines_of, run_tool, say, tell
-from ..words import Asked, Words, add_form_words, add_other_words, add_plan_words, add_request_words
+from ..words import Asked, Words, add_form_words, add_other_words, add_plan_words, add_request_words, request_words
 
 
 # ---- Answers ----------------------------------------------------------------------------------------------------
@@ -151,7 +151,7 @@ def line_answered(asked, line, add):
             say(refused.message.rstrip("\n") + "\n")
         message = "it is refused" if refused.is_told else refused.message
         status = INPUT_STATUS if refused.status == WORDS_STATUS else refused.status
-        raise Refused(f"requests line {line.place}: {message}", status) from refused
+        raise Refused(f"requests line {line.place}: {message}", status, hints=refused.hints) from refused
 
 
 # ---- Lost contacts, and a router's choices ----------------------------------------------------------------------
@@ -212,9 +212,7 @@ def read_words():
 
 def check_words(parser, words):
     """Refuses words without those that they need, and words that take each other's place."""
-    request = {f"--{name}": vars(words)[name] for name in ("from", "to", "at")}
-    given = [name for name, value in request.items() if value is not None]
-    missing = [name for name in request if name not in given]
+    given, missing = request_words(words)
     if words.requests and (given or words.report):
         parser.error("--requests takes the place of --from, --to, --at and --report")
     judging = [f"--{name.replace('_', '-')}" for name in JUDGING if vars(words)[name]]

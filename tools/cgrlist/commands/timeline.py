@@ -69,9 +69,8 @@ from ..reading import plan_bytes
 from ..routes import REPORT_LINES, Answer, explained_routes, report_of
 from ..tables import JSON, NODE, NUMBER, PATH, TEXT, TIME, Table, about
 from ..tool import lines_of, run_tool
-from ..words import Asked, Words, add_form_words, add_other_words, add_plan_words, add_request_words, time_word
+from ..words import REQUEST, Asked, Words, add_form_words, add_other_words, add_plan_words, add_request_words, time_word
 
-NEEDED = ("from", "to", "at")  # the words that a request has to have
 NOT_CHECKED = "cgrlist did not check this plan: there is no program"
 OTHERS = ("margin-ppm", "max-hops", "avoid", "via", "fits", "distinct", "look")  # words that go with a request
 
@@ -121,11 +120,11 @@ def add_shape_words(parser):
 
 def check_words(parser, words):
     """Refuses words without those that they need."""
-    given = [f"--{name}" for name in (*NEEDED, *OTHERS) if getattr(words, name.replace("-", "_")) not in (None, [])]
+    given = [f"--{name}" for name in (*REQUEST, *OTHERS) if getattr(words, name.replace("-", "_")) not in (None, [])]
     asks = asks_for_routes(words)
     if given and words.explained is not None:
         parser.error(f"--explained takes the place of a request: {', '.join(given)}")
-    needed = [f"--{name}" for name in NEEDED] + ["--count or --by"] * (not asks)
+    needed = [f"--{name}" for name in REQUEST] + ["--count or --by"] * (not asks)
     missing = [name for name in needed if name not in given]
     if missing and (given or asks):
         parser.error(f"these words are missing: {', '.join(missing)}")
