@@ -63,7 +63,7 @@ def stage(root, instead, but=()):
     files, links = listing()
     with tempfile.TemporaryDirectory() as made:
         for tool in ("manual_pages", "completions"):
-            subprocess.run([f"{TOP}/tools/{tool}", made], check=True)
+            said_by(f"{TOP}/tools/{tool}", made)
         instead = {**{f"made/{it}": f"{made}/{it}" for it in os.listdir(made)}, **instead}
         for mode, place, target in files:
             if target not in but:

@@ -164,7 +164,7 @@ def the_same_bytes(room):
         told("another user's clone is left out: this isn't root")
     mask = ["sh", "-c", 'umask 077; exec "$@"', "sh"]
     ran = room.run(by, mask, [f"{other}/release", "--draft"], at=room.path, **room.around(
-        TZ="Asia/Kolkata", LC_ALL="C.UTF-8", HOME=room.home, SOURCE_DATE_EPOCH="1"))
+        TZ="Asia/Kolkata", LC_ALL="C.UTF-8", HOME=room.home, SOURCE_DATE_EPOCH="1", COLUMNS="40"))
     yield "another clone makes the same bytes", (0, room.read("one/dist/SHA256SUMS")), lambda: (ran.status, ran.out or ran.err)
 
 
