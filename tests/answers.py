@@ -187,7 +187,7 @@ def refusals(room):
     requests = room.file("requests", REQUESTS)
     yield ("a plan is refused once", refusal("report"),
            room.told, "report --plan", [bad], "--count 1 --requests", [requests], room.names)
-    yield ("no request", "cgrlist: request: SameNode\nstatus 2",
+    yield ("no request", "cgrlist: request: SameNode\nlatest: hint: the source and the destination are the same node\nstatus 2",
            room.told, f"latest --plan examples/a.txt --from 1 --to 1 --by {DAY}-00:00:00")
     yield ("no plan", f"latest: /nowhere: {MISSING}\nstatus 5",
            room.told, f"latest --plan /nowhere --from 1 --to 3 --by {DAY}-00:00:00")
@@ -500,11 +500,11 @@ line,from,to,at,margin_ppm,max_hops,avoid,rank,delivery,later,contacts,fault
 4,lander,1,2030-01-01 02:20:00,0,,,,,,4 11 2,hop 1: TooLate"""
     asked = ["report --plan examples/relay.txt --csv --choices", [routed], room.names]
     yield "choices of several requests", judged, room.told, *asked
-    counts = "report: of 4 choices 1 are no routes, and {} deliver more than {} s after the best\nstatus 1"
-    yield ("wrong choices alone, and a status", f"{judged.splitlines()[0]}\n{judged.splitlines()[2]}\n{judged.splitlines()[4]}\n{counts.format(1, 13199)}",
+    counts = "report: choices 4; wrong: not a route 1, more than {} s after the best {}\nstatus 1"
+    yield ("wrong choices alone, and a status", f"{judged.splitlines()[0]}\n{judged.splitlines()[2]}\n{judged.splitlines()[4]}\n{counts.format(13199, 1)}",
            room.told, *asked, "--wrong --exit-code --later 13199")
-    yield ("a later one may be right", counts.format(0, 13200), lambda: room.told(*asked, "--exit-code --later 13200").split("\n", 5)[5])
-    yield ("no wrong choice", "report: of 1 choices 0 are no routes, and 0 deliver more than 0 s after the best",
+    yield ("a later one may be right", counts.format(13200, 0), lambda: room.told(*asked, "--exit-code --later 13200").split("\n", 5)[5])
+    yield ("no wrong choice", "report: choices 1; wrong: not a route 0, more than 0 s after the best 0",
            lambda: last_of(room.from_lander(morning, "--exit-code --choices -", given="4,11,2\n")))
     yield "not among the first ones", ">3", lambda: parts_of("^ +1 +(\\S+)", room.from_lander(morning, "--look 3 --choices -", given="5,13,1\n"))
     yield "numbers that begin with 0", "4 11 2", lambda: parts_of("4 11 2", room.from_lander(
@@ -611,7 +611,7 @@ def a_testers_hour(room):
 
 def wrong_text(wrong):
     late = sum(fault == "" for fault in wrong.values())
-    return f"report: of 1000 choices {len(wrong) - late} are no routes, and {late} deliver more than 0 s after the best\n"
+    return f"report: choices 1000; wrong: not a route {len(wrong) - late}, more than 0 s after the best {late}\n"
 
 
 def judged_choices(room):
@@ -649,8 +649,8 @@ def choices_of_routers(room):
         "1,31,1,2030-01-02 00:00:00,0,,,,,,-,", "2,31,1,2030-01-01 00:45:00,0,,,,,,-,HasRoute",
         "3,31,1,2030-01-01 00:45:00,0,,,1,2030-01-01 02:47:22,0,4 11 2,"], lambda: room.ask(*told, given="\n".join(lines[:3])).out.splitlines()[1:]
     yield "how many miss a route", """\
-report: of 3 choices 0 are no routes, 1 miss the routes that there are, and 0 deliver more than 0 s after the best
-status 1""", lambda: lines_with("^report: of|status", room.told(*told, "--exit-code", given="\n".join(lines[:3])))
+report: choices 3; wrong: not a route 0, route missed 1, more than 0 s after the best 0
+status 1""", lambda: lines_with("^report: choices|status", room.told(*told, "--exit-code", given="\n".join(lines[:3])))
     request = {"from": 31, "to": "lander", "at": 1893458700}
     flat = {"contacts": [4, 11, 2], **request, "to": 1}
     as_json = [flat, {"contacts": [4, 11, 2], "request": {**flat, "avoid": [21], "max_hops": 5}}, {**flat, "contacts": None}]
@@ -674,6 +674,7 @@ status 1""", lambda: lines_with("^report: of|status", room.told(*told, "--exit-c
         "report --plan examples/relay.txt --choices -", given=refused)
     yield "a request of a choice of no route that is refused", "report: choices line 2: SameNode\nstatus 4", lambda: room.told(
         "report --plan examples/relay.txt --choices -", given="- 31 1 1893458700\n- 31 31 1893458700\n")
+    yield "no choice at all", "report: there is no choice in -\nstatus 4", lambda: room.from_lander(f"--at {DAY}-00:45:00 --choices - --exit-code")
     for title, words in (("names", "--count 1 --names"), ("requests", "--count 1 --requests"), ("a report", "--report")):
         ends = "" if title != "names" else f"--from 31 --to 1 --at {DAY}-00:45:00"
         yield f"{title} that can't be used have a status of their own", "status 4", lambda: last_of(room.told(
@@ -892,13 +893,18 @@ lander,1,2030-01-01 23:00:00,0,,,,,,,,,,
         yield (f"a bad line: {line}", f"report: requests line 2: {why}: {line}\nstatus 4",
                room.of_requests, f"31 1 2030-01-01\n{line}\n")
     yield ("a request that is refused: those before it are answered",
-           "more\ncgrlist: request: SameNode\nreport: requests line 2: it is refused\nstatus 4",
+           "more\ncgrlist: request: SameNode\nreport: requests line 2: it is refused\n\
+report: hint: the source and the destination are the same node\nstatus 4",
            lambda: room.of_requests("31 1 2030-01-01\n1 1 2030-01-01\n").split("\n", 3)[3])
-    for limit, why in (("--margin-ppm 1000001", "bad --margin-ppm"), ("--max-hops 0", "bad --max-hops"),
-                       ("--avoid 31", "request: BadAvoid"), ("--margin-ppm '0 4'", "bad --margin-ppm")):
-        yield (f"a limit that is refused: {limit}", f"cgrlist: {why}\nreport: requests line 1: it is refused\nstatus 4",
+    margin = "--margin-ppm is a number from 0 to 1000000"
+    for limit, why, hint in (
+        ("--margin-ppm 1000001", "bad --margin-ppm", margin), ("--max-hops 0", "bad --max-hops", "--max-hops is a number from 1 to 20000"),
+        ("--avoid 31", "request: BadAvoid", "--avoid names each node once, and neither the source nor the destination"),
+        ("--margin-ppm '0 4'", "bad --margin-ppm", margin),
+    ):
+        yield (f"a limit that is refused: {limit}", f"cgrlist: {why}\nreport: requests line 1: it is refused\nreport: hint: {hint}\nstatus 4",
                room.of_requests, "31 1 2030-01-01\n", limit)
-    yield ("a bad count", "cgrlist: bad --count\nstatus 2",
+    yield ("a bad count", "cgrlist: bad --count\nreport: hint: --count is a number from 1 to 10000\nstatus 2",
            lambda: room.told("report --plan examples/relay.txt --requests - --count 0", given="31 1 2030-01-01\n"))
     yield ("limits of each", f"""\
    1  {DAY}-15:17:23     3  {DAY}-03:19:00  5 13 1    31 > 21 > 11 > 1

@@ -220,7 +220,7 @@ def add_judging_words(parser):
     later = "a choice is wrong if it delivers more than S seconds after the best route; 0 if not given"
     group.add_argument("--later", type=number_word, metavar="S", help=later)
     group.add_argument("--wrong", action="store_true", help="only the wrong choices")
-    group.add_argument("--first-number", choices=("0", "1"), help="the router's number of the plan's first contact; 1 if not given")
+    group.add_argument("--first-number", choices=("0", "1"), help="the router's number of the plan's first contact; 1 if not given, and always 1 in the answer")
 
 
 def choices_text(asked):
@@ -228,6 +228,8 @@ def choices_text(asked):
     words, request, plan = asked.words, asked.request_or_none(), asked.plan_after_check
     reader = Reader(plan, request, asked.limits, int(words.first_number or 1))
     choices = reader.choices(lines_of(words.choices))
+    if not choices:
+        raise Refused(f"there is no choice in {words.choices}")
     look = words.look or (LOOK if len({it.request for it in choices}) < 2 else LOOK_OF_EACH)
     told = [*judged(asked.router, choices, look)]
     wrong = [it for it in told if it.is_wrong(words.later or 0)]
@@ -240,11 +242,12 @@ def choices_text(asked):
 
 
 def _counted(told, wrong, later):
-    """How many of some choices are wrong, by kind; those without a route are told if there are some."""
+    """How many of some choices are wrong, by kind; choices of none are counted if there are some."""
     none = sum(not it.choice.contacts for it in wrong)
     faults = sum(isinstance(it.told, Fault) for it in wrong) - none
-    missed = f"{none} miss the routes that there are, " if any(not it.choice.contacts for it in told) else ""
-    return f"of {len(told)} choices {faults} are no routes, {missed}and {len(wrong) - none - faults} deliver more than {later} s after the best"
+    missed = f"route missed {none}, " if any(not it.choice.contacts for it in told) else ""
+    late = len(wrong) - none - faults
+    return f"choices {len(told)}; wrong: not a route {faults}, {missed}more than {later} s after the best {late}"
 
 
 def _pieces(asked, told, request, look):
