@@ -106,7 +106,7 @@ def add_plan_word(group):
 def add_names_word(group):
     """Adds the names of nodes."""
     names = {"default": os.environ.get("CGRLIST_NAMES") or None, "metavar": "FILE"}
-    group.add_argument("--names", **names, help="names of nodes, a line for each, '31 lander': for the options and the answer")
+    group.add_argument("--names", **names, help="names of nodes, a line '31 lander' for each: options take them, and answers show them")
 
 
 def add_plan_words(parser):

@@ -4,17 +4,15 @@
     tools/compare OLD NEW --from N --to N --at T --count K [OPTION ..]
     tools/compare OLD NEW --requests G --count K [OPTION ..]
 
-Contacts are the same if their nodes and their start are, whatever their
-numbers, since one more contact gives all those after it another number. Of
-the others of a link, old and new ones are paired, the nearest first. A pair
-counts as `moved` if the gap between the two is at most the length of the
-longer one. `number` is that in the new plan, or in the old plan if the
-contact went.
+Contacts with the same nodes and the same start are the same. Their numbers
+may differ, since one more contact gives all those after it another number.
+The other contacts of a link are paired, the nearest first. A pair counts as
+`moved` if the gap between the two is at most the length of the longer one.
+`number` is that in the new plan, or in the old plan if the contact went.
 
-Routes are the same if their contacts are. A route is shown with its rank and
-its delivery over the old plan and over the new one, and `later` is how many
-seconds later it delivers now. Ranks are searched among the first 100000
-routes.
+A route is shown with its rank and its delivery over the old plan and over the
+new one, and `later` is how many seconds later it delivers now. Ranks are
+searched among the first 100000 routes.
 
 A picture has the links that differ. What came, moved or changed has a colour,
 with the old contact below it; what went is crossed out. With a request it
