@@ -14,6 +14,7 @@ after four spaces:
     cut N                   the pipe gives the first N bytes alone
     room N                  standard output takes N bytes and no more, and so does each file
     memory N                the run has N bytes of memory, with its code
+    slow                    it takes too long where each access is checked
     status N                the status; 0 if not given
     out, err                all of standard output, and of standard error; nothing if not given
     part                    a part of standard error, of which then no more is compared
@@ -48,7 +49,7 @@ PACKETS = 256  # how many a pipe of a MiB holds
 
 # ---- Rows -------------------------------------------------------------------------------------------------------
 
-SAID_OF_RUNS = ("pipe", "cut", "room", "memory", "status", "out", "err", "part", "left")
+SAID_OF_RUNS = ("pipe", "cut", "room", "memory", "slow", "status", "out", "err", "part", "left")
 
 
 @dataclass
@@ -254,7 +255,7 @@ def checks(asked):
     for sections in sections_in(asked.paths(paths_in(ROWS)), take_row):
         units = [(row.run, row, section) for section in sections for row in section.rows]
         for item, row, section in asked.chosen(units):
-            if asked.trials and row.one_of("memory"):
-                continue  # what checks each access takes much memory
+            if asked.trials and (row.one_of("memory") or row.one_of("slow")):
+                continue  # a trial checks each access, which takes much memory and time
             act = partial(failures_of, program, section, row)
             yield Check(row_name("runs", item), act, f"{section.head.rest} {item.rest}")
