@@ -2,7 +2,7 @@
 
 In docs/proofs.md a table's row is about the crate that it names first, as `crate::call`. In the last cell of such a row,
 `proofs/..` and `specs/..` must be files or folders of that crate. A bare name there must be a lemma file of it or of a
-crate that the cell names.
+crate that the cell names. Each law, a function without parameters, must be there.
 
 In each Markdown file, a name in backquotes that begins with a folder of the clone must be a file or a folder, where
 `{a,b}` stands for a and for b, and `*` for any name; after a colon, a line of the file. A name `NAME.rt` must be a source
@@ -69,6 +69,13 @@ def places_of_cell(crate, cell, crates):
             yield name, [f"crates/{crate}/{name}"]
         elif re.fullmatch(r"[A-Z]\w*", name):
             yield name, [f"crates/{it}/proofs/**/{name}.antt" for it in named]
+
+
+def missing_laws(text, top):
+    """What docs/proofs.md lacks of each law, which is empty if nothing is lacking. Worked rows have one row for all."""
+    for place in sorted(it for it in places_like(SOURCES[0], top) if os.path.basename(it) != "rows.rt"):
+        for law in re.findall(r"^pub fn (\w+)\(\)$", read(f"{top}/{place}"), re.M):
+            yield "" if re.search(rf"\b{law}`", text) else f"lacks the law {law} of {place}"
 
 
 def spelled_out(name):
@@ -159,6 +166,8 @@ def looked_at(top):
         for name, places in places_of_cell(crate, cell, crates):
             there = any(places_like(place, top) for place in places)
             yield PROOFS, number, "" if there else f"names {name}, but there is no {' nor '.join(places)}"
+    for wrong in missing_laws(texts[PROOFS], top):
+        yield PROOFS, 1, wrong
     for document, text in texts.items():
         for number, place in quoted_places(text):
             yield document, number, "" if is_there(place, top) else f"names {place}, which isn't there"
