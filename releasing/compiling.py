@@ -58,11 +58,10 @@ def sources_of(crate):
     return sorted(found)
 
 
-def sum_of_sources(*crates):
-    """The sum of the sources of some crates, with their lines of crates.txt."""
-    uses = uses_of()
-    texts = [(os.path.relpath(it, TOP), sum_of(it)) for crate in crates for it in sources_of(crate)]
-    return hashlib.sha256(repr(([uses[it][0] for it in crates], texts)).encode()).hexdigest()
+def sum_of_sources(crate):
+    """The sum of what sha256sum prints of a crate's sources."""
+    lines = [f"{sum_of(it)}  {os.path.relpath(it, TOP)}\n" for it in sources_of(crate)]
+    return hashlib.sha256("".join(lines).encode()).hexdigest()
 
 
 class Kit:
@@ -169,7 +168,9 @@ class Compiled:
         self.path, self.file = f"{folder}/{MADE[crate]}", f"{folder}/compiled.json"
 
     def sum(self):
-        return hashlib.sha256(repr((self.kit.version, self.target, sum_of_sources(*below(self.crate), self.crate))).encode()).hexdigest()
+        """The sum of all that it is compiled of."""
+        crates = [(uses_of()[it][0], sum_of_sources(it)) for it in [*below(self.crate), self.crate]]
+        return hashlib.sha256(repr((self.kit.version, self.target, crates)).encode()).hexdigest()
 
     def record(self):
         """The record, if it is one of the sources as they stand."""

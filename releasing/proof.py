@@ -7,6 +7,7 @@ import textwrap
 from .compiling import sum_of, sum_of_sources
 from .files import TOP
 
+SUM = "find crates/CRATE/{src,specs,proofs} -type f | LC_ALL=C sort | xargs sha256sum | sha256sum"
 MODULE = f"{TOP}/tools/cgrlist/engine/module.json"
 
 
@@ -38,7 +39,7 @@ def text(release, kit, compiled, linked, found):
         textwrap.fill(
             "Each function of these crates meets its contract. The prover checked it, and compiled what it had checked. What the contracts "
             "say is in docs/proved.md of that commit, and what has to be trusted besides. A line has a crate, the number of its functions, "
-            "and the sum of its sources.", 100),
+            "and the sum of its sources, which this command prints:", 100) + f"\n    {SUM}",
         crates_of([it.record() for it in compiled]),
         *(said(f"{it.crate} for {it.target}, sources {sum_of_sources(it.crate)}", it.record()) for it in compiled),
         said(f"webcgrlist for the page, sources {of_module['sources']}, prover {of_module['kit']}", of_module),

@@ -147,6 +147,9 @@ def what_is_made(room):
     yield "PROOF has the commit", room.run("git rev-parse HEAD", at=room.first).out.strip(), lambda: re.search(r"^commit (\w+)", proof, re.M)[1]
     yield "PROOF has the verdicts of program, library and page, without what was taken in one run", [
         "logic=proved functions=1", "logic=proved functions=1"], lambda: [it.strip() for it in re.findall("^    logic=proved .*=1$", proof, re.M)]
+    summing = re.search("^    (find .*)$", proof, re.M)[1].replace("CRATE", "sabr_plan")
+    yield "PROOF has the sum that it says how to make", re.search(r"^    sabr_plan .*  (\w+)$", proof, re.M)[1], lambda: (
+        room.run("bash -c", [summing], at=room.first).out.split(" ")[0])
     yield "PROOF names no place of this machine", [], lambda: re.findall(f"{room.path}.*|/home/.*|/root/.*|/tmp/.*", proof)
     again = room.release(room.first, "--draft")
     yield "the second time, nothing is compiled", (0, made.out, ""), lambda: (again.status, again.out, again.err)
@@ -248,8 +251,8 @@ def files_of_others(room):
     advice = f"git config --global --add safe.directory {clone}/.git && git clone {clone}"
     yield "a clone of another user", f"release: you can't write to {clone}, which is root's. Make a clone of your own: {advice}\nstatus 1", refused.all
     room.run("chown 65534:65534", [room.home])
-    yield "what it says to do makes a clone", (0, True), lambda: (
-        room.run(NOBODY, "sh -c", [advice], at=room.home, HOME=room.home).status, os.path.exists(f"{room.home}/one/release"))
+    cloned = room.run(NOBODY, "sh -c", [advice], at=room.home, HOME=room.home)
+    yield "what it says to do makes a clone", (0, True), lambda: (cloned.status, os.path.exists(f"{room.home}/one/release"))
     out = f"{room.home}/one/crates/cgrlist/out"
     os.mkdir(out)
     yield "what another user made in the clone", f"release: you can't write to {out}, which is root's. Let root remove it\nstatus 1", lambda: (
