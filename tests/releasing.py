@@ -234,12 +234,13 @@ def full_disks(room):
     small = f"{room.path}/small"
     os.mkdir(small)
     mount = f'mount -t tmpfs -o size=$1 none "{small}" || exit 9; shift; "$@"; echo $?; ls -A "{small}"'
-    for size in ("100k", "600k", "2200k"):
+    for size in ("100k", "1500k", "3000k"):
         ran = room.run("unshare -rm sh -c", [mount, "sh", size, f"{room.first}/release", "--draft", "--into", f"{small}/dist"], **room.around())
         if ran.status == 9 or "unshare" in ran.err:
             told("full disks are left out: unshare mounts none here")
             return
-        yield f"a disk of {size}", ("1\n", True), lambda ran=ran: (ran.out, "No space left on device" in ran.err or ran.err)
+        yield f"a disk of {size}", ("1\n", ["No space left on device", "free some of the disk"]), lambda ran=ran: (
+            ran.out, re.findall("No space left on device|free some of the disk", ran.err))
 
 
 def files_of_others(room):
