@@ -7,7 +7,7 @@
     hostile     texts that are binary or huge, a million lines, and a chain of 20000 hops
     objects     the objects of cgrlist.mjs, written again as the program's texts; its types and its repairs
 
-Without the module, or a node that has 64-bit memory, this is left out, and a line says so. A trial isn't asked over the
+Without the module or node, this is left out, and a line says so. A trial isn't asked over the
 hostile texts.
 """
 
@@ -191,24 +191,11 @@ def refused_questions():
 
 # ---- Node -------------------------------------------------------------------------------------------------------
 
-HAS_MEMORY = "process.exit(WebAssembly.validate(Uint8Array.of(0,97,115,109,1,0,0,0,5,3,1,4,1)) ? 0 : 1)"
-
-
-def node():
-    """The words that begin a node with 64-bit memory; None if there is none."""
-    if not shutil.which("node"):
-        return None
-    for words in (["node"], ["node", "--experimental-wasm-memory64"]):
-        if subprocess.run([*words, "-e", HAS_MEMORY], capture_output=True).returncode == 0:
-            return words
-    return None
-
-
 def lack():
     """What the engine needs and isn't there; None if all is."""
     if not os.path.exists(MODULE):
         return f"there is no {os.path.relpath(MODULE, TOP)}"
-    return None if node() else "there is no node with 64-bit memory"
+    return None if shutil.which("node") else "there is no node"
 
 
 class Asking(Room):
@@ -238,7 +225,7 @@ class Node(Asking):
 
     def __init__(self, program):
         super().__init__(program)
-        self.words = [*node(), f"{TOP}/tests/engine/node.mjs", MODULE]
+        self.words = ["node", f"{TOP}/tests/engine/node.mjs", MODULE]
 
     def asked(self, what, **asked):
         """What the engine answers."""

@@ -91,7 +91,7 @@ const other = new Engine("AGFzbQ==");
 return [...told, (await other.started) === "ready", await other.ask("check", { plan: "" }).catch(({ status }) => status)];
 """
 BYTES = 'const bytes = () => document.getElementById("module").textContent.trim();'
-NO_MEMORY = "no 64-bit memory in WebAssembly"
+LACK = "no bulk memory operations in WebAssembly"
 
 
 def worker(room):
@@ -99,7 +99,7 @@ def worker(room):
     yield ("a question is stopped, and the others are answered", [[130, "stopped"], 0, 0, True],
            value, f"const LONG = {json.dumps(LONG)}; {STOPS}")
     yield "a question is stopped before the engine is ready", [[130, 0], "ready", 0], value, BYTES + STOPS_AT_ONCE
-    yield ("an engine that can't be", [NO_MEMORY, ["CgrlistError", 125, NO_MEMORY], False, 125], value, BYTES + LACKS)
+    yield ("an engine that can't be", [LACK, ["CgrlistError", 125, LACK], False, 125], value, BYTES + LACKS)
     bad = 'try { await tested.ask("nothing", { plan: "" }); } catch ({ status }) { return status; }'
     yield "a run that there isn't", 125, value, bad
     yield "and the next question", 0, value, 'return (await tested.ask("check", { plan: "" })).status;'

@@ -2,13 +2,14 @@
 
 import gzip
 import json
+from importlib import import_module
 from importlib.machinery import SourceFileLoader
 from importlib.util import module_from_spec, spec_from_loader
 
 from checking import TOP, Room, checks_of
 
 CALLS = ("check", "first", "next", "verify", "explain", "many", "follow", "canonical")
-MOST = 150_000  # bytes
+MOST = 160_000  # bytes
 
 
 def build_script():
@@ -24,11 +25,12 @@ def refused(act, *given):
     try:
         act(*given)
         return ""
-    except build.Failed as failure:
+    except (build.Failed, build.Malformed) as failure:
         return str(failure)
 
 
 build = build_script()
+narrow = import_module("narrow")  # build has made its folder known
 
 
 def committed(_):
@@ -57,5 +59,48 @@ def faults(_):
     yield "an axiom", f"the crate reaches axioms: {reached}", build.fault_of, {"verdict": verdict, "axioms": reached}
 
 
+def section(kind, content):
+    return bytes.fromhex(f"{kind:02x}{len(bytes.fromhex(content)):02x}{content}")
+
+
+def module_of(memory, body, data):
+    """A module with a function of an i64 whose local variable is an i32, and with a memory."""
+    function = f"01017f{body}0b"  # one i32, and the end
+    parts = [(1, "0160017e00"), (3, "0100"), (5, memory), (10, f"01{len(bytes.fromhex(function)):02x}{function}"), (11, data)]
+    return b"\0asm\1\0\0\0" + b"".join(section(*it) for it in parts)
+
+
+def wide(body="", memory="010411", data="010042808080000b0161"):
+    return module_of(memory, body, data)
+
+
+# What a function does over 64-bit addresses, and over 32-bit ones; its spare locals are 2 and 3 (i32), 4 (i64), 5, 6.
+BODIES = [
+    ("a load", "2000 280208 1a", "2000 a7 280208 1a"),
+    ("a load whose offset has ten bytes", "2000 2902 88808080808080808000 1a", "2000 a7 290208 1a"),
+    ("a store of i32", "2000 4101 3a0000", "2000 4101 2102 a7 2002 3a0000"),
+    ("a store of i64", "2000 4201 370310", "2000 4201 2104 a7 2004 370310"),
+    ("a store of f32", "2000 4300000028 380204", "2000 4300000028 2105 a7 2005 380204"),
+    ("a store of f64", "2000 440000000000002836 390308", "2000 440000000000002836 2106 a7 2006 390308"),
+    ("a copy", "2000 2000 4205 fc0a0000", "2000 2000 4205 a7 2102 a7 2103 a7 2003 2002 fc0a0000"),
+    ("a fill", "2000 4100 4205 fc0b00", "2000 4100 4205 a7 2102 2103 a7 2003 2002 fc0b00"),
+    ("branches and calls", "0240 2000 0e02000000 0c00 0b 1000", "0240 2000 0e02000000 0c00 0b 1000"),
+]
+TYPES_OF_SPARE = "0601 7f 017f 017f 017e 017d 017c"
+
+
+def narrowing(_):
+    """A module's memory gets 32-bit addresses."""
+    for what, body, narrowed in BODIES:
+        function = bytes.fromhex(f"{TYPES_OF_SPARE}{narrowed}0b").hex()
+        code = section(10, f"01{len(function) // 2:02x}{function}")
+        head = wide()[: wide().index(section(5, "010411"))] + section(5, "010011")
+        rest = code + section(11, "0100418080c0000b0161")
+        yield what, head + rest, narrow.narrowed_module, wide(body.replace(" ", ""), data="0100428080c0000b0161")
+    yield "narrowed before", "the module's memory isn't one with 64-bit addresses that may grow", refused, narrow.narrowed_module, wide(memory="010011")
+    yield "data anywhere", "the module has data without an address", refused, narrow.narrowed_module, wide(data="01010161")
+    yield "memory that grows", "the module has an instruction that isn't known: 40", refused, narrow.narrowed_module, wide("42014000")
+
+
 def checks(_):
-    return checks_of("module", Room(), [committed, faults])
+    return checks_of("module", Room(), [committed, faults, narrowing])

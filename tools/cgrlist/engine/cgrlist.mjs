@@ -4,9 +4,8 @@
 //     const plan = await Plan.read(text);
 //     const { routes } = await plan.first({ from: 31, to: 1, at: "2030/01/01-00:45:00", count: 3 });
 //
-// The module cgrlist.wasm.gz lies beside this file. It needs 64-bit memory: browsers, Deno and Node 24 that have it, and
-// Node 20 with --experimental-wasm-memory64. Here its texts become objects. Times are seconds since 1970 in UTC; they,
-// contacts' numbers and ranks are numbers. Nodes and rates go up to 2 ** 64 - 1, so they are BigInts, as 31n; where a node
+// The module cgrlist.wasm.gz lies beside this file. Browsers run it, Deno, and Node from version 20 on. Here its texts
+// become objects. Times are seconds since 1970 in UTC; they, contacts' numbers and ranks are numbers. Nodes and rates go up to 2 ** 64 - 1, so they are BigInts, as 31n; where a node
 // is asked for, a number or a text is taken, too.
 
 import { CgrlistError, NO_PROGRAM } from "./errors.mjs";

@@ -14,7 +14,7 @@ export class Program {
 
   static #MEMORY = 6; // the status of a run for which the lent memory or a buffer didn't suffice
   static #REFUSED = { status: Program.#MEMORY, report: "", session: "", message: "cgrlist: no memory\n" };
-  static #MOST = 2 ** 32; // bytes that are lent at most
+  static #MOST = 2 ** 31; // bytes that are lent at most
   static #LONGEST = 2 ** 28; // bytes of a text that is answered: JavaScript has no string of some more
   static #KEPT = 2 ** 28; // bytes of an instance's memory, over which it isn't used again
   static #WORD = 8; // bytes of an address or a length
@@ -115,19 +115,15 @@ export class Program {
     return { memory, asked, outputs, texts, buffers, heap, end };
   }
 
-  /** Makes the memory as large as that; false if it can't be. Some engines count its pages by BigInts, some by numbers. */
+  /** Makes the memory as large as that; false if it can't be. */
   #growTo(end) {
     const { memory } = this.#exports;
     const pages = Math.ceil((end - memory.buffer.byteLength) / Program.#PAGE);
-    const grow = (count) => {
-      try {
-        memory.grow(count);
-        return true;
-      } catch (error) {
-        return error instanceof TypeError && typeof count === "bigint" && grow(Number(count));
-      }
-    };
-    return pages <= 0 || grow(BigInt(pages));
+    try {
+      return pages <= 0 || memory.grow(pages) >= 0;
+    } catch {
+      return false;
+    }
   }
 
   /** Writes the texts, and the structs that say where they, the buffers and the lent memory lie. */
@@ -171,9 +167,12 @@ export function engineLack() {
   if (!globalThis.WebAssembly) {
     return "no WebAssembly";
   }
-  // A module that is nothing but a page of 64-bit memory.
-  const smallest = Uint8Array.of(0, 97, 115, 109, 1, 0, 0, 0, 5, 3, 1, 4, 1);
-  return WebAssembly.validate(smallest) ? "" : "no 64-bit memory in WebAssembly";
+  // The newest that the module has: a function that copies memory.
+  const type = [1, 4, 1, 96, 0, 0];
+  const memory = [5, 3, 1, 0, 1];
+  const body = [10, 14, 1, 12, 0, 65, 0, 65, 0, 65, 0, 252, 10, 0, 0, 11];
+  const smallest = Uint8Array.of(0, 97, 115, 109, 1, 0, 0, 0, ...type, 3, 2, 1, 0, ...memory, ...body);
+  return WebAssembly.validate(smallest) ? "" : "no bulk memory operations in WebAssembly";
 }
 
 /** The compiled module of its bytes, which may be compressed or in base 64. The text of this is the worker's, too. */

@@ -7,7 +7,7 @@ const QUESTION = ["from", "to", "at", ...LIMITS, "count"];
 const TEXTS = [...QUESTION, "contacts", "keep", "session", "requests", "lists"];
 const MOST_KEPT = 300; // answers, after which the first ones are forgotten
 const LARGEST_KEPT = 500_000; // signs of an answer with its question
-const BROWSERS = "Chrome and Edge from version 133 on and Firefox from 134 on";
+const BROWSERS = "Chrome, Edge, Firefox and Safari of 2023 and later";
 
 const cache = new Map();
 const waiting = new Set(); // the questions that the engine is asked
