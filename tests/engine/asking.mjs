@@ -29,7 +29,7 @@ export async function answersTo(questions, ask) {
 export function answersInSteps(program, run, texts, { step, most, rooms }) {
   const answers = [];
   for (let lent = 0; lent <= most && (!lent || answers.at(-1).status === 6); lent += step) {
-    answers.push(program.once(run, texts, lent, rooms));
+    answers.push(program.constructor.decoded(program.once(run, texts, lent, rooms)));
   }
   return answers;
 }

@@ -41,11 +41,13 @@ function workerTask() {
       return begin(module);
     }
     plan = "plan" in texts ? bytesOf(texts.plan) : plan;
-    return program.ask(run, { ...texts, plan });
+    return program.bytes(run, { ...texts, plan });
   };
   globalThis.onmessage = async ({ data }) => {
     try {
-      globalThis.postMessage({ answer: await answerTo(data) });
+      const answer = await answerTo(data);
+      const texts = Object.values(answer).filter((it) => it instanceof Uint8Array);
+      globalThis.postMessage({ answer }, texts.map((it) => it.buffer)); // handed over, not copied
     } catch (error) {
       globalThis.postMessage({ failure: String(error) });
     }
@@ -103,10 +105,10 @@ export class Engine {
 
   /** Ends the question that runs by its answer, or by what it failed with. */
   #end({ answer, failure }) {
-    const { done, refuse } = this.#running;
+    const { done, refuse, run } = this.#running;
     this.#running = undefined;
     if (failure === undefined) {
-      done(answer);
+      done(run ? Program.decoded(answer) : answer);
     } else {
       refuse(new CgrlistError(NO_PROGRAM, failure));
     }

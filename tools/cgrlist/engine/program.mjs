@@ -13,7 +13,6 @@ export class Program {
   static #TOLD = ["report", "session", "message"];
 
   static #MEMORY = 6; // the status of a run for which the lent memory or a buffer didn't suffice
-  static #REFUSED = { status: Program.#MEMORY, report: "", session: "", message: "cgrlist: no memory\n" };
   static #MOST = 2 ** 31; // bytes that are lent at most
   static #LONGEST = 2 ** 28; // bytes of a text that is answered: JavaScript has no string of some more
   static #KEPT = 2 ** 28; // bytes of an instance's memory, over which it isn't used again
@@ -41,11 +40,22 @@ export class Program {
     this.#rooms = { report: 2 ** 22, session: 2 ** 22, message: 2 ** 12 };
   }
 
-  /**
-   * The answer of a run over texts. More memory is lent as long as the run asks for it; if there is no more, or if a text
-   * of the answer has more than 256 MB, the status is 6.
-   */
+  /** The answer of a run over texts. */
   ask(run, texts) {
+    return Program.decoded(this.bytes(run, texts));
+  }
+
+  /** An answer with its bytes as texts. */
+  static decoded(answer) {
+    const texts = Program.#TOLD.map((name) => [name, Program.#decoder.decode(answer[name])]);
+    return { ...answer, ...Object.fromEntries(texts) };
+  }
+
+  /**
+   * The answer of a run as bytes. More memory is lent as long as the run asks for it; if there is no more, or if a text of
+   * the answer has more than 256 MB, the status is 6.
+   */
+  bytes(run, texts) {
     const since = performance.now();
     let answer;
     do {
@@ -55,8 +65,13 @@ export class Program {
     if (isRefused || this.#exports.memory.buffer.byteLength > Program.#KEPT) {
       this.#begin(); // with little memory again
     }
-    const { lengths, ...told } = isRefused ? Program.#REFUSED : answer;
+    const { lengths, ...told } = isRefused ? Program.#refused() : answer;
     return { ...told, milliseconds: performance.now() - since };
+  }
+
+  static #refused() {
+    const [report, session, message] = ["", "", "cgrlist: no memory\n"].map(Program.#bytesOf);
+    return { status: Program.#MEMORY, report, session, message };
   }
 
   /** Makes room for texts of these lengths or, where there is room, doubles the lent memory; false if there is no more. */
@@ -73,7 +88,7 @@ export class Program {
   }
 
   /**
-   * The answer of one call with so much lent memory and room for texts, and the lengths of the texts if the call was made.
+   * The bytes of one call's answer with so much lent memory and room for texts, and their lengths if the call was made.
    * Status 6 says that this isn't enough. An instance whose call didn't end, or didn't give the memory back, isn't used
    * again.
    */
@@ -81,7 +96,7 @@ export class Program {
     const given = Program.#GIVEN.map((name) => Program.#bytesOf(texts[name]));
     const layout = this.#layout(given, lent, rooms);
     if (!this.#growTo(layout.end)) {
-      return Program.#REFUSED;
+      return Program.#refused();
     }
     this.#write(given, texts.keep, layout);
     try {
@@ -145,14 +160,14 @@ export class Program {
     return new BigUint64Array(this.#exports.memory.buffer, at, size / Program.#WORD);
   }
 
-  /** The texts in the buffers after a call, and their lengths, which may be larger. */
+  /** Copies of what is in the buffers after a call, and the texts' lengths, which may be larger. */
   #read({ memory, outputs, buffers, heap }) {
-    const words = this.#words(outputs);
+    const [words, bytes] = [this.#words(outputs), new Uint8Array(this.#exports.memory.buffer)];
     const answer = { lengths: {} };
     Program.#TOLD.forEach((name, place) => {
       const { at, size } = buffers[place];
       const length = Number(words[3 * place + 2]);
-      answer[name] = Program.#decoder.decode(new Uint8Array(this.#exports.memory.buffer, at, Math.min(length, size)));
+      answer[name] = bytes.slice(at, at + Math.min(length, size));
       answer.lengths[name] = length;
     });
     if (this.#words(memory)[1] !== BigInt(heap.size)) {
