@@ -12,7 +12,8 @@ export function programTime(seconds) {
 
 /** The second of a time as the program writes it. */
 export function secondsOf(text) {
-  return Date.parse(`${text.slice(0, 10).replaceAll("/", "-")}T${text.slice(11)}Z`) / 1000;
+  const [year, month, day] = [text.slice(0, 4), text.slice(5, 7), text.slice(8, 10)];
+  return Date.UTC(year, month - 1, day, text.slice(11, 13), text.slice(14, 16), text.slice(17, 19)) / 1000;
 }
 
 export function word(value) {
@@ -60,13 +61,32 @@ export function answersIn(report, head) {
   return answers;
 }
 
+/** The numbers at the end of a line. A listing has so many that a text of each would take longer than they do. */
+function numbersFrom(line, begin) {
+  const numbers = [];
+  let number = 0;
+  for (let at = begin; at < line.length; at += 1) {
+    const digit = line.charCodeAt(at) - 48;
+    if (digit < 0) {
+      numbers.push(number);
+      number = 0;
+    } else {
+      number = 10 * number + digit;
+    }
+  }
+  numbers.push(number);
+  return numbers;
+}
+
 /** The route of a line; its rank is undefined if the line has none. */
 export function routeOf(line) {
-  const words = line.split(" ");
-  const rank = words[0] === "delivery" ? undefined : Number(words.shift());
-  const [, delivery, , , , entry, , until, , ...contacts] = words;
-  const times = { delivery: secondsOf(delivery), until: secondsOf(until) };
-  return { rank, ...times, hops: contacts.length, entry: BigInt(entry), contacts: contacts.map(Number) };
+  const after = (word) => line.indexOf(word) + word.length;
+  const wordAt = (at) => line.slice(at, line.indexOf(" ", at));
+  const deliveryAt = after("delivery ");
+  const rank = deliveryAt > 9 ? Number(wordAt(0)) : undefined;
+  const times = { delivery: secondsOf(wordAt(deliveryAt)), until: secondsOf(wordAt(after("until "))) };
+  const contacts = numbersFrom(line, after("contacts "));
+  return { rank, ...times, hops: contacts.length, entry: BigInt(wordAt(after("entry "))), contacts };
 }
 
 /** The routes of a report's lines, and whether more follow. */
