@@ -2,11 +2,11 @@
 
 The prover's model of a machine has 64-bit addresses, and so does the module that its compiler writes. Here each instruction
 that reads or writes memory gets the lower half of its address; all else stays, also the parameters that are addresses. A
-memory with 32-bit addresses has at most 4 GiB, and in these the upper half of an address is nought. So a module that accesses
+memory with 32-bit addresses has at most 4 GiB, and in these the upper half of an address is zero. So a module that accesses
 nothing outside its memory, which is what is proved of it, does the same as before.
 """
 
-from wasm import Malformed, constant_of, number_at, number_of, sections_of
+from wasm import Malformed, constant_at, constant_of, number_at, number_of, sections_of
 
 TYPES, FUNCTIONS, MEMORIES, CODE, DATA = 1, 3, 5, 10, 11  # kinds of sections
 
@@ -17,6 +17,7 @@ SPARE = [I32, I32, I64, F32, F64]  # the locals that a function gets, for what l
 
 GET, SET = 0x20, 0x21
 I32_CONST, I64_CONST = 0x41, 0x42
+I32_ADD, I64_ADD = 0x6A, 0x7C
 WRAP = b"\xa7"  # i32.wrap_i64, which keeps the lower half
 END = 0x0B
 
@@ -88,6 +89,26 @@ def narrowed(kind, second, text, spare):
     return text
 
 
+def after_sum(constant, load):
+    """A load from the sum of an address and a constant: the sum of the halves is the half of the sum, and takes less time."""
+    number, _ = constant_at(constant, 1)
+    half = (number + 2**31) % 2**32 - 2**31
+    return WRAP + bytes([I32_CONST]) + constant_of(half) + bytes([I32_ADD]) + with_short_numbers(load)
+
+
+def narrowed_all(code, at, spare):
+    """The instructions from a place on over addresses of 32 bits."""
+    found, parts = [*instructions(code, at)], []
+    while found:
+        kinds = [kind for kind, _, _ in found[-3:]]
+        if kinds[:2] == [I64_CONST, I64_ADD] and kinds[-1] in LOADS:
+            parts.append(after_sum(found[-3][2], found[-1][2]))
+            del found[-3:]
+        else:
+            parts.append(narrowed(*found.pop(), spare))
+    return b"".join(reversed(parts))
+
+
 # ---- Sections ---------------------------------------------------------------------------------------------------
 
 
@@ -120,7 +141,7 @@ def narrowed_body(body, parameters):
         count, at = number_at(body, at)
         spare, at = spare + count, at + 1
     locals_ = number_of(groups + len(SPARE)) + body[begin:at] + b"".join(number_of(1) + kind for kind in SPARE)
-    code = locals_ + b"".join(narrowed(*it, spare) for it in instructions(body, at))
+    code = locals_ + narrowed_all(body, at, spare)
     return number_of(len(code)) + code
 
 
@@ -140,7 +161,7 @@ def segment_at(content, at):
     """A segment of data that begins at a constant address, over addresses of 32 bits."""
     if content[at : at + 2] != bytes([0, I64_CONST]):
         raise Malformed("the module has data without an address")
-    address, end = number_at(content, at + 2)
+    address, end = constant_at(content, at + 2)
     size, begin = number_at(content, end + 1)
     return bytes([0, I32_CONST]) + constant_of(address) + content[end : begin + size], begin + size
 

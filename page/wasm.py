@@ -24,10 +24,19 @@ def number_of(number):
     return bytes([*data, number])
 
 
+def constant_at(data, at):
+    """The number of a constant, whose last byte has a bit for the sign, and the place after it."""
+    number, end = number_at(data, at)
+    return number - (1 << 7 * (end - at) if data[end - 1] & 64 else 0), end
+
+
 def constant_of(number):
-    """A number as a constant has it, whose last byte has a bit for the sign."""
-    data = number_of(number)
-    return data if data[-1] < 64 else data[:-1] + bytes([data[-1] | 128, 0])
+    """A number as a constant has it."""
+    data = bytearray()
+    while not -64 <= number < 64:
+        data.append(number & 127 | 128)
+        number >>= 7
+    return bytes([*data, number & 127])
 
 
 def sections_of(module):
