@@ -119,7 +119,7 @@ def tell(message):
 
 class Line:
     """The line on standard error that says how far the tool is: on a terminal, once it has run for a second, one line that
-    changes; else a further line every ten seconds, if there is something new to say.
+    changes, if only to say for how long it has worked; else a further line every ten seconds, if there is more to say.
     """
 
     def __init__(self):
@@ -134,13 +134,14 @@ class Line:
         while not self._over.wait(0.2):
             with self._lock:
                 if not self._is_held and time.monotonic() >= self._due:
-                    self._show((Tool.progress and Tool.progress.text()) or f"working for {time.monotonic() - self._begun:.0f} s")
+                    self._show(Tool.progress and Tool.progress.text())
 
     def _show(self, text):
         if self._is_terminal:
+            text = text or f"working for {time.monotonic() - self._begun:.0f} s"
             _write(f"\r\033[K{Tool.name}: {printable(text)}")
             self._shown = True
-        elif text != self._last:
+        elif text and text != self._last:
             _write(f"{Tool.name}: {printable(text)}\n")
             self._last, self._due = text, time.monotonic() + 10
 
