@@ -31,10 +31,11 @@ extern "C" {
 
 enum cgrlist_status {
     CGRLIST_OK = 0,
-    CGRLIST_NO = 1,         /* no route; the contacts make none; no such contact; no session text of a place; no page
-                             * to take back */
+    CGRLIST_NO = 1,         /* no route; the contacts make none; no such contact or range; no session text of a place;
+                             * no page to take back */
     CGRLIST_ROOM = 2,       /* a buffer is too small, and how much is needed is said; cgrlist_first, cgrlist_hops and
-                             * cgrlist_listing_next wrote what fits, cgrlist_best its route without contact numbers */
+                             * cgrlist_listing_next wrote what fits, cgrlist_best its route without contact numbers,
+                             * and the calls for texts nothing */
     CGRLIST_MEMORY = 3,     /* malloc or realloc refused */
     CGRLIST_CLOSED = 4,     /* the plan isn't open */
     CGRLIST_OPEN = 5,       /* the plan is open already */
@@ -130,6 +131,9 @@ typedef struct cgrlist_contact {
     bool has_light;
 } cgrlist_contact;
 
+/* A range: one-way light time in seconds between two nodes, over a window. */
+typedef struct cgrlist_range { uint64_t one, other, start, end; uint32_t light; } cgrlist_range;
+
 /* Where a listing stands: how many routes were given, whether the list goes on, whether a page can be taken back. */
 typedef struct cgrlist_place { uint64_t given; bool more, can_back; } cgrlist_place;
 
@@ -143,10 +147,21 @@ uint32_t cgrlist_plan_add_range(cgrlist_plan *plan, uint64_t one, uint64_t other
                                 uint32_t light);
 uint32_t cgrlist_plan_delete_contact(cgrlist_plan *plan, uint64_t from, uint64_t to, uint64_t start, uint32_t *number);
 uint32_t cgrlist_plan_delete_range(cgrlist_plan *plan, uint64_t one, uint64_t other, uint64_t start);
+/* Opens a copy of a plan behind another handle, with the numbers of its contacts, and with no listing. */
+uint32_t cgrlist_plan_copy(cgrlist_plan *plan, cgrlist_plan *copy);
+/* The plan as a text from which cgrlist_plan_read makes it again, with the numbers of its contacts and the largest one
+ * given: *bytes is its length; ROOM if it doesn't fit (nothing is written then). */
+uint32_t cgrlist_plan_text(cgrlist_plan *plan, uint8_t *text, size_t room, size_t *bytes);
 uint32_t cgrlist_plan_counts(cgrlist_plan *plan, cgrlist_counts *counts);
+/* The largest contact number given, 0 at first. */
+uint32_t cgrlist_plan_greatest(cgrlist_plan *plan, uint32_t *number);
 uint32_t cgrlist_plan_digest(cgrlist_plan *plan, uint8_t digest[32]);
 /* NO: no such contact stands */
 uint32_t cgrlist_plan_contact(cgrlist_plan *plan, uint32_t number, cgrlist_contact *contact);
+/* The contact, or the range, at a place from 0: contacts are in the order of their numbers, and ranges in that of their
+ * nodes and starts. NO: there are no more */
+uint32_t cgrlist_plan_contact_at(cgrlist_plan *plan, size_t place, cgrlist_contact *contact);
+uint32_t cgrlist_plan_range_at(cgrlist_plan *plan, size_t place, cgrlist_range *range);
 
 /* ---- Routes ---- */
 /* The best route. OK, NO if there is none, ROOM if `contacts` is too small (route->hops is how many it needs). */
@@ -194,6 +209,11 @@ static inline uint32_t cgrlist_plan_read_or_empty(cgrlist_plan *plan, const uint
                                                   uint32_t *line) {
     const uint8_t none = 0;
     return cgrlist_plan_read(plan, bytes ? text : &none, bytes, line);
+}
+
+static inline uint32_t cgrlist_plan_text_or_empty(cgrlist_plan *plan, uint8_t *text, size_t room, size_t *bytes) {
+    uint8_t none = 0;
+    return cgrlist_plan_text(plan, room ? text : &none, room, bytes);
 }
 
 static inline uint32_t cgrlist_best_or_empty(cgrlist_plan *plan, const cgrlist_request *request, const uint64_t *avoid,
@@ -285,6 +305,7 @@ static inline size_t cgrlist_version_or_empty(char *text, size_t room) {
 #endif
 
 #define cgrlist_plan_read cgrlist_plan_read_or_empty
+#define cgrlist_plan_text cgrlist_plan_text_or_empty
 #define cgrlist_best cgrlist_best_or_empty
 #define cgrlist_first cgrlist_first_or_empty
 #define cgrlist_follow cgrlist_follow_or_empty

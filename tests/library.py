@@ -134,13 +134,13 @@ def refused_memory(room):
     relay = f"{TOP}/examples/relay.txt 31 1 1893458700"
     wrapped = "-Wl,--wrap=malloc,--wrap=realloc"
     refuse = room.compiled("refuse", "refuse.c", wrapped)
-    calls = ("read", "new", "best", "first", "open", "load", "next", "text", "verify", "add contact", "add range", "delete contact", "delete range")
+    calls = ("read", "new", "best", "first", "open", "load", "next", "text", "plan text", "copy", "verify", "add contact", "add range", "delete contact", "delete range")
     ran = room.run([refuse], relay)
     yield "nothing is lost", "", lambda: ran.err
     for call in calls:
         yield f"each allocation of {call} refused", f"{call}: good", lambda: re.sub(
             "[0-9]+ refused", "good", "".join(re.findall(f"^{call}: .*$", ran.out, re.M)))
-    for call in ("read", "first", "open", "load", "next"):
+    for call in ("read", "first", "open", "load", "next", "plan text", "copy"):
         yield f"{call} takes memory", "", lambda: unlike(r"[1-9]\d*", "".join(re.findall(rf"^{call}: (\d+) refused$", ran.out, re.M)))
     if has("valgrind"):
         yield "no memory leaks", "", lambda: room.run("valgrind -q --leak-check=full --error-exitcode=7", [refuse], relay).err

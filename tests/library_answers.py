@@ -123,15 +123,16 @@ def beside_changes(room, path, text, requests, draws, contacts):
     script = [f"plan_read {path}", f"best {requests[0]}"]
     for change, request in zip(calls, requests):
         script += [change, f"best {request}"]
-    script += [*(f"first 3 {it}" for it in requests), "plan_counts"]
-    given = room.answers(script)
+    script += [*(f"first 3 {it}" for it in requests), "plan_counts", "plan_text written", "plan_copy 1", "use 1", "plan_counts",
+               "use 2", "plan_read written", "plan_counts"]
+    *given, _, _, _, copied, _, _, read = room.answers(script)
     taken = [line for line, answer in zip(lines, given[2 : 2 + 2 * len(calls) : 2]) if answer.startswith("OK")]
     changed = f"{text}\n{''.join(taken)}"
     wanted = by_requests(room.asked("many --count 3", plan=changed, requests="".join(f"{it}\n" for it in requests)))
     counts = room.asked("check", plan=changed)
     found = given[-1 - len(requests) :]
-    return [len(taken) > 0, *(f"OK\n{it}" for it in wanted), f"OK\n{counts}"], [
-        len(taken) > 0, *found[:-1], re.sub("greatest .*\n", "", found[-1])]
+    return [len(taken) > 0, *(f"OK\n{it}" for it in wanted), f"OK\n{counts}", found[-1], found[-1], counts], [
+        len(taken) > 0, *found[:-1], re.sub("greatest .*\n", "", found[-1]), copied, read, room.asked("check", plan=room.read("written"))]
 
 
 def is_alike(pair):

@@ -67,9 +67,9 @@ def type_of(parameter):
 
 
 def with_buffers(text):
-    """The functions that take a buffer: a place and then its length."""
+    """The functions that take a buffer: a place, which isn't that of a plan, and then its length."""
     return [name for name, (taken, _) in declared_functions(text).items() if any(
-        one.endswith("*") and other == "size_t" for one, other in zip(taken, taken[1:]))]
+        one.endswith("*") and one != f"{HANDLE} *" and other == "size_t" for one, other in zip(taken, taken[1:]))]
 
 
 # ---- The crate --------------------------------------------------------------------------------------------------

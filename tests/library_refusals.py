@@ -43,6 +43,12 @@ listing_text | NO_LISTING
 listing_close | NO_LISTING
 plan_contact 0 | NO
 plan_contact 5 | NO
+plan_contact_at 3 | OK | contact 4 from 2 to 3 start 2030/01/01-00:00:00 end 2030/01/01-00:03:20 rate 1000 light 5
+plan_contact_at 4 | NO
+plan_contact_at {2**64 - 1} | NO
+plan_range_at 1 | OK | range one 1 other 3 start 2030/01/01-00:00:00 end 2030/01/01-00:16:40 light 40
+plan_range_at 3 | NO
+plan_greatest | OK | greatest 4
 plan_add_contact 0 2 0 10 1 | VALUE_NODE
 plan_add_contact 2 0 0 10 1 | VALUE_NODE
 plan_add_contact 1 2 0 {LATEST + 1} 1 | VALUE_TIME
@@ -76,6 +82,8 @@ plan_delete_contact 1 7 1893456000 | OK | number 6
 follow 6 1 7 1893456000 | NO | refused hop 1: NoSuchContact
 plan_add_contact 1 {2**64 - 1} 0 {LATEST} {2**64 - 1} | OK | number 7
 plan_add_range 1 {2**64 - 1} 0 {LATEST} 1000000 | OK
+plan_greatest | OK | greatest 7
+plan_contact_at 5 | OK | contact 7 from 1 to {2**64 - 1} start 1970/01/01-00:00:00 end 9998/12/31-23:59:59 rate {2**64 - 1} light 1000000
 best 1 {2**64 - 1} 0 1000000 | OK | delivery 1970/01/24-03:33:20 hops 1 entry {2**64 - 1} until 9998/12/31-23:59:59 contacts 7
 """
 
@@ -96,6 +104,9 @@ CRAMPED = f"""
 0 | hops 1,9 1 3 1893456000 | ROOM | needs 1 hops
 1 | hops 1,9 1 3 1893456000 | NO | {HOP_1}
 0 | hops 9 1 3 1893456000 | NO
+0 | plan_text | ROOM | needs 400 bytes
+399 | plan_text | ROOM | needs 400 bytes
+0 | plan_copy 0 | OPEN
 0 | listing_open 1 3 1893456000 | OK
 0 0 | listing_next 2 | ROOM | needs 2 routes, 4 contacts; written 0 | more
 1 4 | listing_next 2 | ROOM | needs 2 routes, 4 contacts; written 1 | 1 {ROUTE_1} | more
@@ -152,7 +163,7 @@ listing_place | CLOSED
 """
 
 CLOSED = f"""plan_add_contact 1 2 0 1 1;plan_add_range 1 2 0 1 1;plan_delete_contact 1 2 0;plan_delete_range 1 2 0;plan_counts;plan_digest
-plan_contact 1;best 1 3 {AT};first 1 1 3 {AT};follow 1 1 3 {AT};hops 1 1 3 {AT};listing_open 1 3 {AT};listing_load a.txt;listing_next 1
+plan_copy 1;plan_text;plan_greatest;plan_contact_at 0;plan_range_at 0;plan_contact 1;best 1 3 {AT};first 1 1 3 {AT};follow 1 1 3 {AT};hops 1 1 3 {AT};listing_open 1 3 {AT};listing_load a.txt;listing_next 1
 listing_back;listing_place;listing_text;listing_close;verify a.txt;best 0 0 {AT};first 10001 0 0 {AT}"""
 
 # A refused line of a plan's text, and its status.
@@ -240,6 +251,9 @@ def texts(room):
     yield "a full plan takes no more", ["OK\n", "TOO_MANY\n", "OK\nnumber 1\n", "TOO_MANY\n"], lambda: room.answers([
         f"plan_read {room.file('full', full)}", "plan_add_contact 3 4 0 1 0", "plan_delete_contact 1 2 1893456000",
         "plan_add_contact 3 4 0 1 0"])
+    yield "nor do its copy and its text", ["TOO_MANY\n", "TOO_MANY\n"], lambda: room.answers([
+        f"plan_read {room.file('full', full)}", "plan_delete_contact 1 2 1893475999", "plan_copy 1", "plan_text written", "use 1",
+        "plan_add_contact 3 4 0 1 0", "use 2", "plan_read written", "plan_add_contact 3 4 0 1 0"])[5::3]
     ranges = "@ 2030/01/01-00:00:00\n" + "".join(f"a range +{it} +{it + 1} 1 2 5\n" for it in range(20000))
     yield "nor ranges", ["OK\n", "TOO_MANY\n", "OK\n", "OK\n"], lambda: room.answers([
         f"plan_read {room.file('full', ranges)}", "plan_add_range 3 4 0 1 0", "plan_delete_range 1 2 1893456000",

@@ -292,15 +292,38 @@ static void digest(void) {
     print_status(cgrlist_plan_digest(plan, it));
 }
 
+static void print_contact(uint32_t status, const cgrlist_contact *c) {
+    if (print_status(status)) return;
+    printf("contact %" PRIu32 " from %" PRIu64 " to %" PRIu64, c->number, c->from, c->to);
+    print_time(" start ", c->start);
+    print_time(" end ", c->end);
+    printf(" rate %" PRIu64, c->rate);
+    if (c->has_light) printf(" light %" PRIu32, c->light);
+    printf("\n");
+}
+
 static void contact(void) {
     cgrlist_contact c = {0, 0, 0, 0, 0, 0, 0, false};
-    if (print_status(cgrlist_plan_contact(plan, (uint32_t)number(1), &c))) return;
-    printf("contact %" PRIu32 " from %" PRIu64 " to %" PRIu64, c.number, c.from, c.to);
-    print_time(" start ", c.start);
-    print_time(" end ", c.end);
-    printf(" rate %" PRIu64, c.rate);
-    if (c.has_light) printf(" light %" PRIu32, c.light);
-    printf("\n");
+    print_contact(cgrlist_plan_contact(plan, (uint32_t)number(1), &c), &c);
+}
+
+static void contact_at(void) {
+    cgrlist_contact c = {0, 0, 0, 0, 0, 0, 0, false};
+    print_contact(cgrlist_plan_contact_at(plan, number(1), &c), &c);
+}
+
+static void range_at(void) {
+    cgrlist_range r = {0, 0, 0, 0, 0};
+    if (print_status(cgrlist_plan_range_at(plan, number(1), &r))) return;
+    printf("range one %" PRIu64 " other %" PRIu64, r.one, r.other);
+    print_time(" start ", r.start);
+    print_time(" end ", r.end);
+    printf(" light %" PRIu32 "\n", r.light);
+}
+
+static void greatest(void) {
+    uint32_t given = 0;
+    if (!print_status(cgrlist_plan_greatest(plan, &given))) printf("greatest %" PRIu32 "\n", given);
 }
 
 static void listing_open(void) {
@@ -328,26 +351,32 @@ static void listing_place(void) {
     printf("given %" PRIu64 " %s %s\n", place.given, place.more ? "more" : "end", place.can_back ? "back" : "first");
 }
 
-/* Writes the session text to a file, or prints it if none is named. */
-static void listing_text(void) {
+/* Writes a text to the file that the second word names, or prints it if there is none. */
+static void put_text(uint32_t (*text_of)(cgrlist_plan *, uint8_t *, size_t, size_t *)) {
     size_t bytes = 0, room;
     uint32_t status = CGRLIST_ROOM;
     uint8_t *text = NULL;
-    if (!is_room_set()) status = cgrlist_listing_text(plan, NULL, 0, &bytes);
+    if (!is_room_set()) status = text_of(plan, NULL, 0, &bytes);
     if (status == CGRLIST_ROOM) {
         room = room_of(0, bytes);
         text = block(room, 1);
-        status = cgrlist_listing_text(plan, text, room, &bytes);
+        status = text_of(plan, text, room, &bytes);
     }
     print_status(status);
     if (status == CGRLIST_ROOM) printf("needs %zu bytes\n", bytes);
     if (status == CGRLIST_OK) {
         FILE *file = word_count > 1 ? fopen(word(1), "wb") : stdout;
-        if (!file || fwrite(text, 1, bytes, file) != bytes) exit(9);
+        if (!file || (bytes && fwrite(text, 1, bytes, file) != bytes)) exit(9);
         if (file != stdout) fclose(file);
     }
     free(text);
 }
+
+static void listing_text(void) { put_text(cgrlist_listing_text); }
+static void plan_text(void) { put_text(cgrlist_plan_text); }
+
+/* Copies the plan to another one. */
+static void plan_copy(void) { print_status(cgrlist_plan_copy(plan, &plans[number(1) & 3])); }
 
 static void listing_close(void) { print_status(cgrlist_listing_close(plan)); }
 
@@ -382,7 +411,9 @@ static void use(void) { plan = &plans[number(1) & 3]; }
 static const struct { const char *name; void (*call)(void); } CALLS[] = {
     {"plan_new", plan_new}, {"plan_read", plan_read}, {"plan_close", plan_close}, {"plan_add_contact", add_contact},
     {"plan_add_range", add_range}, {"plan_delete_contact", delete_contact}, {"plan_delete_range", delete_range},
-    {"plan_counts", counts}, {"plan_digest", digest}, {"plan_contact", contact}, {"best", best}, {"first", first},
+    {"plan_copy", plan_copy}, {"plan_text", plan_text}, {"plan_counts", counts}, {"plan_greatest", greatest},
+    {"plan_digest", digest}, {"plan_contact", contact}, {"plan_contact_at", contact_at},
+    {"plan_range_at", range_at}, {"best", best}, {"first", first},
     {"follow", follow}, {"hops", hops}, {"listing_open", listing_open}, {"listing_load", listing_load},
     {"listing_next", listing_next}, {"listing_back", listing_back}, {"listing_place", listing_place},
     {"listing_text", listing_text}, {"listing_close", listing_close}, {"verify", verify}, {"status_text", status_text},

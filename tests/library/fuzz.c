@@ -252,6 +252,47 @@ static void list(cgrlist_plan *plan, const asked *a, const page *all) {
 
 /* ---- Plans ---- */
 
+/* A plan's text makes the same plan again, and so does a copy. */
+static void copy(cgrlist_plan *plan) {
+    cgrlist_plan others[2] = {CGRLIST_PLAN_CLOSED, CGRLIST_PLAN_CLOSED};
+    size_t bytes = 0, again;
+    uint32_t line, greatest, other;
+    uint8_t digest[32], found[32];
+    cgrlist_plan_text(plan, NULL, 0, &bytes);
+    uint8_t *text = block(bytes, 1);
+    must(met(cgrlist_plan_text(plan, text, bytes, &bytes)) == CGRLIST_OK, "a plan's text");
+    must(met(cgrlist_plan_read(&others[0], text, bytes, &line)) == CGRLIST_OK, "a plan's text is read");
+    must(met(cgrlist_plan_copy(plan, &others[1])) == CGRLIST_OK, "a copy");
+    must(met(cgrlist_plan_copy(plan, &others[1])) == CGRLIST_OPEN, "a copy of a copy");
+    cgrlist_plan_digest(plan, digest);
+    cgrlist_plan_greatest(plan, &greatest);
+    for (int i = 0; i < 2; i++) {
+        cgrlist_plan_digest(&others[i], found);
+        must(!memcmp(digest, found, 32), "the same records");
+        must(cgrlist_plan_greatest(&others[i], &other) == CGRLIST_OK && other == greatest, "the same numbers");
+        must(cgrlist_plan_text(&others[i], text, bytes, &again) == CGRLIST_OK && again == bytes, "the same text");
+        cgrlist_plan_close(&others[i]);
+    }
+    free(text);
+}
+
+/* Contacts and ranges by place are as many as are counted. */
+static void look(cgrlist_plan *plan) {
+    cgrlist_counts all;
+    cgrlist_contact one = {0, 0, 0, 0, 0, 0, 0, false}, other = {0, 0, 0, 0, 0, 0, 0, false};
+    cgrlist_range range;
+    cgrlist_plan_counts(plan, &all);
+    uint64_t dark = 0;
+    for (size_t i = 0; i < all.contacts; i++) {
+        must(met(cgrlist_plan_contact_at(plan, i, &one)) == CGRLIST_OK, "a contact by place");
+        must(cgrlist_plan_contact(plan, one.number, &other) == CGRLIST_OK && one.start == other.start && one.to == other.to, "a contact by number");
+        dark += !one.has_light;
+    }
+    must(dark == all.without_light, "the contacts without light");
+    for (size_t i = 0; i < all.ranges; i++) must(met(cgrlist_plan_range_at(plan, i, &range)) == CGRLIST_OK, "a range by place");
+    must(cgrlist_plan_contact_at(plan, all.contacts, &one) == CGRLIST_NO && cgrlist_plan_range_at(plan, all.ranges, &range) == CGRLIST_NO, "no more");
+}
+
 static void ask(cgrlist_plan *plan) {
     asked a = draw_asked();
     page all;
@@ -277,6 +318,8 @@ int main(int argc, char **argv) {
             change(&plan);
             if (!draw(4)) ask(&plan);
         }
+        look(&plan);
+        copy(&plan);
         cgrlist_plan_close(&plan);
         must(met(cgrlist_plan_digest(&plan, (uint8_t[32]){0})) == CGRLIST_CLOSED, "a closed plan");
     }

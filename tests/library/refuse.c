@@ -72,6 +72,13 @@ static void call_next(answer *a) {
     a->status = cgrlist_listing_next(&plan, 15, a->routes, ROUTES, a->contacts, CONTACTS, &a->page);
 }
 static void call_text(answer *a) { a->status = cgrlist_listing_text(&plan, a->text, BYTES, &a->bytes); }
+static void call_plan_text(answer *a) { a->status = cgrlist_plan_text(&plan, a->text, BYTES, &a->bytes); }
+static void call_copy(answer *a) {
+    cgrlist_plan copy = CGRLIST_PLAN_CLOSED;
+    a->status = cgrlist_plan_copy(&plan, &copy);
+    cgrlist_plan_digest(&copy, a->text);
+    cgrlist_plan_close(&copy);
+}
 static void call_verify(answer *a) { a->status = cgrlist_verify(&plan, session_text, session_bytes); }
 static void call_add_contact(answer *a) { a->status = cgrlist_plan_add_contact(&plan, 7001, 7002, 5, 9, 1, &a->number); }
 static void call_add_range(answer *a) { a->status = cgrlist_plan_add_range(&plan, 7001, 7002, 5, 9, 1); }
@@ -104,6 +111,7 @@ static const struct { const char *name; bool (*before)(void); void (*call)(answe
     {"read", nothing, call_read}, {"new", nothing, call_new}, {"best", a_plan, call_best},
     {"best", an_asked_plan, call_best}, {"first", a_plan, call_first}, {"open", a_plan, call_open},
     {"load", a_plan, call_load}, {"next", a_listing, call_next}, {"text", a_listing, call_text},
+    {"plan text", an_asked_plan, call_plan_text}, {"copy", a_listing, call_copy},
     {"verify", a_plan, call_verify}, {"add contact", an_asked_plan, call_add_contact},
     {"add range", an_asked_plan, call_add_range}, {"delete contact", an_asked_plan, call_delete_contact},
     {"delete range", an_asked_plan, call_delete_range},

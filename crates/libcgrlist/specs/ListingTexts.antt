@@ -9,9 +9,13 @@ use Rattle.libcgrlist.specs.Whole.{PutsWhole}
 abbrev pub GivesNoText : List ℕ → List ℕ → ℕ → ℕ → Type 0
 GivesNoText old new length_old length_new = (new ≡ old) × (length_new ≡ length_old)
 
--- no listing is open; or memory is refused; or the text of its place is put, and its length is given
+-- memory is refused; or a text is put, and its length is given
+abbrev pub GivesText : List ℕ → ℕ → List ℕ → List ℕ → ℕ → ℕ → Type 0
+GivesText given status old new length_old length_new =
+    ((status ≡ no_memory) × GivesNoText old new length_old length_new)
+    ⊎ (PutsWhole given status old new × (length_new ≡ length given))
+
+-- no listing is open; or the text of its place is given
 abbrev pub AnswersText : Option Seen → ℕ → List ℕ → List ℕ → ℕ → ℕ → Type 0
 AnswersText None status old new length_old length_new = (status ≡ no_listing) × GivesNoText old new length_old length_new
-AnswersText (Some s) status old new length_old length_new =
-    ((status ≡ no_memory) × GivesNoText old new length_old length_new)
-    ⊎ (PutsWhole (text_of_session s) status old new × (length_new ≡ length (text_of_session s)))
+AnswersText (Some s) status old new length_old length_new = GivesText (text_of_session s) status old new length_old length_new

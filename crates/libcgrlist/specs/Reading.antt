@@ -1,5 +1,5 @@
 -- What reading a plan's text comes to.
-use Rattle.std.specs.Prelude.{◌≡◌, ℕ, true, Bool, false, Result, Ok, Err, Option, None, Some}
+use Rattle.std.specs.Prelude.{◌≡◌, ◌⊎◌, ℕ, true, Bool, false, Result, Ok, Err, Option, None, Some}
 use Rattle.sabr_model.specs.plan.Plan.{ContactPlan, IsPlan}
 use Rattle.sabr_plan.specs.declared.fault.PlanFault.{PlanFault}
 use Rattle.libcgrlist.specs.Opened.{OpenPlan}
@@ -9,6 +9,10 @@ use Rattle.libcgrlist.specs.Status.{already_open, done, line_status, no_memory}
 abbrev pub IsPlanAlone : ContactPlan → Option OpenPlan → Type 0
 IsPlanAlone p None = ⊥
 IsPlanAlone p (Some o) = (o.plan.plan ≡ p) × IsPlan o.plan.plan × (o.listing ≡ None)
+
+-- this plan is open, or memory was refused and the handle stays closed
+abbrev pub Makes : ContactPlan → ℕ → Bool → Option OpenPlan → Type 0
+Makes p status is_open new = ((status ≡ done) × (is_open ≡ true) × IsPlanAlone p new) ⊎ ((status ≡ no_memory) × (is_open ≡ false))
 
 -- the plan of a text is open, or the handle stays closed and its first bad line is given with the line's number; no
 -- number is given with another status

@@ -2,12 +2,14 @@
 use Rattle.std.specs.Prelude.{◌≡◌, ℕ, is_none, is_some, length, unwrap_or, Option, None, Some}
 use Rattle.std.specs.List.{filter}
 use Rattle.sabr_model.specs.declared.contact.Contact.{Contact}
+use Rattle.sabr_model.specs.declared.contact.Range.{Range}
 use Rattle.sabr_model.specs.plan.Light.{light_of}
 use Rattle.sabr_model.specs.plan.Plan.{ContactPlan}
 use Rattle.sabr_model.specs.plan.Table.{node_count}
 use Rattle.libcgrlist.specs.Status.{done, no}
 use Rattle.libcgrlist.specs.declared.views.Counts.{Counts}
 use Rattle.libcgrlist.specs.declared.views.ContactRow.{ContactRow}
+use Rattle.libcgrlist.specs.declared.views.RangeRow.{RangeRow}
 
 -- how many contacts and ranges stand, how many nodes send or receive a standing contact, how many standing contacts
 -- have no light time at their start, and the largest number ever assigned
@@ -37,3 +39,12 @@ contact_row c light = record {
 abbrev pub Gives : ContactPlan → Option Contact → ℕ → ContactRow → ContactRow → Type 0
 Gives p (Some c) status old new = (status ≡ done) × (new ≡ contact_row c (light_of p c))
 Gives p None status old new = (status ≡ no) × (new ≡ old)
+
+-- a range as it stands
+abbrev pub range_row : Range → RangeRow
+range_row r = record { one = r.one; other = r.other; start = r.start; end = r.end; light = r.light }
+
+-- the range is there and given, or there is none and nothing is given
+abbrev pub GivesRange : Option Range → ℕ → RangeRow → RangeRow → Type 0
+GivesRange (Some r) status old new = (status ≡ done) × (new ≡ range_row r)
+GivesRange None status old new = (status ≡ no) × (new ≡ old)

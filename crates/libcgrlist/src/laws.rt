@@ -14,8 +14,8 @@ pub fn listings_stand()
     ensures back { BackActs }
 {}
 
-/// States that reading the text of a plan, as [`text_of_plan`](crate::text_of_plan) writes it, makes the plan again: its
-/// contacts with their numbers, its ranges, and the largest number given.
+/// States that reading the text of a plan, as [`cgrlist_plan_text`](crate::cgrlist_plan_text) writes it, makes the plan
+/// again: its contacts with their numbers, its ranges, and the largest number given.
 pub fn plan_texts_read_back()
     ensures { PlanTextsReadBack }
 {}

@@ -41,9 +41,12 @@ pub use listing::{
 pub use listing_load::cgrlist_listing_load;
 pub use listing_text::cgrlist_listing_text;
 pub use opened::Opened;
-pub use plan_text::text_of_plan;
-pub use plans::{cgrlist_plan_close, cgrlist_plan_new, cgrlist_plan_read};
+pub use plan_text::cgrlist_plan_text;
+pub use plans::{cgrlist_plan_close, cgrlist_plan_copy, cgrlist_plan_new, cgrlist_plan_read};
 pub use rows::{Page, RouteRow};
 pub use texts::{cgrlist_abi, cgrlist_fault_text, cgrlist_status_text, cgrlist_version};
 pub use verify::cgrlist_verify;
-pub use views::{cgrlist_plan_contact, cgrlist_plan_counts, cgrlist_plan_digest};
+pub use views::{
+    cgrlist_plan_contact, cgrlist_plan_contact_at, cgrlist_plan_counts, cgrlist_plan_digest,
+    cgrlist_plan_greatest, cgrlist_plan_range_at,
+};

@@ -1,10 +1,15 @@
 //! The text of a plan, from which reading makes the plan again.
 
-ghost use Rattle.std.specs.Prelude.{◌≡◌, ◌==◌, ◌+◌, ◌≤◌, ◌++◌, ◌∷◌, decimal, IfOk, OnOk, codes};
+ghost use Rattle.std.specs.Prelude.{◌≡◌, ◌==◌, ◌+◌, ◌≤◌, ◌++◌, ◌∷◌, decimal, IfOk, IsFalse, OnOk, codes};
 ghost use Rattle.std.specs.List.{flat_map, list_any, AllByRecursion};
 ghost use Rattle.sabr_model.specs.plan.Plan.{IsWindow, last_time};
+ghost use Rattle.libcgrlist.specs.ListingTexts.{GivesNoText, GivesText};
+ghost use Rattle.libcgrlist.specs.Open.{Calls, IsWhole};
 ghost use Rattle.libcgrlist.specs.PlanTexts.{addition_line, contacts_text, deletion_line, free_start, gap_text, plan_text, range_line};
 
+use crate::handle::PlanHandle;
+use crate::status::{CLOSED, MEMORY};
+use crate::whole::put_whole;
 use itoa::Buffer;
 use sabr_model::{Contact, NoMemory, Plan, Range};
 use sabr_plan::time_text;
@@ -177,14 +182,12 @@ fn free_start(contacts: &[Contact]) -> u64
     contacts.len() as u64
 }
 
-/// Returns the text of a plan, in the form that [`parse_plan`](sabr_plan::parse_plan) reads: a line for each contact by
-/// number, with two lines for each number whose contact was deleted, and one for each range. Its time grows with the
-/// number of records, and with its square if many contacts start in the first seconds of 1970.
+/// Returns the text of a plan.
 ///
 /// # Errors
 ///
 /// [`NoMemory`] if an allocation failed.
-pub fn text_of_plan(alloc: Global, plan: &Plan<Global>) -> Result<Vec<u8, Global>, NoMemory>
+fn text_of_plan(alloc: Global, plan: &Plan<Global>) -> Result<Vec<u8, Global>, NoMemory>
     ensures { IfOk result (λ text. text.items ≡ plan_text plan.now.plan) }
 {
     let mut text = Vec::new(alloc);
@@ -192,4 +195,33 @@ pub fn text_of_plan(alloc: Global, plan: &Plan<Global>) -> Result<Vec<u8, Global
     put_contacts(&mut text, plan.contacts(), start, plan.largest())?;
     put_ranges(&mut text, plan.ranges())?;
     Ok(text)
+}
+
+/// Writes the text of the plan, and gives its length. If there is no room for all of it, none of it is written.
+#[unsafe(no_mangle)]
+pub extern "C" fn cgrlist_plan_text(
+    alloc: Global,
+    handle: &mut PlanHandle,
+    text: &mut [u8],
+    bytes: &mut usize,
+) -> u32
+    requires { IsWhole handle.old.is_open handle.old.place.held }
+    ensures open { handle.new.is_open ≡ handle.old.is_open }
+    ensures whole { IsWhole handle.new.is_open handle.new.place.held }
+    ensures text { Calls handle.old.is_open handle.old.place.held result handle.new.place.held (λ o n. (n ≡ o) × GivesText (plan_text o.plan.plan) result text.old text.new bytes.old bytes.new) }
+    ensures closed { IsFalse handle.old.is_open → GivesNoText text.old text.new bytes.old bytes.new }
+{
+    if !handle.is_open {
+        return CLOSED;
+    }
+    let opened = handle.take(alloc);
+    let given = text_of_plan(alloc, opened.plan());
+    handle.give(opened);
+    match given {
+        Ok(given) => {
+            *bytes = given.len();
+            put_whole(given.as_slice(), text)
+        }
+        Err(_refused) => MEMORY,
+    }
 }

@@ -1,17 +1,18 @@
 //! Looking at plans.
 
-ghost use Rattle.std.specs.Prelude.{◌≡◌, ◌≢◌, is_none, length};
+ghost use Rattle.std.specs.Prelude.{◌≡◌, ◌≢◌, is_none, length, slice_get};
 ghost use Rattle.std.specs.List.{filter};
+ghost use Rattle.std.specs.Option.{option_copied};
 ghost use Rattle.sabr_model.specs.plan.Light.{light_of};
 ghost use Rattle.sabr_model.specs.plan.Plan.{contact_named};
 ghost use Rattle.sabr_plan.specs.Canonical.{digest_of};
 ghost use Rattle.libcgrlist.specs.Open.{Calls, IsWhole};
 ghost use Rattle.libcgrlist.specs.Status.{done};
-ghost use Rattle.libcgrlist.specs.Views.{Gives, counts_of};
+ghost use Rattle.libcgrlist.specs.Views.{Gives, GivesRange, counts_of};
 
 use crate::handle::PlanHandle;
 use crate::status::{CLOSED, DONE, NO};
-use sabr_model::Plan;
+use sabr_model::{Contact, Plan, Range};
 use std::alloc::Global;
 
 /// `cgrlist_counts`: what a plan has.
@@ -45,6 +46,18 @@ pub struct ContactRow {
     pub has_light: bool,
 }
 
+/// `cgrlist_range`: a one-way light time in seconds, between two nodes over a window in seconds since
+/// 1970-01-01T00:00:00Z.
+#[repr(C)]
+#[derive(Clone, Copy)]
+pub struct RangeRow {
+    pub one: u64,
+    pub other: u64,
+    pub start: u64,
+    pub end: u64,
+    pub light: u32,
+}
+
 /// Counts the standing contacts that have no light time at their start.
 fn without_light(plan: &Plan<Global>) -> usize
     ensures { result ≡ length (filter (λ c. is_none (light_of plan.now.plan c)) plan.now.plan.contacts) }
@@ -68,11 +81,11 @@ fn counted(plan: &Plan<Global>) -> Counts
     }
 }
 
-/// Gives the contact with this number, if it stands.
-fn give_contact(plan: &Plan<Global>, number: u32, row: &mut ContactRow) -> u32
-    ensures { Gives plan.now.plan (contact_named plan.now.plan number) result row.old row.new }
+/// Gives a contact of a plan, if there is one.
+fn give_contact(plan: &Plan<Global>, found: Option<&Contact>, row: &mut ContactRow) -> u32
+    ensures { Gives plan.now.plan (option_copied found.entry) result row.old row.new }
 {
-    let Some(contact) = plan.contact(number) else {
+    let Some(contact) = found else {
         return NO;
     };
     let light = plan.light(contact);
@@ -85,6 +98,23 @@ fn give_contact(plan: &Plan<Global>, number: u32, row: &mut ContactRow) -> u32
         number: contact.number,
         light: light.unwrap_or(0),
         has_light: light.is_some(),
+    };
+    DONE
+}
+
+/// Gives a range, if there is one.
+fn give_range(found: Option<&Range>, row: &mut RangeRow) -> u32
+    ensures { GivesRange (option_copied found.entry) result row.old row.new }
+{
+    let Some(range) = found else {
+        return NO;
+    };
+    *row = RangeRow {
+        one: range.one,
+        other: range.other,
+        start: range.start,
+        end: range.end,
+        light: range.light,
     };
     DONE
 }
@@ -107,6 +137,28 @@ pub extern "C" fn cgrlist_plan_counts(
     }
     let opened = handle.take(alloc);
     *counts = counted(opened.plan());
+    handle.give(opened);
+    DONE
+}
+
+/// Gives the largest number ever given to a contact, 0 at first.
+#[unsafe(no_mangle)]
+pub extern "C" fn cgrlist_plan_greatest(
+    alloc: Global,
+    handle: &mut PlanHandle,
+    number: &mut u32,
+) -> u32
+    requires { IsWhole handle.old.is_open handle.old.place.held }
+    ensures open { handle.new.is_open ≡ handle.old.is_open }
+    ensures whole { IsWhole handle.new.is_open handle.new.place.held }
+    ensures greatest { Calls handle.old.is_open handle.old.place.held result handle.new.place.held (λ o n. (n ≡ o) × (result ≡ done) × (number.new ≡ o.plan.plan.largest)) }
+    ensures kept { result ≢ 0 → number.new ≡ number.old }
+{
+    if !handle.is_open {
+        return CLOSED;
+    }
+    let opened = handle.take(alloc);
+    *number = opened.plan().largest();
     handle.give(opened);
     DONE
 }
@@ -151,7 +203,55 @@ pub extern "C" fn cgrlist_plan_contact(
         return CLOSED;
     }
     let opened = handle.take(alloc);
-    let status = give_contact(opened.plan(), number, contact);
+    let plan = opened.plan();
+    let status = give_contact(plan, plan.contact(number), contact);
+    handle.give(opened);
+    status
+}
+
+/// Gives the standing contact at this place, from 0, in the order of numbers.
+#[unsafe(no_mangle)]
+pub extern "C" fn cgrlist_plan_contact_at(
+    alloc: Global,
+    handle: &mut PlanHandle,
+    place: usize,
+    contact: &mut ContactRow,
+) -> u32
+    requires { IsWhole handle.old.is_open handle.old.place.held }
+    ensures open { handle.new.is_open ≡ handle.old.is_open }
+    ensures whole { IsWhole handle.new.is_open handle.new.place.held }
+    ensures contact { Calls handle.old.is_open handle.old.place.held result handle.new.place.held (λ o n. (n ≡ o) × Gives o.plan.plan (slice_get o.plan.plan.contacts place) result contact.old contact.new) }
+    ensures kept { result ≢ 0 → contact.new ≡ contact.old }
+{
+    if !handle.is_open {
+        return CLOSED;
+    }
+    let opened = handle.take(alloc);
+    let plan = opened.plan();
+    let status = give_contact(plan, plan.contacts().get(place), contact);
+    handle.give(opened);
+    status
+}
+
+/// Gives the standing range at this place, from 0, in the order of pairs of nodes and starts.
+#[unsafe(no_mangle)]
+pub extern "C" fn cgrlist_plan_range_at(
+    alloc: Global,
+    handle: &mut PlanHandle,
+    place: usize,
+    range: &mut RangeRow,
+) -> u32
+    requires { IsWhole handle.old.is_open handle.old.place.held }
+    ensures open { handle.new.is_open ≡ handle.old.is_open }
+    ensures whole { IsWhole handle.new.is_open handle.new.place.held }
+    ensures range { Calls handle.old.is_open handle.old.place.held result handle.new.place.held (λ o n. (n ≡ o) × GivesRange (slice_get o.plan.plan.ranges place) result range.old range.new) }
+    ensures kept { result ≢ 0 → range.new ≡ range.old }
+{
+    if !handle.is_open {
+        return CLOSED;
+    }
+    let opened = handle.take(alloc);
+    let status = give_range(opened.plan().ranges().get(place), range);
     handle.give(opened);
     status
 }
