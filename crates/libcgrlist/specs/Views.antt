@@ -1,11 +1,11 @@
 -- What C sees of a plan and of a contact.
-use Rattle.std.specs.Prelude.{◌≡◌, ℕ, is_none, is_some, length, unwrap_or, Option, None, Some}
-use Rattle.std.specs.List.{filter}
+use Rattle.std.specs.Prelude.{◌≡◌, ℕ, is_some, length, unwrap_or, Option, None, Some}
 use Rattle.sabr_model.specs.declared.contact.Contact.{Contact}
 use Rattle.sabr_model.specs.declared.contact.Range.{Range}
 use Rattle.sabr_model.specs.plan.Light.{light_of}
 use Rattle.sabr_model.specs.plan.Plan.{ContactPlan}
 use Rattle.sabr_model.specs.plan.Table.{node_count}
+use Rattle.libcgrlist.specs.Opened.{without_light}
 use Rattle.libcgrlist.specs.Status.{done, no}
 use Rattle.libcgrlist.specs.declared.views.Counts.{Counts}
 use Rattle.libcgrlist.specs.declared.views.ContactRow.{ContactRow}
@@ -18,7 +18,7 @@ counts_of p = record {
   contacts = length p.contacts;
   ranges = length p.ranges;
   nodes = node_count p.contacts;
-  without_light = length (filter (λ c. is_none (light_of p c)) p.contacts);
+  without_light = without_light p;
   greatest = p.largest;
 }
 

@@ -4,7 +4,7 @@ ghost use Rattle.std.specs.Prelude.{◌≡◌, None, Some, IfOk, IfSome, OnOk, O
 ghost use Rattle.std.specs.Option.{option_map};
 ghost use Rattle.sabr_plan.specs.Canonical.{digest_of};
 ghost use Rattle.sabr_frontier.specs.session.Paused.{IsPausedOver};
-ghost use Rattle.libcgrlist.specs.Opened.{OpenPlan};
+ghost use Rattle.libcgrlist.specs.Opened.{OpenPlan, without_light};
 ghost use Rattle.libcgrlist.specs.Paused.{AreLinksOf, listing_over};
 
 use sabr_frontier::PausedSession;
@@ -31,6 +31,8 @@ pub struct Opened {
     listing: Option<Paused>,
     /// The plan's digest.
     digest: Option<[u8; 32]>,
+    /// The number of the contacts that have no light time at their start.
+    without_light: Option<usize>,
 }
 
 impl Model for Opened {
@@ -38,14 +40,14 @@ impl Model for Opened {
     ghost use Rattle.std.specs.Option.{option_map};
     ghost use Rattle.sabr_plan.specs.Canonical.{digest_of};
     ghost use Rattle.sabr_frontier.specs.session.Paused.{IsPausedOver};
-    ghost use Rattle.libcgrlist.specs.Opened.{OpenPlan};
+    ghost use Rattle.libcgrlist.specs.Opened.{OpenPlan, without_light};
     ghost use Rattle.libcgrlist.specs.Paused.{AreLinksOf, listing_over};
 
     ghost Value = { OpenPlan };
 
     ghost view = { λ o. record { plan = o.plan; listing = option_map (listing_over o.plan) o.listing } };
 
-    ghost invariant = { λ o. IfSome o.links (AreLinksOf o.plan) × IfSome o.listing (IsPausedOver o.plan) × IfSome o.digest (λ d. d ≡ digest_of o.plan.plan) };
+    ghost invariant = { λ o. IfSome o.links (AreLinksOf o.plan) × IfSome o.listing (IsPausedOver o.plan) × IfSome o.digest (λ d. d ≡ digest_of o.plan.plan) × IfSome o.without_light (λ n. n ≡ without_light o.plan.plan) };
 }
 
 impl Opened {
@@ -59,6 +61,7 @@ impl Opened {
             finder: None,
             listing: None,
             digest: None,
+            without_light: None,
         }
     }
 
@@ -145,6 +148,29 @@ impl Opened {
         self.digest = Some(made);
         made
     }
+
+    /// The number of the contacts that have no light time at their start, which are counted once.
+    pub fn without_light(&mut self) -> usize
+        ensures count { result ≡ without_light self.old.plan.plan }
+        ensures same { self.new ≡ self.old }
+    {
+        if let Some(counted) = self.without_light {
+            return counted;
+        }
+        let counted = without_light(&self.plan);
+        self.without_light = Some(counted);
+        counted
+    }
+}
+
+/// Counts the contacts that have no light time at their start.
+fn without_light(plan: &Plan<Global>) -> usize
+    ensures { result ≡ without_light plan.now.plan }
+{
+    plan.contacts()
+        .iter()
+        .filter(|contact| plan.light(contact).is_none())
+        .count()
 }
 
 /// A contact to add: its sender and receiver, its window in seconds since 1970-01-01T00:00:00Z, and its rate in bytes a
@@ -190,6 +216,7 @@ impl Opened {
             .add_contact(new.from, new.to, new.start, new.end, new.rate)?;
         self.links = None;
         self.digest = None;
+        self.without_light = None;
         Ok(number)
     }
 
@@ -216,6 +243,7 @@ impl Opened {
             Ok(()) => {
                 self.links = None;
                 self.digest = None;
+                self.without_light = None;
                 Ok(())
             }
             Err(fault) => Err(fault),
@@ -236,6 +264,7 @@ impl Opened {
         let number = self.plan.delete_contact(from, to, start)?;
         self.links = None;
         self.digest = None;
+        self.without_light = None;
         Ok(number)
     }
 
@@ -254,6 +283,7 @@ impl Opened {
         self.plan.delete_range(one, other, start)?;
         self.links = None;
         self.digest = None;
+        self.without_light = None;
         Ok(())
     }
 }

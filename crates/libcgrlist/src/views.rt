@@ -1,9 +1,7 @@
 //! Looking at plans.
 
-ghost use Rattle.std.specs.Prelude.{◌≡◌, ◌≢◌, is_none, length, slice_get};
-ghost use Rattle.std.specs.List.{filter};
+ghost use Rattle.std.specs.Prelude.{◌≡◌, ◌≢◌, slice_get};
 ghost use Rattle.std.specs.Option.{option_copied};
-ghost use Rattle.sabr_model.specs.plan.Light.{light_of};
 ghost use Rattle.sabr_model.specs.plan.Plan.{contact_named};
 ghost use Rattle.sabr_plan.specs.Canonical.{digest_of};
 ghost use Rattle.libcgrlist.specs.Open.{Calls, IsWhole};
@@ -11,6 +9,7 @@ ghost use Rattle.libcgrlist.specs.Status.{done};
 ghost use Rattle.libcgrlist.specs.Views.{Gives, GivesRange, counts_of};
 
 use crate::handle::PlanHandle;
+use crate::opened::Opened;
 use crate::status::{CLOSED, DONE, NO};
 use sabr_model::{Contact, Plan, Range};
 use std::alloc::Global;
@@ -58,25 +57,18 @@ pub struct RangeRow {
     pub light: u32,
 }
 
-/// Counts the standing contacts that have no light time at their start.
-fn without_light(plan: &Plan<Global>) -> usize
-    ensures { result ≡ length (filter (λ c. is_none (light_of plan.now.plan c)) plan.now.plan.contacts) }
-{
-    plan.contacts()
-        .iter()
-        .filter(|contact| plan.light(contact).is_none())
-        .count()
-}
-
 /// Counts what a plan has.
-fn counted(plan: &Plan<Global>) -> Counts
-    ensures { result ≡ counts_of plan.now.plan }
+fn counted(opened: &mut Opened) -> Counts
+    ensures counts { result ≡ counts_of opened.old.plan.plan }
+    ensures same { opened.new ≡ opened.old }
 {
+    let without_light = opened.without_light() as u64;
+    let plan = opened.plan();
     Counts {
         contacts: plan.contacts().len() as u64,
         ranges: plan.ranges().len() as u64,
         nodes: plan.nodes() as u64,
-        without_light: without_light(plan) as u64,
+        without_light,
         greatest: plan.largest() as u64,
     }
 }
@@ -119,7 +111,7 @@ fn give_range(found: Option<&Range>, row: &mut RangeRow) -> u32
     DONE
 }
 
-/// Gives what a plan has, as `check` counts it.
+/// Gives what a plan has, as `check` counts it. The first call after a change looks up the light times of all contacts.
 #[unsafe(no_mangle)]
 pub extern "C" fn cgrlist_plan_counts(
     alloc: Global,
@@ -135,8 +127,8 @@ pub extern "C" fn cgrlist_plan_counts(
     if !handle.is_open {
         return CLOSED;
     }
-    let opened = handle.take(alloc);
-    *counts = counted(opened.plan());
+    let mut opened = handle.take(alloc);
+    *counts = counted(&mut opened);
     handle.give(opened);
     DONE
 }
