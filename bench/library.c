@@ -10,10 +10,10 @@
 #include <stdlib.h>
 #include <string.h>
 
-static uint8_t text[1 << 24];
+static char text[1 << 24];
 static cgrlist_route routes[1000];
 static uint32_t contacts[1 << 20];
-static cgrlist_plan plan = CGRLIST_PLAN_CLOSED;
+static cgrlist_plan *plan;
 static cgrlist_request request;
 static cgrlist_page page;
 
@@ -22,7 +22,7 @@ static void must(uint32_t status) {
 }
 
 static void ask(void) {
-    must(cgrlist_best(&plan, &request, NULL, 0, routes, contacts, sizeof contacts / sizeof *contacts));
+    must(cgrlist_best(plan, &request, routes, contacts, sizeof contacts / sizeof *contacts));
 }
 
 static void best(void) {
@@ -33,21 +33,22 @@ static void best(void) {
 /* A plan of 20000 contacts takes no more, so contacts are deleted, in the order of their numbers. */
 static void change(void) {
     static uint32_t last;
-    cgrlist_contact contact = {0};
-    while (cgrlist_plan_contact(&plan, ++last, &contact) == CGRLIST_NO) continue;
-    must(cgrlist_plan_delete_contact(&plan, contact.from, contact.to, contact.start, &last));
+    cgrlist_contact contact;
+    while (cgrlist_plan_contact(plan, ++last, &contact) == CGRLIST_NO) continue;
+    must(cgrlist_plan_delete_contact(plan, contact.from, contact.to, contact.start, NULL));
     ask();
 }
 
 static void once(void) {
-    must(cgrlist_first(&plan, &request, NULL, 0, 1000, routes, 1000, contacts, sizeof contacts / sizeof *contacts, &page));
+    must(cgrlist_first(plan, &request, 1000, routes, 1000, contacts, sizeof contacts / sizeof *contacts, &page));
 }
 
 static void pages(void) {
-    must(cgrlist_listing_open(&plan, &request, NULL, 0));
+    cgrlist_listing *listing;
+    must(cgrlist_listing_open(plan, &request, &listing));
     for (int i = 0; i < 10; i++)
-        must(cgrlist_listing_next(&plan, 100, routes, 1000, contacts, sizeof contacts / sizeof *contacts, &page));
-    must(cgrlist_listing_close(&plan));
+        must(cgrlist_listing_next(listing, 100, routes, 1000, contacts, sizeof contacts / sizeof *contacts, &page));
+    cgrlist_listing_close(listing);
 }
 
 static const struct { const char *name; void (*call)(void); } CALLS[] = {
@@ -58,15 +59,14 @@ int main(int argc, char **argv) {
     FILE *file = fopen(argv[1], "rb");
     if (!file) return 2;
     size_t bytes = fread(text, 1, sizeof text, file);
-    uint32_t line;
     fclose(file);
     request.from = strtoull(argv[2], NULL, 10);
     request.to = strtoull(argv[3], NULL, 10);
     request.at = strtoull(argv[4], NULL, 10);
-    must(cgrlist_plan_read(&plan, text, bytes, &line));
+    must(cgrlist_plan_read(&plan, text, bytes, NULL));
     if (strcmp(argv[5], "read")) ask();
     for (size_t i = 0; i < sizeof CALLS / sizeof *CALLS; i++)
         for (long left = strcmp(argv[5], CALLS[i].name) ? 0 : atol(argv[6]); left; left--) CALLS[i].call();
-    cgrlist_plan_close(&plan);
+    cgrlist_plan_close(plan);
     return 0;
 }

@@ -1,4 +1,5 @@
-/* Asks for the best route of a request over a contact plan, loses the route's first contact, and asks again.
+/* Asks for the best route of a request over a contact plan, loses the route's first contact, and asks again. Then it makes
+ * a new plan of the contacts that stand, as a router that runs for long does before its contact numbers run out.
  *
  *     cc router.c $(pkg-config --cflags --libs cgrlist) -o router
  *     ./router relay.txt 31 1 1893458700        the last word is a second after 1970
@@ -8,58 +9,105 @@
 #include <stdio.h>
 #include <stdlib.h>
 
-enum { ROOM = 64 }; /* contacts of a route */
-
 /* Ends the program if a call was refused. */
-static uint32_t must(uint32_t status, const char *what) {
-    char name[32];
+static cgrlist_status must(cgrlist_status status, const char *what) {
     if (status <= CGRLIST_NO) return status;
-    fprintf(stderr, "%s: %.*s\n", what, (int)cgrlist_status_text(status, name, sizeof name), name);
+    fprintf(stderr, "%s: %s\n", what, cgrlist_status_name(status));
     exit(1);
 }
 
-static void read_plan(cgrlist_plan *plan, const char *path) {
-    static uint8_t text[1 << 22];
-    uint32_t line;
+static void *resized(void *block, size_t bytes) {
+    void *made = realloc(block, bytes);
+    if (!made) exit(1);
+    return made;
+}
+
+/* The bytes of a file, however many they are. */
+static char *text_of(const char *path, size_t *bytes) {
+    char *text = NULL;
+    size_t room = 0, given;
     FILE *file = fopen(path, "rb");
     if (!file) exit(1);
-    size_t bytes = fread(text, 1, sizeof text, file);
+    *bytes = 0;
+    do {
+        if (*bytes == room) text = resized(text, room = 2 * room + 4096);
+        *bytes += given = fread(text + *bytes, 1, room - *bytes, file);
+    } while (given);
     fclose(file);
-    must(cgrlist_plan_read(plan, text, bytes, &line), path);
+    return text;
+}
+
+static cgrlist_plan *plan_of(const char *path) {
+    cgrlist_plan *plan;
+    uint64_t line;
+    size_t bytes;
+    char *text = text_of(path, &bytes);
+    cgrlist_status status = cgrlist_plan_read(&plan, text, bytes, &line);
+    free(text);
+    if (line) fprintf(stderr, "line %" PRIu64 ": ", line);
+    must(status, path);
+    return plan;
 }
 
 /* Prints the best route, and returns its first contact, or 0 if there is no route. */
 static uint32_t ask(cgrlist_plan *plan, const cgrlist_request *request) {
-    cgrlist_route route;
-    uint32_t contacts[ROOM];
-    if (must(cgrlist_best(plan, request, NULL, 0, &route, contacts, ROOM), "best") == CGRLIST_NO) {
+    cgrlist_route route = {0, 0, 0, 0, 0};
+    uint32_t *contacts = NULL;
+    cgrlist_status status;
+    while ((status = cgrlist_best(plan, request, &route, contacts, contacts ? route.hops : 0)) == CGRLIST_ROOM)
+        contacts = resized(contacts, route.hops * sizeof *contacts);
+    if (must(status, "best") == CGRLIST_NO) {
         puts("no route");
         return 0;
     }
     printf("to node %" PRIu64 " first, there at %" PRIu64 ", over", route.entry, route.delivery);
     for (size_t i = 0; i < route.hops; i++) printf(" %" PRIu32, contacts[i]);
     puts("");
-    return contacts[0];
+    uint32_t first = contacts[0];
+    free(contacts);
+    return first;
 }
 
 /* Takes a contact out of the plan: it is named by its nodes and its start. */
 static void lose(cgrlist_plan *plan, uint32_t number) {
-    cgrlist_contact it = {0}; /* it has a bool */
+    cgrlist_contact it;
     must(cgrlist_plan_contact(plan, number, &it), "contact");
-    must(cgrlist_plan_delete_contact(plan, it.from, it.to, it.start, &number), "delete");
+    must(cgrlist_plan_delete_contact(plan, it.from, it.to, it.start, NULL), "delete");
     printf("contact %" PRIu32 " is lost\n", number);
+}
+
+/* Makes a plan of what doesn't end before a second, with contact numbers from 1, in place of another one. */
+static cgrlist_plan *renewed(cgrlist_plan *old, uint64_t second) {
+    cgrlist_plan *plan;
+    cgrlist_contact contact;
+    cgrlist_range range;
+    must(cgrlist_plan_new(&plan), "new");
+    for (size_t i = 0; cgrlist_plan_contact_at(old, i, &contact) == CGRLIST_OK; i++)
+        if (contact.end >= second)
+            must(cgrlist_plan_add_contact(plan, contact.from, contact.to, contact.start, contact.end, contact.rate, NULL), "contact");
+    for (size_t i = 0; cgrlist_plan_range_at(old, i, &range) == CGRLIST_OK; i++)
+        if (range.end >= second)
+            must(cgrlist_plan_add_range(plan, range.one, range.other, range.start, range.end, range.light), "range");
+    cgrlist_plan_close(old);
+    return plan;
 }
 
 int main(int argc, char **argv) {
     if (argc != 5) return 2;
-    cgrlist_plan plan = CGRLIST_PLAN_CLOSED;
-    cgrlist_request request = {strtoull(argv[2], NULL, 10), strtoull(argv[3], NULL, 10), strtoull(argv[4], NULL, 10), 0, 0};
-    read_plan(&plan, argv[1]);
-    uint32_t first = ask(&plan, &request);
-    if (first) {
-        lose(&plan, first);
-        ask(&plan, &request);
+    if (cgrlist_abi() != CGRLIST_ABI) {
+        fprintf(stderr, "this library has another interface than the header\n");
+        return 2;
     }
-    cgrlist_plan_close(&plan);
+    cgrlist_request request = {strtoull(argv[2], NULL, 10), strtoull(argv[3], NULL, 10), strtoull(argv[4], NULL, 10), 0, 0, NULL, 0};
+    cgrlist_plan *plan = plan_of(argv[1]);
+    uint32_t first = ask(plan, &request);
+    if (first) {
+        lose(plan, first);
+        ask(plan, &request);
+        plan = renewed(plan, request.at);
+        puts("with new numbers:");
+        ask(plan, &request);
+    }
+    cgrlist_plan_close(plan);
     return 0;
 }

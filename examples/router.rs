@@ -1,15 +1,15 @@
 //! Asks for the best route of a request over a contact plan, loses the route's first contact, and asks again.
 //!
-//!     rustc -O router.rs -L FOLDER        with the folder of libcgrlist.so
-//!     ./router relay.txt 31 1 1893458700  the last word is a second after 1970
+//!     rustc --edition 2024 -O router.rs -L FOLDER     with the folder of libcgrlist.so
+//!     ./router relay.txt 31 1 1893458700              the last word is a second after 1970
+//!
+//! library/rust has a crate for the whole library.
 
 use std::ffi::c_void;
+use std::ptr::{null, null_mut};
 
 #[repr(C)]
-struct Handle { is_open: bool, at: *mut c_void }
-
-#[repr(C)]
-struct Request { from: u64, to: u64, at: u64, margin_ppm: u32, max_hops: u32 }
+struct Request { from: u64, to: u64, at: u64, margin_ppm: u32, max_hops: u32, avoid: *const u64, avoids: usize }
 
 #[repr(C)]
 #[derive(Default)]
@@ -20,27 +20,27 @@ struct Route { delivery: u64, until: u64, entry: u64, first: usize, hops: usize 
 struct Contact { from: u64, to: u64, start: u64, end: u64, rate: u64, number: u32, light: u32, has_light: bool }
 
 #[link(name = "cgrlist")]
-extern "C" {
-    fn cgrlist_plan_read(plan: *mut Handle, text: *const u8, bytes: usize, line: *mut u32) -> u32;
-    fn cgrlist_plan_close(plan: *mut Handle);
-    fn cgrlist_plan_contact(plan: *mut Handle, number: u32, contact: *mut Contact) -> u32;
-    fn cgrlist_plan_delete_contact(plan: *mut Handle, from: u64, to: u64, start: u64, number: *mut u32) -> u32;
-    fn cgrlist_best(plan: *mut Handle, request: *const Request, avoid: *const u64, avoids: usize, route: *mut Route, contacts: *mut u32, room: usize) -> u32;
+unsafe extern "C" {
+    fn cgrlist_plan_read(plan: *mut *mut c_void, text: *const u8, bytes: usize, line: *mut u64) -> u32;
+    fn cgrlist_plan_close(plan: *mut c_void);
+    fn cgrlist_plan_contact(plan: *mut c_void, number: u32, contact: *mut Contact) -> u32;
+    fn cgrlist_plan_delete_contact(plan: *mut c_void, from: u64, to: u64, start: u64, number: *mut u32) -> u32;
+    fn cgrlist_best(plan: *mut c_void, request: *const Request, route: *mut Route, contacts: *mut u32, room: usize) -> u32;
+    safe fn cgrlist_abi() -> u32;
 }
 
 const NO: u32 = 1;
 const ROOM: u32 = 2;
 
-/// A plan that is open. It can't be copied, and is closed when it is dropped. The pointer keeps it on one thread.
-struct Plan(Handle);
+/// A plan, which is closed when it is dropped. The pointer keeps it on one thread.
+struct Plan(*mut c_void);
 
 impl Plan {
     /// Reads a plan's text, or returns the status and the bad line.
-    fn read(text: &[u8]) -> Result<Plan, (u32, u32)> {
-        let (mut plan, mut line) = (Plan(Handle { is_open: false, at: std::ptr::null_mut() }), 0);
-        // A slice's pointer is never null, also if it is empty.
-        match unsafe { cgrlist_plan_read(&mut plan.0, text.as_ptr(), text.len(), &mut line) } {
-            0 => Ok(plan),
+    fn read(text: &[u8]) -> Result<Plan, (u32, u64)> {
+        let (mut plan, mut line) = (null_mut(), 0);
+        match unsafe { cgrlist_plan_read(&mut plan, text.as_ptr(), text.len(), &mut line) } {
+            0 => Ok(Plan(plan)),
             status => Err((status, line)),
         }
     }
@@ -49,8 +49,7 @@ impl Plan {
     fn best(&mut self, request: &Request) -> Result<Option<(Route, Vec<u32>)>, u32> {
         let (mut route, mut contacts) = (Route::default(), vec![0; 64]);
         loop {
-            let avoid: [u64; 0] = [];
-            match unsafe { cgrlist_best(&mut self.0, request, avoid.as_ptr(), 0, &mut route, contacts.as_mut_ptr(), contacts.len()) } {
+            match unsafe { cgrlist_best(self.0, request, &mut route, contacts.as_mut_ptr(), contacts.len()) } {
                 0 => break,
                 NO => return Ok(None),
                 ROOM => contacts.resize(route.hops, 0),
@@ -62,13 +61,13 @@ impl Plan {
     }
 
     /// Takes a contact out of the plan: it is named by its nodes and its start.
-    fn lose(&mut self, mut number: u32) -> Result<(), u32> {
+    fn lose(&mut self, number: u32) -> Result<(), u32> {
         let mut it = Contact::default();
-        match unsafe { cgrlist_plan_contact(&mut self.0, number, &mut it) } {
+        match unsafe { cgrlist_plan_contact(self.0, number, &mut it) } {
             0 => {}
             status => return Err(status),
         }
-        match unsafe { cgrlist_plan_delete_contact(&mut self.0, it.from, it.to, it.start, &mut number) } {
+        match unsafe { cgrlist_plan_delete_contact(self.0, it.from, it.to, it.start, null_mut()) } {
             0 => Ok(()),
             status => Err(status),
         }
@@ -77,7 +76,7 @@ impl Plan {
 
 impl Drop for Plan {
     fn drop(&mut self) {
-        unsafe { cgrlist_plan_close(&mut self.0) }
+        unsafe { cgrlist_plan_close(self.0) }
     }
 }
 
@@ -93,10 +92,11 @@ fn ask(plan: &mut Plan, request: &Request) -> Option<u32> {
 }
 
 fn main() {
+    assert_eq!(cgrlist_abi(), 2, "this library has another interface");
     let words: Vec<String> = std::env::args().skip(1).collect();
     let number = |place: usize| words[place].parse().expect("a number");
     let mut plan = Plan::read(&std::fs::read(&words[0]).expect("a file")).expect("a plan");
-    let request = Request { from: number(1), to: number(2), at: number(3), margin_ppm: 0, max_hops: 0 };
+    let request = Request { from: number(1), to: number(2), at: number(3), margin_ppm: 0, max_hops: 0, avoid: null(), avoids: 0 };
     if let Some(first) = ask(&mut plan, &request) {
         plan.lose(first).expect("a contact");
         println!("contact {first} is lost");

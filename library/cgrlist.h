@@ -1,19 +1,17 @@
 /* cgrlist: the routes of a contact plan, best first, in process.
  *
- * A plan stands behind a `cgrlist_plan`, which the caller keeps and begins with CGRLIST_PLAN_CLOSED (zeros). Between
- * calls the caller changes nothing in it and copies it nowhere. The library has no global state: different plans may be
- * used by different threads at the same time, one plan by one call at a time.
+ * A plan and a listing are opaque. What makes one writes its place, or NULL if it refuses; the caller closes it. The
+ * library has no global state: threads may use different plans and listings at the same time, each by one call at a
+ * time. A listing has its own copy of its plan.
  *
- * No call prints, blocks, or calls back, and none aborts as long as the stack suffices. Each call but
- * cgrlist_plan_close, cgrlist_abi and the texts returns a `cgrlist_status`. With any other status than CGRLIST_OK and
- * CGRLIST_NO, the plan and its listing are as they were. With any other than CGRLIST_OK and CGRLIST_ROOM, so are the
- * records and buffers for routes, pages and places.
+ * No call prints, blocks, or calls back, and none aborts as long as the stack suffices. With any status but CGRLIST_OK,
+ * plans and listings are as they were. With any but CGRLIST_OK and CGRLIST_ROOM, so are records and buffers, unless the
+ * call says otherwise.
  *
- * Buffers belong to the caller and may not overlap. An empty buffer may be NULL. A record that has a bool
- * (cgrlist_contact, cgrlist_page, cgrlist_place) is initialized before a call is given its place, as by {0}. Times are
- * whole seconds since 1970-01-01T00:00:00Z. Memory comes from malloc, realloc and free.
+ * Buffers belong to the caller and may not overlap. A buffer may be NULL, and is empty then. An output may be NULL if it
+ * isn't wanted. Times are whole seconds since 1970-01-01T00:00:00Z. Memory comes from malloc, realloc and free.
  *
- * See cgrlist(3).
+ * This header needs C99 or C++11. See cgrlist(3).
  */
 #ifndef CGRLIST_H
 #define CGRLIST_H
@@ -27,9 +25,9 @@ extern "C" {
 #endif
 
 /* The version of this interface: cgrlist_abi() returns that of the library. */
-#define CGRLIST_ABI 1
+#define CGRLIST_ABI 2
 
-enum cgrlist_status {
+typedef enum cgrlist_status {
     CGRLIST_OK = 0,
     CGRLIST_NO = 1,         /* no route; the contacts make none; no such contact or range; no session text of a place;
                              * no page to take back */
@@ -37,11 +35,9 @@ enum cgrlist_status {
                              * cgrlist_listing_next wrote what fits, cgrlist_best its route without contact numbers,
                              * and the calls for texts nothing */
     CGRLIST_MEMORY = 3,     /* malloc or realloc refused */
-    CGRLIST_CLOSED = 4,     /* the plan isn't open */
-    CGRLIST_OPEN = 5,       /* the plan is open already */
-    CGRLIST_LISTING = 6,    /* a listing is open: the plan can't be changed, and no second listing opened */
-    CGRLIST_NO_LISTING = 7, /* no listing is open */
-    /* The request is refused. */
+    CGRLIST_NO_PLAN = 4,    /* the plan is NULL */
+    CGRLIST_NO_LISTING = 7, /* the listing is NULL */
+    /* The request is refused. One that is NULL is one of zeros. */
     CGRLIST_SAME_NODE = 16,
     CGRLIST_BAD_NODE = 17,
     CGRLIST_BAD_TIME = 18,
@@ -83,14 +79,21 @@ enum cgrlist_status {
     CGRLIST_SESSION_NOT_CLOSED = 84,
     CGRLIST_SESSION_BAD_ROUTE = 85,
     CGRLIST_SESSION_BAD_COUNT = 86
-};
+} cgrlist_status;
 
 /* The first fault of a list of contacts. */
-enum cgrlist_fault {
-    CGRLIST_FAULT_NONE = 0, CGRLIST_FAULT_EMPTY = 1, CGRLIST_FAULT_NO_SUCH_CONTACT = 2, CGRLIST_FAULT_NOT_CHAINED = 3,
-    CGRLIST_FAULT_NODE_AGAIN = 4, CGRLIST_FAULT_NO_LIGHT = 5, CGRLIST_FAULT_TOO_LATE = 6, CGRLIST_FAULT_WRONG_END = 7,
-    CGRLIST_FAULT_AVOIDED_NODE = 8, CGRLIST_FAULT_TOO_MANY_HOPS = 9
-};
+typedef enum cgrlist_fault {
+    CGRLIST_FAULT_NONE = 0,
+    CGRLIST_FAULT_EMPTY = 1,
+    CGRLIST_FAULT_NO_SUCH_CONTACT = 2,
+    CGRLIST_FAULT_NOT_CHAINED = 3,
+    CGRLIST_FAULT_NODE_AGAIN = 4,
+    CGRLIST_FAULT_NO_LIGHT = 5,
+    CGRLIST_FAULT_TOO_LATE = 6,
+    CGRLIST_FAULT_WRONG_END = 7,
+    CGRLIST_FAULT_AVOIDED_NODE = 8,
+    CGRLIST_FAULT_TOO_MANY_HOPS = 9
+} cgrlist_fault;
 
 #define CGRLIST_LAST_TIME 253370764799u
 #define CGRLIST_MOST_LIGHT 1000000u
@@ -99,12 +102,16 @@ enum cgrlist_fault {
 #define CGRLIST_MOST_AVOIDED 16u
 #define CGRLIST_MOST_ROUTES 10000u
 
-/* A plan, closed if it is zeros. Its members are the library's. */
-typedef struct cgrlist_plan { bool is_open; void *at; } cgrlist_plan;
-#define CGRLIST_PLAN_CLOSED {false, NULL}
+typedef struct cgrlist_plan cgrlist_plan;
+typedef struct cgrlist_listing cgrlist_listing;
 
-/* A request. `max_hops` 0 is no limit. Nodes to avoid are given beside it, rising, at most 16. */
-typedef struct cgrlist_request { uint64_t from, to, at; uint32_t margin_ppm, max_hops; } cgrlist_request;
+/* A request. `max_hops` 0 is no limit. The nodes to avoid rise, and are at most 16. */
+typedef struct cgrlist_request {
+    uint64_t from, to, at;
+    uint32_t margin_ppm, max_hops;
+    const uint64_t *avoid;
+    size_t avoids;
+} cgrlist_request;
 
 /* A route: best-case delivery time, termination time, entry node. Its contact numbers are contacts[first] ..
  * contacts[first + hops - 1]. */
@@ -138,186 +145,74 @@ typedef struct cgrlist_range { uint64_t one, other, start, end; uint32_t light; 
 typedef struct cgrlist_place { uint64_t given; bool more, can_back; } cgrlist_place;
 
 /* ---- Plans ---- */
-uint32_t cgrlist_plan_new(cgrlist_plan *plan);
-uint32_t cgrlist_plan_read(cgrlist_plan *plan, const uint8_t *text, size_t bytes, uint32_t *line);
-void cgrlist_plan_close(cgrlist_plan *plan); /* closes its listing, too; a closed one stays closed */
-uint32_t cgrlist_plan_add_contact(cgrlist_plan *plan, uint64_t from, uint64_t to, uint64_t start, uint64_t end,
-                                  uint64_t rate, uint32_t *number);
-uint32_t cgrlist_plan_add_range(cgrlist_plan *plan, uint64_t one, uint64_t other, uint64_t start, uint64_t end,
-                                uint32_t light);
-uint32_t cgrlist_plan_delete_contact(cgrlist_plan *plan, uint64_t from, uint64_t to, uint64_t start, uint32_t *number);
-uint32_t cgrlist_plan_delete_range(cgrlist_plan *plan, uint64_t one, uint64_t other, uint64_t start);
-/* Opens a copy of a plan behind another handle, with the numbers of its contacts, and with no listing. */
-uint32_t cgrlist_plan_copy(cgrlist_plan *plan, cgrlist_plan *copy);
+cgrlist_status cgrlist_plan_new(cgrlist_plan **plan);
+/* *line is the text's bad line, or 0. */
+cgrlist_status cgrlist_plan_read(cgrlist_plan **plan, const char *text, size_t bytes, uint64_t *line);
+/* A copy of a plan, with the numbers of its contacts. */
+cgrlist_status cgrlist_plan_copy(cgrlist_plan *plan, cgrlist_plan **copy);
+void cgrlist_plan_close(cgrlist_plan *plan);
+cgrlist_status cgrlist_plan_add_contact(cgrlist_plan *plan, uint64_t from, uint64_t to, uint64_t start, uint64_t end,
+                                        uint64_t rate, uint32_t *number);
+cgrlist_status cgrlist_plan_add_range(cgrlist_plan *plan, uint64_t one, uint64_t other, uint64_t start, uint64_t end,
+                                      uint32_t light);
+cgrlist_status cgrlist_plan_delete_contact(cgrlist_plan *plan, uint64_t from, uint64_t to, uint64_t start,
+                                           uint32_t *number);
+cgrlist_status cgrlist_plan_delete_range(cgrlist_plan *plan, uint64_t one, uint64_t other, uint64_t start);
 /* The plan as a text from which cgrlist_plan_read makes it again, with the numbers of its contacts and the largest one
  * given: *bytes is its length; ROOM if it doesn't fit (nothing is written then). */
-uint32_t cgrlist_plan_text(cgrlist_plan *plan, uint8_t *text, size_t room, size_t *bytes);
-uint32_t cgrlist_plan_counts(cgrlist_plan *plan, cgrlist_counts *counts);
+cgrlist_status cgrlist_plan_text(cgrlist_plan *plan, char *text, size_t room, size_t *bytes);
+cgrlist_status cgrlist_plan_counts(cgrlist_plan *plan, cgrlist_counts *counts);
 /* The largest contact number given, 0 at first. */
-uint32_t cgrlist_plan_greatest(cgrlist_plan *plan, uint32_t *number);
-uint32_t cgrlist_plan_digest(cgrlist_plan *plan, uint8_t digest[32]);
+cgrlist_status cgrlist_plan_greatest(cgrlist_plan *plan, uint32_t *number);
+cgrlist_status cgrlist_plan_digest(cgrlist_plan *plan, uint8_t digest[32]);
 /* NO: no such contact stands */
-uint32_t cgrlist_plan_contact(cgrlist_plan *plan, uint32_t number, cgrlist_contact *contact);
+cgrlist_status cgrlist_plan_contact(cgrlist_plan *plan, uint32_t number, cgrlist_contact *contact);
 /* The contact, or the range, at a place from 0: contacts are in the order of their numbers, and ranges in that of their
  * nodes and starts. NO: there are no more */
-uint32_t cgrlist_plan_contact_at(cgrlist_plan *plan, size_t place, cgrlist_contact *contact);
-uint32_t cgrlist_plan_range_at(cgrlist_plan *plan, size_t place, cgrlist_range *range);
+cgrlist_status cgrlist_plan_contact_at(cgrlist_plan *plan, size_t place, cgrlist_contact *contact);
+cgrlist_status cgrlist_plan_range_at(cgrlist_plan *plan, size_t place, cgrlist_range *range);
 
 /* ---- Routes ---- */
 /* The best route. OK, NO if there is none, ROOM if `contacts` is too small (route->hops is how many it needs). */
-uint32_t cgrlist_best(cgrlist_plan *plan, const cgrlist_request *request, const uint64_t *avoid, size_t avoids,
-                      cgrlist_route *route, uint32_t *contacts, size_t contacts_room);
+cgrlist_status cgrlist_best(cgrlist_plan *plan, const cgrlist_request *request, cgrlist_route *route,
+                            uint32_t *contacts, size_t contacts_room);
 /* The first `count` routes, at most 10000, or all if they are fewer. */
-uint32_t cgrlist_first(cgrlist_plan *plan, const cgrlist_request *request, const uint64_t *avoid, size_t avoids,
-                       uint32_t count, cgrlist_route *routes, size_t routes_room, uint32_t *contacts,
-                       size_t contacts_room, cgrlist_page *page);
+cgrlist_status cgrlist_first(cgrlist_plan *plan, const cgrlist_request *request, uint32_t count, cgrlist_route *routes,
+                             size_t routes_room, uint32_t *contacts, size_t contacts_room, cgrlist_page *page);
 /* OK: the contacts make a route, whose record is in `outcome`. NO: its first fault is. */
-uint32_t cgrlist_follow(cgrlist_plan *plan, const cgrlist_request *request, const uint64_t *avoid, size_t avoids,
-                        const uint32_t *contacts, size_t count, cgrlist_outcome *outcome);
+cgrlist_status cgrlist_follow(cgrlist_plan *plan, const cgrlist_request *request, const uint32_t *contacts,
+                              size_t count, cgrlist_outcome *outcome);
 /* The hops before the first fault: *hops_count of them; ROOM if they are more than there is room for. OK or NO as
- * cgrlist_follow otherwise. */
-uint32_t cgrlist_hops(cgrlist_plan *plan, const cgrlist_request *request, const uint64_t *avoid, size_t avoids,
-                      const uint32_t *contacts, size_t count, cgrlist_hop *hops, size_t hops_room, size_t *hops_count);
+ * cgrlist_follow otherwise. With any other status *hops_count is 0. */
+cgrlist_status cgrlist_hops(cgrlist_plan *plan, const cgrlist_request *request, const uint32_t *contacts, size_t count,
+                            cgrlist_hop *hops, size_t hops_room, size_t *hops_count);
 
-/* ---- A listing: page after page, one open listing a plan. While it is open the plan can't be changed. ---- */
-uint32_t cgrlist_listing_open(cgrlist_plan *plan, const cgrlist_request *request, const uint64_t *avoid, size_t avoids);
+/* ---- A listing: page after page, over a copy of the plan as it stood when the listing was opened. ---- */
+cgrlist_status cgrlist_listing_open(cgrlist_plan *plan, const cgrlist_request *request, cgrlist_listing **listing);
 /* Opens the listing of a session text, at its place; no search is made. *line is the text's bad line, or 0. */
-uint32_t cgrlist_listing_load(cgrlist_plan *plan, const uint8_t *text, size_t bytes, uint64_t *line);
+cgrlist_status cgrlist_listing_load(cgrlist_plan *plan, const char *text, size_t bytes, cgrlist_listing **listing,
+                                    uint64_t *line);
 /* The next page. With ROOM (what fits is written, page->routes and page->contacts are needed) the listing stays where
  * it was. */
-uint32_t cgrlist_listing_next(cgrlist_plan *plan, uint32_t count, cgrlist_route *routes, size_t routes_room,
-                              uint32_t *contacts, size_t contacts_room, cgrlist_page *page);
+cgrlist_status cgrlist_listing_next(cgrlist_listing *listing, uint32_t count, cgrlist_route *routes, size_t routes_room,
+                                    uint32_t *contacts, size_t contacts_room, cgrlist_page *page);
 /* Takes the last page that gave routes back; NO if there is none. */
-uint32_t cgrlist_listing_back(cgrlist_plan *plan);
-uint32_t cgrlist_listing_place(cgrlist_plan *plan, cgrlist_place *place);
+cgrlist_status cgrlist_listing_back(cgrlist_listing *listing);
+cgrlist_status cgrlist_listing_place(cgrlist_listing *listing, cgrlist_place *place);
 /* The session text of the place: *bytes is its length; ROOM if it doesn't fit (nothing is written then). */
-uint32_t cgrlist_listing_text(cgrlist_plan *plan, uint8_t *text, size_t room, size_t *bytes);
-uint32_t cgrlist_listing_close(cgrlist_plan *plan);
+cgrlist_status cgrlist_listing_text(cgrlist_listing *listing, char *text, size_t room, size_t *bytes);
+void cgrlist_listing_close(cgrlist_listing *listing);
 /* OK: the text is the session text of a place in the list of its request over this plan. NO: it isn't. */
-uint32_t cgrlist_verify(cgrlist_plan *plan, const uint8_t *text, size_t bytes);
+cgrlist_status cgrlist_verify(cgrlist_plan *plan, const char *text, size_t bytes);
 
-/* ---- Texts: each writes as much as there is room for (no zero byte at the end), and returns its length. ---- */
-/* "SameNode", "NoRoute" ..; empty if there is no such status */
-size_t cgrlist_status_text(uint32_t status, char *text, size_t room);
-size_t cgrlist_fault_text(uint32_t fault, char *text, size_t room);   /* "NotChained" .. */
-size_t cgrlist_version(char *text, size_t room);                      /* "1.2.0" */
+/* ---- Texts, which last as long as the program. ---- */
+const char *cgrlist_status_name(uint32_t status); /* "CGRLIST_SAME_NODE" ..; "" if there is no such status */
+const char *cgrlist_fault_name(uint32_t fault);   /* "CGRLIST_FAULT_NOT_CHAINED" ..; "" if there is no such fault */
+const char *cgrlist_version(void);                /* "1.2.0" */
 uint32_t cgrlist_abi(void);
-
-/* ---- Empty buffers. The library takes no null pointer, so the calls above are made through these, which give it the
- * place of a local variable for a buffer of length 0. ---- */
-static inline uint32_t cgrlist_plan_read_or_empty(cgrlist_plan *plan, const uint8_t *text, size_t bytes,
-                                                  uint32_t *line) {
-    const uint8_t none = 0;
-    return cgrlist_plan_read(plan, bytes ? text : &none, bytes, line);
-}
-
-static inline uint32_t cgrlist_plan_text_or_empty(cgrlist_plan *plan, uint8_t *text, size_t room, size_t *bytes) {
-    uint8_t none = 0;
-    return cgrlist_plan_text(plan, room ? text : &none, room, bytes);
-}
-
-static inline uint32_t cgrlist_best_or_empty(cgrlist_plan *plan, const cgrlist_request *request, const uint64_t *avoid,
-                                             size_t avoids, cgrlist_route *route, uint32_t *contacts,
-                                             size_t contacts_room) {
-    const uint64_t no_node = 0;
-    uint32_t no_contact = 0;
-    return cgrlist_best(plan, request, avoids ? avoid : &no_node, avoids, route, contacts_room ? contacts : &no_contact,
-                        contacts_room);
-}
-
-static inline uint32_t cgrlist_first_or_empty(cgrlist_plan *plan, const cgrlist_request *request, const uint64_t *avoid,
-                                              size_t avoids, uint32_t count, cgrlist_route *routes, size_t routes_room,
-                                              uint32_t *contacts, size_t contacts_room, cgrlist_page *page) {
-    const uint64_t no_node = 0;
-    uint32_t no_contact = 0;
-    cgrlist_route no_route = {0, 0, 0, 0, 0};
-    return cgrlist_first(plan, request, avoids ? avoid : &no_node, avoids, count, routes_room ? routes : &no_route,
-                         routes_room, contacts_room ? contacts : &no_contact, contacts_room, page);
-}
-
-static inline uint32_t cgrlist_follow_or_empty(cgrlist_plan *plan, const cgrlist_request *request,
-                                               const uint64_t *avoid, size_t avoids, const uint32_t *contacts,
-                                               size_t count, cgrlist_outcome *outcome) {
-    const uint64_t no_node = 0;
-    const uint32_t no_contact = 0;
-    return cgrlist_follow(plan, request, avoids ? avoid : &no_node, avoids, count ? contacts : &no_contact, count,
-                          outcome);
-}
-
-static inline uint32_t cgrlist_hops_or_empty(cgrlist_plan *plan, const cgrlist_request *request, const uint64_t *avoid,
-                                             size_t avoids, const uint32_t *contacts, size_t count, cgrlist_hop *hops,
-                                             size_t hops_room, size_t *hops_count) {
-    const uint64_t no_node = 0;
-    const uint32_t no_contact = 0;
-    cgrlist_hop no_hop = {0, 0, 0, 0, 0};
-    return cgrlist_hops(plan, request, avoids ? avoid : &no_node, avoids, count ? contacts : &no_contact, count,
-                        hops_room ? hops : &no_hop, hops_room, hops_count);
-}
-
-static inline uint32_t cgrlist_listing_open_or_empty(cgrlist_plan *plan, const cgrlist_request *request,
-                                                     const uint64_t *avoid, size_t avoids) {
-    const uint64_t no_node = 0;
-    return cgrlist_listing_open(plan, request, avoids ? avoid : &no_node, avoids);
-}
-
-static inline uint32_t cgrlist_listing_load_or_empty(cgrlist_plan *plan, const uint8_t *text, size_t bytes,
-                                                     uint64_t *line) {
-    const uint8_t none = 0;
-    return cgrlist_listing_load(plan, bytes ? text : &none, bytes, line);
-}
-
-static inline uint32_t cgrlist_listing_next_or_empty(cgrlist_plan *plan, uint32_t count, cgrlist_route *routes,
-                                                     size_t routes_room, uint32_t *contacts, size_t contacts_room,
-                                                     cgrlist_page *page) {
-    uint32_t no_contact = 0;
-    cgrlist_route no_route = {0, 0, 0, 0, 0};
-    return cgrlist_listing_next(plan, count, routes_room ? routes : &no_route, routes_room,
-                                contacts_room ? contacts : &no_contact, contacts_room, page);
-}
-
-static inline uint32_t cgrlist_listing_text_or_empty(cgrlist_plan *plan, uint8_t *text, size_t room, size_t *bytes) {
-    uint8_t none = 0;
-    return cgrlist_listing_text(plan, room ? text : &none, room, bytes);
-}
-
-static inline uint32_t cgrlist_verify_or_empty(cgrlist_plan *plan, const uint8_t *text, size_t bytes) {
-    const uint8_t none = 0;
-    return cgrlist_verify(plan, bytes ? text : &none, bytes);
-}
-
-static inline size_t cgrlist_status_text_or_empty(uint32_t status, char *text, size_t room) {
-    char none = 0;
-    return cgrlist_status_text(status, room ? text : &none, room);
-}
-
-static inline size_t cgrlist_fault_text_or_empty(uint32_t fault, char *text, size_t room) {
-    char none = 0;
-    return cgrlist_fault_text(fault, room ? text : &none, room);
-}
-
-static inline size_t cgrlist_version_or_empty(char *text, size_t room) {
-    char none = 0;
-    return cgrlist_version(room ? text : &none, room);
-}
 
 #ifdef __cplusplus
 }
 #endif
 
-#define cgrlist_plan_read cgrlist_plan_read_or_empty
-#define cgrlist_plan_text cgrlist_plan_text_or_empty
-#define cgrlist_best cgrlist_best_or_empty
-#define cgrlist_first cgrlist_first_or_empty
-#define cgrlist_follow cgrlist_follow_or_empty
-#define cgrlist_hops cgrlist_hops_or_empty
-#define cgrlist_listing_open cgrlist_listing_open_or_empty
-#define cgrlist_listing_load cgrlist_listing_load_or_empty
-#define cgrlist_listing_next cgrlist_listing_next_or_empty
-#define cgrlist_listing_text cgrlist_listing_text_or_empty
-#define cgrlist_verify cgrlist_verify_or_empty
-#define cgrlist_status_text cgrlist_status_text_or_empty
-#define cgrlist_fault_text cgrlist_fault_text_or_empty
-#define cgrlist_version cgrlist_version_or_empty
-
 #endif
-

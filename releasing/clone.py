@@ -14,7 +14,7 @@ from .files import TOP, Failed, said_by
 # The places that name the version, each as a text before it. tools/cgrlist/version.py is the one that counts.
 VERSIONS = {
     "CHANGELOG.md": r"^## ", "library/cgrlist.pc.in": r"^Version: ", "library/cgrlist.h": r'cgrlist_version\(.*/\* "',
-    "crates/libcgrlist/src/texts.rt": r'put_text\(b"', "crates/libcgrlist/specs/Texts.antt": r'^version = codes "',
+    "library/names.c": r'cgrlist_version\(.*return "',
     "crates/commands/src/words/command_line.rt": r'^const VERSION: &str = "',
     **{f"docs/{it}": r"^\.Os cgrlist " for it in os.listdir(f"{TOP}/docs") if it.endswith((".1", ".3"))},
 }

@@ -574,7 +574,7 @@ exec {room.program} "$@"
 
 def in_process(room):
     """Where there is a library, tools ask it, and print what they print of the program."""
-    library = f"{TOP}/library/out/libcgrlist.so.1"
+    library = f"{TOP}/library/out/libcgrlist.so.2"
     if not os.path.exists(library):
         print(f"answers: in process: left out, there is no {library}")
         return

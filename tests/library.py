@@ -4,6 +4,7 @@
                 exports with their types, the statuses, the limits, and each struct with its layout
     answers     what the program prints, and what follows from the listing of all routes: tests/library_answers.py
     refusals    each status, and that nothing has changed after it: tests/library_refusals.py
+    nulls       NULL in place of plans, listings, buffers and outputs
     memory      each allocation refused in turn
     fuzzed      drawn calls with drawn plans and texts, by seeds; under valgrind, and under the compiler's sanitizers
     examples    the programs of examples/, in C and in Rust
@@ -21,6 +22,8 @@ from library_answers import drawn_plans, larger_plans
 from library_refusals import LISTED, REFUSED, names, refusals, rows_of, texts
 from trial import Broken
 
+ABI = header.abi()
+SHARED = f"libcgrlist.so.{ABI}"
 FUZZED = {"plain": 1000, "valgrind": 15, "sanitizers": 200}  # plans of each run
 WARNINGS = "-Wall -Wextra -Wpedantic -Wshadow -Wconversion -Werror"
 SANITIZERS = "-fsanitize=address,undefined -fno-sanitize-recover=all"
@@ -59,6 +62,7 @@ class Calling(Room):
         """What the calls of a text return, with the names of the statuses."""
         ran = self.run([self.calling, *words], given=calls, at=self.path)
         named = re.sub(r"^status (\d+)$", lambda it: self.names.get(it[1], it[0]), ran.out, flags=re.M)
+        named = re.sub(r"^(refused.*: )CGRLIST_FAULT_(\w+)$", lambda it: it[1] + header.word_of(it[2]), named, flags=re.M)
         return named + ran.err + (f"ended with {ran.status}\n" if ran.status else "")
 
     def answers(self, calls, *words):
@@ -85,37 +89,40 @@ def the_header(room):
         for standard in standards.split() if has(compiler) else ():
             yield f"{compiler} takes the header as {standard}", "", lambda: room.run(
                 f"{compiler} -std={standard} {WARNINGS} -fsyntax-only -I{TOP}/library {name}", at=room.path).all()
-    declared, stated = header.declared_functions(text), header.stated_functions(source)
+    inner = header.read_header(header.PROVED)
+    declared, stated = header.declared_functions(inner), header.stated_functions(source)
     pairs = header.pairs_of_structs(declared, stated)
-    yield "each struct of an export is one of the header", [], lambda: sorted(
+    yield "each struct of an export is one of the headers", [], lambda: sorted(
         f"{rust}: {', '.join(sorted(c))}" for rust, c in pairs.items() if len(c) != 1)
-    yield "the exports are what the header declares", declared, header.named_as_in_c, stated, pairs
-    yield "the statuses are the header's", header.declared_statuses(text), header.stated_statuses, source
+    yield "the exports are what proved.h declares", declared, header.named_as_in_c, stated, pairs
+    statuses = {name: value for name, value in header.declared_statuses(text).items() if name not in header.OUTER}
+    yield "the statuses are the header's", statuses, lambda: {
+        name: value for name, value in header.stated_statuses(source).items() if name not in header.INNER}
     limits = header.stated_limits(source)
     yield "the limits are the header's", header.declared_limits(text), lambda: {
         name: limits.get(name) for name in header.declared_limits(text)}
     structs = {next(iter(c)): header.stated_structs(source).get(rust) for rust, c in pairs.items()}
     structs[header.HANDLE] = header.stated_handle(source)
-    wanted = header.declared_structs(text)
+    wanted = {name: members for name, members in header.declared_structs(text + inner).items() if name != header.REQUEST}
     yield "each struct has the members of the header", wanted, lambda: structs
     yield "each struct has the layout of Rust's", "", lambda: room.run(
         f"cc -std=c11 -fsyntax-only -I{TOP}/library", [room.file("layouts.c", header.assertions(wanted))]).all()
-    yield "each function with a buffer takes an empty one", header.with_buffers(text), lambda: re.findall(
-        r"^#define (cgrlist_\w+) \1_or_empty$", text, re.M)
+    shims = header.functions_of(f"{TOP}/library/shims.c")
+    yield "each shim has at most 13 lines", {}, lambda: {name: lines for name, lines in shims.items() if lines > 13}
 
 
 def the_libraries(room):
     names = sorted(header.declared_functions(room.header))
-    shared = f"{room.folder}/libcgrlist.so.1"
+    shared = f"{room.folder}/{SHARED}"
     yield "the shared library has the functions of the header and no others", names, lambda: sorted(
-        re.findall(r" T (\w+)@@CGRLIST_1$", room.run("nm -D --defined-only", [shared]).out, re.M))
+        re.findall(rf" T (\w+)@@CGRLIST_{ABI}$", room.run("nm -D --defined-only", [shared]).out, re.M))
     yield "the static library, too", names, lambda: sorted(
         re.findall(r" [A-Z] (\w+)$", room.run("nm -g --defined-only", [f"{room.folder}/libcgrlist.a"]).out, re.M))
-    yield "the shared library has its name", "libcgrlist.so.1", lambda: re.findall(
+    yield "the shared library has its name", SHARED, lambda: re.findall(
         r"soname: \[(.*)\]|$", room.run("readelf -d", [shared]).out)[0]
     yield "it is one with the link's", os.stat(shared).st_ino, lambda: os.stat(f"{room.folder}/libcgrlist.so").st_ino
-    room.file("v.c", '#include "cgrlist.h"\n#include <stdio.h>\nint main(void) { char t[9]; '
-              'printf("%.*s %d\\n", (int)cgrlist_version(t, sizeof t), t, cgrlist_abi() == CGRLIST_ABI); return 0; }\n')
+    room.file("v.c", '#include "cgrlist.h"\n#include <stdio.h>\nint main(void) { '
+              'printf("%s %d\\n", cgrlist_version(), cgrlist_abi() == CGRLIST_ABI); return 0; }\n')
     ran = room.run(f"cc -I{TOP}/library v.c -o v", [f"-L{room.folder}", f"-Wl,-rpath,{room.folder}", "-lcgrlist"], at=room.path)
     yield "a program links to it", "", ran.all
     version = re.search(r"^Version: (.*)", open(f"{TOP}/library/cgrlist.pc.in", encoding="ascii").read(), re.M)[1]
@@ -144,6 +151,14 @@ def refused_memory(room):
         yield f"{call} takes memory", "", lambda: unlike(r"[1-9]\d*", "".join(re.findall(rf"^{call}: (\d+) refused$", ran.out, re.M)))
     if has("valgrind"):
         yield "no memory leaks", "", lambda: room.run("valgrind -q --leak-check=full --error-exitcode=7", [refuse], relay).err
+
+
+def nulls(room):
+    program, relay = room.compiled("nulls", "nulls.c"), f"{TOP}/examples/relay.txt"
+    yield "what may be NULL", "done", lambda: room.run([program, relay]).all()
+    if has("valgrind"):
+        yield "no memory leaks where nothing is wanted", "", lambda: room.run(
+            "valgrind -q --leak-check=full --error-exitcode=7", [program, relay]).err
 
 
 def fuzzed(room):
@@ -179,6 +194,9 @@ ROUTER = """\
 to node 22 first, there at 1893466042, over 4 11 2
 contact 4 is lost
 to node 21 first, there at 1893479242, over 5 12 2"""
+RENEWED = """
+with new numbers:
+to node 21 first, there at 1893479242, over 4 10 2"""
 
 
 def examples(room):
@@ -195,7 +213,7 @@ Libs: -L{room.folder} -lcgrlist
     if has("pkg-config"):
         made = f"cc -Wall -Wextra {TOP}/examples/router.c $(pkg-config --cflags --libs cgrlist) -o router"
         yield "examples/router.c is compiled", "", lambda: room.run("sh -c", [made], at=room.path, **further).all()
-        yield "examples/router.c answers", ROUTER, lambda: room.run(["./router", *words], at=room.path, **further).all()
+        yield "examples/router.c answers", ROUTER + RENEWED, lambda: room.run(["./router", *words], at=room.path, **further).all()
         if has("valgrind"):
             yield "examples/router.c leaks nothing", "", lambda: room.run(
                 "valgrind -q --leak-check=full --error-exitcode=7 ./router", words, at=room.path, **further).err
@@ -207,7 +225,7 @@ Libs: -L{room.folder} -lcgrlist
     yield "it prints what the page says", re.search(r"^\.Ql (.*) \.$", page, re.M)[1], lambda: room.run(["./page"], at=room.path).all()
     if has("rustc"):
         yield "examples/router.rs is compiled", "", lambda: room.run(
-            "rustc -O", [f"{TOP}/examples/router.rs", "-L", room.folder, "-o", "router-rs"], at=room.path).all()
+            "rustc --edition 2024 -O", [f"{TOP}/examples/router.rs", "-L", room.folder, "-o", "router-rs"], at=room.path).all()
         yield "examples/router.rs answers", ROUTER, lambda: room.run(["./router-rs", *words], at=room.path, **further).all()
 
 
@@ -219,4 +237,4 @@ def checks(asked):
         print("note: library is left out, since a trial compiles no library; --library names the folder of one")
         return ()
     return checks_of("library", Calling(asked), [
-        the_header, the_libraries, refusals, texts, names, drawn_plans, refused_memory, fuzzed, examples, larger_plans])
+        the_header, the_libraries, refusals, texts, names, nulls, drawn_plans, refused_memory, fuzzed, examples, larger_plans])

@@ -8,7 +8,7 @@ import os
 import shutil
 
 from checking import TOP, checks_of
-from library import Calling, ended, refused_memory
+from library import Calling, ended, nulls, refused_memory
 from library_answers import drawn_plans, larger_plans
 from library_refusals import names, refusals, texts
 from trial import Broken
@@ -50,4 +50,4 @@ def checks(asked):
         if not shutil.which(tool):
             raise Broken(f"there is no {tool}, which library_arm needs")
     return checks_of("library_arm", OnArm(asked), [
-        the_shared_library, refusals, texts, names, drawn_plans, refused_memory, fuzzed, larger_plans])
+        the_shared_library, refusals, texts, names, nulls, drawn_plans, refused_memory, fuzzed, larger_plans])

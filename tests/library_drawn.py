@@ -93,11 +93,11 @@ def say_listing(script, draws, listing):
         script.say("listing_place", "OK", f"given {place} {more} {'back' if before else 'first'}")
         script.say("listing_text", "OK", listing.text(place).rstrip("\n"))
         if turn == 2:
-            script.say("listing_close", "OK")
+            script.say("listing_close")
             version = 1 if not listing.request.is_limited and draws.once_in(2) else 2
             script.say(f"listing_load {script.file(listing.text(place, version))}", "OK")
             before = []
-    script.say("listing_close", "OK")
+    script.say("listing_close")
 
 
 def say_texts(script, draws, listing):

@@ -1,4 +1,4 @@
-"""What the header of the C library declares, and what the sources of its crate do, both in the words of C."""
+"""What the headers of the C library declare, and what the sources of its crate do, both in the words of C."""
 
 import os
 import re
@@ -6,15 +6,23 @@ import re
 from checking import TOP
 
 HEADER = f"{TOP}/library/cgrlist.h"
+PROVED = f"{TOP}/library/proved.h"  # what shims.c calls
 SOURCES = f"{TOP}/crates/libcgrlist/src"
 NUMBERS = {"u8": "uint8_t", "u32": "uint32_t", "u64": "uint64_t", "usize": "size_t", "bool": "bool"}
 BYTES = {"uint8_t": 1, "bool": 1, "uint32_t": 4, "uint64_t": 8, "size_t": 8}  # of x86-64, where a place has 8, too
-HANDLE = "cgrlist_plan"
+HANDLE, REQUEST = "handle", "cgrlist_request"
+OUTER = {"NO_PLAN"}  # statuses that shims alone return
+INNER = {"CLOSED", "OPEN", "LISTING"}  # those that they never meet
 DONE = "OK"  # what the header calls the status DONE: Rust has an Ok of its own
 
 
-def read_header():
+def abi():
     with open(HEADER, encoding="ascii") as file:
+        return int(re.search(r"^#define CGRLIST_ABI (\d+)$", file.read(), re.M)[1])
+
+
+def read_header(path=HEADER):
+    with open(path, encoding="ascii") as file:
         return re.sub(r"/\*.*?\*/", "", file.read(), flags=re.S)
 
 
@@ -33,7 +41,7 @@ def read_sources():
 
 def declared_statuses(text, enum="cgrlist_status"):
     """The numbers of an enum by their names without the prefix."""
-    body = re.search(rf"enum {enum} \{{(.*?)\}};", text, re.S)[1]
+    body = re.search(rf"enum {enum} \{{(.*?)\}}", text, re.S)[1]
     return {name: int(value) for name, value in re.findall(r"CGRLIST_(\w+) = (\d+)", body)}
 
 
@@ -53,9 +61,9 @@ def declared_structs(text):
 def declared_functions(text):
     """Of each function the types of what it takes, and of what it returns."""
     found = {}
-    for kind, name, taken in re.findall(r"^(uint32_t|size_t|void) (cgrlist_\w+)\(([^)]*)\);", text, re.M):
+    for kind, name, taken in re.findall(r"^([a-z].*[ *])(cgrlist_\w+)\(([^)]*)\);", text, re.M):
         words = [] if taken.strip() == "void" else [" ".join(it.split()) for it in taken.split(",")]
-        found[name] = [type_of(it) for it in words], kind
+        found[name.replace("cgrlist_proved_", "cgrlist_")] = [type_of(it) for it in words], kind.strip()
     return found
 
 
@@ -66,10 +74,16 @@ def type_of(parameter):
     return f"{kind}[{array[1]}]" if array else kind
 
 
-def with_buffers(text):
-    """The functions that take a buffer: a place, which isn't that of a plan, and then its length."""
-    return [name for name, (taken, _) in declared_functions(text).items() if any(
-        one.endswith("*") and one != f"{HANDLE} *" and other == "size_t" for one, other in zip(taken, taken[1:]))]
+def functions_of(path):
+    """The number of lines of each function of a file in C."""
+    with open(path, encoding="ascii") as file:
+        texts = re.finditer(r"^[a-z][^;{]*?(\w+)\([^;{]*\) \{\n.*?^\}$", file.read(), re.M | re.S)
+    return {it[1]: it[0].count("\n") + 1 for it in texts}
+
+
+def word_of(constant):
+    """What the program writes for the rest of a constant: `NoLight` for `NO_LIGHT`."""
+    return "".join(it.capitalize() for it in constant.split("_"))
 
 
 # ---- The crate --------------------------------------------------------------------------------------------------
@@ -159,7 +173,7 @@ def layout_of(members):
 
 def assertions(structs):
     """A text of C that compiles only if each struct has that layout."""
-    lines = ['#include "cgrlist.h"']
+    lines = ['#include "proved.h"']
     for name, members in sorted(structs.items()):
         places, size = layout_of(members)
         lines.append(f'_Static_assert(sizeof({name}) == {size}, "{name}");')

@@ -11,8 +11,6 @@ LATEST = 253370764799
 
 # Calls over examples/a.txt, and what each returns: its first line, and the next ones behind bars.
 REFUSED = f"""
-plan_new | OPEN
-plan_read a.txt | OPEN
 best 3 3 {AT} | SAME_NODE
 best 0 3 {AT} | BAD_NODE
 best 1 0 {AT} | BAD_NODE
@@ -40,7 +38,6 @@ listing_next 1 | NO_LISTING
 listing_back | NO_LISTING
 listing_place | NO_LISTING
 listing_text | NO_LISTING
-listing_close | NO_LISTING
 plan_contact 0 | NO
 plan_contact 5 | NO
 plan_contact_at 3 | OK | contact 4 from 2 to 3 start 2030/01/01-00:00:00 end 2030/01/01-00:03:20 rate 1000 light 5
@@ -90,6 +87,7 @@ best 1 {2**64 - 1} 0 1000000 | OK | delivery 1970/01/24-03:33:20 hops 1 entry {2
 # Buffers that are too small over examples/a.txt: how long they are, the call, and what it returns.
 ROUTE_1, ROUTE_2 = ("delivery 2030/01/01-00:00:15 hops 2 entry 2 until 2030/01/01-00:01:40 contacts 1 4",
                     "delivery 2030/01/01-00:00:25 hops 2 entry 2 until 2030/01/01-00:01:00 contacts 1 2")
+ROUTE_3 = "delivery 2030/01/01-00:01:30 hops 1 entry 3 until 2030/01/01-00:01:30 contacts 3"
 HOP_1 = "hop 1 contact 1 from 1 to 2 send 2030/01/01-00:00:00 arrive 2030/01/01-00:00:10"
 CRAMPED = f"""
 0 | best 1 3 1893456000 | ROOM | needs 2 contacts | {ROUTE_1.replace('hops 2', 'hops 0')[:-4]}
@@ -106,7 +104,6 @@ CRAMPED = f"""
 0 | hops 9 1 3 1893456000 | NO
 0 | plan_text | ROOM | needs 400 bytes
 399 | plan_text | ROOM | needs 400 bytes
-0 | plan_copy 0 | OPEN
 0 | listing_open 1 3 1893456000 | OK
 0 0 | listing_next 2 | ROOM | needs 2 routes, 4 contacts; written 0 | more
 1 4 | listing_next 2 | ROOM | needs 2 routes, 4 contacts; written 1 | 1 {ROUTE_1} | more
@@ -119,52 +116,49 @@ CRAMPED = f"""
 173 | listing_text | ROOM | needs 174 bytes
 """
 
-# What is refused while a listing is open, and what isn't.
+# A listing, which goes on over the plan as it stood, and another plan.
 LISTED = f"""
 listing_open 1 3 1893456000 | OK
-listing_open 1 3 1893456000 | LISTING
-listing_load a.txt | LISTING
-plan_add_contact 1 2 0 10 1 | LISTING
-plan_add_range 5 6 0 10 1 | LISTING
-plan_delete_contact 1 2 1893456000 | LISTING
-plan_delete_range 1 2 1893456000 | LISTING
+listing_load a.txt | SESSION_BAD_HEADER | line 0
+plan_delete_contact 1 2 1893456000 | OK | number 1
 listing_next 10001 | VALUE_COUNT
 listing_back | NO
 listing_next 0 | OK | more
 listing_back | NO
 listing_next 2 | OK | 1 {ROUTE_1} | 2 {ROUTE_2} | more
-best 1 3 1893456000 | OK | {ROUTE_1}
-first 1 1 3 1893456000 | OK | 1 {ROUTE_1} | more
-follow 1,4 1 3 1893456000 | OK | {ROUTE_1}
+best 1 3 1893456000 | OK | {ROUTE_3}
+first 1 1 3 1893456000 | OK | 1 {ROUTE_3} | end
+follow 1,4 1 3 1893456000 | NO | refused hop 1: NoSuchContact
 listing_place | OK | given 2 more back
-listing_next 9 | OK | 1 delivery 2030/01/01-00:01:30 hops 1 entry 3 until 2030/01/01-00:01:30 contacts 3 | end
+listing_next 9 | OK | 1 {ROUTE_3} | end
 listing_place | OK | given 3 end back
 listing_next 9 | OK | end
 listing_back | OK
 listing_back | OK
 listing_back | NO
 listing_place | OK | given 0 more first
-listing_close | OK
-listing_close | NO_LISTING
-plan_delete_contact 1 2 1893456000 | OK | number 1
+listing_close |
+listing_place | NO_LISTING
 listing_open 1 3 1893456000 | OK
-listing_next 9 | OK | 1 delivery 2030/01/01-00:01:30 hops 1 entry 3 until 2030/01/01-00:01:30 contacts 3 | end
+listing_next 9 | OK | 1 {ROUTE_3} | end
 use 1 |
 plan_new | OK
 best 1 3 1893456000 | NO
 plan_add_contact 1 3 1893456000 1893456001 0 | OK | number 1
 plan_add_range 1 3 1893456000 1893456001 0 | OK
 best 1 3 1893456000 | OK | delivery 2030/01/01-00:00:00 hops 1 entry 3 until 2030/01/01-00:00:01 contacts 1
+listing_place | NO_LISTING
 use 0 |
+plan_close |
+plan_close |
 listing_place | OK | given 1 end back
-plan_close |
-plan_close |
-listing_place | CLOSED
+listing_open 1 3 1893456000 | NO_PLAN
 """
 
-CLOSED = f"""plan_add_contact 1 2 0 1 1;plan_add_range 1 2 0 1 1;plan_delete_contact 1 2 0;plan_delete_range 1 2 0;plan_counts;plan_digest
-plan_copy 1;plan_text;plan_greatest;plan_contact_at 0;plan_range_at 0;plan_contact 1;best 1 3 {AT};first 1 1 3 {AT};follow 1 1 3 {AT};hops 1 1 3 {AT};listing_open 1 3 {AT};listing_load a.txt;listing_next 1
-listing_back;listing_place;listing_text;listing_close;verify a.txt;best 0 0 {AT};first 10001 0 0 {AT}"""
+# What there is without a plan and without a listing.
+NOTHING_OPEN = f"""plan_add_contact 1 2 0 1 1;plan_add_range 1 2 0 1 1;plan_delete_contact 1 2 0;plan_delete_range 1 2 0;plan_counts;plan_digest
+plan_copy 1;plan_text;plan_greatest;plan_contact_at 0;plan_range_at 0;plan_contact 1;best 1 3 {AT};first 1 1 3 {AT};follow 1 1 3 {AT};hops 1 1 3 {AT}
+listing_open 1 3 {AT};listing_load a.txt;verify a.txt;best 0 0 {AT};first 10001 0 0 {AT};listing_next 1;listing_next 10001;listing_back;listing_place;listing_text"""
 
 # A refused line of a plan's text, and its status.
 LINES = """
@@ -225,8 +219,9 @@ def refusals(room):
     given = over_a(room, [it for lengths, call, *_ in rows for it in (f"room {lengths}", call)])[1::2]
     for (lengths, call, *wanted), answer in zip(rows, given):
         yield f"{call}, room {lengths}", answered(wanted), lambda: answer
-    for call in CLOSED.replace("\n", ";").split(";"):
-        yield f"closed: {call}", ["CLOSED\n"], room.answers, [call]
+    for call in NOTHING_OPEN.replace("\n", ";").split(";"):
+        missing = "NO_LISTING" if re.match("listing_(?!open|load)", call) else "NO_PLAN"
+        yield f"without a plan: {call}", [f"{missing}\n"], room.answers, [call]
 
 
 def shortened(answer):
@@ -274,18 +269,8 @@ def texts(room):
 
 
 def names(room):
-    statuses = header.declared_statuses(room.header)
-    shown = room.answers([f"status_text {it}" for it in range(128)])
-    yield "each status has a text and no other number has", sorted(statuses.values()), lambda: [
-        it for it, text in enumerate(shown) if text != "0 []\n"]
-    for name, value in statuses.items():
-        if 16 <= value < 64 or value >= 80:
-            words = "".join(it.capitalize() for it in re.sub("^LINE_(?!TOO_LONG)|^SESSION_", "", name).split("_"))
-            yield f"the text of {name}", f"{len(words)} [{words}]\n", lambda: shown[value]
-    faults = header.declared_statuses(room.header, "cgrlist_fault")
-    for name, value in faults.items():
-        words = "".join(it.capitalize() for it in name.removeprefix("FAULT_").split("_")) if value else ""
-        yield f"the text of {name}", f"{len(words)} [{words}]\n", lambda: room.answers([f"fault_text {value}"])[0]
-    yield "no other fault has a text", ["0 []\n"] * 2, room.answers, ["fault_text 10", "fault_text 4294967295"]
-    yield "as much of a text is written as there is room for", ["5 [1.]\n", "8 [SameNod]\n", "10 [N]\n"], lambda: [
-        it for it in room.answers(["room 2", "version", "room 7", "status_text 16", "room 1", "fault_text 3"]) if it]
+    for kind, numbers in (("status", range(200)), ("fault", range(20))):
+        constants = {value: f"CGRLIST_{name}\n" for name, value in header.declared_statuses(room.header, f"cgrlist_{kind}").items()}
+        yield f"the name of a {kind} is that of its constant, and no other number has one", [
+            constants.get(it, "\n") for it in numbers], room.answers, [f"{kind}_name {it}" for it in numbers]
+        yield f"nor has the largest {kind}", ["\n"], room.answers, [f"{kind}_name {2**32 - 1}"]

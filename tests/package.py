@@ -490,7 +490,7 @@ def refusals_in_process(room):
         lambda: in_environment(lambda: refused(cgrlist.Plan.from_file(relay).check), CGRLIST_LIBRARY="/none.so")
     for folder in ("bin", "lib"):
         os.makedirs(f"{room.path}/there/{folder}")
-    os.symlink(LIBRARY, f"{room.path}/there/lib/libcgrlist.so.1")
+    os.symlink(LIBRARY, f"{room.path}/there/lib/libcgrlist.so.2")
     for title, wanted, off in (("beside the program", True, None), ("it is turned off", False, "0")):
         yield f"the library: {title}", wanted, lambda off=off: in_environment(
             lambda: library(lambda: f"{room.path}/there/bin/cgrlist") is not None, CGRLIST_LIBRARY=None, CGRLIST_IN_PROCESS=off)
@@ -545,7 +545,7 @@ def in_turn(plan, requests):
     return found
 
 
-LIBRARY = os.environ.get("CGRLIST_LIBRARY") or f"{TOP}/library/out/libcgrlist.so.1"
+LIBRARY = os.environ.get("CGRLIST_LIBRARY") or f"{TOP}/library/out/libcgrlist.so.2"
 
 
 def checks(asked):

@@ -17,7 +17,7 @@ ASKED = {  # of each row: the tool, its words, and whether the plan is iridium
 
 def tools(bench):
     given = bench.given
-    library = os.path.join(os.path.abspath(given.library), "libcgrlist.so.1")
+    library = os.path.join(os.path.abspath(given.library), "libcgrlist.so.2")
     os.environ.update(CGRLIST_LIBRARY=library, PYTHONHASHSEED="0", PYTHONDONTWRITEBYTECODE="1")
     iridium = bench.questions(["iridium-1-2"])[0].path
     print_head("Tools in process: millions of instructions, and seconds of processor time.", ["Run", "million", "seconds"])

@@ -5,7 +5,8 @@
  * A line is the name of a call without `cgrlist_`, and its words. It is printed before what the call returns. A request is FROM TO AT, or PPM, HOPS and NODES (joined by
  * commas, - for none) after these. A text is the path of a file. Each call with a buffer is made twice: without room, and
  * with as much as the first one said is needed, so that a byte beyond it is found by valgrind and by the sanitizers. After
- * a line `room N ..` the next call is made once, with these lengths of its buffers. `use N` goes on with another plan.
+ * a line `room N ..` the next call is made once, with these lengths of its buffers. What a call opens replaces what was
+ * open before. `use N` goes on with another plan and another listing.
  */
 #include "cgrlist.h"
 #include <inttypes.h>
@@ -17,14 +18,14 @@
 #define MOST_WORDS 16
 #define UNSET SIZE_MAX
 
-typedef struct asked {
-    cgrlist_request request;
-    uint64_t *avoid;
-    size_t avoids;
-} asked;
+/* A plan and a listing. */
+typedef struct slot {
+    cgrlist_plan *plan;
+    cgrlist_listing *listing;
+} slot;
 
-static cgrlist_plan plans[4] = {CGRLIST_PLAN_CLOSED, CGRLIST_PLAN_CLOSED, CGRLIST_PLAN_CLOSED, CGRLIST_PLAN_CLOSED};
-static cgrlist_plan *plan = plans;
+static slot slots[4];
+static slot *here = slots;
 static size_t rooms[2] = {UNSET, UNSET};
 static char *words[MOST_WORDS];
 static size_t word_count;
@@ -73,20 +74,24 @@ static uint64_t second_of(const char *text) {
 }
 
 /* The request in the words from this place on. */
-static asked asked_from(size_t place) {
-    asked out = {{number(place), number(place + 1), second_of(word(place + 2)), (uint32_t)number(place + 3),
-                  (uint32_t)number(place + 4)}, NULL, 0};
-    if (place + 5 < word_count) out.avoids = numbers(word(place + 5), &out.avoid);
-    return out;
+static cgrlist_request asked_from(size_t place) {
+    uint64_t *avoid = NULL;
+    size_t avoids = place + 5 < word_count ? numbers(word(place + 5), &avoid) : 0;
+    return (cgrlist_request){number(place), number(place + 1), second_of(word(place + 2)), (uint32_t)number(place + 3),
+                             (uint32_t)number(place + 4), avoid, avoids};
+}
+
+static void drop(cgrlist_request *request) {
+    free((void *)request->avoid);
 }
 
 /* A file's bytes, in a block of just their length. */
-static uint8_t *bytes_of(const char *path, size_t *bytes) {
+static char *bytes_of(const char *path, size_t *bytes) {
     FILE *file = fopen(path, "rb");
     if (!file || fseek(file, 0, SEEK_END)) exit(9);
     *bytes = (size_t)ftell(file);
     rewind(file);
-    uint8_t *out = block(*bytes, 1);
+    char *out = block(*bytes, 1);
     if (*bytes && fread(out, 1, *bytes, file) != *bytes) exit(9);
     fclose(file);
     return out;
@@ -143,16 +148,16 @@ static int is_room_set(void) {
 }
 
 static void best(void) {
-    asked a = asked_from(1);
+    cgrlist_request request = asked_from(1);
     cgrlist_route route = {0, 0, 0, 0, 0};
     uint32_t status = CGRLIST_ROOM;
-    if (!is_room_set()) status = cgrlist_best(plan, &a.request, a.avoid, a.avoids, &route, NULL, 0);
+    if (!is_room_set()) status = cgrlist_best(here->plan, &request, &route, NULL, 0);
     uint32_t *contacts = NULL;
     size_t room = 0;
     if (status == CGRLIST_ROOM) {
         room = room_of(0, route.hops);
         contacts = block(room, sizeof *contacts);
-        status = cgrlist_best(plan, &a.request, a.avoid, a.avoids, &route, contacts, room);
+        status = cgrlist_best(here->plan, &request, &route, contacts, room);
     }
     print_status(status);
     if (status == CGRLIST_ROOM) {
@@ -161,27 +166,27 @@ static void best(void) {
     }
     if (status == CGRLIST_OK || status == CGRLIST_ROOM) print_route(&route, contacts);
     free(contacts);
-    free(a.avoid);
+    drop(&request);
 }
 
 /* Makes a call for a page, of a request or of the listing. */
-static uint32_t page_of(const asked *a, uint32_t count, cgrlist_route *routes, size_t routes_room, uint32_t *contacts,
+static uint32_t page_of(const cgrlist_request *request, uint32_t count, cgrlist_route *routes, size_t routes_room, uint32_t *contacts,
                         size_t contacts_room, cgrlist_page *page) {
-    if (!a) return cgrlist_listing_next(plan, count, routes, routes_room, contacts, contacts_room, page);
-    return cgrlist_first(plan, &a->request, a->avoid, a->avoids, count, routes, routes_room, contacts, contacts_room, page);
+    if (!request) return cgrlist_listing_next(here->listing, count, routes, routes_room, contacts, contacts_room, page);
+    return cgrlist_first(here->plan, request, count, routes, routes_room, contacts, contacts_room, page);
 }
 
-static void take_page(const asked *a) {
+static void take_page(const cgrlist_request *request) {
     uint32_t count = (uint32_t)number(1), status = CGRLIST_ROOM;
     cgrlist_page page = {0, 0, 0, false};
-    if (!is_room_set()) status = page_of(a, count, NULL, 0, NULL, 0, &page);
+    if (!is_room_set()) status = page_of(request, count, NULL, 0, NULL, 0, &page);
     cgrlist_route *routes = NULL;
     uint32_t *contacts = NULL;
     if (status == CGRLIST_ROOM) {
         size_t routes_room = room_of(0, page.routes), contacts_room = room_of(1, page.contacts);
         routes = block(routes_room, sizeof *routes);
         contacts = block(contacts_room, sizeof *contacts);
-        status = page_of(a, count, routes, routes_room, contacts, contacts_room, &page);
+        status = page_of(request, count, routes, routes_room, contacts, contacts_room, &page);
     }
     print_page(status, &page, routes, contacts);
     free(routes);
@@ -189,31 +194,29 @@ static void take_page(const asked *a) {
 }
 
 static void first(void) {
-    asked a = asked_from(2);
-    take_page(&a);
-    free(a.avoid);
+    cgrlist_request request = asked_from(2);
+    take_page(&request);
+    drop(&request);
 }
 
 static void follow(void) {
-    asked a = asked_from(2);
+    cgrlist_request request = asked_from(2);
     uint64_t *wide;
     size_t count = numbers(word(1), &wide);
     uint32_t *contacts = narrowed(wide, count);
     cgrlist_outcome outcome = {0, 0, 0, 0, 0};
-    uint32_t status = print_status(cgrlist_follow(plan, &a.request, a.avoid, a.avoids, contacts, count, &outcome));
+    uint32_t status = print_status(cgrlist_follow(here->plan, &request, contacts, count, &outcome));
     if (status == CGRLIST_OK) {
         cgrlist_route route = {outcome.delivery, outcome.until, outcome.entry, 0, count};
         print_route(&route, contacts);
     } else if (status == CGRLIST_NO) {
-        char text[40];
-        size_t length = cgrlist_fault_text(outcome.fault, text, sizeof text);
         printf("refused");
         if (outcome.place) printf(" hop %" PRIu64, outcome.place);
-        printf(": %.*s\n", (int)length, text);
+        printf(": %s\n", cgrlist_fault_name(outcome.fault));
     }
     free(contacts);
     free(wide);
-    free(a.avoid);
+    drop(&request);
 }
 
 static void print_hop(size_t place, const cgrlist_hop *hop) {
@@ -224,16 +227,16 @@ static void print_hop(size_t place, const cgrlist_hop *hop) {
 }
 
 static void hops(void) {
-    asked a = asked_from(2);
+    cgrlist_request request = asked_from(2);
     uint64_t *wide;
     size_t count = numbers(word(1), &wide), needed = 0, room = 0;
     uint32_t *contacts = narrowed(wide, count), status = CGRLIST_ROOM;
     cgrlist_hop *given = NULL;
-    if (!is_room_set()) status = cgrlist_hops(plan, &a.request, a.avoid, a.avoids, contacts, count, NULL, 0, &needed);
+    if (!is_room_set()) status = cgrlist_hops(here->plan, &request, contacts, count, NULL, 0, &needed);
     if (status == CGRLIST_ROOM) {
         room = room_of(0, needed);
         given = block(room, sizeof *given);
-        status = cgrlist_hops(plan, &a.request, a.avoid, a.avoids, contacts, count, given, room, &needed);
+        status = cgrlist_hops(here->plan, &request, contacts, count, given, room, &needed);
     }
     print_status(status);
     if (status == CGRLIST_ROOM) printf("needs %zu hops\n", needed);
@@ -242,46 +245,68 @@ static void hops(void) {
     free(given);
     free(contacts);
     free(wide);
-    free(a.avoid);
+    drop(&request);
+}
+
+/* Puts what a call opened in the place of what was open. */
+static void put_plan(slot *it, uint32_t status, cgrlist_plan *plan) {
+    if (print_status(status)) return;
+    cgrlist_plan_close(it->plan);
+    it->plan = plan;
+}
+
+static void put_listing(uint32_t status, cgrlist_listing *listing) {
+    if (print_status(status)) return;
+    cgrlist_listing_close(here->listing);
+    here->listing = listing;
 }
 
 static void plan_read(void) {
     size_t bytes;
-    uint8_t *text = bytes_of(word(1), &bytes);
-    uint32_t line = 0;
-    uint32_t status = print_status(cgrlist_plan_read(plan, text, bytes, &line));
-    if (status >= CGRLIST_LINE_TOO_LONG) printf("line %" PRIu32 "\n", line);
+    char *text = bytes_of(word(1), &bytes);
+    uint64_t line = 0;
+    cgrlist_plan *plan;
+    uint32_t status = cgrlist_plan_read(&plan, text, bytes, &line);
+    put_plan(here, status, plan);
+    if (status >= CGRLIST_LINE_TOO_LONG) printf("line %" PRIu64 "\n", line);
     free(text);
 }
 
-static void plan_new(void) { print_status(cgrlist_plan_new(plan)); }
+static void plan_new(void) {
+    cgrlist_plan *plan;
+    uint32_t status = cgrlist_plan_new(&plan);
+    put_plan(here, status, plan);
+}
 
-static void plan_close(void) { cgrlist_plan_close(plan); }
+static void plan_close(void) {
+    cgrlist_plan_close(here->plan);
+    here->plan = NULL;
+}
 
 static void add_contact(void) {
     uint32_t given = 0;
-    if (!print_status(cgrlist_plan_add_contact(plan, number(1), number(2), second_of(word(3)), second_of(word(4)), number(5), &given)))
+    if (!print_status(cgrlist_plan_add_contact(here->plan, number(1), number(2), second_of(word(3)), second_of(word(4)), number(5), &given)))
         printf("number %" PRIu32 "\n", given);
 }
 
 static void add_range(void) {
-    print_status(cgrlist_plan_add_range(plan, number(1), number(2), second_of(word(3)), second_of(word(4)), (uint32_t)number(5)));
+    print_status(cgrlist_plan_add_range(here->plan, number(1), number(2), second_of(word(3)), second_of(word(4)), (uint32_t)number(5)));
 }
 
 static void delete_contact(void) {
     uint32_t had = 0;
-    if (!print_status(cgrlist_plan_delete_contact(plan, number(1), number(2), second_of(word(3)), &had)))
+    if (!print_status(cgrlist_plan_delete_contact(here->plan, number(1), number(2), second_of(word(3)), &had)))
         printf("number %" PRIu32 "\n", had);
 }
 
 static void delete_range(void) {
-    print_status(cgrlist_plan_delete_range(plan, number(1), number(2), second_of(word(3))));
+    print_status(cgrlist_plan_delete_range(here->plan, number(1), number(2), second_of(word(3))));
 }
 
 static void counts(void) {
     cgrlist_counts c = {0, 0, 0, 0, 0};
     uint8_t digest[32];
-    if (print_status(cgrlist_plan_counts(plan, &c)) || cgrlist_plan_digest(plan, digest)) return;
+    if (print_status(cgrlist_plan_counts(here->plan, &c)) || cgrlist_plan_digest(here->plan, digest)) return;
     printf("contacts %" PRIu64 "\nranges %" PRIu64 "\nnodes %" PRIu64 "\nwithout light %" PRIu64 "\ndigest ", c.contacts, c.ranges, c.nodes, c.without_light);
     for (int i = 0; i < 32; i++) printf("%02x", digest[i]);
     printf("\ngreatest %" PRIu64 "\n", c.greatest);
@@ -289,7 +314,7 @@ static void counts(void) {
 
 static void digest(void) {
     uint8_t it[32];
-    print_status(cgrlist_plan_digest(plan, it));
+    print_status(cgrlist_plan_digest(here->plan, it));
 }
 
 static void print_contact(uint32_t status, const cgrlist_contact *c) {
@@ -304,17 +329,17 @@ static void print_contact(uint32_t status, const cgrlist_contact *c) {
 
 static void contact(void) {
     cgrlist_contact c = {0, 0, 0, 0, 0, 0, 0, false};
-    print_contact(cgrlist_plan_contact(plan, (uint32_t)number(1), &c), &c);
+    print_contact(cgrlist_plan_contact(here->plan, (uint32_t)number(1), &c), &c);
 }
 
 static void contact_at(void) {
     cgrlist_contact c = {0, 0, 0, 0, 0, 0, 0, false};
-    print_contact(cgrlist_plan_contact_at(plan, number(1), &c), &c);
+    print_contact(cgrlist_plan_contact_at(here->plan, number(1), &c), &c);
 }
 
 static void range_at(void) {
     cgrlist_range r = {0, 0, 0, 0, 0};
-    if (print_status(cgrlist_plan_range_at(plan, number(1), &r))) return;
+    if (print_status(cgrlist_plan_range_at(here->plan, number(1), &r))) return;
     printf("range one %" PRIu64 " other %" PRIu64, r.one, r.other);
     print_time(" start ", r.start);
     print_time(" end ", r.end);
@@ -323,44 +348,56 @@ static void range_at(void) {
 
 static void greatest(void) {
     uint32_t given = 0;
-    if (!print_status(cgrlist_plan_greatest(plan, &given))) printf("greatest %" PRIu32 "\n", given);
+    if (!print_status(cgrlist_plan_greatest(here->plan, &given))) printf("greatest %" PRIu32 "\n", given);
 }
 
 static void listing_open(void) {
-    asked a = asked_from(1);
-    print_status(cgrlist_listing_open(plan, &a.request, a.avoid, a.avoids));
-    free(a.avoid);
+    cgrlist_request request = asked_from(1);
+    cgrlist_listing *listing;
+    uint32_t status = cgrlist_listing_open(here->plan, &request, &listing);
+    put_listing(status, listing);
+    drop(&request);
 }
 
 static void listing_load(void) {
     size_t bytes;
-    uint8_t *text = bytes_of(word(1), &bytes);
+    char *text = bytes_of(word(1), &bytes);
     uint64_t line = 0;
-    uint32_t status = print_status(cgrlist_listing_load(plan, text, bytes, &line));
+    cgrlist_listing *listing;
+    uint32_t status = cgrlist_listing_load(here->plan, text, bytes, &listing, &line);
+    put_listing(status, listing);
     if (status >= CGRLIST_SESSION_BAD_HEADER) printf("line %" PRIu64 "\n", line);
     free(text);
 }
 
 static void listing_next(void) { take_page(NULL); }
 
-static void listing_back(void) { print_status(cgrlist_listing_back(plan)); }
+static void listing_back(void) { print_status(cgrlist_listing_back(here->listing)); }
 
 static void listing_place(void) {
     cgrlist_place place = {0, false, false};
-    if (print_status(cgrlist_listing_place(plan, &place))) return;
+    if (print_status(cgrlist_listing_place(here->listing, &place))) return;
     printf("given %" PRIu64 " %s %s\n", place.given, place.more ? "more" : "end", place.can_back ? "back" : "first");
 }
 
+static uint32_t plan_text_of(char *text, size_t room, size_t *bytes) {
+    return cgrlist_plan_text(here->plan, text, room, bytes);
+}
+
+static uint32_t session_text_of(char *text, size_t room, size_t *bytes) {
+    return cgrlist_listing_text(here->listing, text, room, bytes);
+}
+
 /* Writes a text to the file that the second word names, or prints it if there is none. */
-static void put_text(uint32_t (*text_of)(cgrlist_plan *, uint8_t *, size_t, size_t *)) {
+static void put_text(uint32_t (*text_of)(char *, size_t, size_t *)) {
     size_t bytes = 0, room;
     uint32_t status = CGRLIST_ROOM;
-    uint8_t *text = NULL;
-    if (!is_room_set()) status = text_of(plan, NULL, 0, &bytes);
+    char *text = NULL;
+    if (!is_room_set()) status = text_of(NULL, 0, &bytes);
     if (status == CGRLIST_ROOM) {
         room = room_of(0, bytes);
         text = block(room, 1);
-        status = text_of(plan, text, room, &bytes);
+        status = text_of(text, room, &bytes);
     }
     print_status(status);
     if (status == CGRLIST_ROOM) printf("needs %zu bytes\n", bytes);
@@ -372,41 +409,34 @@ static void put_text(uint32_t (*text_of)(cgrlist_plan *, uint8_t *, size_t, size
     free(text);
 }
 
-static void listing_text(void) { put_text(cgrlist_listing_text); }
-static void plan_text(void) { put_text(cgrlist_plan_text); }
+static void listing_text(void) { put_text(session_text_of); }
+static void plan_text(void) { put_text(plan_text_of); }
 
-/* Copies the plan to another one. */
-static void plan_copy(void) { print_status(cgrlist_plan_copy(plan, &plans[number(1) & 3])); }
+/* Copies the plan to another slot. */
+static void plan_copy(void) {
+    cgrlist_plan *copy;
+    uint32_t status = cgrlist_plan_copy(here->plan, &copy);
+    put_plan(&slots[number(1) & 3], status, copy);
+}
 
-static void listing_close(void) { print_status(cgrlist_listing_close(plan)); }
+static void listing_close(void) {
+    cgrlist_listing_close(here->listing);
+    here->listing = NULL;
+}
 
 static void verify(void) {
     size_t bytes;
-    uint8_t *text = bytes_of(word(1), &bytes);
-    print_status(cgrlist_verify(plan, text, bytes));
+    char *text = bytes_of(word(1), &bytes);
+    print_status(cgrlist_verify(here->plan, text, bytes));
     free(text);
 }
 
-/* Prints a text by so many bytes of room, between brackets, and its length. */
-static void print_text(size_t (*of)(uint32_t, char *, size_t), uint32_t what) {
-    size_t length = of(what, NULL, 0), room = room_of(0, length);
-    char *text = block(room, 1);
-    if (of(what, text, room) != length) puts("another length");
-    printf("%zu [%.*s]\n", length, (int)(room < length ? room : length), text ? text : "");
-    free(text);
-}
-
-static size_t version_text(uint32_t unused, char *text, size_t room) {
-    (void)unused;
-    return cgrlist_version(text, room);
-}
-
-static void status_text(void) { print_text(cgrlist_status_text, (uint32_t)number(1)); }
-static void fault_text(void) { print_text(cgrlist_fault_text, (uint32_t)number(1)); }
-static void version(void) { print_text(version_text, 0); }
+static void status_name(void) { puts(cgrlist_status_name((uint32_t)number(1))); }
+static void fault_name(void) { puts(cgrlist_fault_name((uint32_t)number(1))); }
+static void version(void) { puts(cgrlist_version()); }
 static void abi(void) { printf("%" PRIu32 "\n", cgrlist_abi()); }
 
-static void use(void) { plan = &plans[number(1) & 3]; }
+static void use(void) { here = &slots[number(1) & 3]; }
 
 static const struct { const char *name; void (*call)(void); } CALLS[] = {
     {"plan_new", plan_new}, {"plan_read", plan_read}, {"plan_close", plan_close}, {"plan_add_contact", add_contact},
@@ -416,8 +446,8 @@ static const struct { const char *name; void (*call)(void); } CALLS[] = {
     {"plan_range_at", range_at}, {"best", best}, {"first", first},
     {"follow", follow}, {"hops", hops}, {"listing_open", listing_open}, {"listing_load", listing_load},
     {"listing_next", listing_next}, {"listing_back", listing_back}, {"listing_place", listing_place},
-    {"listing_text", listing_text}, {"listing_close", listing_close}, {"verify", verify}, {"status_text", status_text},
-    {"fault_text", fault_text}, {"version", version}, {"abi", abi}, {"use", use},
+    {"listing_text", listing_text}, {"listing_close", listing_close}, {"verify", verify}, {"status_name", status_name},
+    {"fault_name", fault_name}, {"version", version}, {"abi", abi}, {"use", use},
 };
 
 /* ---- What stays after a refused call ---- */
@@ -426,7 +456,7 @@ typedef struct shown {
     cgrlist_counts counts;
     cgrlist_place place;
     uint8_t digest[32];
-    uint8_t *text;
+    char *text;
     size_t bytes;
 } shown;
 
@@ -434,11 +464,11 @@ typedef struct shown {
 static shown seen(void) {
     shown out;
     memset(&out, 0, sizeof out);
-    if (cgrlist_plan_counts(plan, &out.counts) || cgrlist_plan_digest(plan, out.digest)) return out;
-    if (cgrlist_listing_place(plan, &out.place)) return out;
-    if (cgrlist_listing_text(plan, NULL, 0, &out.bytes) != CGRLIST_ROOM) exit(9);
+    if (cgrlist_plan_counts(here->plan, &out.counts) || cgrlist_plan_digest(here->plan, out.digest)) return out;
+    if (cgrlist_listing_place(here->listing, &out.place)) return out;
+    if (cgrlist_listing_text(here->listing, NULL, 0, &out.bytes) != CGRLIST_ROOM) exit(9);
     out.text = block(out.bytes, 1);
-    if (cgrlist_listing_text(plan, out.text, out.bytes, &out.bytes)) exit(9);
+    if (cgrlist_listing_text(here->listing, out.text, out.bytes, &out.bytes)) exit(9);
     return out;
 }
 
@@ -453,12 +483,11 @@ static bool is_same(const shown *one, const shown *other) {
 /* Makes a call after which, if it is refused, all must be as it was. */
 static void keeping(void (*call)(void)) {
     shown before = seen();
-    bool was_open = plan->is_open;
     last_status = CGRLIST_OK;
     call();
     if (last_status > CGRLIST_NO) {
         shown after = seen();
-        if (was_open != plan->is_open || !is_same(&before, &after)) puts("changed");
+        if (!is_same(&before, &after)) puts("changed");
         free(after.text);
     }
     free(before.text);
@@ -497,6 +526,9 @@ int main(int argc, char **argv) {
             make_call(is_kept);
         }
     }
-    for (size_t i = 0; i < 4; i++) cgrlist_plan_close(&plans[i]);
+    for (slot *it = slots; it < slots + 4; it++) {
+        cgrlist_plan_close(it->plan);
+        cgrlist_listing_close(it->listing);
+    }
     return 0;
 }

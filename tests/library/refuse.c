@@ -31,69 +31,75 @@ typedef struct answer {
     uint32_t status, contacts[CONTACTS], number;
     cgrlist_route routes[ROUTES];
     cgrlist_page page;
-    uint8_t text[BYTES];
+    char text[BYTES];
     size_t bytes;
 } answer;
 
 typedef struct shown {
-    bool is_open;
-    uint8_t digest[32], text[BYTES];
+    bool is_open, is_listed;
+    uint8_t digest[32];
+    char text[BYTES];
     size_t bytes;
     cgrlist_place place;
 } shown;
 
-static cgrlist_plan plan = CGRLIST_PLAN_CLOSED;
+static cgrlist_plan *plan;
+static cgrlist_listing *listing;
 static cgrlist_request request;
-static uint8_t plan_text[BYTES], session_text[BYTES];
+static char plan_text[BYTES], session_text[BYTES];
 static size_t plan_bytes, session_bytes;
 
 static void see(shown *out) {
     memset(out, 0, sizeof *out);
-    out->is_open = plan.is_open;
-    cgrlist_plan_digest(&plan, out->digest);
-    cgrlist_listing_place(&plan, &out->place);
-    cgrlist_listing_text(&plan, out->text, sizeof out->text, &out->bytes);
+    out->is_open = plan != NULL;
+    out->is_listed = listing != NULL;
+    cgrlist_plan_digest(plan, out->digest);
+    cgrlist_listing_place(listing, &out->place);
+    cgrlist_listing_text(listing, out->text, sizeof out->text, &out->bytes);
 }
 
 /* ---- The calls ---- */
 
-static void call_read(answer *a) { a->status = cgrlist_plan_read(&plan, plan_text, plan_bytes, &a->number); }
+static void call_read(answer *a) { a->status = cgrlist_plan_read(&plan, plan_text, plan_bytes, NULL); }
 static void call_new(answer *a) { a->status = cgrlist_plan_new(&plan); }
-static void call_best(answer *a) { a->status = cgrlist_best(&plan, &request, NULL, 0, a->routes, a->contacts, CONTACTS); }
+static void call_best(answer *a) { a->status = cgrlist_best(plan, &request, a->routes, a->contacts, CONTACTS); }
 static void call_first(answer *a) {
-    a->status = cgrlist_first(&plan, &request, NULL, 0, 20, a->routes, ROUTES, a->contacts, CONTACTS, &a->page);
+    a->status = cgrlist_first(plan, &request, 20, a->routes, ROUTES, a->contacts, CONTACTS, &a->page);
 }
-static void call_open(answer *a) { a->status = cgrlist_listing_open(&plan, &request, NULL, 0); }
-static void call_load(answer *a) {
-    uint64_t line;
-    a->status = cgrlist_listing_load(&plan, session_text, session_bytes, &line);
-}
+static void call_open(answer *a) { a->status = cgrlist_listing_open(plan, &request, &listing); }
+static void call_load(answer *a) { a->status = cgrlist_listing_load(plan, session_text, session_bytes, &listing, NULL); }
 static void call_next(answer *a) {
-    a->status = cgrlist_listing_next(&plan, 15, a->routes, ROUTES, a->contacts, CONTACTS, &a->page);
+    a->status = cgrlist_listing_next(listing, 15, a->routes, ROUTES, a->contacts, CONTACTS, &a->page);
 }
-static void call_text(answer *a) { a->status = cgrlist_listing_text(&plan, a->text, BYTES, &a->bytes); }
-static void call_plan_text(answer *a) { a->status = cgrlist_plan_text(&plan, a->text, BYTES, &a->bytes); }
+static void call_text(answer *a) { a->status = cgrlist_listing_text(listing, a->text, BYTES, &a->bytes); }
+static void call_plan_text(answer *a) { a->status = cgrlist_plan_text(plan, a->text, BYTES, &a->bytes); }
 static void call_copy(answer *a) {
-    cgrlist_plan copy = CGRLIST_PLAN_CLOSED;
-    a->status = cgrlist_plan_copy(&plan, &copy);
-    cgrlist_plan_digest(&copy, a->text);
-    cgrlist_plan_close(&copy);
+    cgrlist_plan *copy;
+    a->status = cgrlist_plan_copy(plan, &copy);
+    cgrlist_plan_digest(copy, (uint8_t *)a->text);
+    cgrlist_plan_close(copy);
 }
-static void call_verify(answer *a) { a->status = cgrlist_verify(&plan, session_text, session_bytes); }
-static void call_add_contact(answer *a) { a->status = cgrlist_plan_add_contact(&plan, 7001, 7002, 5, 9, 1, &a->number); }
-static void call_add_range(answer *a) { a->status = cgrlist_plan_add_range(&plan, 7001, 7002, 5, 9, 1); }
-static void call_delete_contact(answer *a) { a->status = cgrlist_plan_delete_contact(&plan, 7001, 7003, 5, &a->number); }
-static void call_delete_range(answer *a) { a->status = cgrlist_plan_delete_range(&plan, 7001, 7003, 5); }
+static void call_verify(answer *a) { a->status = cgrlist_verify(plan, session_text, session_bytes); }
+static void call_add_contact(answer *a) { a->status = cgrlist_plan_add_contact(plan, 7001, 7002, 5, 9, 1, &a->number); }
+static void call_add_range(answer *a) { a->status = cgrlist_plan_add_range(plan, 7001, 7002, 5, 9, 1); }
+static void call_delete_contact(answer *a) { a->status = cgrlist_plan_delete_contact(plan, 7001, 7003, 5, &a->number); }
+static void call_delete_range(answer *a) { a->status = cgrlist_plan_delete_range(plan, 7001, 7003, 5); }
+
+static void close_all(void) {
+    cgrlist_plan_close(plan);
+    cgrlist_listing_close(listing);
+    plan = NULL;
+    listing = NULL;
+}
 
 /* What stands before a call. */
 static bool is_made(uint32_t status) { return status == CGRLIST_OK; }
 
 static bool nothing(void) { return true; }
 static bool a_plan(void) {
-    uint32_t line, number;
-    return is_made(cgrlist_plan_read(&plan, plan_text, plan_bytes, &line)) &&
-           is_made(cgrlist_plan_add_contact(&plan, 7001, 7003, 5, 9, 1, &number)) &&
-           is_made(cgrlist_plan_add_range(&plan, 7001, 7003, 5, 9, 1));
+    return is_made(cgrlist_plan_read(&plan, plan_text, plan_bytes, NULL)) &&
+           is_made(cgrlist_plan_add_contact(plan, 7001, 7003, 5, 9, 1, NULL)) &&
+           is_made(cgrlist_plan_add_range(plan, 7001, 7003, 5, 9, 1));
 }
 static bool an_asked_plan(void) {
     static answer a;
@@ -103,8 +109,8 @@ static bool an_asked_plan(void) {
 }
 static bool a_listing(void) {
     static answer a;
-    if (!a_plan() || !is_made(cgrlist_listing_open(&plan, &request, NULL, 0))) return false;
-    return is_made(cgrlist_listing_next(&plan, 5, a.routes, ROUTES, a.contacts, CONTACTS, &a.page));
+    if (!a_plan() || !is_made(cgrlist_listing_open(plan, &request, &listing))) return false;
+    return is_made(cgrlist_listing_next(listing, 5, a.routes, ROUTES, a.contacts, CONTACTS, &a.page));
 }
 
 static const struct { const char *name; bool (*before)(void); void (*call)(answer *); } CALLS[] = {
@@ -128,7 +134,7 @@ static bool is_same_answer(const answer *one, const answer *other) {
 }
 
 static bool is_same_plan(const shown *one, const shown *other) {
-    return one->is_open == other->is_open && one->bytes == other->bytes && one->place.given == other->place.given &&
+    return one->is_open == other->is_open && one->is_listed == other->is_listed && one->bytes == other->bytes && one->place.given == other->place.given &&
            one->place.more == other->place.more && one->place.can_back == other->place.can_back &&
            !memcmp(one->digest, other->digest, sizeof one->digest) && !memcmp(one->text, other->text, sizeof one->text);
 }
@@ -149,7 +155,7 @@ static bool make_ever(size_t call) {
     if (!CALLS[call].before()) return false;
     CALLS[call].call(&ever);
     see(&ever_after);
-    cgrlist_plan_close(&plan);
+    close_all();
     return is_made(ever.status);
 }
 
@@ -173,7 +179,7 @@ static int refuse(size_t call, long place, bool *is_last) {
     if (!is_same_answer(&found, &ever)) return failed(name, place, "another answer");
     see(&after);
     if (!is_same_plan(&ever_after, &after)) return failed(name, place, "another plan or place");
-    cgrlist_plan_close(&plan);
+    close_all();
     return 0;
 }
 
@@ -197,8 +203,8 @@ int main(int argc, char **argv) {
     request.from = strtoull(argv[2], NULL, 10);
     request.to = strtoull(argv[3], NULL, 10);
     request.at = strtoull(argv[4], NULL, 10);
-    if (!a_listing() || cgrlist_listing_text(&plan, session_text, BYTES, &session_bytes)) return 2;
-    cgrlist_plan_close(&plan);
+    if (!a_listing() || cgrlist_listing_text(listing, session_text, BYTES, &session_bytes)) return 2;
+    close_all();
     for (size_t call = 0; call < sizeof CALLS / sizeof *CALLS; call++)
         if (refuse_all(call)) return 1;
     return 0;

@@ -17,7 +17,7 @@ the former in a second, the latter in all.
 What can't be done is `Refused`, a ValueError with a message and a status: 2 for what is asked, 3 for the plan, 4 for names, lists
 or a report, 5 for a file,
 125 if there is no program. The program is the clone's or that in the path; `CGRLIST` in the environment names another one.
-Where the library `libcgrlist.so.1` lies beside it, or `CGRLIST_LIBRARY` names one, that answers in this process, many times
+Where the library `libcgrlist.so.2` lies beside it, or `CGRLIST_LIBRARY` names one, that answers in this process, many times
 as fast, and the same; `CGRLIST_IN_PROCESS=0` turns that off.
 """
 

@@ -1,81 +1,32 @@
-"""The library `libcgrlist.so.1` in this process, by ctypes: it answers as the program does, and no process has to begin.
+"""The library `libcgrlist.so.2` in this process: it answers as the program does, and no process has to begin.
 
 It is used where it lies beside the program, or at the path that `CGRLIST_LIBRARY` in the environment names. With
-`CGRLIST_IN_PROCESS=0` the program is asked. Its interface is that of cgrlist.h.
+`CGRLIST_IN_PROCESS=0` the program is asked.
 """
 
 import contextlib
-import ctypes
 import functools
 import os
 import re
 import threading
-from ctypes import POINTER, byref, c_bool, c_char_p, c_size_t, c_uint8, c_uint32, c_uint64, c_void_p
 
-from . import clone, hints
+from . import clone, hints, libcgrlist
 from .errors import PLAN_STATUS, REQUESTS_STATUS, START_STATUS, WORDS_STATUS, Refused
+from .libcgrlist import ABI, MEMORY
 from .program import MOST, Counts, Program
 from .router import Router
 from .routes import HOPS, MARGIN, Answer, Fault, Hop, Route
 from .times import LAST
 from .tool import scratch_with
 
-ABI = 1
 NAME = f"libcgrlist.so.{ABI}"
 # From the program's folder: beside it, installed, a package's of Debian, a clone's.
 PLACES = (NAME, f"../lib/{NAME}", f"../lib/{os.uname().machine}-linux-gnu/{NAME}", f"../../../library/out/{NAME}")
-OK, NO, ROOM, MEMORY = 0, 1, 2, 3  # statuses, as cgrlist.h has them
-OF_REQUEST, OF_LINE, OF_CHANGE, OF_SESSION = 16, 32, 48, 80  # where the statuses of a kind begin
+REQUEST, LINE, CHANGE, SESSION = 16, 32, 48, 80  # the first status of each kind
 MEMORY_STATUS = 6  # the program's
 LAST_NUMBER, LAST_NODE = 2**32 - 1, 2**64 - 1
 MOST_MARGIN, MOST_AVOIDED = 1000000, 16
 FIRST_PAGE = 100  # routes of a list that are asked for at first, as the program is
-
-
-class _Plan(ctypes.Structure):
-    _fields_ = [("is_open", c_bool), ("at", c_void_p)]
-
-
-class _Request(ctypes.Structure):
-    _fields_ = [("source", c_uint64), ("to", c_uint64), ("at", c_uint64), ("margin_ppm", c_uint32), ("max_hops", c_uint32)]
-
-
-class _Route(ctypes.Structure):
-    _fields_ = [("delivery", c_uint64), ("until", c_uint64), ("entry", c_uint64), ("first", c_size_t), ("hops", c_size_t)]
-
-
-class _Page(ctypes.Structure):
-    _fields_ = [("routes", c_size_t), ("contacts", c_size_t), ("written", c_size_t), ("more", c_bool)]
-
-
-class _Outcome(ctypes.Structure):
-    _fields_ = [("delivery", c_uint64), ("until", c_uint64), ("entry", c_uint64), ("place", c_uint64), ("fault", c_uint32)]
-
-
-class _Hop(ctypes.Structure):
-    _fields_ = [("source", c_uint64), ("to", c_uint64), ("sent", c_uint64), ("arrival", c_uint64), ("contact", c_uint32)]
-
-
-class _Counts(ctypes.Structure):
-    _fields_ = [(name, c_uint64) for name in ("contacts", "ranges", "nodes", "without_light", "greatest")]
-
-
-_PLAN, _ASKED = POINTER(_Plan), [POINTER(_Plan), POINTER(_Request), POINTER(c_uint64), c_size_t]
-_NUMBERS, _PAGE = POINTER(c_uint32), [c_uint32, POINTER(_Route), c_size_t, POINTER(c_uint32), c_size_t, POINTER(_Page)]
-_CALLS = {  # the types of the arguments of each call that is used
-    "cgrlist_plan_read": [_PLAN, c_char_p, c_size_t, _NUMBERS],
-    "cgrlist_plan_close": [_PLAN],
-    "cgrlist_plan_counts": [_PLAN, POINTER(_Counts)],
-    "cgrlist_plan_digest": [_PLAN, POINTER(c_uint8)],
-    "cgrlist_best": [*_ASKED, POINTER(_Route), _NUMBERS, c_size_t],
-    "cgrlist_first": [*_ASKED, *_PAGE],
-    "cgrlist_follow": [*_ASKED, _NUMBERS, c_size_t, POINTER(_Outcome)],
-    "cgrlist_hops": [*_ASKED, _NUMBERS, c_size_t, POINTER(_Hop), c_size_t, POINTER(c_size_t)],
-    "cgrlist_listing_open": _ASKED,
-    "cgrlist_listing_next": [_PLAN, *_PAGE],
-    "cgrlist_listing_close": [_PLAN],
-    "cgrlist_verify": [_PLAN, c_char_p, c_size_t],
-}
 
 
 # ---- The library ------------------------------------------------------------------------------------------------
@@ -122,98 +73,54 @@ def _program_over(program_path, text, file):
 def loaded(path):
     """The library at a path."""
     try:
-        library = ctypes.CDLL(path)
-        abi = library.cgrlist_abi()
+        return libcgrlist.Library(path)
     except (OSError, AttributeError) as error:
         raise Refused(f"cannot use {path}: {error}", START_STATUS) from error
-    if abi != ABI:
-        off = "CGRLIST_IN_PROCESS=0 asks the program"
-        raise Refused(f"{path} has version {abi} of its interface, and this package needs {ABI}; {off}", START_STATUS)
-    for name, types in _CALLS.items():
-        getattr(library, name).argtypes = types
-    return library
+    except ValueError as error:
+        raise Refused(f"{error}; CGRLIST_IN_PROCESS=0 asks the program", START_STATUS) from error
 
 
-def _text_of(call, code):
-    """What a call of the library has for a status or a fault."""
-    room = ctypes.create_string_buffer(64)
-    length = call(code, room, len(room))
-    return room.raw[:length].decode()
+@contextlib.contextmanager
+def _refusing():
+    """What the library refuses is refused as the program does."""
+    try:
+        yield
+    except libcgrlist.Refusal as refusal:
+        raise _refused(refusal) from None
 
 
-# ---- A plan in the library --------------------------------------------------------------------------------------
+def _refused(refusal):
+    word = _word_of(refusal.name.removeprefix("CGRLIST_"))
+    if REQUEST <= refusal.status < LINE:
+        return Refused(f"cgrlist: request: {word}\n", WORDS_STATUS, is_told=True)
+    if LINE <= refusal.status < CHANGE:
+        return Refused(f"cgrlist: plan line {refusal.line}: {word}\n", PLAN_STATUS, is_told=True)
+    if refusal.status == MEMORY:
+        return Refused("cgrlist: no memory\n", MEMORY_STATUS, is_told=True)
+    return Refused(f"the library answers {refusal.status} {refusal.name}")
 
 
-class _Opened:
-    """A plan that the library has read. One call at a time is made over it."""
+def _word_of(constant):
+    """What the program writes for a constant: `TooMany` for `LINE_TOO_MANY`."""
+    name = constant if constant == "LINE_TOO_LONG" else re.sub("^(LINE|FAULT)_", "", constant)
+    return "".join(it.capitalize() for it in name.split("_"))
 
-    def __init__(self, library, text):
-        self.library, self.lock, self._plan = library, threading.Lock(), _Plan()
-        self._routes, self._contacts, self._hops = (_Route * 64)(), (c_uint32 * 1024)(), (_Hop * 64)()
-        line = c_uint32()
-        status = library.cgrlist_plan_read(byref(self._plan), text, len(text), byref(line))
-        if OF_LINE <= status < OF_CHANGE:
-            told = f"cgrlist: plan line {line.value}: {_text_of(library.cgrlist_status_text, status)}\n"
-            raise Refused(told, PLAN_STATUS, is_told=True)
-        self.checked(status)
 
-    def __del__(self):
-        self.library.cgrlist_plan_close(byref(self._plan))
+def _answer(page, rank, request):
+    """A page of a request from a rank on."""
+    routes = (Route(place, it.delivery, it.entry, it.until, it.contacts) for place, it in enumerate(page.routes, rank))
+    return Answer(tuple(routes), not page.more, request)
 
-    def checked(self, status):
-        """A status that is OK, NO or ROOM, and else refuses what was asked."""
-        if status <= ROOM:
-            return status
-        name = _text_of(self.library.cgrlist_status_text, status)
-        if OF_REQUEST <= status < OF_LINE:
-            raise Refused(f"cgrlist: request: {name}\n", WORDS_STATUS, is_told=True)
-        if status == MEMORY:
-            raise Refused("cgrlist: no memory\n", MEMORY_STATUS, is_told=True)
-        raise Refused(f"the library answers {status} {name}")
 
-    def call(self, name, *given):
-        """The status of a call."""
-        return self.checked(getattr(self.library, name)(byref(self._plan), *given))
-
-    def best(self, asked):
-        """The best route; None if there is none."""
-        row = self._routes[0]
-        while True:
-            status = self.call("cgrlist_best", *asked, byref(row), self._contacts, len(self._contacts))
-            if status != ROOM:
-                return None if status == NO else Route(1, row.delivery, row.entry, row.until, (*self._contacts[: row.hops],))
-            self._contacts = (c_uint32 * row.hops)()
-
-    def page(self, name, asked, count, rank):
-        """The routes that a call for some gives, from a rank on, and whether the list ends with them."""
-        page = _Page()
-        if len(self._routes) < count:
-            self._routes = (_Route * count)()
-        while True:
-            rows, contacts = self._routes, self._contacts
-            status = self.call(name, *asked, count, rows, len(rows), contacts, len(contacts), byref(page))
-            if status != ROOM:
-                break
-            self._contacts = (c_uint32 * max(page.contacts, 2 * len(contacts)))()
-        numbers = contacts[: page.contacts]
-        routes = [
-            Route(rank + place, it.delivery, it.entry, it.until, (*numbers[it.first : it.first + it.hops],))
-            for place, it in enumerate(rows[: page.routes])
-        ]
-        return tuple(routes), not page.more
-
-    def followed(self, asked, contacts):
-        """What contacts do: a route with its hops, and without a rank, or a fault."""
-        numbers, told, count = (c_uint32 * len(contacts))(*contacts), _Outcome(), c_size_t()
-        if len(self._hops) < len(contacts):
-            self._hops = (_Hop * len(contacts))()
-        status = self.call("cgrlist_follow", *asked, numbers, len(contacts), byref(told))
-        self.call("cgrlist_hops", *asked, numbers, len(contacts), self._hops, len(self._hops), byref(count))
-        hops = tuple(Hop(it.contact, it.source, it.to, it.sent, it.arrival) for it in self._hops[: count.value])
-        if status == OK:
-            return Route(None, told.delivery, told.entry, told.until, tuple(contacts), hops)
-        place = f" hop {told.place}" if told.place else ""
-        return Fault(f"refused{place}: {_text_of(self.library.cgrlist_fault_text, told.fault)}", hops)
+def _followed(plan, asked, contacts):
+    """What contacts do: a route with its hops, and without a rank, or a fault."""
+    outcome = plan.follow(asked, contacts)
+    hops = tuple(Hop(it.contact, it.source, it.to, it.sent, it.arrival) for it in plan.hops(asked, contacts))
+    if outcome.route:
+        it = outcome.route
+        return Route(None, it.delivery, it.entry, it.until, it.contacts, hops)
+    place = f" hop {outcome.place}" if outcome.place else ""
+    return Fault(f"refused{place}: {_word_of(outcome.fault.removeprefix('CGRLIST_'))}", hops)
 
 
 # ---- What answers -----------------------------------------------------------------------------------------------
@@ -230,58 +137,56 @@ class InProcess(Router):
 
     def __init__(self, library, text, file=None, program=None):
         self.text = text
-        self._library, self._file, self._program = library, file, program
-        self._free = []  # plans over which no listing is open
+        self._library, self._file, self._program, self._lock = library, file, program, threading.Lock()
 
     @functools.cached_property
-    def _opened(self):
-        opened = self._read()
-        self._free.append(opened)
-        return opened
-
-    def _read(self):
+    def _plan(self):
         try:
-            return _Opened(self._library, self.text)
+            with _refusing():
+                return self._library.read(self.text)
         except Refused as refused:
             if self._file and refused.status == PLAN_STATUS:
                 refused.hints = tuple(hints.of_refusal(self._file, refused.message))
             raise
 
+    @contextlib.contextmanager
+    def _opened(self):
+        """The plan, for one call at a time."""
+        with self._lock, _refusing():
+            yield self._plan
+
     def check(self):
         """Refuses a plan that the library refuses."""
-        self._opened
+        with self._opened():
+            pass
 
     def counts(self):
         """What the plan has."""
-        found = _Counts()
-        with self._locked() as opened:
-            opened.call("cgrlist_plan_counts", byref(found))
-        return Counts(found.contacts, found.ranges, found.nodes, found.without_light)
+        with self._opened() as plan:
+            return Counts(*plan.counts()[:4])
 
     def digest(self):
         """The plan's digest."""
-        found = (c_uint8 * 32)()
-        with self._locked() as opened:
-            opened.call("cgrlist_plan_digest", found)
-        return bytes(found).hex()
+        with self._opened() as plan:
+            return plan.digest().hex()
 
     def verify(self, text):
         """Whether a text, as bytes, is the session text of a place in the list of its request over the plan."""
-        with self._locked() as opened:
-            status = self._library.cgrlist_verify(byref(opened._plan), text, len(text))
-            return status < OF_SESSION and opened.checked(status) == OK
+        with self._opened() as plan:
+            return plan.verify(text)
 
     def best(self, requests):
         """The best route of each of some requests; None where there is none."""
         asked = map(_asked, requests)
-        with self._locked() as opened:
-            return [opened.best(it) for it in asked]
+        with self._opened() as plan:
+            found = map(plan.best, asked)
+            return [it and Route(1, it.delivery, it.entry, it.until, it.contacts) for it in found]
 
     def first(self, request, count):
         """The answer with the first routes of a request, at most 10000."""
         asked, count = _asked(request), _number(count, 1, MOST, "--count")
-        with self._locked() as opened:
-            return Answer(*opened.page("cgrlist_first", asked, count, 1), request)
+        with self._opened() as plan:
+            return _answer(plan.first(asked, count), 1, request)
 
     def many(self, requests, count):
         """The answers with the first routes of requests; None if one of them is refused."""
@@ -300,35 +205,21 @@ class InProcess(Router):
             if not contacts or not all(1 <= number <= LAST_NUMBER for number in contacts):
                 raise Refused(f"cgrlist: lists line {place}: BadContacts\n", REQUESTS_STATUS, is_told=True)
             asked = _asked(request)
-            with self._locked() as opened:
-                found.append(opened.followed(asked, contacts))
+            with self._opened() as plan:
+                found.append(_followed(plan, asked, contacts))
         return found
 
     def pages(self, request):
-        """The pages of a request's list, to its end. A listing has a plan of its own while it is open."""
-        asked, count, rank = _asked(request), FIRST_PAGE, 1
-        opened = self._for_listing()
-        try:
-            with opened.lock:
-                opened.call("cgrlist_listing_open", *asked)
-            is_whole = False
+        """The pages of a request's list, to its end."""
+        asked, count, rank, is_whole = _asked(request), FIRST_PAGE, 1, False
+        with self._opened() as plan:
+            listing = plan.listing(asked)
+        with listing:
             while not is_whole:
-                with opened.lock:
-                    routes, is_whole = opened.page("cgrlist_listing_next", (), count, rank)
-                yield Answer(routes, is_whole, request)
-                rank, count = rank + len(routes), min(count * 4, MOST)
-        finally:
-            with opened.lock:
-                self._library.cgrlist_listing_close(byref(opened._plan))
-            self._free.append(opened)
-
-    def _for_listing(self):
-        """A plan over which no listing is open."""
-        self.check()
-        try:
-            return self._free.pop()
-        except IndexError:
-            return self._read()
+                with _refusing():
+                    answer = _answer(listing.next(count), rank, request)
+                yield answer
+                is_whole, rank, count = answer.is_whole, rank + len(answer.routes), min(count * 4, MOST)
 
     @contextlib.contextmanager
     def over(self, text):
@@ -338,12 +229,6 @@ class InProcess(Router):
     def apart(self):
         """What other processes may use: the program."""
         return self._program()
-
-    @contextlib.contextmanager
-    def _locked(self):
-        opened = self._opened
-        with opened.lock:
-            yield opened
 
 
 def _asked(request):
@@ -355,7 +240,7 @@ def _asked(request):
     nodes = [_number(node, 1, LAST_NODE, "--avoid") for node in request.avoid]
     if len(nodes) > MOST_AVOIDED:
         _refuse("--avoid", request.avoided_text)
-    return byref(_Request(source, to, at, margin, hops)), (c_uint64 * max(len(nodes), 1))(*nodes), len(nodes)
+    return libcgrlist.request(source, to, at, margin, hops, nodes)
 
 
 def _number(value, least, most, option):

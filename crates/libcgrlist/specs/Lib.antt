@@ -15,7 +15,6 @@ pub mod Reading
 pub mod Request
 pub mod Standing
 pub mod Status
-pub mod Texts
 pub mod Verified
 pub mod Views
 pub mod Whole

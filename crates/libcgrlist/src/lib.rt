@@ -1,4 +1,5 @@
-//! The functions of the C library: plans behind handles, and the answers over them. `cgrlist.h` declares them.
+//! The functions that the C library is made of: plans behind handles, and the answers over them. `library/proved.h`
+//! declares them, and `library/shims.c` calls them.
 #![tactic(auto)]
 
 mod best;
@@ -19,7 +20,6 @@ mod plans;
 mod request;
 mod rows;
 mod status;
-mod texts;
 mod verify;
 mod views;
 mod whole;
@@ -44,7 +44,6 @@ pub use opened::Opened;
 pub use plan_text::cgrlist_plan_text;
 pub use plans::{cgrlist_plan_close, cgrlist_plan_copy, cgrlist_plan_new, cgrlist_plan_read};
 pub use rows::{Page, RouteRow};
-pub use texts::{cgrlist_abi, cgrlist_fault_text, cgrlist_status_text, cgrlist_version};
 pub use verify::cgrlist_verify;
 pub use views::{
     cgrlist_plan_contact, cgrlist_plan_contact_at, cgrlist_plan_counts, cgrlist_plan_digest,
