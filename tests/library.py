@@ -8,6 +8,7 @@
     memory      each allocation refused in turn
     fuzzed      drawn calls with drawn plans and texts, by seeds; under valgrind, and under the compiler's sanitizers
     examples    the programs of examples/, in C and in Rust
+    wrapped     the wrappers for C++, Rust and Python
 
 tests/library/calls.c makes the calls that a text names; its comment says how. This needs a C compiler.
 """
@@ -229,6 +230,44 @@ Libs: -L{room.folder} -lcgrlist
         yield "examples/router.rs answers", ROUTER, lambda: room.run(["./router-rs", *words], at=room.path, **further).all()
 
 
+# What wrapped.cpp, wrapped.rs and wrapped.py ask over relay.txt: the best route and the first two; the hops and the fault of a part
+# of it; its first contact is lost; the best route then, and the third of a listing that was open before, with a page back; the
+# plan's text and copy; two session texts; an empty plan; a session text of the plan before, and a bad line.
+WRAPPED = """\
+1893466042 1893464400 22 4 11 2
+1893466042 1893464400 22 4 11 2
+1893479242 1893467940 21 5 12 2
+2 CGRLIST_FAULT_WRONG_END
+4
+1893479242 1893467940 21 5 12 2
+1893479242 1893474720 21 6 12 2
+12
+1 21 19 14 6
+10
+1 0
+CGRLIST_SESSION_OTHER_PLAN 0
+CGRLIST_LINE_UNKNOWN_COMMAND 1"""
+
+
+def wrapped(room):
+    """The wrappers for C++, Rust and Python say the same."""
+    relay, further = f"{TOP}/examples/relay.txt", {"LD_LIBRARY_PATH": room.folder}
+    for compiler in filter(has, ("g++", "clang++")):
+        words = f"{compiler} -std=c++17 {WARNINGS} -I{TOP}/library {TOP}/tests/library/wrapped.cpp -L{room.folder} -lcgrlist -o {compiler}-wrapped"
+        yield f"{compiler} takes cgrlist.hpp", "", lambda: room.run(words, at=room.path).all()
+        yield f"cgrlist.hpp, by {compiler}", WRAPPED, lambda: room.run([f"./{compiler}-wrapped", relay], at=room.path, **further).all()
+    if has("cargo"):
+        folder = f"{room.path}/rust"
+        shutil.copytree(f"{TOP}/library/rust", folder)
+        yield "cargo takes library/rust", "", lambda: room.run(
+            "cargo build --offline --quiet --example wrapped", at=folder, CGRLIST_LIB_DIR=room.folder, RUSTFLAGS="-D warnings").all()
+        yield "library/rust", WRAPPED, lambda: room.run([f"{folder}/target/debug/examples/wrapped", relay], **further).all()
+    shutil.copy(f"{TOP}/tools/cgrlist/libcgrlist.py", room.path)
+    shutil.copy(f"{TOP}/tests/library/wrapped.py", room.path)
+    yield "libcgrlist.py alone", WRAPPED, lambda: room.run(
+        ["python3", "wrapped.py", f"{room.folder}/{SHARED}", relay], at=room.path).all()
+
+
 def checks(asked):
     if not has("cc"):
         print("note: library is left out, since there is no cc")
@@ -237,4 +276,4 @@ def checks(asked):
         print("note: library is left out, since a trial compiles no library; --library names the folder of one")
         return ()
     return checks_of("library", Calling(asked), [
-        the_header, the_libraries, refusals, texts, names, nulls, drawn_plans, refused_memory, fuzzed, examples, larger_plans])
+        the_header, the_libraries, refusals, texts, names, nulls, drawn_plans, refused_memory, fuzzed, examples, wrapped, larger_plans])

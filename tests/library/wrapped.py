@@ -1,0 +1,36 @@
+"""Asks what wrapped.cpp asks, by tools/cgrlist/libcgrlist.py alone. Its words: the path of the library, and that of relay.txt."""
+
+import sys
+
+from libcgrlist import Library, Refusal, request
+
+
+def show(route):
+    print(route.delivery, route.until, route.entry, *route.contacts)
+
+
+library = Library(sys.argv[1])
+with open(sys.argv[2], "rb") as file:
+    plan = library.read(file.read())
+asked = request(31, 1, 1893458700)
+show(plan.best(asked))
+listing = plan.listing(asked)
+for route in listing.next(2).routes:
+    show(route)
+first = plan.contact(plan.first(asked, 1).routes[0].contacts[0])
+print(len(plan.hops(asked, (4, 11))), plan.follow(asked, (4, 11)).fault)
+print(plan.delete_contact(first.source, first.to, first.start))
+show(plan.best(asked))
+show(listing.next(9).routes[0])
+print(f"{listing.back():d}{listing.place().given}")
+copy = library.read(plan.text())
+counts = copy.counts()
+print(f"{copy.digest() == plan.copy().digest():d}", counts.greatest, len(list(copy.contacts())), len(list(copy.ranges())), counts.nodes)
+print(f"{plan.verify(plan.listing(asked).text()):d}{plan.verify(listing.text()):d}")
+empty = library.new()
+print(empty.add_contact(1, 2, 3, 4, 5), f"{empty.best(request(1, 2, 3)) is not None:d}")
+for call, text in ((plan.load, listing.text()), (library.read, b"a\n")):
+    try:
+        call(text)
+    except Refusal as refusal:
+        print(refusal.name, refusal.line)
