@@ -74,13 +74,13 @@ class Installing(Room):
         """The words of a command in the file of completions of zsh or fish."""
         return words_in_table(self.read(f"made/{SHELLS[shell][1]}"), shell, command)
 
-    def installed(self):
-        """What stands below the folder in which it was installed: type, mode, and place, a line each."""
+    def installed(self, at="at"):
+        """What stands below a folder in which it was installed: type, mode, and place, a line each."""
         lines = []
-        for folder, _, names in os.walk(f"{self.path}/at"):
+        for folder, _, names in os.walk(f"{self.path}/{at}"):
             for name in names:
                 mode = os.lstat(f"{folder}/{name}").st_mode
-                place = os.path.relpath(f"{folder}/{name}", f"{self.path}/at")
+                place = os.path.relpath(f"{folder}/{name}", f"{self.path}/{at}")
                 lines.append(f"{'l' if stat.S_ISLNK(mode) else 'f'} {mode & 0o777:o} {place}")
         return by_place(lines)
 
@@ -236,6 +236,11 @@ def with_the_library(room):
     yield "a program is compiled", "", lambda: room.run("sh -c", [made], at=room.path, **further).all()
     yield "it asks", "to node 2 first, there at 1893456015, over 1 4", lambda: (
         room.run("./router a.txt 1 3 1893456000", at=room.path, **further).out.partition("\n")[0])
+    ran = room.install("--library '/a & b|'", into=f"{room.path}/alone")
+    yield "the library alone", (0, "", by_place(it.replace("usr/", "a & b|/") for it in LIBRARY)), lambda: (
+        ran.status, ran.err, room.installed("alone"))
+    yield "its prefix stands in cgrlist.pc", "prefix=/a & b|", lambda: parts_of(
+        "^prefix=.*", room.read("alone/a & b|/lib/pkgconfig/cgrlist.pc"))
     if shutil.which("man"):
         yield "its manual page is found", f"{at}/usr/share/man/man3/cgrlist.3\n", lambda: (
             room.run("man -w 3 cgrlist", MANPATH=f"{at}/usr/share/man").out)
