@@ -188,7 +188,7 @@ def parser_of_words():
     add_plan_words(parser)
     requests = "requests of a file, in place of --from, --to and --at: a line FROM TO AT for each, which may go on with a margin, a limit on hops and nodes to avoid; - is standard input"
     add_request_words(parser).add_argument("--requests", metavar="G", help=requests)
-    report = "the routes of this report, or of its pages, in place of --count or --by; --hops, --room and --send-by then need its request"
+    report = "the routes of this report, or of its pages, in place of --count or --by; --hops, --room and --send-by then need its request; - is standard input"
     add_choice_words(parser).add_argument("--report", metavar="G", help=report)
     group = parser.add_argument_group("What is shown of them")
     group.add_argument("--hops", action="store_true", help="also each hop: its contact, nodes, sending and arrival; in CSV a line for each")

@@ -97,17 +97,17 @@ def add_view_words(parser):
     span = {"nargs": 2, "type": time_word, "metavar": ("T", "T")}
     group.add_argument("--between", **span, help="a span of time; if not given, that of the routes, or else of the plan")
     used = group.add_mutually_exclusive_group()
-    used.add_argument("--used", action="store_true", default=None, help="only the links that the routes use, also with --links, --nodes or --list")
+    used.add_argument("--used", action="store_true", default=None, help="only the links that the routes use; if not given, all with --links, --nodes or --list")
     unused = {"action": "store_false", "dest": "used", "default": None}
     used.add_argument("--unused", **unused, help="also the links that no route uses")
     group.add_argument("--links", metavar="LIST", help="only these links: 'A>B', joined by commas")
     group.add_argument("--nodes", metavar="LIST", help="only the links from and to these nodes, joined by commas")
-    group.add_argument("--order", choices=("link", "route"), help="links by their nodes, or in the order of the routes, as if not given")
+    group.add_argument("--order", choices=("link", "route"), help="links by their nodes, or as the routes go; if not given, as the routes go")
 
 
 def add_shape_words(parser):
     """Adds the group of options that say how it is shown: as a picture, or otherwise."""
-    group, _ = add_form_words(parser, csv="; for --list", json=", for --list")
+    group, _ = add_form_words(parser, csv="; for --list", json="; for --list")
     shape = group.add_mutually_exclusive_group()
     shape.add_argument("--text", action="store_true", help="draw with characters")
     shape.add_argument("--list", action="store_true", help="list the contacts, each with its number")
