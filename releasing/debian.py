@@ -113,15 +113,15 @@ class Package:
 # ---- The packages -----------------------------------------------------------------------------------------------
 
 
-def make(release, stage, architecture, into):
-    """Makes the packages of what is below a folder; without a program, those of the library alone."""
+def make(release, stage, architecture, glibc, into):
+    """Makes the packages of what is below a folder, whose library needs a glibc; without a program, those of the library alone."""
     names = files.names_below(stage)
     soname = next(os.path.basename(it) for it in names if ".so." in it)
     number = soname.rpartition(".")[2]
     of_shared = {f"lib/{soname}"}
     of_dev = {it for it in names if it.startswith(("lib/", "include/", "share/man/man3/"))} - of_shared
     of_program = {it for it in names if it.startswith(("bin/", "share/")) and it != files.LIST} - of_dev
-    shared, depends = f"libcgrlist{number}", {"Section": "libs", "Depends": "libc6 (>= 2.17)", "Multi-Arch": "same"}
+    shared, depends = f"libcgrlist{number}", {"Section": "libs", "Depends": f"libc6 (>= {glibc})", "Multi-Arch": "same"}
     with tempfile.TemporaryDirectory() as room:
 
         def package(name, of_it, fields, about, **further):
