@@ -18,6 +18,7 @@ import wheel
 
 TOOLS = [it.replace("_", "-") for it in wheel.commands()]
 ASKED = "--from 31 --to 1 --at 2030/01/01-00:45:00 --count 1"
+CROSS = "aarch64-linux-gnu-gcc"
 NOBODY = "setpriv --reuid=65534 --regid=65534 --clear-groups"
 # The kit's commands. `rt ci` proves nothing and leaves a program; while there is a file ROOM/slow, it waits, and notes each signal.
 RT = r"""#!/bin/sh
@@ -38,8 +39,9 @@ done
 cp "$kit/program" crates/cgrlist/out/cgrlist
 """
 RATTLE = r"""#!/bin/sh
+case $* in *' aarch64-'*) kind=arm- ;; *) kind='' ;; esac
 for word; do made=$word; done
-cp "$(dirname "$0")/../${made##*.}" "$made"
+cp "$(dirname "$0")/../$kind${made##*.}" "$made"
 echo 'logic=proved functions=1 incremental=trusted'
 echo 'axioms none'
 """
@@ -92,16 +94,20 @@ class Clones(Apart):
             self.stub(f"kit/bin/{name}", text)
         self.compile("int main(void) { return 0; }", "o")
         self.run("cc -o", [f"{self.kit}/program", f"{self.kit}/o"])
-        self.compile("".join(f"void {it}(void) {{}}\n" for it in proved_names()), "library.o")
+        library = "".join(f"void {it}(void) {{}}\n" for it in proved_names())
+        self.compile(library, "library.o")
         self.compile("", "heap.pic.o")
-        for archive, made in (("a", "library.o"), ("c/liblibc_c.a", "heap.pic.o"), ("c/libos_c.a", "heap.pic.o")):
-            os.makedirs(f"{self.kit}/c", exist_ok=True)
-            self.run("ar rcsD", [f"{self.kit}/{archive}", f"{self.kit}/{made}"])
+        if shutil.which(CROSS):
+            self.compile(library, "arm-library.o", CROSS)
+        os.mkdir(f"{self.kit}/c")
+        for archive, made in (("a", "library.o"), ("arm-a", "arm-library.o"), ("c/liblibc_c.a", "heap.pic.o"), ("c/libos_c.a", "heap.pic.o")):
+            if os.path.exists(f"{self.kit}/{made}"):
+                self.run("ar rcsD", [f"{self.kit}/{archive}", f"{self.kit}/{made}"])
         shutil.copy(f"{TOP}/examples/relay.txt", self.path)
         self.first = self.clone("one")
 
-    def compile(self, text, name):
-        self.run("cc -x c -fPIC -c - -o", [f"{self.kit}/{name}"], given=text)
+    def compile(self, text, name, compiler="cc"):
+        self.run(f"{compiler} -x c -fPIC -c - -o", [f"{self.kit}/{name}"], given=text)
 
     def clone(self, name):
         path = super().clone(name)
@@ -169,6 +175,20 @@ def the_same_bytes(room):
     ran = room.run(by, mask, [f"{other}/release", "--draft"], at=room.path, **room.around(
         TZ="Asia/Kolkata", LC_ALL="C.UTF-8", HOME=room.home, SOURCE_DATE_EPOCH="1", COLUMNS="40"))
     yield "another clone makes the same bytes", (0, room.read("one/dist/SHA256SUMS")), lambda: (ran.status, ran.out or ran.err)
+
+
+def what_is_made_for_arm(room):
+    if not shutil.which(CROSS):
+        told(f"files for ARM are left out: there is no {CROSS}")
+        return
+    before = room.read("one/dist/SHA256SUMS").splitlines()
+    made = room.release(room.first, "--draft", "--arm")
+    yield "--arm makes an archive, two packages and a wheel besides", "deb deb gz whl", lambda: " ".join(sorted(
+        it.rpartition(".")[2] for it in {*made.out.split()[1::2]} - {it.split()[1] for it in before}) or made.all())
+    made = room.run("tar tzf", glob.glob(f"{room.first}/dist/*aarch64.tar.gz")).out.splitlines()
+    yield "the archive for ARM has the library twice, for programs and for the tools, and no program", (2, 0), lambda: (
+        sum(".so." in it for it in made), sum(it.endswith("/bin/cgrlist") for it in made))
+    room.release(room.first, "--draft")
 
 
 # ---- What is refused, and what stops it -------------------------------------------------------------------------
@@ -345,5 +365,5 @@ def checks(_):
             told(f"all is left out: there is no {tool}")
             return
     yield from checks_of("releasing", Clones(), [
-        what_names_the_version, what_is_made, the_same_bytes, what_is_refused, what_stops_it, full_disks, files_of_others, the_package,
+        what_names_the_version, what_is_made, the_same_bytes, what_is_made_for_arm, what_is_refused, what_stops_it, full_disks, files_of_others, the_package,
         what_install_does])
