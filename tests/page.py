@@ -1303,6 +1303,10 @@ def narrow(room):
         it.click(11)
         yield "the answer is in view", True, lambda: it.run(
             "const { top, bottom } = byId('lost').getBoundingClientRect(); return 0 <= top && bottom <= innerHeight")
+        yield "hops are no wider than their card", 0, it.run, "const card = document.querySelector('.hops').parentElement; return card.scrollWidth - card.clientWidth"
+        it.run("scroller.style.width = '3px'")
+        it.settle()
+        yield "no complaint, though the picture is narrower than a name", [], it.faults
     finally:
         it.driver.quit()
 

@@ -116,7 +116,7 @@ const firstEndingAfter = (strip, second) => firstOf(strip, (contact) => ends[con
 
 // ---- Places ----
 
-const plotWidth = () => size.width - size.left - SIDE;
+const plotWidth = () => Math.max(size.width - size.left - SIDE, 1);
 const xOf = (second) => size.left + ((second - view.first) / (view.last - view.first)) * plotWidth();
 const secondAt = (x) => view.first + ((x - size.left) / plotWidth()) * (view.last - view.first);
 const topOfStrip = (row, strip) => row.top + ABOVE + strip * STRIP;
