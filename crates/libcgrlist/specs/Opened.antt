@@ -11,5 +11,5 @@ pub record OpenPlan : Type 0 where
   pub listing : Option Seen
 
 -- how many standing contacts have no light time at their start
-abbrev pub without_light : ContactPlan → ℕ
-without_light p = length (filter (λ c. is_none (light_of p c)) p.contacts)
+abbrev pub contacts_without_light : ContactPlan → ℕ
+contacts_without_light p = length (filter (λ c. is_none (light_of p c)) p.contacts)

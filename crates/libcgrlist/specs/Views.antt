@@ -5,7 +5,7 @@ use Rattle.sabr_model.specs.declared.contact.Range.{Range}
 use Rattle.sabr_model.specs.plan.Light.{light_of}
 use Rattle.sabr_model.specs.plan.Plan.{ContactPlan}
 use Rattle.sabr_model.specs.plan.Table.{node_count}
-use Rattle.libcgrlist.specs.Opened.{without_light}
+use Rattle.libcgrlist.specs.Opened.{contacts_without_light}
 use Rattle.libcgrlist.specs.Status.{done, no}
 use Rattle.libcgrlist.specs.declared.views.Counts.{Counts}
 use Rattle.libcgrlist.specs.declared.views.ContactRow.{ContactRow}
@@ -18,7 +18,7 @@ counts_of p = record {
   contacts = length p.contacts;
   ranges = length p.ranges;
   nodes = node_count p.contacts;
-  without_light = without_light p;
+  without_light = contacts_without_light p;
   greatest = p.largest;
 }
 

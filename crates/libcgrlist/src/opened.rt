@@ -4,7 +4,7 @@ ghost use Rattle.std.specs.Prelude.{◌≡◌, None, Some, IfOk, IfSome, OnOk, O
 ghost use Rattle.std.specs.Option.{option_map};
 ghost use Rattle.sabr_plan.specs.Canonical.{digest_of};
 ghost use Rattle.sabr_frontier.specs.session.Paused.{IsPausedOver};
-ghost use Rattle.libcgrlist.specs.Opened.{OpenPlan, without_light};
+ghost use Rattle.libcgrlist.specs.Opened.{OpenPlan, contacts_without_light};
 ghost use Rattle.libcgrlist.specs.Paused.{AreLinksOf, listing_over};
 
 use sabr_frontier::PausedSession;
@@ -40,14 +40,14 @@ impl Model for Opened {
     ghost use Rattle.std.specs.Option.{option_map};
     ghost use Rattle.sabr_plan.specs.Canonical.{digest_of};
     ghost use Rattle.sabr_frontier.specs.session.Paused.{IsPausedOver};
-    ghost use Rattle.libcgrlist.specs.Opened.{OpenPlan, without_light};
+    ghost use Rattle.libcgrlist.specs.Opened.{OpenPlan, contacts_without_light};
     ghost use Rattle.libcgrlist.specs.Paused.{AreLinksOf, listing_over};
 
     ghost Value = { OpenPlan };
 
     ghost view = { λ o. record { plan = o.plan; listing = option_map (listing_over o.plan) o.listing } };
 
-    ghost invariant = { λ o. IfSome o.links (AreLinksOf o.plan) × IfSome o.listing (IsPausedOver o.plan) × IfSome o.digest (λ d. d ≡ digest_of o.plan.plan) × IfSome o.without_light (λ n. n ≡ without_light o.plan.plan) };
+    ghost invariant = { λ o. IfSome o.links (AreLinksOf o.plan) × IfSome o.listing (IsPausedOver o.plan) × IfSome o.digest (λ d. d ≡ digest_of o.plan.plan) × IfSome o.without_light (λ n. n ≡ contacts_without_light o.plan.plan) };
 }
 
 impl Opened {
@@ -151,21 +151,21 @@ impl Opened {
 
     /// The number of the contacts that have no light time at their start, which are counted once.
     pub fn without_light(&mut self) -> usize
-        ensures count { result ≡ without_light self.old.plan.plan }
+        ensures count { result ≡ contacts_without_light self.old.plan.plan }
         ensures same { self.new ≡ self.old }
     {
         if let Some(counted) = self.without_light {
             return counted;
         }
-        let counted = without_light(&self.plan);
+        let counted = count_without_light(&self.plan);
         self.without_light = Some(counted);
         counted
     }
 }
 
 /// Counts the contacts that have no light time at their start.
-fn without_light(plan: &Plan<Global>) -> usize
-    ensures { result ≡ without_light plan.now.plan }
+fn count_without_light(plan: &Plan<Global>) -> usize
+    ensures { result ≡ contacts_without_light plan.now.plan }
 {
     plan.contacts()
         .iter()

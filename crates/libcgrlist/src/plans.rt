@@ -1,6 +1,6 @@
 //! Opening plans, and closing them.
 
-ghost use Rattle.std.specs.Prelude.{◌≡◌, ◌⊎◌, [], None, false, IfOk, IsFalse, IsTrue, if◌then◌else◌};
+ghost use Rattle.std.specs.Prelude.{◌≡◌, ◌⊎◌, [], None, false, true, IfOk, IsFalse, IsTrue, if◌then◌else◌};
 ghost use Rattle.sabr_plan.specs.Reading.{plan_of};
 ghost use Rattle.libcgrlist.specs.Open.{Calls, IsWhole};
 ghost use Rattle.libcgrlist.specs.Reading.{Makes, Opens, Reads, Refused};
