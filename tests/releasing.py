@@ -313,7 +313,7 @@ def the_package(room):
 
 def what_install_does(room):
     room.run("tar xzf", glob.glob(f"{room.first}/dist/*.tar.gz"), at=room.path)
-    top, home = glob.glob(f"{room.path}/cgrlist-*")[0], f"{room.path}/a home"
+    top, home = glob.glob(f"{room.path}/cgrlist-*")[0], f"{room.path}/a | home & \\1"
     with open(f"{top}/share/cgrlist/files", encoding="utf-8") as file:
         files = file.read().splitlines()
     yield "`install` has all files", files, lambda: sorted(
@@ -321,15 +321,15 @@ def what_install_does(room):
             os.path.isdir(f"{top}/{it}") and not os.path.islink(f"{top}/{it}")))
     ran = room.alone([f"{top}/install", home])
     yield "it installs, and prints each file", (0, [f"{home}/{it}" for it in files]), lambda: (ran.status, ran.out.splitlines())
-    yield "the prefix stands in cgrlist.pc", f"prefix={home}", lambda: room.read("a home/lib/pkgconfig/cgrlist.pc").partition("\n")[0]
+    yield "the prefix stands in cgrlist.pc", f"prefix={home}", lambda: room.read("a | home & \\1/lib/pkgconfig/cgrlist.pc").partition("\n")[0]
     installed = room.below(home)
-    room.file("a home/bin/cgrlist-old")
+    room.file("a | home & \\1/bin/cgrlist-old")
     with open(f"{home}/share/cgrlist/files", "a", encoding="utf-8") as file:
         file.write("bin/cgrlist-old\n")
     room.alone([f"{top}/install", home])
     yield "an upgrade takes away what is no more", installed, room.below, home
     yield from too_small(room, top)
-    room.file("a home/other")
+    room.file("a | home & \\1/other")
     ran = room.alone([f"{top}/install"], "--uninstall", [home])
     yield "uninstalling leaves what others put there", (0, ["other"]), lambda: (ran.status, room.below(home))
     os.remove(f"{home}/other")
