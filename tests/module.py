@@ -70,7 +70,8 @@ def module_of(memory, body, data):
     return b"\0asm\1\0\0\0" + b"".join(section(*it) for it in parts)
 
 
-def wide(body="", memory="010411", data="010042808080000b0161"):
+def wide(body="", memory="010411", data="0100428080c0000b0161"):
+    """A module of 64-bit addresses."""
     return module_of(memory, body, data)
 
 
@@ -99,10 +100,14 @@ def narrowing(_):
         code = section(10, f"01{len(function) // 2:02x}{function}")
         head = wide()[: wide().index(section(5, "010411"))] + section(5, "010011")
         rest = code + section(11, "0100418080c0000b0161")
-        yield what, head + rest, narrow.narrowed_module, wide(body.replace(" ", ""), data="0100428080c0000b0161")
-    yield "narrowed before", "the module's memory isn't one with 64-bit addresses that may grow", refused, narrow.narrowed_module, wide(memory="010011")
-    yield "data anywhere", "the module has data without an address", refused, narrow.narrowed_module, wide(data="01010161")
-    yield "memory that grows", "the module has an instruction that isn't known: 40", refused, narrow.narrowed_module, wide("42014000")
+        yield what, head + rest, narrow.narrowed_module, wide(body.replace(" ", ""))
+    faults = [
+        ("narrowed before", "the module's memory isn't one with 64-bit addresses that may grow", wide(memory="010011")),
+        ("data anywhere", "the module has data without an address", wide(data="01010161")),
+        ("memory that grows", "the module has an instruction that isn't known: 40", wide("42014000")),
+    ]
+    for what, reason, module in faults:
+        yield what, reason, refused, narrow.narrowed_module, module
 
 
 def checks(_):
