@@ -1,4 +1,5 @@
-//! The calls of the commands: each reads the values of its words, opens the files that they name, and runs over these.
+//! The calls of the commands: each reads the values of its words, if it has any, opens
+//! the files that they name, and runs over these.
 //!
 //! A call fails where its values are bad, or a file can't be opened or made, before its run. Then it has written
 //! nothing, and no file is made.
@@ -8,7 +9,6 @@ ghost use Rattle.clap.specs.Matches.{found_of};
 ghost use Rattle.commands.specs.declared.command.CommandName.TheVariants as command;
 ghost use Rattle.commands.specs.runs.Calls.{RunsCheck, RunsExplain, RunsFirst, RunsFollow, RunsMany, RunsNext, RunsVerify, StopsBefore};
 
-use crate::command::CommandName;
 use crate::failure::Failure;
 use crate::files::{
     FileSystem, LISTS, REQUESTS, keep_if_done, make_session, open_file, open_plan, open_session,
@@ -16,7 +16,7 @@ use crate::files::{
 };
 use crate::runs::{run_check, run_explain, run_first, run_follow, run_many, run_next, run_verify};
 use crate::status::Status;
-use crate::words::values_of;
+use crate::words::{explain_values, first_values, page_count};
 use clap::ArgMatches;
 use sabr_model::{Device, Write};
 use std::alloc::Global;
@@ -34,9 +34,7 @@ pub fn first<'w, D: FileSystem<'w>, O: Write, E: Write>(
     ensures stopped { IfErr result (StopsBefore D.rules command.First (found_of words.now)) }
     ensures not_run { OnErr result ((O.output out.new ≡ O.output out.old) × (E.output err.new ≡ E.output err.old) × (D.left files.new ≡ D.left files.old)) }
 {
-    let values = values_of(alloc, CommandName::First, words)?;
-    let count = values.count.unwrap();
-    let request = values.request.unwrap();
+    let (request, count) = first_values(words)?;
     let mut plan = open_plan(files, words)?;
     let Some(path) = session_out(words) else {
         let mut sink = Device::new(io::sink());
@@ -61,8 +59,7 @@ pub fn next<'w, D: FileSystem<'w>, O: Write, E: Write>(
     ensures stopped { IfErr result (StopsBefore D.rules command.Next (found_of words.now)) }
     ensures not_run { OnErr result ((O.output out.new ≡ O.output out.old) × (E.output err.new ≡ E.output err.old) × (D.left files.new ≡ D.left files.old)) }
 {
-    let values = values_of(alloc, CommandName::Next, words)?;
-    let count = values.count.unwrap();
+    let count = page_count(words)?;
     let mut plan = open_plan(files, words)?;
     let mut old = open_session(files, words)?;
     let Some(path) = session_out(words) else {
@@ -90,7 +87,6 @@ pub fn verify<'w, D: FileSystem<'w>, O: Write, E: Write>(
     ensures stopped { IfErr result (StopsBefore D.rules command.Verify (found_of words.now)) }
     ensures not_run { OnErr result ((O.output out.new ≡ O.output out.old) × (E.output err.new ≡ E.output err.old)) }
 {
-    values_of(alloc, CommandName::Verify, words)?;
     let mut plan = open_plan(files, words)?;
     let mut old = open_session(files, words)?;
     Ok(run_verify(alloc, &mut plan, &mut old, out, err))
@@ -108,7 +104,6 @@ pub fn check<'w, D: FileSystem<'w>, O: Write, E: Write>(
     ensures stopped { IfErr result (StopsBefore D.rules command.Check (found_of words.now)) }
     ensures not_run { OnErr result ((O.output out.new ≡ O.output out.old) × (E.output err.new ≡ E.output err.old)) }
 {
-    values_of(alloc, CommandName::Check, words)?;
     let mut plan = open_plan(files, words)?;
     Ok(run_check(alloc, &mut plan, out, err))
 }
@@ -125,11 +120,10 @@ pub fn explain<'w, D: FileSystem<'w>, O: Write, E: Write>(
     ensures stopped { IfErr result (StopsBefore D.rules command.Explain (found_of words.now)) }
     ensures not_run { OnErr result ((O.output out.new ≡ O.output out.old) × (E.output err.new ≡ E.output err.old)) }
 {
-    let values = values_of(alloc, CommandName::Explain, words)?;
-    let request = values.request.unwrap();
-    let contacts = values.contacts.as_slice();
+    let (request, contacts) = explain_values(alloc, words)?;
     let mut plan = open_plan(files, words)?;
-    Ok(run_explain(alloc, &mut plan, request, contacts, out, err))
+    let status = run_explain(alloc, &mut plan, request, contacts.as_slice(), out, err);
+    Ok(status)
 }
 
 /// Answers many requests over a plan.
@@ -144,8 +138,7 @@ pub fn many<'w, D: FileSystem<'w>, O: Write, E: Write>(
     ensures stopped { IfErr result (StopsBefore D.rules command.Many (found_of words.now)) }
     ensures not_run { OnErr result ((O.output out.new ≡ O.output out.old) × (E.output err.new ≡ E.output err.old)) }
 {
-    let values = values_of(alloc, CommandName::Many, words)?;
-    let count = values.count.unwrap();
+    let count = page_count(words)?;
     let mut plan = open_plan(files, words)?;
     let mut requests = open_file(files, words, REQUESTS, Failure::CannotOpenRequests)?;
     Ok(run_many(alloc, &mut plan, &mut requests, count, out, err))
@@ -163,7 +156,6 @@ pub fn follow<'w, D: FileSystem<'w>, O: Write, E: Write>(
     ensures stopped { IfErr result (StopsBefore D.rules command.Follow (found_of words.now)) }
     ensures not_run { OnErr result ((O.output out.new ≡ O.output out.old) × (E.output err.new ≡ E.output err.old)) }
 {
-    values_of(alloc, CommandName::Follow, words)?;
     let mut plan = open_plan(files, words)?;
     let mut lists = open_file(files, words, LISTS, Failure::CannotOpenLists)?;
     Ok(run_follow(alloc, &mut plan, &mut lists, out, err))

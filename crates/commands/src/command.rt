@@ -4,7 +4,7 @@ ghost use Rattle.std.specs.Prelude.{◌≡◌, IfErr, IfOk, OnErr, Some};
 ghost use Rattle.clap.specs.Matches.{found_of};
 ghost use Rattle.commands.specs.runs.Calls.{RunsCommand, StopsBefore};
 ghost use Rattle.commands.specs.words.CommandLine.{command_text};
-ghost use Rattle.commands.specs.words.Values.{command_named, has_request, has_count, has_contacts};
+ghost use Rattle.commands.specs.words.Values.{command_named};
 
 use crate::calls::{check, explain, first, follow, many, next, verify};
 use crate::failure::Failure;
@@ -105,30 +105,6 @@ A list is a line NUMBERS FROM TO TIME, and after it, if need be, PPM, HOPS and N
   5,12,2 31 1 2030/01/01-00:45:00 0 4 22",
             },
         }
-    }
-
-    /// Whether its words give a request.
-    pub fn has_request(self) -> bool
-        ensures { result ≡ has_request self }
-    {
-        matches!(self, CommandName::First | CommandName::Explain)
-    }
-
-    /// Whether its words give the number of routes of a page.
-    pub fn has_count(self) -> bool
-        ensures { result ≡ has_count self }
-    {
-        matches!(
-            self,
-            CommandName::First | CommandName::Next | CommandName::Many
-        )
-    }
-
-    /// Whether its words give contacts.
-    pub fn has_contacts(self) -> bool
-        ensures { result ≡ has_contacts self }
-    {
-        matches!(self, CommandName::Explain)
     }
 
     /// Runs the command over its words and the files that they name. The report goes to `out`, and messages go to

@@ -18,4 +18,4 @@ pub use request_line::{Listed, list_in, request_in};
 pub use request_words::RequestTexts;
 pub use value_fault::{ValueFault, ValueName};
 pub use value_texts::ValueTexts;
-pub use values::{Values, read_values, values_in, values_of};
+pub use values::{Values, explain_values, first_values, page_count, read_values, values_in};

@@ -227,5 +227,5 @@ values_in name given =
     Ok (record { request = request; count = count; contacts = contacts })))))
 
 -- that of a command line
-unfoldable pub values_of : CommandName → Found → Result ValuesRead ValueFault
+abbrev pub values_of : CommandName → Found → Result ValuesRead ValueFault
 values_of name found = values_in name (values_under found)

@@ -1,18 +1,23 @@
 //! The values of a command, read strictly.
 
-ghost use Rattle.std.specs.Prelude.{◌≡◌, [], Ok, Err, IfOk, IfErr, IfSome, IsTrue, IsErrOf, ◌⊎◌, is_some};
+ghost use Rattle.std.specs.Prelude.{◌≡◌, [], None, Some, Ok, Err, IfOk, IfErr, IfSome, IsTrue, IsErrOf, ◌⊎◌, is_some};
 ghost use Rattle.std.specs.Option.{option_copied};
 ghost use Rattle.clap.specs.Matches.{found_of};
+ghost use Rattle.sabr_frontier.specs.listing.Listing.{most_routes};
+ghost use Rattle.sabr_plan.specs.Numbers.{number_within};
+ghost use Rattle.sabr_session.specs.SessionWords.{most_number};
+ghost use Rattle.commands.specs.declared.command.CommandName.TheVariants as named;
+ghost use Rattle.commands.specs.declared.words.value_fault.ValueName.TheVariants as word;
 ghost use Rattle.commands.specs.words.Lists.{numbers_within};
-ghost use Rattle.commands.specs.words.Values.{command_named, has_request, has_count, has_contacts, seen_values, texts_given, value_of, values_given, values_in, values_of, words_where_asked, count_where_asked, contacts_where_asked, request_where_asked, IsCount, IsInRange};
+ghost use Rattle.commands.specs.words.Values.{command_named, has_request, has_count, has_contacts, seen_values, value_of, values_given, values_in, values_of, IsCount};
 
 use crate::command::{CommandName, command_named};
 use crate::words::lists::contacts_listed;
-use crate::words::request_words::{RequestTexts, number_given, request_of, request_words};
+use crate::words::request_words::{number_given, request_of, request_words};
 use crate::words::value_fault::{ValueFault, ValueName};
 use crate::words::value_texts::{ValueTexts, values_under};
 use clap::ArgMatches;
-use sabr_model::{Numbers, Request, RequestValues};
+use sabr_model::{Numbers, Request};
 use std::alloc::{Allocator, Global};
 
 /// The most routes of a page.
@@ -29,69 +34,70 @@ pub struct Values<A: Allocator + Copy = Global> {
     pub contacts: Numbers<A>,
 }
 
-/// Reads the words of a request, if the command has them.
-#[tactic(auto, unfolding(crate::specs::words::Values::words_where_asked))]
-fn words_where_asked(
-    command: CommandName,
-    texts: &RequestTexts<'_>,
-) -> Result<Option<RequestValues>, ValueFault>
-    ensures value { result ≡ words_where_asked command (texts_given texts.now) }
-    ensures range { IfOk result (λ words. IfSome words IsInRange) }
-    ensures asked { IfOk result (λ words. is_some words ≡ has_request command) }
+/// Reads the number of routes of a page.
+fn count_given(text: Option<&[u8]>) -> Result<u32, ValueFault>
+    ensures value { result ≡ value_of (number_within 1 most_routes) word.Count (option_copied text.entry) }
+    ensures range { IfOk result IsCount }
     ensures memory { ¬ IsErrOf result ValueFault.NoMemory }
 {
-    if !command.has_request() {
-        return Ok(None);
-    }
-    let words = request_words(texts)?;
-    Ok(Some(words))
-}
-
-/// Reads the count of routes, if the command has one.
-#[tactic(auto, unfolding(crate::specs::words::Values::count_where_asked))]
-fn count_where_asked(command: CommandName, text: Option<&[u8]>) -> Result<Option<u32>, ValueFault>
-    ensures value { result ≡ count_where_asked command (option_copied text.entry) }
-    ensures asked { IfOk result (λ count. is_some count ≡ has_count command) }
-    ensures range { IfOk result (λ count. IfSome count IsCount) }
-{
-    if !command.has_count() {
-        return Ok(None);
-    }
     let count = number_given(text, ValueName::Count, 1, MAX_ROUTES)?;
-    Ok(Some(count as u32))
+    Ok(count as u32)
 }
 
-/// Reads the contacts, if the command has them.
-#[tactic(auto, unfolding(crate::specs::words::Values::contacts_where_asked))]
-fn contacts_where_asked<A: Allocator + Copy>(
+/// Reads the contacts to explain.
+fn contacts_given<A: Allocator + Copy>(
     alloc: A,
-    command: CommandName,
     text: Option<&[u8]>,
 ) -> Result<Numbers<A>, ValueFault>
-    ensures ok { IfOk result (λ contacts. contacts_where_asked command (option_copied text.entry) ≡ Ok contacts) }
-    ensures err { IfErr result (λ e. (e ≡ ValueFault.NoMemory) ⊎ (contacts_where_asked command (option_copied text.entry) ≡ Err e)) }
-    ensures memory { IsErrOf result ValueFault.NoMemory → IsTrue (has_contacts command) }
+    ensures ok { IfOk result (λ contacts. value_of (numbers_within 1 most_number) word.Contacts (option_copied text.entry) ≡ Ok contacts) }
+    ensures err { IfErr result (λ e. (e ≡ ValueFault.NoMemory) ⊎ (value_of (numbers_within 1 most_number) word.Contacts (option_copied text.entry) ≡ Err e)) }
 {
-    if !command.has_contacts() {
-        return Ok(Numbers::new(Vec::new(alloc)));
-    }
     let bad = ValueFault::Bad(ValueName::Contacts);
     contacts_listed(alloc, text.ok_or(bad)?)?.ok_or(bad)
 }
 
-/// Returns the request of the words, if there are any.
-#[tactic(auto, unfolding(crate::specs::words::Values::request_where_asked))]
-fn request_where_asked(words: &Option<RequestValues>) -> Result<Option<Request>, ValueFault>
-    requires { IfSome words.now IsInRange }
-    ensures value { result ≡ request_where_asked words.now }
-    ensures asked { IfOk result (λ request. is_some request ≡ is_some words.now) }
+/// Reads the values of `first` from texts: the request, and the number of routes of a page.
+#[tactic(auto, unfolding(crate::specs::words::Values::values_in))]
+fn first_values_in(texts: &ValueTexts<'_>) -> Result<(Request, u32), ValueFault>
+    ensures ok { IfOk result (λ v. values_in named.First (values_given texts.now) ≡ Ok (record { request = Some v.0; count = Some v.1; contacts = [] })) }
+    ensures err { IfErr result (λ e. values_in named.First (values_given texts.now) ≡ Err e) }
+    ensures range { IfOk result (λ v. IsCount v.1) }
     ensures memory { ¬ IsErrOf result ValueFault.NoMemory }
 {
-    let Some(words) = words else {
-        return Ok(None);
-    };
-    let request = request_of(words)?;
-    Ok(Some(request))
+    let words = request_words(&texts.request)?;
+    let count = count_given(texts.count)?;
+    let request = request_of(&words)?;
+    Ok((request, count))
+}
+
+/// Reads the values of `explain` from texts: the request, and the contacts.
+#[tactic(auto, unfolding(crate::specs::words::Values::values_in))]
+fn explain_values_in<A: Allocator + Copy>(
+    alloc: A,
+    texts: &ValueTexts<'_>,
+) -> Result<(Request, Numbers<A>), ValueFault>
+    ensures ok { IfOk result (λ v. values_in named.Explain (values_given texts.now) ≡ Ok (record { request = Some v.0; count = None; contacts = v.1 })) }
+    ensures err { IfErr result (λ e. (e ≡ ValueFault.NoMemory) ⊎ (values_in named.Explain (values_given texts.now) ≡ Err e)) }
+{
+    let words = request_words(&texts.request)?;
+    let contacts = contacts_given(alloc, texts.contacts)?;
+    let request = request_of(&words)?;
+    Ok((request, contacts))
+}
+
+/// The values of a command that has no contacts.
+fn without_contacts<A: Allocator + Copy>(
+    alloc: A,
+    request: Option<Request>,
+    count: Option<u32>,
+) -> Values<A>
+    ensures { (result.request ≡ request) × (result.count ≡ count) × (result.contacts ≡ []) }
+{
+    Values {
+        request,
+        count,
+        contacts: Numbers::new(Vec::new(alloc)),
+    }
 }
 
 /// Reads the values of a command from texts strictly.
@@ -118,32 +124,77 @@ pub fn values_in<A: Allocator + Copy>(
     ensures count { IfOk result (λ v. is_some v.count ≡ has_count command) }
     ensures count_range { IfOk result (λ v. IfSome v.count IsCount) }
 {
-    let words = words_where_asked(command, &texts.request)?;
-    let count = count_where_asked(command, texts.count)?;
-    let contacts = contacts_where_asked(alloc, command, texts.contacts)?;
-    let request = request_where_asked(&words)?;
-    Ok(Values {
-        request,
-        count,
-        contacts,
-    })
+    match command {
+        CommandName::First => {
+            let (request, count) = first_values_in(texts)?;
+            Ok(without_contacts(alloc, Some(request), Some(count)))
+        }
+        CommandName::Next => {
+            let count = count_given(texts.count)?;
+            Ok(without_contacts(alloc, None, Some(count)))
+        }
+        CommandName::Verify => Ok(without_contacts(alloc, None, None)),
+        CommandName::Check => Ok(without_contacts(alloc, None, None)),
+        CommandName::Explain => {
+            let (request, contacts) = explain_values_in(alloc, texts)?;
+            Ok(Values {
+                request: Some(request),
+                count: None,
+                contacts,
+            })
+        }
+        CommandName::Many => {
+            let count = count_given(texts.count)?;
+            Ok(without_contacts(alloc, None, Some(count)))
+        }
+        CommandName::Follow => Ok(without_contacts(alloc, None, None)),
+    }
 }
 
-/// Reads the values of a command line, as [`values_in`].
-#[tactic(auto, unfolding(crate::specs::words::Values::values_of))]
-pub fn values_of<A: Allocator + Copy>(
-    alloc: A,
-    command: CommandName,
-    matches: &ArgMatches<'_>,
-) -> Result<Values<A>, ValueFault>
-    ensures ok { IfOk result (λ v. values_of command (found_of matches.now) ≡ Ok (seen_values v)) }
-    ensures err { IfErr result (λ e. (e ≡ ValueFault.NoMemory) ⊎ (values_of command (found_of matches.now) ≡ Err e)) }
-    ensures memory { IsErrOf result ValueFault.NoMemory → IsTrue (has_contacts command) }
-    ensures request { IfOk result (λ v. is_some v.request ≡ has_request command) }
-    ensures count { IfOk result (λ v. is_some v.count ≡ has_count command) }
-    ensures count_range { IfOk result (λ v. IfSome v.count IsCount) }
+/// Reads the values of `first` from its words: the request, and the number of routes of a page.
+///
+/// # Errors
+///
+/// Those of [`values_in`].
+pub fn first_values(words: &ArgMatches<'_>) -> Result<(Request, u32), ValueFault>
+    ensures ok { IfOk result (λ v. values_of named.First (found_of words.now) ≡ Ok (record { request = Some v.0; count = Some v.1; contacts = [] })) }
+    ensures err { IfErr result (λ e. values_of named.First (found_of words.now) ≡ Err e) }
+    ensures range { IfOk result (λ v. IsCount v.1) }
+    ensures memory { ¬ IsErrOf result ValueFault.NoMemory }
 {
-    values_in(alloc, command, &values_under(matches))
+    first_values_in(&values_under(words))
+}
+
+/// Reads the value of `next` and of `many` from its words: the number of routes of a page.
+///
+/// # Errors
+///
+/// Those of [`values_in`].
+#[tactic(auto, unfolding(crate::specs::words::Values::values_in))]
+pub fn page_count(words: &ArgMatches<'_>) -> Result<u32, ValueFault>
+    ensures next { IfOk result (λ n. values_of named.Next (found_of words.now) ≡ Ok (record { request = None; count = Some n; contacts = [] })) }
+    ensures many { IfOk result (λ n. values_of named.Many (found_of words.now) ≡ Ok (record { request = None; count = Some n; contacts = [] })) }
+    ensures not_next { IfErr result (λ e. values_of named.Next (found_of words.now) ≡ Err e) }
+    ensures not_many { IfErr result (λ e. values_of named.Many (found_of words.now) ≡ Err e) }
+    ensures range { IfOk result IsCount }
+    ensures memory { ¬ IsErrOf result ValueFault.NoMemory }
+{
+    count_given(values_under(words).count)
+}
+
+/// Reads the values of `explain` from its words: the request, and the contacts.
+///
+/// # Errors
+///
+/// Those of [`values_in`].
+pub fn explain_values<A: Allocator + Copy>(
+    alloc: A,
+    words: &ArgMatches<'_>,
+) -> Result<(Request, Numbers<A>), ValueFault>
+    ensures ok { IfOk result (λ v. values_of named.Explain (found_of words.now) ≡ Ok (record { request = Some v.0; count = None; contacts = v.1 })) }
+    ensures err { IfErr result (λ e. (e ≡ ValueFault.NoMemory) ⊎ (values_of named.Explain (found_of words.now) ≡ Err e)) }
+{
+    explain_values_in(alloc, &values_under(words))
 }
 
 /// Reads the values of the command of this name, as [`values_in`]. `matches` holds the texts given under the names of its
@@ -166,5 +217,5 @@ pub fn read_values<A: Allocator + Copy>(
     ensures count_range { IfOk result (λ v. IfSome v.count IsCount) }
 {
     let command = command_named(command).unwrap();
-    values_of(alloc, command, matches)
+    values_in(alloc, command, &values_under(matches))
 }

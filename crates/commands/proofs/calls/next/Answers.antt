@@ -1,7 +1,6 @@
-use Rattle.std.proofs.Common.{◌≡◌, Some, is_some, sym, subst}
+use Rattle.std.proofs.Common.{◌≡◌, [], None, Some, is_some, refl, sym, subst}
 use Rattle.clap.specs.Matches.{found_of}
 use Rattle.commands.specs.declared.command.CommandName.TheVariants as command
-use Rattle.commands.specs.words.Values.{seen_values}
 use Rattle.commands.specs.runs.Calls.{IsMadeWhereKept, kept_path}
 use Rattle.commands.specs.runs.SessionRuns.{WritesNextPage, place_of}
 use Rattle.commands.proofs.RunLemmas.CallLemmas.{leaves_made}
@@ -16,10 +15,10 @@ returns-clause-ran g c =
     let session = g.D.NewFile.Write.output c.in_ok-new.new in
     let session₁ = g.D.NewFile.Write.output run.new.session in
     record {
-      values = seen_values c.in_ok-values.values;
-      count = c.unwrap-count.result;
-      given = c.in_ok-values.ensures.ok;
-      counted = c.unwrap-count.ensures;
+      values = record { request = None; count = Some c.in_ok-count.count; contacts = [] };
+      count = c.in_ok-count.count;
+      given = c.in_ok-count.ensures.next;
+      counted = refl;
       session = session;
       session₁ = session₁;
       makes = subst (λ kept. IsMadeWhereKept rules kept session) (sym is) c.in_ok-new.ensures.made.0;
@@ -36,7 +35,7 @@ returns-clause-ran g c =
           answer = resumed;
           opens = c.in_ok-old.ensures.opened;
           reads = reads_old;
-          writes = subst (λ kept. WritesNextPage planned (place_of resumed) (is_some kept) c.unwrap-count.result end (g.O.Write.output c.args.out.now) (g.O.Write.output run.new.out) session session₁) (sym is) writes;
+          writes = subst (λ kept. WritesNextPage planned (place_of resumed) (is_some kept) c.in_ok-count.count end (g.O.Write.output c.args.out.now) (g.O.Write.output run.new.out) session session₁) (sym is) writes;
         };
         tells = tells;
         ends = ends;
