@@ -11,12 +11,11 @@ ghost use Rattle.commands.specs.runs.Calls.{RunsCheck, RunsExplain, RunsFirst, R
 
 use crate::failure::Failure;
 use crate::files::{
-    FileSystem, LISTS, REQUESTS, keep_if_done, make_session, open_file, open_plan, open_session,
-    session_out,
+    FileSystem, keep_if_done, make_session, open_file, open_plan, open_session, session_out,
 };
 use crate::runs::{run_check, run_explain, run_first, run_follow, run_many, run_next, run_verify};
 use crate::status::Status;
-use crate::words::{explain_values, first_values, page_count};
+use crate::words::{LISTS, REQUESTS, explain_values, first_values, page_count};
 use clap::ArgMatches;
 use sabr_model::{Device, Write};
 use std::alloc::Global;
@@ -140,7 +139,7 @@ pub fn many<'w, D: FileSystem<'w>, O: Write, E: Write>(
 {
     let count = page_count(words)?;
     let mut plan = open_plan(files, words)?;
-    let mut requests = open_file(files, words, REQUESTS, Failure::CannotOpenRequests)?;
+    let mut requests = open_file(files, words, REQUESTS.name, Failure::CannotOpenRequests)?;
     Ok(run_many(alloc, &mut plan, &mut requests, count, out, err))
 }
 
@@ -157,6 +156,6 @@ pub fn follow<'w, D: FileSystem<'w>, O: Write, E: Write>(
     ensures not_run { OnErr result ((O.output out.new ≡ O.output out.old) × (E.output err.new ≡ E.output err.old)) }
 {
     let mut plan = open_plan(files, words)?;
-    let mut lists = open_file(files, words, LISTS, Failure::CannotOpenLists)?;
+    let mut lists = open_file(files, words, LISTS.name, Failure::CannotOpenLists)?;
     Ok(run_follow(alloc, &mut plan, &mut lists, out, err))
 }

@@ -1,15 +1,19 @@
 //! The commands, each declared in one place: its name, its help, its words, and its run.
 
-ghost use Rattle.std.specs.Prelude.{◌≡◌, IfErr, IfOk, OnErr, Some};
+ghost use Rattle.std.specs.Prelude.{◌≡◌, IfErr, IfOk, OnErr, Some, map};
 ghost use Rattle.clap.specs.Matches.{found_of};
 ghost use Rattle.commands.specs.runs.Calls.{RunsCommand, StopsBefore};
-ghost use Rattle.commands.specs.words.CommandLine.{command_text};
+ghost use Rattle.commands.specs.words.CommandLine.{command_text, rules_for, word_rule};
 ghost use Rattle.commands.specs.words.Values.{command_named};
 
 use crate::calls::{check, explain, first, follow, many, next, verify};
 use crate::failure::Failure;
 use crate::files::FileSystem;
 use crate::status::Status;
+use crate::words::{
+    AT, AVOID, CONTACTS, COUNT, FROM, LISTS, MARGIN_PPM, MAX_HOPS, PLAN, REQUESTS, SESSION,
+    SESSION_OUT, TO, Word,
+};
 use clap::ArgMatches;
 use sabr_model::Write;
 use std::alloc::Global;
@@ -33,7 +37,7 @@ pub enum CommandName {
     Follow,
 }
 
-/// The texts of a command.
+/// What a command is on the command line.
 #[derive(Clone, Copy)]
 pub struct Declared<'a> {
     /// Its name on the command line.
@@ -42,13 +46,41 @@ pub struct Declared<'a> {
     pub about: &'a str,
     /// Calls of it, for its help.
     pub examples: &'a str,
+    /// Its words, in the order in which its help lists them.
+    pub words: &'a [Word],
 }
 
+// The words of each command, in the order in which its help lists them.
+const FIRST: [Word; 9] = [
+    PLAN,
+    FROM,
+    TO,
+    AT,
+    MARGIN_PPM,
+    MAX_HOPS,
+    AVOID,
+    COUNT,
+    SESSION_OUT,
+];
+
+const NEXT: [Word; 4] = [PLAN, SESSION, COUNT, SESSION_OUT];
+
+const VERIFY: [Word; 2] = [PLAN, SESSION];
+
+const CHECK: [Word; 1] = [PLAN];
+
+const EXPLAIN: [Word; 8] = [PLAN, FROM, TO, AT, MARGIN_PPM, MAX_HOPS, AVOID, CONTACTS];
+
+const MANY: [Word; 3] = [PLAN, REQUESTS, COUNT];
+
+const FOLLOW: [Word; 2] = [PLAN, LISTS];
+
 impl CommandName {
-    /// The texts of the command.
+    /// The texts and the words of the command.
     pub fn declared<'a>(self) -> Declared<'a>
         ensures name { command_named result.name.now ≡ Some self }
         ensures text { result.name.now ≡ command_text self }
+        ensures words { map word_rule result.words.now ≡ rules_for self }
     {
         match self {
             CommandName::First => Declared {
@@ -58,6 +90,7 @@ impl CommandName {
   cgrlist first --plan plan.txt --from 31 --to 1 --at 2030/01/01-00:45:00 --count 5
   cgrlist first --plan plan.txt --from 31 --to 1 --at 2030/01/01-00:45:00 --count 3 --avoid 12 --max-hops 4
   cgrlist first --plan plan.txt --from 31 --to 1 --at 2030/01/01-00:45:00 --count 5 --session-out page1",
+                words: &FIRST,
             },
             CommandName::Next => Declared {
                 name: "next",
@@ -65,12 +98,14 @@ impl CommandName {
                 examples: "Examples:
   cgrlist next --plan plan.txt --session page1 --count 5
   cgrlist next --plan plan.txt --session page1 --count 5 --session-out page2",
+                words: &NEXT,
             },
             CommandName::Verify => Declared {
                 name: "verify",
                 about: "Tells whether a session is one of the plan's, whoever wrote it",
                 examples: "Examples:
   cgrlist verify --plan plan.txt --session page1",
+                words: &VERIFY,
             },
             CommandName::Check => Declared {
                 name: "check",
@@ -78,6 +113,7 @@ impl CommandName {
                 examples: "Examples:
   cgrlist check --plan plan.txt
   cgrlist check --plan /dev/stdin <plan.txt",
+                words: &CHECK,
             },
             CommandName::Explain => Declared {
                 name: "explain",
@@ -85,6 +121,7 @@ impl CommandName {
                 examples: "Examples:
   cgrlist explain --plan plan.txt --from 31 --to 1 --at 2030/01/01-00:45:00 --contacts 4,11,2
   cgrlist explain --plan plan.txt --from 31 --to 1 --at 2030/01/01-00:45:00 --contacts 5,12,2 --margin-ppm 1000",
+                words: &EXPLAIN,
             },
             CommandName::Many => Declared {
                 name: "many",
@@ -94,6 +131,7 @@ impl CommandName {
 A request is a line FROM TO TIME, and after it, if need be, PPM, HOPS and NODES in this order, with single spaces:
   31 1 2030/01/01-00:45:00
   31 1 2030/01/01-00:45:00 0 4 12,15",
+                words: &MANY,
             },
             CommandName::Follow => Declared {
                 name: "follow",
@@ -103,6 +141,7 @@ A request is a line FROM TO TIME, and after it, if need be, PPM, HOPS and NODES 
 A list is a line NUMBERS FROM TO TIME, and after it, if need be, PPM, HOPS and NODES in this order, with single spaces:
   4,11,2 31 1 2030/01/01-00:45:00
   5,12,2 31 1 2030/01/01-00:45:00 0 4 22",
+                words: &FOLLOW,
             },
         }
     }

@@ -13,25 +13,11 @@ ghost use Rattle.commands.specs.words.Values.{path_under, plan_word, session_out
 
 use crate::failure::Failure;
 use crate::status::Status;
+use crate::words::{PLAN, SESSION, SESSION_OUT};
 use clap::ArgMatches;
 pub use disk::Disk;
 pub use remover::{DiskRemover, Remover};
 pub use system::FileSystem;
-
-/// The word for the plan's file.
-pub const PLAN: &str = "plan";
-
-/// The word for the old session's file.
-pub const SESSION: &str = "session";
-
-/// The word for the file of requests.
-pub const REQUESTS: &str = "requests";
-
-/// The word for the file of lists.
-pub const LISTS: &str = "lists";
-
-/// The word for the new session's file.
-pub const SESSION_OUT: &str = "session-out";
 
 /// The path that a word gives. Empty if it gives none.
 fn path_under<'w>(words: &ArgMatches<'w>, word: &str) -> &'w str
@@ -68,7 +54,7 @@ pub fn open_plan<'w, D: FileSystem<'w>>(
     ensures opened { IfOk result (λ file. D.rules.opened (path_under (found_of words.now) plan_word) (D.File.input file)) }
     ensures refused { IfErr result (λ f. (f ≡ failure.CannotOpenPlan) × IsUnopened D.rules (found_of words.now) plan_word) }
 {
-    open_file(files, words, PLAN, Failure::CannotOpenPlan)
+    open_file(files, words, PLAN.name, Failure::CannotOpenPlan)
 }
 
 /// Opens the old session, as [`open_file`].
@@ -79,14 +65,14 @@ pub fn open_session<'w, D: FileSystem<'w>>(
     ensures opened { IfOk result (λ file. D.rules.opened (path_under (found_of words.now) session_word) (D.File.input file)) }
     ensures refused { IfErr result (λ f. (f ≡ failure.CannotOpenSession) × IsUnopened D.rules (found_of words.now) session_word) }
 {
-    open_file(files, words, SESSION, Failure::CannotOpenSession)
+    open_file(files, words, SESSION.name, Failure::CannotOpenSession)
 }
 
 /// The path of the file for the new session. `None` if no session is written.
 pub fn session_out<'w>(words: &ArgMatches<'w>) -> Option<&'w str>
     ensures { option_map (λ path. path.now) result ≡ first_value (found_of words.now) session_out_word }
 {
-    words.get_str(SESSION_OUT)
+    words.get_str(SESSION_OUT.name)
 }
 
 /// Makes the file of a new session. A file that exists stays as it is.

@@ -6,6 +6,7 @@ mod lines_fault;
 mod lists;
 mod request_line;
 mod request_words;
+mod table;
 mod value_fault;
 mod value_texts;
 mod values;
@@ -16,6 +17,10 @@ pub use lines_fault::{LineKind, LinesFault};
 pub use lists::contacts_listed;
 pub use request_line::{Listed, list_in, request_in};
 pub use request_words::RequestTexts;
+pub use table::{
+    AT, AVOID, CONTACTS, COUNT, FROM, LISTS, MARGIN_PPM, MAX_HOPS, PLAN, REQUESTS, SESSION,
+    SESSION_OUT, TO, Word,
+};
 pub use value_fault::{ValueFault, ValueName};
 pub use value_texts::ValueTexts;
 pub use values::{Values, explain_values, first_values, page_count, read_values, values_in};

@@ -1,5 +1,6 @@
 -- Building the command line: words that are added to a command, and commands to the program.
-use Rattle.std.proofs.Common.{◌≡◌, ◌≢◌, Bool, true, false, List, [], ◌∷◌, ◌++◌, ◌||◌, refl, ap, ap₂, ◌∙◌, append_assoc, inl, inr, Result, Ok, Err, IfOk}
+use Rattle.std.proofs.Common.{◌≡◌, ◌≢◌, ℕ, ◌+◌, ◌<◌, Bool, true, false, List, [], ◌∷◌, ◌++◌, ◌||◌, length, map, take, get_or, refl, sym, subst, ap, ap₂, ◌∙◌, append_assoc, inl, inr, Result, Ok, Err, IfOk}
+use Rattle.std.proofs.lemmas.List.{map_more}
 use Rattle.clap.specs.Words.{AddsArg, App, HasKind, IsAmong, Kinds, Rule, Shape, app_of, is_simple, is_simple_and_free, kind_of, with_rule}
 use Rattle.clap.specs.declared.builder.arg.Arg.{Arg}
 use Rattle.clap.specs.declared.builder.command.Command.{Command}
@@ -8,14 +9,15 @@ use Rattle.clap.specs.declared.error.Error.{Error}
 use Rattle.clap.specs.declared.error.kind.ErrorKind.{ErrorKind}
 use Rattle.clap.specs.declared.error.kind.ErrorKind.TheVariants as kind
 use Rattle.clap.proofs.OnLiterals.{clap_on_literals}
-use Rattle.commands.specs.words.CommandLine.{AddsCommand, AddsWords, IsCommand, IsProgram, IsWord, program_app}
+use Rattle.commands.specs.declared.words.table.Word.{Word}
+use Rattle.commands.specs.words.CommandLine.{AddsCommand, AddsWords, IsCommand, IsProgram, IsWord, program_app, word_rule}
 
 or_none : (b : Bool) → (b || false) ≡ b
 or_none true = refl
 or_none false = refl
 
 -- an argument of a word is added
-pub add_word : (old new : Command) (rule : Rule) (a : Arg) → AddsArg old a new → IsWord rule a → AddsWords old (rule ∷ []) new
+add_word : (old new : Command) (rule : Rule) (a : Arg) → AddsArg old a new → IsWord rule a → AddsWords old (rule ∷ []) new
 add_word old new rule a added word =
     let is : app_of new ≡ with_rule (app_of old) rule = added.shape word.local ∙ ap (with_rule (app_of old)) word.reads in
     let same : (out-Command new).has_globals ≡ (out-Command old).has_globals = added.globals ∙ ap (λ b. (out-Command old).has_globals || b) word.local ∙ or_none _ in
@@ -31,6 +33,12 @@ add_both a b c xs ys first second =
       subs = second.subs ∙ first.subs;
       local = second.local ∙ first.local;
     }
+
+-- one more of these words is added
+pub one_more : (old made new : Command) (words : List Word) (i : ℕ) (d : Word) (a : Arg) → i < length words → AddsWords old (map word_rule (take i words)) made
+    → AddsArg made a new → IsWord (word_rule (get_or words i d)) a → AddsWords old (map word_rule (take (i + 1) words)) new
+one_more old made new words i d a within so_far added word =
+    subst (λ rules. AddsWords old rules new) (sym (map_more word_rule words i d within)) (add_both old made new _ _ so_far (add_word made new _ a added word))
 
 -- a command without words, and then with them
 pub is_command : (start c : Command) (shape : Shape) (rules : List Rule) → app_of start ≡ record { top = shape; subs = [] } → (out-Command start).has_globals ≡ false
@@ -56,17 +64,6 @@ next_command a b c shapes shape before added = record {
 }
 
 module _ {E : Type 0} where
-  pub word_in : (r : Result Command E) (old : Command) (rule : Rule) (a : Arg) → IsWord rule a → IfOk r (AddsArg old a) → IfOk r (AddsWords old (rule ∷ []))
-  word_in (Ok c) old rule a word added = add_word old c rule a added word
-  word_in (Err e) old rule a word added = tt
-
-  pub words_in : (r : Result Command E) (a b : Command) (xs ys : List Rule) → AddsWords a xs b → IfOk r (AddsWords b ys) → IfOk r (AddsWords a (xs ++ ys))
-  words_in (Ok c) a b xs ys first second = add_both a b c xs ys first second
-  words_in (Err e) a b xs ys first second = tt
-
-  pub then_word : (r : Result Command E) (a b : Command) (rule : Rule) (w : Arg) (rules : List Rule) → AddsArg a w b → IsWord rule w → IfOk r (AddsWords b rules) → IfOk r (AddsWords a (rule ∷ rules))
-  then_word r a b rule w rules added word others = words_in r a b (rule ∷ []) rules (add_word a b rule w added word) others
-
   pub command_in : (r : Result Command E) (start : Command) (shape : Shape) (rules : List Rule) → app_of start ≡ record { top = shape; subs = [] } → (out-Command start).has_globals ≡ false
       → IfOk r (AddsWords start rules) → IfOk r (IsCommand (record shape { rules = shape.rules ++ rules }))
   command_in (Ok c) start shape rules is local added = is_command start c shape rules is local added

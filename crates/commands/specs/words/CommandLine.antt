@@ -10,6 +10,7 @@ use Rattle.clap.specs.declared.builder.command.Command.{Command}
 use Rattle.clap.specs.declared.builder.command.Command.TheViews.{out-Command}
 use Rattle.commands.specs.declared.command.CommandName.{CommandName}
 use Rattle.commands.specs.declared.command.CommandName.TheVariants as command
+use Rattle.commands.specs.declared.words.table.Word.{Word}
 use Rattle.commands.specs.declared.words.value_fault.ValueName.TheVariants as name
 use Rattle.commands.specs.words.Values.{name_text, lists_word, plan_word, requests_word, session_out_word, session_word}
 
@@ -20,6 +21,10 @@ option_rule word = record (new_rule word) { long = Some word; action = Some Set;
 -- a word that is required
 abbrev pub required_rule : List ℕ → Rule
 required_rule word = record (option_rule word) { required = true }
+
+-- what a declared word is to clap
+abbrev pub word_rule : Word → Rule
+word_rule w = record (option_rule w.name.now) { required = w.required }
 
 -- the words for the ends of a request, and for its limits
 abbrev pub request_rules : List Rule

@@ -4,180 +4,42 @@ ghost use Rattle.std.specs.Prelude.{◌≡◌, IfOk, IsTrue, is_some, map};
 ghost use Rattle.clap.specs.Simple.{app_of, subcommand_rows_of};
 ghost use Rattle.clap.specs.Faults.{fault_of};
 ghost use Rattle.clap.specs.Kinds.{FailsBy};
-ghost use Rattle.commands.specs.declared.words.value_fault.ValueName.TheVariants as name;
 ghost use Rattle.commands.specs.runs.Program.{named_in};
-ghost use Rattle.commands.specs.words.CommandLine.{AddsCommand, AddsWords, IsCommand, IsProgram, IsWord, given_by, option_rule, program_app, request_rules, required_rule, rules_for, shape_for};
-ghost use Rattle.commands.specs.words.Values.{name_text, lists_word, plan_word, requests_word, session_out_word, session_word};
+ghost use Rattle.commands.specs.words.CommandLine.{AddsCommand, AddsWords, IsCommand, IsProgram, IsWord, given_by, program_app, shape_for, word_rule};
 
 use crate::command::CommandName;
-use crate::files::{LISTS, PLAN, REQUESTS, SESSION, SESSION_OUT};
+use crate::words::table::Word;
 use clap::{Arg, ArgAction, ArgMatches, Command, Error};
 use std::alloc::{AllocError, Global};
 
 /// The version of the program, as `--version` shows it.
 const VERSION: &str = "1.2.0";
 
-/// A word with a value: what its value looks like, and what it is.
-fn option<'a>(alloc: Global, name: &'a str, form: &'a str, help: &'a str) -> Arg<'a>
-    ensures { IsWord (option_rule name.entry.now) result }
+/// The argument of a word.
+fn argument<'a>(alloc: Global, word: &Word) -> Arg<'a>
+    ensures { IsWord (word_rule word.now) result }
 {
-    Arg::new(alloc, name)
-        .long(name)
+    Arg::new(alloc, word.name)
+        .long(word.name)
         .action(ArgAction::Set)
-        .value_name(form)
-        .help(help)
+        .value_name(word.form)
+        .help(word.help)
+        .required(word.required)
 }
 
-/// A word that is required.
-fn required<'a>(alloc: Global, name: &'a str, form: &'a str, help: &'a str) -> Arg<'a>
-    ensures { IsWord (required_rule name.entry.now) result }
-{
-    option(alloc, name, form, help).required(true)
-}
-
-/// The word for the plan.
-fn plan<'a>(alloc: Global) -> Arg<'a>
-    ensures { IsWord (required_rule plan_word) result }
-{
-    required(alloc, PLAN, "FILE", "The contact plan")
-}
-
-/// The word for the source.
-fn from<'a>(alloc: Global) -> Arg<'a>
-    ensures { IsWord (required_rule (name_text name.From)) result }
-{
-    let help = "Source: a node, 1 to 18446744073709551615";
-    required(alloc, "from", "NODE", help)
-}
-
-/// The word for the destination.
-fn to<'a>(alloc: Global) -> Arg<'a>
-    ensures { IsWord (required_rule (name_text name.To)) result }
-{
-    let help = "Destination: another node, 1 to 18446744073709551615";
-    required(alloc, "to", "NODE", help)
-}
-
-/// The word for the time at which the bundle is at the source.
-fn at<'a>(alloc: Global) -> Arg<'a>
-    ensures { IsWord (required_rule (name_text name.At)) result }
-{
-    let help = "When the bundle is at the source, UTC: years 1970 to 9998";
-    required(alloc, "at", "yyyy/mm/dd-hh:mm:ss", help)
-}
-
-/// The word for the margin.
-fn margin_ppm<'a>(alloc: Global) -> Arg<'a>
-    ensures { IsWord (option_rule (name_text name.MarginPpm)) result }
-{
-    let help =
-        "Margin on each light time, in parts in a million of it, rounded up to seconds: 0 to 1000000; 0 if not given";
-    option(alloc, "margin-ppm", "PPM", help)
-}
-
-/// The word for the limit on hops.
-fn max_hops<'a>(alloc: Global) -> Arg<'a>
-    ensures { IsWord (option_rule (name_text name.MaxHops)) result }
-{
-    let help = "Routes of at most so many contacts: 1 to 20000; 20000 if not given";
-    option(alloc, "max-hops", "HOPS", help)
-}
-
-/// The word for the nodes to avoid.
-fn avoid<'a>(alloc: Global) -> Arg<'a>
-    ensures { IsWord (option_rule (name_text name.Avoid)) result }
-{
-    let help =
-        "Nodes that no route passes: 1 to 16, rising, neither source nor destination among them";
-    option(alloc, "avoid", "NODE,NODE..", help)
-}
-
-/// The word for the count of routes.
-fn count<'a>(alloc: Global) -> Arg<'a>
-    ensures { IsWord (required_rule (name_text name.Count)) result }
-{
-    required(alloc, "count", "COUNT", "How many routes: 1 to 10000")
-}
-
-/// The word for the old session.
-fn session<'a>(alloc: Global) -> Arg<'a>
-    ensures { IsWord (required_rule session_word) result }
-{
-    let help = "The session that a page left, written by --session-out";
-    required(alloc, SESSION, "FILE", help)
-}
-
-/// The word for the requests.
-fn requests<'a>(alloc: Global) -> Arg<'a>
-    ensures { IsWord (required_rule requests_word) result }
-{
-    let help = "The requests: a line FROM TO TIME each, or with PPM, HOPS, NODES after it";
-    required(alloc, REQUESTS, "FILE", help)
-}
-
-/// The word for the lists.
-fn lists<'a>(alloc: Global) -> Arg<'a>
-    ensures { IsWord (required_rule lists_word) result }
-{
-    let help = "The lists: a line NUMBERS FROM TO TIME each, or with PPM, HOPS, NODES after it";
-    required(alloc, LISTS, "FILE", help)
-}
-
-/// The word for the new session.
-fn session_out<'a>(alloc: Global) -> Arg<'a>
-    ensures { IsWord (option_rule session_out_word) result }
-{
-    let help = "Where to leave the session after the page: a file that isn't there";
-    option(alloc, SESSION_OUT, "FILE", help)
-}
-
-/// The word for the contacts.
-fn contacts<'a>(alloc: Global) -> Arg<'a>
-    ensures { IsWord (required_rule (name_text name.Contacts)) result }
-{
-    let help = "Contacts in the order in which they are taken: numbers from 1 to 4294967295";
-    required(alloc, "contacts", "NUMBER,NUMBER..", help)
-}
-
-/// Adds the words of a request.
-fn with_request<'a>(alloc: Global, command: Command<'a>) -> Result<Command<'a>, AllocError>
-    ensures { IfOk result (AddsWords command.entry request_rules) }
-{
-    command
-        .arg(from(alloc))?
-        .arg(to(alloc))?
-        .arg(at(alloc))?
-        .arg(margin_ppm(alloc))?
-        .arg(max_hops(alloc))?
-        .arg(avoid(alloc))
-}
-
-/// Adds the words of this command: the plan, and then its own.
+/// Adds these words, in their order.
 fn with_words<'a>(
     alloc: Global,
-    name: CommandName,
+    words: &[Word],
     command: Command<'a>,
 ) -> Result<Command<'a>, AllocError>
-    ensures { IfOk result (AddsWords command.entry (rules_for name)) }
+    ensures { IfOk result (AddsWords command.entry (map word_rule words.now)) }
 {
-    let made = command.arg(plan(alloc))?;
-    match name {
-        CommandName::First => {
-            with_request(alloc, made)?
-                .arg(count(alloc))?
-                .arg(session_out(alloc))
-        }
-        CommandName::Next => {
-            made.arg(session(alloc))?
-                .arg(count(alloc))?
-                .arg(session_out(alloc))
-        }
-        CommandName::Verify => made.arg(session(alloc)),
-        CommandName::Check => Ok(made),
-        CommandName::Explain => with_request(alloc, made)?.arg(contacts(alloc)),
-        CommandName::Many => made.arg(requests(alloc))?.arg(count(alloc)),
-        CommandName::Follow => made.arg(lists(alloc)),
+    let mut made = command;
+    for word in words {
+        made = made.arg(argument(alloc, word))?;
     }
+    Ok(made)
 }
 
 /// A command of the command line, as it is declared.
@@ -188,7 +50,7 @@ fn subcommand<'a>(alloc: Global, command: CommandName) -> Result<Command<'a>, Al
     let made = Command::new(alloc, declared.name)
         .about(declared.about)
         .after_help(declared.examples);
-    with_words(alloc, command, made)
+    with_words(alloc, declared.words, made)
 }
 
 /// Adds a command.

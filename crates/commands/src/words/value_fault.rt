@@ -4,6 +4,7 @@ ghost use Rattle.std.specs.Prelude.{◌≡◌};
 ghost use Rattle.commands.specs.declared.words.value_fault.ValueFault.TheVariants as fault;
 ghost use Rattle.commands.specs.words.Values.{name_text};
 
+use crate::words::table::{AT, AVOID, CONTACTS, COUNT, FROM, MARGIN_PPM, MAX_HOPS, TO};
 use sabr_model::NoMemory;
 use thiserror::Error;
 
@@ -34,14 +35,14 @@ impl ValueName {
         ensures { result.now ≡ name_text self }
     {
         match self {
-            ValueName::From => "from",
-            ValueName::To => "to",
-            ValueName::At => "at",
-            ValueName::MarginPpm => "margin-ppm",
-            ValueName::MaxHops => "max-hops",
-            ValueName::Avoid => "avoid",
-            ValueName::Count => "count",
-            ValueName::Contacts => "contacts",
+            ValueName::From => FROM.name,
+            ValueName::To => TO.name,
+            ValueName::At => AT.name,
+            ValueName::MarginPpm => MARGIN_PPM.name,
+            ValueName::MaxHops => MAX_HOPS.name,
+            ValueName::Avoid => AVOID.name,
+            ValueName::Count => COUNT.name,
+            ValueName::Contacts => CONTACTS.name,
         }
     }
 }
