@@ -7,5 +7,5 @@ mod hop_lines;
 mod messages;
 
 pub use check_text::write_check_text;
-pub use explanation::write_explanation;
+pub use explanation::{put_explanation, write_explanation};
 pub use messages::{tell, write_pieces};

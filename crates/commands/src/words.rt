@@ -14,7 +14,6 @@ mod values;
 pub use command_line::parsed;
 pub use lines::{LineForm, first_line, read_lines};
 pub use lines_fault::{LineKind, LinesFault};
-pub use lists::contacts_listed;
 pub use request_line::{Listed, list_in, request_in};
 pub use request_words::RequestTexts;
 pub use table::{

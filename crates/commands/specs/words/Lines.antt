@@ -1,6 +1,7 @@
 -- What a text of requests or of lists says: one a line, each word read as strictly as the option of its name.
 use Rattle.std.specs.Prelude.{◌≡◌, ℕ, ◌+◌, ◌≤◌, nat_lt, ◌&&◌, ◌||◌, ◌⊎◌, Bool, List, [], ◌∷◌, ◌++◌, length, drop, option_map, Result, Ok, Err, IsErrAnd, if◌then◌else◌}
 use Rattle.sabr_model.specs.Devices.{Input, Gives, HasEnded}
+use Rattle.std.specs.Result.{result_err}
 use Rattle.std.specs.declared.option.Option.{Option}
 use Rattle.std.specs.declared.option.Option.TheVariants.{Some, None}
 use Rattle.sabr_model.specs.routes.Arrival.{RouteRequest}
@@ -14,6 +15,7 @@ use Rattle.commands.specs.declared.words.lines_fault.LinesFault.TheVariants.{Lin
 use Rattle.commands.specs.declared.words.lines.LineForm.{LineForm}
 use Rattle.commands.specs.declared.words.lines.LineForm.TheVariants.{Requests, Lists}
 use Rattle.commands.specs.declared.words.lines.Judged.{Judged}
+use Rattle.commands.specs.declared.words.request_line.Listed.{Listed}
 use Rattle.sabr_session.specs.SessionWords.{most_number}
 use Rattle.commands.specs.words.Lists.{numbers_within, pieces_of}
 use Rattle.commands.specs.words.Values.{TextsGiven, and_then, request_words, request_of}
@@ -101,15 +103,17 @@ list_where_given (Some (contacts, texts)) = after_listed (numbers_within 1 most_
 abbrev pub most_list_bytes : ℕ
 most_list_bytes = 220411
 
+-- the texts of a line of lists that isn't too long
+abbrev pub list_texts_in : List ℕ → Option (List ℕ × TextsGiven)
+list_texts_in line = if nat_lt most_list_bytes (length line) then None else list_texts_of (pieces_of space line)
+
 -- the contacts and the request of a line of lists, or what is bad in it
 unfoldable pub list_in : List ℕ → Result Asked LineKind
-list_in line = if nat_lt most_list_bytes (length line) then Err BadLine else list_where_given (list_texts_of (pieces_of space line))
+list_in line = list_where_given (list_texts_in line)
 
--- a line of lists asks about the contacts that this text lists, and this request
-pub record Asks (line text : List ℕ) (r : RouteRequest) : Type 0 where
-  pub contacts : List ℕ
-  pub listed : numbers_within 1 most_number text ≡ Some contacts
-  pub says : list_in line ≡ Ok (record { contacts = contacts; request = r })
+-- what was read of a line of lists, without the memory that holds it
+abbrev pub seen_list : {A : Type 0} → Listed A → Asked
+seen_list listed = record { contacts = listed.contacts; request = listed.request }
 
 -- what a line of this form asks, or what is bad in it
 abbrev pub asked_in : LineForm → List ℕ → Result Asked LineKind
@@ -157,8 +161,7 @@ most_bytes Lists = most_list_bytes
 
 -- the fault of what was refused
 abbrev pub fault_of : {A E : Type 0} → Result A E → Option E
-fault_of (Ok _) = None
-fault_of (Err fault) = Some fault
+fault_of r = result_err r
 
 -- the first bad line of a text whose first line has this number
 abbrev pub fault_in : LineForm → ℕ → List ℕ → Option LinesFault

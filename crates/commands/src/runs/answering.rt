@@ -3,20 +3,19 @@
 ghost use Rattle.std.specs.Prelude.{◌≡◌, ◌≤◌, ◌++◌, [], All, IfOk, IfSome};
 ghost use Rattle.sabr_model.specs.Devices.{WritesText};
 ghost use Rattle.sabr_frontier.specs.listing.Listing.{most_routes, state_at};
+ghost use Rattle.sabr_session.specs.Gathering.{Puts};
 ghost use Rattle.sabr_session.specs.ReportText.{HasSpelledTimes, report_text};
-ghost use Rattle.sabr_session.specs.SessionWords.{most_number};
 ghost use Rattle.commands.specs.declared.runs.answering.AnswerKind.TheVariants as kind;
-ghost use Rattle.commands.specs.words.Lists.{numbers_within};
-ghost use Rattle.commands.specs.words.Lines.{asked_in};
-ghost use Rattle.commands.specs.runs.Many.{IsFirstPage, IsWithin, LeavesAnswer, form_of, heading, word_of};
+ghost use Rattle.commands.specs.words.Lines.{asked_in, list_in, seen_list};
+ghost use Rattle.commands.specs.runs.Many.{IsFirstPage, IsWithin, LeavesAnswer, answer_text, form_of, heading, word_of};
 
 use crate::failure::Failure;
-use crate::texts::{write_explanation, write_pieces};
-use crate::words::{LineForm, Listed, contacts_listed, list_in, request_in};
+use crate::texts::{put_explanation, write_pieces};
+use crate::words::{LineForm, Listed, list_in, request_in};
 use sabr_frontier::{LastPage, Session};
 use sabr_model::{NoMemory, Plan, Request, Write, WriteFault};
 use sabr_search::Settled;
-use sabr_session::write_report;
+use sabr_session::{TextBuffer, put_pieces, write_report};
 use std::alloc::{Allocator, Global};
 use std::marker::Model;
 
@@ -153,10 +152,7 @@ impl<'p, A: Allocator + Copy> Answering<'p, A> {
                 Ok(request) => self.list(line, request, count, out),
                 Err(_) => Ok(()),
             },
-            AnswerKind::Explanation => match list_in(line) {
-                Ok(listed) => explain(self.alloc, self.plan, line, &listed, out),
-                Err(_) => Ok(()),
-            },
+            AnswerKind::Explanation => explain(self.alloc, self.plan, line, out),
         }
     }
 }
@@ -175,23 +171,47 @@ fn write_answer<O: Write, A: Allocator + Copy>(
     write_report(last.routes(), 1, last.more(), out)
 }
 
-/// Writes the answer to the contacts and the request of this line: its heading, and their explanation. A text that
-/// lists no contacts gets none.
+/// Writes the answer to a line of lists. One that has a fault gets none.
 fn explain<O: Write, A: Allocator + Copy>(
     alloc: A,
     plan: &Plan<A>,
     line: &[u8],
-    listed: &Listed<'_>,
     out: &mut O,
 ) -> Result<(), Failure>
-    ensures { IfSome (numbers_within 1 most_number listed.now.contacts.now) (λ contacts. LeavesAnswer plan.now.plan kind.Explanation (record { line = line.now; asked = record { contacts = contacts; request = listed.now.request } }) result (O.output out.old) (O.output out.new)) }
+    ensures { IfOk (list_in line.now) (λ a. LeavesAnswer plan.now.plan kind.Explanation (record { line = line.now; asked = a }) result (O.output out.old) (O.output out.new)) }
 {
-    let Some(contacts) = contacts_listed(alloc, listed.contacts)? else {
+    let Some(listed) = list_in(alloc, line)? else {
         return Ok(());
     };
-    write_heading(AnswerKind::Explanation, line, out)?;
-    write_explanation(plan, &listed.request, contacts.as_slice(), out)?;
+    write_explained(plan, line, &listed, out)?;
     Ok(())
+}
+
+/// Writes the answer to these contacts and this request of a line, by one buffer: its heading, and their explanation.
+fn write_explained<O: Write, A: Allocator + Copy>(
+    plan: &Plan<A>,
+    line: &[u8],
+    listed: &Listed<A>,
+    out: &mut O,
+) -> Result<(), WriteFault>
+    ensures { WritesText (O.output out.old) (answer_text plan.now.plan kind.Explanation (record { line = line.now; asked = seen_list listed.now })) result (O.output out.new) }
+{
+    let mut text = TextBuffer::new(out);
+    put_heading(&mut text, AnswerKind::Explanation, line)?;
+    put_explanation(&mut text, plan, &listed.request, listed.contacts.as_slice())?;
+    text.send()
+}
+
+/// Puts the line before an answer.
+fn put_heading<O: Write>(
+    text: &mut TextBuffer<'_, O>,
+    kind: AnswerKind,
+    line: &[u8],
+) -> Result<(), WriteFault>
+    ensures { Puts O.output text.old (heading kind line.now) result text.new }
+{
+    let pieces: [&[u8]; 3] = [kind.word(), line, b"\n"];
+    put_pieces(text, &pieces)
 }
 
 /// Writes the line before an answer.

@@ -3,6 +3,7 @@
 ghost use Rattle.std.specs.Prelude.{◌≡◌, ◌≤◌, [], IfOk, IsTrue, length};
 ghost use Rattle.sabr_model.specs.routes.Route.{is_path, is_route};
 ghost use Rattle.sabr_model.specs.Devices.{WritesText};
+ghost use Rattle.sabr_session.specs.Gathering.{Puts};
 ghost use Rattle.commands.specs.texts.Explanation.{hop_lines, explanation_text, hops_before, Follows};
 
 use crate::texts::ending_line::put_ending;
@@ -43,11 +44,33 @@ fn followed<'a, A: Allocator + Copy>(
     }
 }
 
-/// Writes what the contacts of these numbers do in turn. Each hop before the first fault has a line, with its contact
-/// and the times of sending and of arrival. Then comes the line of the route that they make, or that of the fault.
-/// Returns whether they make a route.
+/// Puts what the contacts of these numbers do in turn. Each hop before the first fault has a line, with its contact and
+/// the times of sending and of arrival. Then comes the line of the route that they make, or that of the fault. Returns
+/// whether they make a route.
 ///
-/// It allocates nothing and doesn't flush. Its time grows with the square of the number of hops, as that of [`follow`].
+/// It allocates nothing. Its time grows with the square of the number of hops, as that of [`follow`].
+///
+/// # Errors
+///
+/// [`WriteFault`] if the writer failed. Then a beginning of the texts put so far was written.
+pub fn put_explanation<W: Write, A: Allocator + Copy>(
+    text: &mut TextBuffer<'_, W>,
+    plan: &Plan<A>,
+    request: &Request,
+    contacts: &[u32],
+) -> Result<bool, WriteFault>
+    ensures text { Puts W.output text.old (explanation_text plan.now.plan request.now contacts.now) result text.new }
+    ensures route { IfOk result (λ answer. answer ≡ is_route plan.now.plan request.now contacts.now) }
+{
+    plan.rules_hold();
+    request.limits_hold();
+    let (hops, outcome) = followed(plan, request, contacts);
+    put_hops(text, plan, request, hops)?;
+    put_ending(text, plan, request, contacts, outcome)?;
+    Ok(outcome.is_ok())
+}
+
+/// Writes what the contacts of these numbers do in turn, as [`put_explanation`], and doesn't flush.
 ///
 /// # Errors
 ///
@@ -61,12 +84,8 @@ pub fn write_explanation<W: Write, A: Allocator + Copy>(
     ensures text { WritesText (W.output writer.old) (explanation_text plan.now.plan request.now contacts.now) result (W.output writer.new) }
     ensures route { IfOk result (λ answer. answer ≡ is_route plan.now.plan request.now contacts.now) }
 {
-    plan.rules_hold();
-    request.limits_hold();
-    let (hops, outcome) = followed(plan, request, contacts);
     let mut text = TextBuffer::new(writer);
-    put_hops(&mut text, plan, request, hops)?;
-    put_ending(&mut text, plan, request, contacts, outcome)?;
+    let is_route = put_explanation(&mut text, plan, request, contacts)?;
     text.send()?;
-    Ok(outcome.is_ok())
+    Ok(is_route)
 }

@@ -7,7 +7,7 @@ ghost use Rattle.commands.specs.declared.words.lines_fault.LinesFault.{LinesFaul
 
 use crate::words::lines_fault::{LineKind, LinesFault};
 use crate::words::lists::first_piece;
-use crate::words::request_line::{MAX_LINE_BYTES, MAX_LIST_BYTES, list_in, request_in};
+use crate::words::request_line::{MAX_LINE_BYTES, MAX_LIST_BYTES, list_fault, request_in};
 use sabr_model::{Failed, Read};
 use sabr_plan::line_end;
 use std::alloc::Allocator;
@@ -73,7 +73,7 @@ fn fault_at(form: LineForm, number: u32, line: &[u8]) -> Option<LineKind>
     }
     match form {
         LineForm::Requests => request_in(line).err(),
-        LineForm::Lists => list_in(line).err(),
+        LineForm::Lists => list_fault(line),
     }
 }
 

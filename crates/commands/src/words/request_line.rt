@@ -1,17 +1,18 @@
 //! A line of requests or of lists, with its words in their order.
 
-ghost use Rattle.std.specs.Prelude.{◌≡◌, Err, MatchResult};
+ghost use Rattle.std.specs.Prelude.{◌≡◌, IfOk};
 ghost use Rattle.std.specs.Option.{option_copied, option_map};
-ghost use Rattle.sabr_session.specs.SessionWords.{most_number};
-ghost use Rattle.commands.specs.words.Lists.{first_of, numbers_within, pieces_after, pieces_of};
+ghost use Rattle.std.specs.Result.{result_ok};
+ghost use Rattle.commands.specs.words.Lists.{first_of, pieces_after, pieces_of};
 ghost use Rattle.commands.specs.words.Values.{texts_given};
-ghost use Rattle.commands.specs.words.Lines.{Asks, list_in, list_texts_of, or_kind, request_by, request_in, texts_of, space};
+ghost use Rattle.commands.specs.words.Lines.{fault_of, list_in, list_texts_in, list_texts_of, or_kind, request_by, request_in, seen_list, texts_of, space};
 
 use crate::words::lines_fault::LineKind;
-use crate::words::lists::{are_contacts, first_piece};
+use crate::words::lists::{are_contacts, contacts_listed, first_piece};
 use crate::words::request_words::{RequestTexts, request_of, request_words};
 use crate::words::value_fault::ValueFault;
-use sabr_model::Request;
+use sabr_model::{NoMemory, Numbers, Request};
+use std::alloc::{Allocator, Global};
 
 /// The most bytes of a line. A line of 20-digit nodes, a time, the largest limits and 16 nodes to avoid has as many.
 pub const MAX_LINE_BYTES: usize = 411;
@@ -21,9 +22,9 @@ pub const MAX_LIST_BYTES: usize = 220411;
 
 /// What a line of lists asks about.
 #[derive(Drop)]
-pub struct Listed<'a> {
-    /// The text that lists the contacts.
-    pub contacts: &'a [u8],
+pub struct Listed<A: Allocator + Copy = Global> {
+    /// The contacts.
+    pub contacts: Numbers<A>,
     /// The request.
     pub request: Request,
 }
@@ -72,6 +73,16 @@ fn list_texts_of(line: &[u8]) -> Option<(&[u8], RequestTexts<'_>)>
     Some((contacts, texts))
 }
 
+/// Splits a line of lists, as [`list_texts_of`]. `None` also if the line is too long.
+fn list_texts_in(line: &[u8]) -> Option<(&[u8], RequestTexts<'_>)>
+    ensures { option_map (λ t. (t.0.now, texts_given t.1)) result ≡ list_texts_in line.now }
+{
+    if line.len() > MAX_LIST_BYTES {
+        return None;
+    }
+    list_texts_of(line)
+}
+
 /// Reads the request of these texts.
 fn request_by(texts: &RequestTexts<'_>) -> Result<Request, ValueFault>
     ensures { result ≡ request_by (texts_given texts.now) }
@@ -108,26 +119,36 @@ pub fn request_in(line: &[u8]) -> Result<Request, LineKind>
     request_or_kind(&texts)
 }
 
-/// Reads the contacts and the request of a line of lists without its LF. The contacts are judged, and stay as text, so
-/// that it allocates nothing.
+/// Finds what is bad in a line of lists without its LF: the first that holds, in the order of the words. It allocates
+/// nothing.
+pub fn list_fault(line: &[u8]) -> Option<LineKind>
+    ensures { result ≡ fault_of (list_in line.now) }
+{
+    let Some((numbers, texts)) = list_texts_in(line) else {
+        return Some(LineKind::BadLine);
+    };
+    if !are_contacts(numbers) {
+        return Some(LineKind::BadContacts);
+    }
+    request_or_kind(&texts).err()
+}
+
+/// Reads the contacts and the request of a line of lists without its LF. `None` if the line is bad.
 ///
 /// # Errors
 ///
-/// What is bad in it: the first that holds, in the order of the words.
-pub fn list_in(line: &[u8]) -> Result<Listed<'_>, LineKind>
-    ensures { MatchResult result (λ listed. Asks line.now listed.contacts.now listed.request) (λ kind. list_in line.now ≡ Err kind) }
+/// [`NoMemory`] if an allocation failed.
+pub fn list_in<A: Allocator + Copy>(alloc: A, line: &[u8]) -> Result<Option<Listed<A>>, NoMemory>
+    ensures { IfOk result (λ found. option_map seen_list found ≡ result_ok (list_in line.now)) }
 {
-    if line.len() > MAX_LIST_BYTES {
-        return Err(LineKind::BadLine);
-    }
-    let Some((contacts, texts)) = list_texts_of(line) else {
-        return Err(LineKind::BadLine);
+    let Some((numbers, texts)) = list_texts_in(line) else {
+        return Ok(None);
     };
-    if !are_contacts(contacts) {
-        return Err(LineKind::BadContacts);
-    }
-    match request_or_kind(&texts) {
-        Ok(request) => Ok(Listed { contacts, request }),
-        Err(kind) => Err(kind),
+    let Some(contacts) = contacts_listed(alloc, numbers)? else {
+        return Ok(None);
+    };
+    match request_by(&texts) {
+        Ok(request) => Ok(Some(Listed { contacts, request })),
+        Err(_) => Ok(None),
     }
 }
