@@ -4,6 +4,7 @@ mod command_line;
 mod lines;
 mod lines_fault;
 mod lists;
+mod pieces;
 mod request_line;
 mod request_words;
 mod table;
@@ -12,8 +13,9 @@ mod value_texts;
 mod values;
 
 pub use command_line::parsed;
-pub use lines::{LineForm, first_line, read_lines};
+pub use lines::{LineForm, read_lines};
 pub use lines_fault::{LineKind, LinesFault};
+pub use pieces::first_line;
 pub use request_line::{Listed, list_in, request_in};
 pub use request_words::RequestTexts;
 pub use table::{

@@ -1,12 +1,12 @@
 //! A text of lines, read to its end or to its first bad line.
 
-ghost use Rattle.std.specs.Prelude.{◌≡◌, ◌<◌, ◌≤◌, ◌∷◌, ◌++◌, [], drop, length, List, Result, MatchOption, MatchResult, IfErr, IfNone, IfOk, IfSome, IsTrue, Err};
+ghost use Rattle.std.specs.Prelude.{◌≡◌, ◌≤◌, drop, List, Result, MatchResult, IfErr, IfNone, IfOk, IsTrue, Err};
 ghost use Rattle.sabr_plan.specs.Words.{is_one_line};
-ghost use Rattle.commands.specs.words.Lines.{HasLines, IsJudged, IsRefused, ReadsLines, AskedLine, asked_at, fault_in, fault_of, is_bad_rest, line_feed, lines_in, most_bytes, most_lines};
+ghost use Rattle.commands.specs.words.Lines.{HasLines, IsJudged, IsRefused, ReadsLines, AskedLine, asked_at, fault_in, fault_of, is_bad_rest, most_bytes, most_lines};
 ghost use Rattle.commands.specs.declared.words.lines_fault.LinesFault.{LinesFault};
 
 use crate::words::lines_fault::{LineKind, LinesFault};
-use crate::words::lists::first_piece;
+use crate::words::pieces::ended_line;
 use crate::words::request_line::{MAX_LINE_BYTES, MAX_LIST_BYTES, list_fault, request_in};
 use sabr_model::{Failed, Read};
 use sabr_plan::line_end;
@@ -48,21 +48,6 @@ pub struct Judged {
     pub bytes: usize,
 }
 
-/// Splits off the first line, without its LF. With it comes what stands after that. `None` if there is no byte.
-pub fn first_line(text: &[u8]) -> Option<(&[u8], &[u8])>
-    ensures lines { MatchOption result (lines_in text.now ≡ []) (λ r. lines_in text.now ≡ r.0.now ∷ lines_in r.1.now) }
-    ensures shorter { IfSome result (λ r. length r.1.now < length text.now) }
-{
-    if text.is_empty() {
-        return None;
-    }
-    let (line, rest) = first_piece(text, b'\n');
-    match rest {
-        Some(rest) => Some((line, rest)),
-        None => Some((line, b"")),
-    }
-}
-
 /// Finds what is bad in the line of this number, counted from 1.
 fn fault_at(form: LineForm, number: u32, line: &[u8]) -> Option<LineKind>
     ensures value { result ≡ fault_of (asked_at form number line.now) }
@@ -75,14 +60,6 @@ fn fault_at(form: LineForm, number: u32, line: &[u8]) -> Option<LineKind>
         LineForm::Requests => request_in(line).err(),
         LineForm::Lists => list_fault(line),
     }
-}
-
-/// Splits off the first line that ends with LF. With it comes what stands after that. `None` if there is no LF.
-fn ended_line(text: &[u8]) -> Option<(&[u8], &[u8])>
-    ensures { MatchOption result (IsTrue (is_one_line text.now)) (λ r. (text.now ≡ r.0.now ++ line_feed ∷ r.1.now) × IsTrue (is_one_line r.0.now)) }
-{
-    let end = line_end(text)?;
-    Some((&text[..end], &text[end + 1..]))
 }
 
 /// Whether the line of this number is a bad one, whatever follows these many bytes of it.

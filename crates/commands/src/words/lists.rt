@@ -1,37 +1,16 @@
-//! The pieces of a text between bytes that separate them, and lists of numbers, separated by single commas.
+//! Lists of numbers, separated by single commas.
 
-ghost use Rattle.std.specs.Prelude.{◌≡◌, ◌==◌, ◌∷◌, ◌<◌, [], None, Some, MatchOption, IfOk, IfSome, ⊤, is_some, length};
-ghost use Rattle.std.specs.List.{position};
-ghost use Rattle.std.specs.Option.{option_copied};
+ghost use Rattle.std.specs.Prelude.{◌≡◌, None, Some, MatchOption, IfOk, is_some};
 ghost use Rattle.sabr_session.specs.SessionWords.{most_number};
-ghost use Rattle.commands.specs.words.Lists.{nodes_listed, numbers_within, pieces_after, pieces_of};
+ghost use Rattle.commands.specs.words.Lists.{nodes_listed, numbers_within};
 
+use crate::words::pieces::first_piece;
 use sabr_model::{NoMemory, NodeList, Numbers};
 use sabr_plan::number_within;
 use std::alloc::Allocator;
 
 /// The largest number of a contact.
-const MAX_NUMBER: u64 = 4294967295;
-
-/// Finds the first byte of this value.
-fn first_place(text: &[u8], separator: u8) -> Option<usize>
-    ensures { result ≡ position (λ b. b == separator) text.now }
-{
-    text.iter().position(|b| *b == separator)
-}
-
-/// Splits off the first piece, up to the first byte that separates. With it comes what stands after that, if there is
-/// one.
-pub fn first_piece(text: &[u8], separator: u8) -> (&[u8], Option<&[u8]>)
-    ensures pieces { pieces_of separator text.now ≡ result.0.now ∷ pieces_after separator (option_copied result.1) }
-    ensures whole { MatchOption result.1 (result.0.now ≡ text.now) (λ _. ⊤) }
-    ensures shorter { IfSome result.1 (λ rest. length rest.now < length text.now) }
-{
-    match first_place(text, separator) {
-        Some(place) => (&text[..place], Some(&text[place + 1..])),
-        None => (text, None),
-    }
-}
+const MAX_NUMBER: u64 = u32::MAX as u64;
 
 /// Reads the text as 1 to 16 nodes. `None` if it isn't that.
 pub fn nodes_listed(text: &[u8]) -> Option<NodeList>

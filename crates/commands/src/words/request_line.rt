@@ -3,12 +3,13 @@
 ghost use Rattle.std.specs.Prelude.{◌≡◌, IfOk};
 ghost use Rattle.std.specs.Option.{option_copied, option_map};
 ghost use Rattle.std.specs.Result.{result_ok};
-ghost use Rattle.commands.specs.words.Lists.{first_of, pieces_after, pieces_of};
+ghost use Rattle.commands.specs.words.Lists.{pieces_after, pieces_of};
 ghost use Rattle.commands.specs.words.Values.{texts_given};
 ghost use Rattle.commands.specs.words.Lines.{fault_of, list_in, list_texts_in, list_texts_of, or_kind, request_by, request_in, seen_list, texts_of, space};
 
 use crate::words::lines_fault::LineKind;
-use crate::words::lists::{are_contacts, contacts_listed, first_piece};
+use crate::words::lists::{are_contacts, contacts_listed};
+use crate::words::pieces::{first_piece, next_word};
 use crate::words::request_words::{RequestTexts, request_of, request_words};
 use crate::words::value_fault::ValueFault;
 use sabr_model::{NoMemory, Numbers, Request};
@@ -27,17 +28,6 @@ pub struct Listed<A: Allocator + Copy = Global> {
     pub contacts: Numbers<A>,
     /// The request.
     pub request: Request,
-}
-
-/// Splits off the first word, if there is one.
-fn next_word<'a>(text: Option<&'a [u8]>) -> (Option<&'a [u8]>, Option<&'a [u8]>)
-    ensures { (option_copied result.0, pieces_after space (option_copied result.1)) ≡ first_of (pieces_after space (option_copied text.entry)) }
-{
-    let Some(text) = text else {
-        return (None, None);
-    };
-    let (word, rest) = first_piece(text, b' ');
-    (Some(word), rest)
 }
 
 /// Splits a text into the words of a request. `None` if they are fewer than three or more than six.

@@ -3,7 +3,7 @@ use Rattle.std.specs.Option.{option_copied}
 use Rattle.std.proofs.lemmas.Grind.{common_steps}
 use Rattle.commands.specs.words.Lists.{pieces_of, pieces_after}
 use Rattle.commands.proofs.WordLemmas.TextLines.{no_lines, one_line, next_line}
-use Rattle.commands.proofs.words.lines.first_line.Goals as goal
+use Rattle.commands.proofs.words.pieces.first_line.Goals as goal
 
 pub returns-then-is_empty-clause-lines : goal.returns-then-is_empty-clause-lines
 returns-then-is_empty-clause-lines c =

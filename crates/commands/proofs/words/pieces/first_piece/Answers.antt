@@ -2,7 +2,7 @@ use Rattle.std.proofs.Common.{◌+◌, ◌∷◌, List, ℕ, take, sym, ◌∙�
 use Rattle.std.proofs.lemmas.List.{take_rest}
 use Rattle.sabr_session.proofs.WordLemmas.SpacedWords.{pieces-at, pieces-one}
 use Rattle.commands.specs.words.Lists.{pieces_of}
-use Rattle.commands.proofs.words.lists.first_piece.Goals as goal
+use Rattle.commands.proofs.words.pieces.first_piece.Goals as goal
 
 pub returns-in-Some-clause-pieces : goal.returns-in-Some-clause-pieces
 returns-in-Some-clause-pieces c =
