@@ -44,7 +44,7 @@ pub struct Declared<'a> {
     pub name: &'a str,
     /// What it does, in a line.
     pub about: &'a str,
-    /// Calls of it, for its help.
+    /// Calls of it with their answers, for its help.
     pub examples: &'a str,
     /// Its words, in the order in which its help lists them.
     pub words: &'a [Word],
@@ -87,60 +87,88 @@ impl CommandName {
                 name: "first",
                 about: "Lists the first routes, best first, and whether there are more",
                 examples: "Examples:
-  cgrlist first --plan plan.txt --from 31 --to 1 --at 2030/01/01-00:45:00 --count 5
-  cgrlist first --plan plan.txt --from 31 --to 1 --at 2030/01/01-00:45:00 --count 3 --avoid 12 --max-hops 4
-  cgrlist first --plan plan.txt --from 31 --to 1 --at 2030/01/01-00:45:00 --count 5 --session-out page1",
+  $ cgrlist first --plan examples/a.txt --from 1 --to 3 --at 2030/01/01-00:00:00 --count 2 --session-out two.session
+  1 delivery 2030/01/01-00:00:15 hops 2 entry 2 until 2030/01/01-00:01:40 contacts 1 4
+  2 delivery 2030/01/01-00:00:25 hops 2 entry 2 until 2030/01/01-00:01:00 contacts 1 2
+  more
+  $ cgrlist first --plan examples/a.txt --from 1 --to 3 --at 2030/01/01-00:00:00 --count 1 --avoid 2
+  1 delivery 2030/01/01-00:01:30 hops 1 entry 3 until 2030/01/01-00:01:30 contacts 3
+  end
+The session text, here in two.session, is for next and verify.",
                 words: &FIRST,
             },
             CommandName::Next => Declared {
                 name: "next",
-                about: "Lists the routes that follow a session, best first, and whether there are more",
-                examples: "Examples:
-  cgrlist next --plan plan.txt --session page1 --count 5
-  cgrlist next --plan plan.txt --session page1 --count 5 --session-out page2",
+                about: "Lists the routes after those of a session, and whether there are more",
+                examples: "Example, after the first example of cgrlist first --help:
+  $ cgrlist next --plan examples/a.txt --session two.session --count 5
+  3 delivery 2030/01/01-00:01:30 hops 1 entry 3 until 2030/01/01-00:01:30 contacts 3
+  end",
                 words: &NEXT,
             },
             CommandName::Verify => Declared {
                 name: "verify",
-                about: "Tells whether a session is one of the plan's, whoever wrote it",
-                examples: "Examples:
-  cgrlist verify --plan plan.txt --session page1",
+                about: "Checks that a session text is correct: its routes are the first ones of the list, and its parts have the best routes",
+                examples: "Example, after the first example of cgrlist first --help:
+  $ cgrlist verify --plan examples/a.txt --session two.session
+  yes",
                 words: &VERIFY,
             },
             CommandName::Check => Declared {
                 name: "check",
-                about: "Tells what a plan holds: contacts, ranges, nodes, contacts without light time, digest",
-                examples: "Examples:
-  cgrlist check --plan plan.txt
-  cgrlist check --plan /dev/stdin <plan.txt",
+                about: "Prints what a plan contains: contacts, ranges, nodes, contacts without light time, digest",
+                examples: "Example:
+  $ cgrlist check --plan /dev/stdin <examples/a.txt
+  contacts 4
+  ranges 3
+  nodes 3
+  without light 0
+  digest 141332fc8a469d56442d0323b136f9e5ff2f4859004f96653cdeb76015a2a51f",
                 words: &CHECK,
             },
             CommandName::Explain => Declared {
                 name: "explain",
-                about: "Tells what a list of contacts does, hop by hop, and whether it is a route",
-                examples: "Examples:
-  cgrlist explain --plan plan.txt --from 31 --to 1 --at 2030/01/01-00:45:00 --contacts 4,11,2
-  cgrlist explain --plan plan.txt --from 31 --to 1 --at 2030/01/01-00:45:00 --contacts 5,12,2 --margin-ppm 1000",
+                about: "Prints what a list of contacts does, hop by hop, and whether it is a route",
+                examples: "Example:
+  $ cgrlist explain --plan examples/a.txt --from 1 --to 3 --at 2030/01/01-00:00:00 --contacts 1,2
+  hop 1 contact 1 from 1 to 2 send 2030/01/01-00:00:00 arrive 2030/01/01-00:00:10
+  hop 2 contact 2 from 2 to 3 send 2030/01/01-00:00:20 arrive 2030/01/01-00:00:25
+  delivery 2030/01/01-00:00:25 hops 2 entry 2 until 2030/01/01-00:01:00 contacts 1 2",
                 words: &EXPLAIN,
             },
             CommandName::Many => Declared {
                 name: "many",
-                about: "Answers many requests over one plan, each as first does",
-                examples: "Examples:
-  cgrlist many --plan plan.txt --requests requests.txt --count 5
-A request is a line FROM TO TIME, and after it, if need be, PPM, HOPS and NODES in this order, with single spaces:
-  31 1 2030/01/01-00:45:00
-  31 1 2030/01/01-00:45:00 0 4 12,15",
+                about: "Lists the first routes of each request of a file, as first does",
+                examples: "A request is a line FROM TO TIME, or FROM TO TIME PPM HOPS NODES, with single spaces. NODES, or HOPS and NODES, can
+be left out. Each word is written like the value of its option.
+
+Example:
+  $ printf '1 3 2030/01/01-%s\\n' 00:01:00 '00:00:00 0 20000 2' >requests
+  $ cgrlist many --plan examples/a.txt --requests requests --count 1
+  request 1 3 2030/01/01-00:01:00
+  1 delivery 2030/01/01-00:01:15 hops 2 entry 2 until 2030/01/01-00:01:40 contacts 1 4
+  more
+  request 1 3 2030/01/01-00:00:00 0 20000 2
+  1 delivery 2030/01/01-00:01:30 hops 1 entry 3 until 2030/01/01-00:01:30 contacts 3
+  end",
                 words: &MANY,
             },
             CommandName::Follow => Declared {
                 name: "follow",
-                about: "Tells what many lists of contacts do over one plan, each as explain does",
-                examples: "Examples:
-  cgrlist follow --plan plan.txt --lists lists.txt
-A list is a line NUMBERS FROM TO TIME, and after it, if need be, PPM, HOPS and NODES in this order, with single spaces:
-  4,11,2 31 1 2030/01/01-00:45:00
-  5,12,2 31 1 2030/01/01-00:45:00 0 4 22",
+                about: "Explains each list of contacts of a file, as explain does",
+                examples: "A list is a line NUMBERS FROM TO TIME, or NUMBERS FROM TO TIME PPM HOPS NODES, with single spaces. NODES, or HOPS and
+NODES, can be left out. Each word is written like the value of its option.
+
+Example:
+  $ printf '1,2 1 3 2030/01/01-%s\\n' 00:00:00 00:01:00 >lists
+  $ cgrlist follow --plan examples/a.txt --lists lists
+  list 1,2 1 3 2030/01/01-00:00:00
+  hop 1 contact 1 from 1 to 2 send 2030/01/01-00:00:00 arrive 2030/01/01-00:00:10
+  hop 2 contact 2 from 2 to 3 send 2030/01/01-00:00:20 arrive 2030/01/01-00:00:25
+  delivery 2030/01/01-00:00:25 hops 2 entry 2 until 2030/01/01-00:01:00 contacts 1 2
+  list 1,2 1 3 2030/01/01-00:01:00
+  hop 1 contact 1 from 1 to 2 send 2030/01/01-00:01:00 arrive 2030/01/01-00:01:10
+  refused hop 2: TooLate",
                 words: &FOLLOW,
             },
         }

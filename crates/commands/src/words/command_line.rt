@@ -15,6 +15,25 @@ use std::alloc::{AllocError, Global};
 /// The version of the program, as `--version` shows it.
 const VERSION: &str = "1.2.0";
 
+/// What the program's help shows after its options: an example, and the statuses.
+const AFTER_HELP: &str = "Example:
+  $ cgrlist first --plan examples/a.txt --from 1 --to 3 --at 2030/01/01-00:00:00 --count 2
+  1 delivery 2030/01/01-00:00:15 hops 2 entry 2 until 2030/01/01-00:01:40 contacts 1 4
+  2 delivery 2030/01/01-00:00:25 hops 2 entry 2 until 2030/01/01-00:01:00 contacts 1 2
+  more
+
+Exit status:
+  0  done
+  1  the answer is no: the contacts aren't a route, or the session text isn't correct
+  2  the options are invalid, or ask for help or the version
+  3  the plan is refused
+  4  the session text, or a line of requests or of lists, is refused
+  5  a file can't be opened, read, made or written
+  6  out of memory
+
+The message 'cgrlist: bad --count' means that this value is misspelled or outside the limits in the command's help.
+The manual page is cgrlist(1), docs/cgrlist.1 in the sources.";
+
 /// The argument of a word.
 fn argument<'a>(alloc: Global, word: &Word) -> Arg<'a>
     ensures { IsWord (word_rule word.now) result }
@@ -84,10 +103,7 @@ fn program<'a>(alloc: Global) -> Result<Command<'a>, AllocError>
     let program = Command::new(alloc, "cgrlist")
         .about("Lists every feasible route of a contact plan from one node to another, best first")
         .version(VERSION)
-        .after_help(
-            "Status: 0 done, 1 the answer is no, 2 the words are refused or ask for help, 3 the plan is refused, 4 the session
-or a line of requests or lists is refused, 5 a file can't be opened, read, made or written, 6 no memory. docs/cgrlist.1 is the manual page.",
-        )
+        .after_help(AFTER_HELP)
         .bin_name("cgrlist")?
         .no_binary_name(true)
         .subcommand_required(true);

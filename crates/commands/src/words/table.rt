@@ -25,7 +25,7 @@ pub const PLAN: Word = Word {
 pub const FROM: Word = Word {
     name: "from",
     form: "NODE",
-    help: "Source: a node, 1 to 18446744073709551615",
+    help: "Source: a node from 1 to 18446744073709551615",
     required: true,
 };
 
@@ -33,7 +33,7 @@ pub const FROM: Word = Word {
 pub const TO: Word = Word {
     name: "to",
     form: "NODE",
-    help: "Destination: another node, 1 to 18446744073709551615",
+    help: "Destination: another node from 1 to 18446744073709551615",
     required: true,
 };
 
@@ -41,7 +41,7 @@ pub const TO: Word = Word {
 pub const AT: Word = Word {
     name: "at",
     form: "yyyy/mm/dd-hh:mm:ss",
-    help: "When the bundle is at the source, UTC: years 1970 to 9998",
+    help: "When the bundle is at the source: UTC, years 1970 to 9998",
     required: true,
 };
 
@@ -49,7 +49,7 @@ pub const AT: Word = Word {
 pub const MARGIN_PPM: Word = Word {
     name: "margin-ppm",
     form: "PPM",
-    help: "Margin on each light time, in parts in a million of it, rounded up to seconds: 0 to 1000000; 0 if not given",
+    help: "Margin on each light time, in ppm, rounded up: 0 (default) to 1000000",
     required: false,
 };
 
@@ -57,7 +57,7 @@ pub const MARGIN_PPM: Word = Word {
 pub const MAX_HOPS: Word = Word {
     name: "max-hops",
     form: "HOPS",
-    help: "Routes of at most so many contacts: 1 to 20000; 20000 if not given",
+    help: "The most contacts of a route: 1 to 20000 (default)",
     required: false,
 };
 
@@ -65,7 +65,7 @@ pub const MAX_HOPS: Word = Word {
 pub const AVOID: Word = Word {
     name: "avoid",
     form: "NODE,NODE..",
-    help: "Nodes that no route passes: 1 to 16, rising, neither source nor destination among them",
+    help: "Nodes that no route visits, ascending: 1 to 16, without --from and --to",
     required: false,
 };
 
@@ -73,7 +73,7 @@ pub const AVOID: Word = Word {
 pub const COUNT: Word = Word {
     name: "count",
     form: "COUNT",
-    help: "How many routes: 1 to 10000",
+    help: "The most routes to print: 1 to 10000",
     required: true,
 };
 
@@ -81,7 +81,7 @@ pub const COUNT: Word = Word {
 pub const CONTACTS: Word = Word {
     name: "contacts",
     form: "NUMBER,NUMBER..",
-    help: "Contacts in the order in which they are taken: numbers from 1 to 4294967295",
+    help: "Contact numbers, 1 to 4294967295, in the order of use",
     required: true,
 };
 
@@ -89,7 +89,7 @@ pub const CONTACTS: Word = Word {
 pub const REQUESTS: Word = Word {
     name: "requests",
     form: "FILE",
-    help: "The requests: a line FROM TO TIME each, or with PPM, HOPS, NODES after it",
+    help: "The requests, each on a line",
     required: true,
 };
 
@@ -97,7 +97,7 @@ pub const REQUESTS: Word = Word {
 pub const LISTS: Word = Word {
     name: "lists",
     form: "FILE",
-    help: "The lists: a line NUMBERS FROM TO TIME each, or with PPM, HOPS, NODES after it",
+    help: "The lists of contacts, each on a line with its request",
     required: true,
 };
 
@@ -105,7 +105,7 @@ pub const LISTS: Word = Word {
 pub const SESSION: Word = Word {
     name: "session",
     form: "FILE",
-    help: "The session that a page left, written by --session-out",
+    help: "The session text that an earlier run wrote",
     required: true,
 };
 
@@ -113,6 +113,6 @@ pub const SESSION: Word = Word {
 pub const SESSION_OUT: Word = Word {
     name: "session-out",
     form: "FILE",
-    help: "Where to leave the session after the page: a file that isn't there",
+    help: "A new file for the session text; one that exists stays as it is",
     required: false,
 };
