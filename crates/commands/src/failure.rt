@@ -38,7 +38,7 @@ pub enum Failure {
     /// The line of requests of this number is bad.
     RequestsLine(u32, LineKind),
     /// The reader of the requests failed.
-    LinesRead,
+    RequestsRead,
     /// The file of lists can't be opened.
     CannotOpenLists,
     /// The line of lists of this number is bad.
@@ -67,7 +67,7 @@ impl Failure {
             }
             Failure::PlanRead | Failure::SessionRead | Failure::Write => Status::Io,
             Failure::RequestsLine(_, _) | Failure::ListsLine(_, _) => Status::Session,
-            Failure::CannotOpenRequests | Failure::LinesRead => Status::Io,
+            Failure::CannotOpenRequests | Failure::RequestsRead => Status::Io,
             Failure::CannotOpenLists | Failure::ListsRead => Status::Io,
             Failure::NoMemory => Status::Memory,
             Failure::NotUtf8 => Status::Usage,
@@ -80,7 +80,7 @@ impl Failure {
     {
         match (form, fault) {
             (_, LinesFault::NoMemory) => Failure::NoMemory,
-            (LineForm::Requests, LinesFault::Read) => Failure::LinesRead,
+            (LineForm::Requests, LinesFault::Read) => Failure::RequestsRead,
             (LineForm::Requests, LinesFault::Line(line, kind)) => {
                 Failure::RequestsLine(line, kind)
             }

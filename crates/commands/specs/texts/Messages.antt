@@ -89,7 +89,7 @@ line_kind_text request.BadLine = codes "BadLine"
 
 -- the failure that refused lines of this form are
 abbrev pub failure_of_lines : LineForm → LinesFault → Failure
-failure_of_lines Requests requests.Read = failure.LinesRead
+failure_of_lines Requests requests.Read = failure.RequestsRead
 failure_of_lines Requests (requests.Line line kind) = failure.RequestsLine line kind
 failure_of_lines Lists requests.Read = failure.ListsRead
 failure_of_lines Lists (requests.Line line kind) = failure.ListsLine line kind
@@ -126,7 +126,7 @@ message_text (failure.Session fault) = session_message fault
 message_text failure.SessionRead = codes "cgrlist: session: read failed\n"
 message_text failure.CannotOpenRequests = codes "cgrlist: cannot open the requests\n"
 message_text (failure.RequestsLine line kind) = line_message (codes "requests") line (line_kind_text kind)
-message_text failure.LinesRead = codes "cgrlist: requests: read failed\n"
+message_text failure.RequestsRead = codes "cgrlist: requests: read failed\n"
 message_text failure.CannotOpenLists = codes "cgrlist: cannot open the lists\n"
 message_text (failure.ListsLine line kind) = line_message (codes "lists") line (line_kind_text kind)
 message_text failure.ListsRead = codes "cgrlist: lists: read failed\n"

@@ -167,17 +167,17 @@ fault_of r = result_err r
 abbrev pub fault_in : LineForm → ℕ → List ℕ → Option LinesFault
 fault_in form n text = fault_of (asked_from form n (lines_in text))
 
--- the lines before this place are good: whatever follows the text, its first bad line is found from there on
+-- the lines before this place are good: with any bytes after the text, its first bad line is found from there on
 pub record IsJudged (form : LineForm) (text : List ℕ) (j : Judged) : Type 0 where
   pub few : j.number ≤ most_lines + 1
   pub within : j.bytes ≤ length text
   pub same : (more : List ℕ) → fault_in form 1 (text ++ more) ≡ fault_in form j.number (drop j.bytes text ++ more)
 
--- whether a line of this number is a bad one, whatever follows these many bytes of it
+-- whether a line of this number is bad once this number of its bytes is read, with any bytes after them
 abbrev pub is_bad_rest : LineForm → ℕ → ℕ → Bool
 is_bad_rest form n bytes = nat_lt (most_bytes form) bytes || (nat_lt 0 bytes && nat_lt most_lines n)
 
--- this is the first bad line of a text, whatever follows it
+-- this is the first bad line of a text, with any bytes after it
 abbrev pub IsRefused : LineForm → List ℕ → LinesFault → Type 0
 IsRefused form text fault = (more : List ℕ) → fault_in form 1 (text ++ more) ≡ Some fault
 

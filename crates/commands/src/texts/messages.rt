@@ -158,7 +158,7 @@ fn write_message<W: Write>(writer: &mut W, failure: Failure) -> Result<(), Write
         Failure::RequestsLine(line, kind) => {
             write_line(writer, "requests", line as u128, line_kind_text(kind))
         }
-        Failure::LinesRead => write_text(writer, b"cgrlist: requests: read failed\n"),
+        Failure::RequestsRead => write_text(writer, b"cgrlist: requests: read failed\n"),
         Failure::CannotOpenLists => write_text(writer, b"cgrlist: cannot open the lists\n"),
         Failure::ListsLine(line, kind) => {
             write_line(writer, "lists", line as u128, line_kind_text(kind))

@@ -62,7 +62,7 @@ fn fault_at(form: LineForm, number: u32, line: &[u8]) -> Option<LineKind>
     }
 }
 
-/// Whether the line of this number is a bad one, whatever follows these many bytes of it.
+/// Whether the line of this number is bad once this number of its bytes is read, with any bytes after them.
 fn is_bad_rest(form: LineForm, number: u32, bytes: usize) -> bool
     ensures { result ≡ is_bad_rest form number bytes }
 {
@@ -73,8 +73,8 @@ fn is_bad_rest(form: LineForm, number: u32, bytes: usize) -> bool
 ///
 /// # Errors
 ///
-/// The first bad line of the text, whatever follows: one that ends with LF, or the one after these, if it is too long
-/// or comes after the last that a text may have.
+/// The first bad line of the text, which no later byte can change: a line that ends with LF, or the line after these,
+/// if it is too long or comes after the last line that a text may have.
 fn judge(form: LineForm, text: &[u8], before: Judged) -> Result<Judged, LinesFault>
     requires { IsJudged form text.now before }
     ensures judged { IfOk result (IsJudged form text.now) }

@@ -15,8 +15,8 @@ returns-in-CannotOpenPlan g c = rw c.in-CannotOpenPlan.is c.write_text-in-Cannot
 pub returns-in-CannotOpenRequests : goal.returns-in-CannotOpenRequests
 returns-in-CannotOpenRequests g c = rw c.in-CannotOpenRequests.is c.write_text-in-CannotOpenRequests.ensures
 
-pub returns-in-LinesRead : goal.returns-in-LinesRead
-returns-in-LinesRead g c = rw c.in-LinesRead.is c.write_text-in-LinesRead.ensures
+pub returns-in-RequestsRead : goal.returns-in-RequestsRead
+returns-in-RequestsRead g c = rw c.in-RequestsRead.is c.write_text-in-RequestsRead.ensures
 
 pub returns-in-CannotOpenLists : goal.returns-in-CannotOpenLists
 returns-in-CannotOpenLists g c = rw c.in-CannotOpenLists.is c.write_text-in-CannotOpenLists.ensures
