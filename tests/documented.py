@@ -1,11 +1,12 @@
 """Runs the commands that the documents show, and compares what they print with the answers shown below them.
 
 In a Markdown file, a fence marked `sh` holds commands. If the next fence has no mark, it is their answer, all that they
-print but how far they are. Otherwise what they print isn't compared. In the manual page a line of a display that begins with `$ ` is a
-command, and the lines below it are its answer. Each must end with status 0. The commands of a document run in their
-order, in a folder of its own that holds what they name of the clone; if only some are asked for, those before them run,
-too, and aren't checked. The lines that docs/formats.md shows for refusals are tried, too. A check is named after its
-command's document and line, and after the command's first words.
+print but how far they are. Otherwise what they print isn't compared. In the manual page a line of a display that begins
+with `$ ` is a command, and the lines below it are its answer; so it is in the help that tests/data/rows/help.txt shows.
+Each must end with status 0. The commands of a document run in their order, in a folder of its own that holds what they
+name of the clone; if only some are asked for, those before them run, too, and aren't checked. The lines that
+docs/formats.md shows for refusals are tried, too. A check is named after its command's document and line, and after the
+command's first words.
 """
 
 import glob
@@ -17,7 +18,10 @@ import sys
 
 from checking import TOP, Room, checks_of, without_progress
 
-DOCUMENTS = ["README.md", "examples/README.md", "examples/scripts.md", "docs/formats.md", "docs/proved.md", "docs/cgrlist.1"]
+DOCUMENTS = [
+    "README.md", "examples/README.md", "examples/scripts.md", "docs/formats.md", "docs/proved.md", "docs/cgrlist.1",
+    "tests/data/rows/help.txt",
+]
 NAMED = ["examples", "tools", "docs", "tests", "install"]  # what commands name of the clone
 SOURCES = ["src", "specs", "proofs"]  # the folders of a crate that commands read
 SECONDS = 300
@@ -63,6 +67,13 @@ def manual_commands(text):
             yield first + inside.count("\n", 0, it.start()), it[1], it[2]
 
 
+def help_commands(text):
+    """Each command of the help that rows of runs show, with its line and its answer."""
+    for it in re.finditer(r"^    \\x20 \$ (.*\n)((?:    \\x20 (?!\$ ).*\n)*)", text, re.M):
+        command, answer = (part.replace(r"    \x20 ", "").replace(r"\\", "\\") for part in it.groups())
+        yield text.count("\n", 0, it.start()) + 1, command, answer
+
+
 def refusal_commands(text):
     """For each plan that the table of refusals shows, a command that reads it, and the message of its kind."""
     table = text.partition("\n## Refusals and their repair\n")[2]
@@ -75,7 +86,7 @@ def refusal_commands(text):
 
 def commands_of(document, text):
     if not document.endswith(".md"):
-        return [*manual_commands(text)]
+        return [*(help_commands if document.endswith(".txt") else manual_commands)(text)]
     return [*markdown_commands(text), *refusal_commands(text)]
 
 
