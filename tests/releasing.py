@@ -100,7 +100,8 @@ class Clones(Apart):
         if shutil.which(CROSS):
             self.compile(library, "arm-library.o", CROSS)
         os.mkdir(f"{self.kit}/c")
-        for archive, made in (("a", "library.o"), ("arm-a", "arm-library.o"), ("c/liblibc_c.a", "heap.pic.o"), ("c/libos_c.a", "heap.pic.o")):
+        archives = {"a": "library.o", "arm-a": "arm-library.o", "c/liblibc_c.a": "heap.pic.o", "c/libos_c.a": "heap.pic.o"}
+        for archive, made in archives.items():
             if os.path.exists(f"{self.kit}/{made}"):
                 self.run("ar rcsD", [f"{self.kit}/{archive}", f"{self.kit}/{made}"])
         shutil.copy(f"{TOP}/examples/relay.txt", self.path)
@@ -132,7 +133,8 @@ def proved_names():
     """The functions that the crate of the library exports."""
     header = f"{TOP}/library/proved.h" if os.path.exists(f"{TOP}/library/proved.h") else f"{TOP}/library/cgrlist.h"
     with open(header, encoding="ascii") as file:
-        return [it.replace("cgrlist_proved_", "cgrlist_") for it in re.findall(r"^(?:uint32_t|size_t|void) (cgrlist_[a-z_]+)", file.read(), re.M)]
+        found = re.findall(r"^(?:uint32_t|size_t|void) (cgrlist_[a-z_]+)", file.read(), re.M)
+    return [it.replace("cgrlist_proved_", "cgrlist_") for it in found]
 
 
 # ---- What is made -----------------------------------------------------------------------------------------------
@@ -150,9 +152,10 @@ def what_is_made(room):
     yield "the sums are those of the files", 0, lambda: room.run("sha256sum --check --quiet SHA256SUMS", at=dist).status
     yield "it prints them", room.read("one/dist/SHA256SUMS"), lambda: made.out
     proof = room.read("one/dist/PROOF")
-    yield "PROOF has the commit", room.run("git rev-parse HEAD", at=room.first).out.strip(), lambda: re.search(r"^commit (\w+)", proof, re.M)[1]
-    yield "PROOF has the verdicts of program, library and page, without what was taken in one run", [
-        "logic=proved functions=1", "logic=proved functions=1"], lambda: [it.strip() for it in re.findall("^    logic=proved .*=1$", proof, re.M)]
+    yield "PROOF has the commit", room.run("git rev-parse HEAD", at=room.first).out.strip(), lambda: (
+        re.search(r"^commit (\w+)", proof, re.M)[1])
+    yield "PROOF has the verdicts of program and library, without what was taken in one run", 2, lambda: len(
+        re.findall("^    logic=proved functions=1$", proof, re.M))
     summing = re.search("^    (find .*)$", proof, re.M)[1].replace("CRATE", "sabr_plan")
     yield "PROOF has the sum that it says how to make", re.search(r"^    sabr_plan .*  (\w+)$", proof, re.M)[1], lambda: (
         room.run("bash -c", [summing], at=room.first).out.split(" ")[0])
@@ -216,8 +219,9 @@ def what_is_refused(room):
         clone, "--draft", PATH="/usr/bin:/bin").all()
     os.mkdir(f"{room.path}/mine")
     room.file("mine/thesis")
-    yield "a folder with something else", (f"release: {room.path}/mine has something else than a release; it isn't replaced\nstatus 1", ["thesis"]), \
-        lambda: (room.release(clone, "--draft", "--into", f"{room.path}/mine").all(), os.listdir(f"{room.path}/mine"))
+    message = f"release: {room.path}/mine has something else than a release; it isn't replaced\nstatus 1"
+    yield "a folder with something else", (message, ["thesis"]), lambda: (
+        room.release(clone, "--draft", "--into", f"{room.path}/mine").all(), os.listdir(f"{room.path}/mine"))
     room.run("cp cgrlist other", at=f"{room.path}/one/crates/cgrlist/out")
     with open(f"{room.first}/crates/cgrlist/out/cgrlist", "ab") as file:
         file.write(b"another program")
@@ -255,7 +259,8 @@ def full_disks(room):
     os.mkdir(small)
     mount = f'mount -t tmpfs -o size=$1 none "{small}" || exit 9; shift; "$@"; echo $?; ls -A "{small}"'
     for size in ("100k", "1500k", "3000k"):
-        ran = room.run("unshare -rm sh -c", [mount, "sh", size, f"{room.first}/release", "--draft", "--into", f"{small}/dist"], **room.around())
+        words = [f"{room.first}/release", "--draft", "--into", f"{small}/dist"]
+        ran = room.run("unshare -rm sh -c", [mount, "sh", size, *words], **room.around())
         if ran.status == 9 or "unshare" in ran.err:
             told("full disks are left out: unshare mounts none here")
             return
@@ -270,13 +275,15 @@ def files_of_others(room):
     clone = room.first
     refused = room.release(clone, "--draft", by=NOBODY, HOME=room.home)
     advice = f"git config --global --add safe.directory {clone}/.git && git clone {clone}"
-    yield "a clone of another user", f"release: you can't write to {clone}, which is root's. Make a clone of your own: {advice}\nstatus 1", refused.all
+    message = f"release: you can't write to {clone}, which is root's. Make a clone of your own: {advice}\nstatus 1"
+    yield "a clone of another user", message, refused.all
     room.run("chown 65534:65534", [room.home])
     cloned = room.run(NOBODY, "sh -c", [advice], at=room.home, HOME=room.home)
     yield "what it says to do makes a clone", (0, True), lambda: (cloned.status, os.path.exists(f"{room.home}/one/release"))
     out = f"{room.home}/one/crates/cgrlist/out"
     os.mkdir(out)
-    yield "what another user made in the clone", f"release: you can't write to {out}, which is root's. Let root remove it\nstatus 1", lambda: (
+    message = f"release: you can't write to {out}, which is root's. Let root remove it\nstatus 1"
+    yield "what another user made in the clone", message, lambda: (
         room.release(f"{room.home}/one", "--draft", by=NOBODY, HOME=room.home).all())
     place = f"{room.path}/another folder"
     refused = room.release(place, "--draft", "--into", f"{room.path}/mine/dist", by=NOBODY, HOME=room.home)
