@@ -27,9 +27,8 @@ def told(note):
 class Released(Apart):
     """A release, and where it is tried."""
 
-    def __init__(self, program):
+    def __init__(self):
         super().__init__()
-        self.program = program
         self.dist = f"{self.path}/dist"
         shutil.copy(f"{TOP}/examples/relay.txt", self.path)
         words = [f"{TOP}/release", "--draft", "--into", self.dist]
@@ -151,5 +150,5 @@ def checks(asked):
     if asked.trials or not is_proved():
         told("what is made is left out: " + ("a trial isn't released" if asked.trials else "./cgrlist --prove and library/build come first"))
         return
-    yield from checks_of("release", Released(asked.program("cgrlist")), [
+    yield from checks_of("release", Released(), [
         what_is_made, the_same_bytes, the_archive, the_wheel, the_packages, the_rows_of_tests, roots])

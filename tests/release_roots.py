@@ -10,7 +10,6 @@ import base64
 import glob
 import hashlib
 import os
-import re
 import shutil
 import subprocess
 import tempfile
@@ -116,7 +115,8 @@ def wheel_before(path, into):
                 data = data.replace(f"Version: {version}".encode(), f"Version: {BEFORE}".encode())
             if not info.filename.endswith("RECORD"):
                 before.writestr(info, data)
-                rows.append(f"{info.filename},sha256={base64.urlsafe_b64encode(hashlib.sha256(data).digest()).decode().rstrip('=')},{len(data)}\n")
+                digest = base64.urlsafe_b64encode(hashlib.sha256(data).digest()).decode().rstrip("=")
+                rows.append(f"{info.filename},sha256={digest},{len(data)}\n")
         record = f"{name}-{BEFORE}.dist-info/RECORD"
         before.writestr(record, "".join([*rows, f"{record},,\n"]))
 
@@ -137,8 +137,8 @@ def archive_before(path, into):
 def each_tool(root, where, folder=""):
     """The first answer, in a second, and each tool, of what is installed in a folder or in the path."""
     began = time.monotonic()
-    yield f"the first answer {where}", f"{FIRST}at once", lambda: (
-        root.by_user(f"{folder}cgrlist first --plan relay.txt {ASKED}").all() + "\n" + ("at once" if time.monotonic() - began < 1 else "late"))
+    yield f"the first answer {where}", (FIRST, True), lambda: (
+        root.by_user(f"{folder}cgrlist first --plan relay.txt {ASKED}").out, time.monotonic() - began < 1)
     for tool, (words, wanted) in ANSWERS.items():
         yield f"cgrlist-{tool} {where}", "", answered, root.by_user(f"{folder}cgrlist-{tool} {words}"), wanted
 
@@ -147,18 +147,20 @@ def the_packages(root):
     before = root.files()
     words = "apt-get install --quiet --quiet --yes ./cgrlist_*_amd64.deb ./libcgrlist*_amd64.deb"
     first = root.run(f"cd /release/before && {words}")
-    yield "the packages are installed", (0, f"{BEFORE}-1"), lambda: (first.status, root.run("dpkg-query -f '${Version}' -W cgrlist").out or first.all())
+    yield "the packages are installed", (0, f"{BEFORE}-1"), lambda: (
+        first.status, root.run("dpkg-query -f '${Version}' -W cgrlist").out or first.all())
     yield "the version before has files that are no more", True, lambda: any("no-more" in it for it in root.files())
     ran = root.run(f"cd /release && {words}")
-    yield "they are upgraded", (0, 3), lambda: (ran.status, len(re.findall("^Unpacking .* over ", ran.out, re.M)) or ran.all())
+    yield "they are upgraded", (0, 3), lambda: (ran.status, ran.out.count("\nUnpacking ") or ran.all())
     yield "then these files are gone", False, lambda: any("no-more" in it for it in root.files())
-    root.by_user("cp /usr/share/doc/cgrlist/examples/relay.txt /usr/share/doc/cgrlist/examples/a.txt /usr/share/doc/cgrlist/examples/router.c .")
+    root.by_user("cd /usr/share/doc/cgrlist/examples && cp relay.txt a.txt router.c ~")
     yield from each_tool(root, "of the packages")
     yield "man cgrlist", "", lambda: answered(root.by_user("man cgrlist && man 3 cgrlist && man cgrlist-report"), "EXIT STATUS")
     yield "a completion", "verify\n", lambda: root.by_user(f". /usr/share/bash-completion/completions/cgrlist; {COMPLETED}").out
     made = "cc router.c $(pkg-config --cflags --libs cgrlist) -o router && ./router a.txt 1 3 1893456000"
     yield "a program in C", "", lambda: answered(root.by_user(made), ROUTED)
-    yield "the tools answer in process", "InProcess (4, 11, 2)", lambda: root.by_user(f"PYTHONPATH=/usr/share/cgrlist python3 -B -c '{IN_PROCESS}'").all()
+    yield "the tools answer in process", "InProcess (4, 11, 2)", lambda: (
+        root.by_user(f"PYTHONPATH=/usr/share/cgrlist python3 -B -c '{IN_PROCESS}'").all())
     root.run("apt-get purge --quiet --quiet --yes cgrlist 'libcgrlist*'")
     yield "purging leaves nothing", [], lambda: sorted({*root.files()} ^ {*before})
 
@@ -167,7 +169,7 @@ def the_wheel(root):
     root.by_user("python3 -m venv e")
     before, words = root.files("home/somebody"), "e/bin/pip install --no-index --disable-pip-version-check --quiet --upgrade"
     yield "pip installs the wheel", "", lambda: root.by_user(f"{words} /release/before/*.whl").all()
-    yield "it is upgraded", ("", 0), lambda: (root.by_user(f"{words} /release/*.whl").all(), root.by_user("find e -name 'no_more*' | wc -l").out.strip() != "0")
+    yield "it is upgraded", "0\n", lambda: root.by_user(f"{words} /release/*.whl && find e -name 'no_more*' | wc -l").all() + "\n"
     yield from each_tool(root, "of the wheel", "e/bin/")
     yield "it answers in process", "InProcess (4, 11, 2)", lambda: root.by_user(f"e/bin/python -B -c '{IN_PROCESS}'").all()
     root.by_user("e/bin/pip uninstall --yes --quiet cgrlist")
@@ -184,8 +186,9 @@ def the_archive(root):
     yield "an upgrade takes away what is no more", False, os.path.lexists, f"{root.path}/home/somebody/.local/bin/cgrlist-no-more"
     yield from each_tool(root, "of the archive")  # ~/.profile has the folder in the path, now that it is there
     yield "man cgrlist of the archive", "", lambda: answered(root.by_user("man cgrlist"), "EXIT STATUS")
-    made = "cc router.c $(PKG_CONFIG_PATH=.local/lib/pkgconfig pkg-config --cflags --libs cgrlist) -o r && LD_LIBRARY_PATH=.local/lib ./r a.txt 1 3 1893456000; rm r"
-    yield "a program in C over the archive", "", lambda: answered(root.by_user(made), ROUTED)
+    made = "cc router.c $(PKG_CONFIG_PATH=.local/lib/pkgconfig pkg-config --cflags --libs cgrlist) -o r"
+    yield "a program in C over the archive", "", lambda: (
+        answered(root.by_user(f"{made} && LD_LIBRARY_PATH=.local/lib ./r a.txt 1 3 1893456000; rm r"), ROUTED))
     yield "`install --uninstall`", 0, lambda: root.by_user("cgrlist-*/install --uninstall ~/.local").status
     yield "uninstalling leaves nothing", [], lambda: sorted({*root.files("home/somebody")} ^ {*before})
     yield "the program runs where nothing else is", FIRST, lambda: alone_in_a_root(glob.glob(f"{root.path}/home/somebody/cgrlist-*")[0])
