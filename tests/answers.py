@@ -140,9 +140,6 @@ def latest_seconds(room):
 def versions_and_environments(room):
     for tool in TOOLS:
         yield f"the version of {tool}", f"{tool} 1.2.0", lambda: room.run(f"tools/{tool} --version").all()
-    for name, place in (("cgrlist-from-ionrc", f"{TOP}/tools/from_ionrc"), ("mine", f"{TOP}/tools/report"), ("others", "mine")):
-        os.symlink(place, f"{room.path}/{name}")
-        yield f"a link {name} to a tool", f"{name} 1.2.0", lambda: room.run([f"{room.path}/{name}"], "--version").all()
     by_environment = {"CGRLIST_PLAN": f"{TOP}/examples/relay.txt", "CGRLIST_NAMES": room.names[1], "CGRLIST": room.program}
     yield ("plan, names and program by the environment", "lander > relay high > 12 > 1", lambda: parts_of("lander.*", room.run(
         f"tools/report --from lander --to 1 --at {DAY}-00:45:00 --count 1", **by_environment).all()))
