@@ -20,7 +20,6 @@ from itertools import groupby
 
 from checking import SECONDS, TOP, Room, checks_of, differing, last_of, lines_with, parts_of, unlike, without_progress
 
-TOOLS = ("check", "compare", "from_ionrc", "latest", "report", "timeline", "timetable")
 DAY = "2030/01/01"
 RELAY_DIGEST = "1742355ab40bb9304358b80eea1f07137fa6c7a830d70d3ebaadf26f2add99e2"
 NAMES = "# the names of the nodes\n31 lander\n22 relay high\n"
@@ -138,8 +137,9 @@ def latest_seconds(room):
 
 
 def versions_and_environments(room):
-    for tool in TOOLS:
-        yield f"the version of {tool}", f"{tool} 1.2.0", lambda: room.run(f"tools/{tool} --version").all()
+    for tool in sorted(os.listdir(f"{TOP}/tools")):
+        if tool not in ("cgrlist", "manual_pages", "mutations", "refusals.py", "reference", "pyproject.toml", "completions", "wheel.py"):
+            yield f"the version of {tool}", f"{tool} 1.2.0", lambda: room.run(f"tools/{tool} --version").all()
     by_environment = {"CGRLIST_PLAN": f"{TOP}/examples/relay.txt", "CGRLIST_NAMES": room.names[1], "CGRLIST": room.program}
     yield ("plan, names and program by the environment", "lander > relay high > 12 > 1", lambda: parts_of("lander.*", room.run(
         f"tools/report --from lander --to 1 --at {DAY}-00:45:00 --count 1", **by_environment).all()))
@@ -161,7 +161,7 @@ def versions_and_environments(room):
 
 def help_of_tools(room):
     """The examples of each tool's help print what stands below them, and its lines have room in a narrow terminal, but for examples."""
-    for tool in TOOLS:
+    for tool in ("check", "compare", "from_ionrc", "latest", "report", "timeline", "timetable"):
         told, examples, ends = re.split(r"\nExamples:\n|\nExit status:\n", room.run(f"tools/{tool} --help", COLUMNS="80").out)
         yield f"{tool}: no line of help is too long", [], lambda: [it for it in (told + ends).splitlines() if len(it) > 84]
         for command, answer in re.findall(r"^\$ (.*)\n((?:(?!\$ ).*\n)*)", textwrap.dedent(examples), re.M):
@@ -713,7 +713,7 @@ def standard_error_and_memory(room):
             "python3 -B -c", [f"{runs}; run_tool(lambda: (_ for _ in ()).throw({error}))"]).all()
     os.mkdir(f"{room.path}/early")
     room.file("early/argparse.py", "import os, signal\nos.kill(os.getpid(), signal.SIGINT)\n")
-    for tool in TOOLS:
+    for tool in ("check", "compare", "from_ionrc", "latest", "report", "timeline", "timetable"):
         yield f"Ctrl-C while {tool} begins", (-signal.SIGINT, ""), lambda: (lambda ran: (ran.status, ran.all().removesuffix("status -2")))(
             room.run(f"env --default-signal=INT tools/{tool} --help", PYTHONPATH=f"{room.path}/early"))
 
