@@ -14,11 +14,12 @@ and a page at most 1000 routes, unless --all is given.
 
 The page is the program: one file that any browser opens, without a network,
 and that answers any request over any plan. It begins with the plan and the
-question of the command line, and their answers. A browser that can't run
-the program shows these. A click on a contact shows the best route without it. You can mark more contacts, or
-nodes, as lost. The timetable below the picture asks for at most 1024 start
-times. Between two of them with the same route and delivery, the answer is the
-same. `?` lists the keys, and the address keeps what is chosen.
+question of the command line, and their answers. A browser that can't run the
+program shows these. A click on a contact shows the best route without it. You
+can mark more contacts, or nodes, as lost. The timetable below the picture asks
+for at most 1024 start times. Between two of them with the same route and
+delivery, the answer is the same. `?` lists the keys, and the address keeps
+what is chosen.
 
 Examples:
 
