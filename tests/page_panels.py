@@ -85,7 +85,7 @@ def saved(it, room, panel, label, name):
     it.command("Browser.setDownloadBehavior", behavior="allow", downloadPath=room.path)
     press(it, panel, label)
     until = time.monotonic() + SECONDS
-    while not os.path.exists(path) and time.monotonic() < until:
+    while not (os.path.exists(path) and os.path.getsize(path)) and time.monotonic() < until:  # it is empty at first
         time.sleep(0.05)
     return room.read(name)
 
