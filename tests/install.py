@@ -248,7 +248,7 @@ def with_the_library(room):
 
 def what_fails(room):
     ran = room.install("--help")
-    yield ("help, and no more", (0, "usage: ./install [--uninstall] [PREFIX]", "Status: 0 done"),
+    yield ("help, and no more", (0, "usage: ./install [--uninstall | --library] [PREFIX]", "Status: 0 done"),
            lambda: (ran.status, ran.out.partition("\n")[0], last_of(ran.out).partition(",")[0]))
     for words, message in (
         ("usr", "PREFIX must begin with /: usr"), ("--prefix=/usr", "PREFIX must begin with /: --prefix=/usr"),
