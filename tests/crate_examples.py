@@ -1,5 +1,8 @@
-"""Runs the examples in the comments of the crates. Each becomes the body of a test in a crate beside a copy of them, which
-`rt try --test` compiles, without a proof. An example with a false assertion must fail."""
+"""Compiles and runs the examples in the comments of the crates, in fences marked `ignore`, without a proof.
+
+Each is the body of a test in a further crate, which `rt try --test` compiles beside a copy of the crates. A table says what
+an example takes for granted, such as a plan, and what holds after it. One is also tried with a false answer, and must fail.
+"""
 
 import functools
 import glob
