@@ -1,8 +1,9 @@
 """What a release is compiled from: proves the crates, in a folder that has no others, and compiles them.
 
 First `rt ci` proves the program, and all crates below it and the library; what it has proved on this machine it takes over.
-Then the prover proves the program's own crate once more, and the library's, and compiles each. What was compiled is kept in
-the crates' `out`, with a record of its sources, and serves again while these are the same.
+After an `rt ci` of the whole clone, as in ./test, its libraries serve instead. Then the prover proves the program's own crate
+once more, and the library's, and compiles each. What was compiled is kept in the crates' `out`, with a record of its sources,
+and serves again while these are the same.
 """
 
 import hashlib
@@ -132,6 +133,18 @@ def copy_crate(crate, room):
             shutil.copy(f"{folder}/{name}", f"{room}/crates/{crate}")
 
 
+def take_proved(room):
+    """Copies the crates and the libraries that `rt ci` has left in this clone into a folder. A source that is newer stops it."""
+    for crate in proved_by_ci():
+        copy_crate(crate, room)
+        made = f"{TOP}/crates/{crate}/out/{'cgrlist' if crate == 'cgrlist' else 'rlib'}"
+        newer = ["find", *(it for it in sources_of(crate) if os.path.exists(it)), "-newer", made, "-print", "-quit"]
+        if not os.path.exists(made) or said_by(*newer):
+            raise Failed(f"`rt ci` hasn't proved crates/{crate} as it stands")
+        if crate != "cgrlist":
+            shutil.copytree(made, f"{room}/crates/{crate}/out/rlib")
+
+
 def prove(room):
     """Proves crates in a folder, as a repository of its own."""
     uses = uses_of()
@@ -218,8 +231,9 @@ class Compiled:
         os.utime(self.path)
 
 
-def compile_all(kit, targets):
-    """Compiles what isn't compiled yet: the program, and the library for each target."""
+def compile_all(kit, targets, is_proved=False):
+    """Compiles what isn't compiled yet: the program, and the library for each target. `is_proved` says that an `rt ci` of this
+    clone has just passed."""
     program, *libraries = wanted = [Compiled(kit, "cgrlist"), *(Compiled(kit, "libcgrlist", it) for it in targets)]
     if not libraries[0].record():
         libraries[0].adopt()
@@ -229,10 +243,10 @@ def compile_all(kit, targets):
         open(LOG, "w", encoding="utf-8").close()
         print(f"release: proving and compiling {', '.join(f'{it.crate} for {it.target}' for it in lacking)}; the log is {LOG}", file=sys.stderr)
         with tempfile.TemporaryDirectory() as room:
-            prove(room)
+            (take_proved if is_proved else prove)(room)
             for it in lacking:
                 it.compile(room)
-            if program in lacking:
+            if program in lacking and not is_proved:
                 leave_program(room)
     libraries[0].tell_library_build()
     return wanted

@@ -32,6 +32,7 @@ if [ -e "$ROOM/slow" ]; then
     : >"$ROOM/waiting"
     while :; do sleep 0.1; done
 fi
+pwd >>"$ROOM/proving"
 for crate in crates/*; do
     mkdir -p "$crate/out/rlib/${crate#*/}.rlib/toolchain"
     echo '[["f"], ["f::fn::0"]]' >"$crate/out/rlib/${crate#*/}.rlib/toolchain/mir.json"
@@ -178,6 +179,23 @@ def the_same_bytes(room):
     ran = room.run(by, mask, [f"{other}/release", "--draft"], at=room.path, **room.around(
         TZ="Asia/Kolkata", LC_ALL="C.UTF-8", HOME=room.home, SOURCE_DATE_EPOCH="1", COLUMNS="40"))
     yield "another clone makes the same bytes", (0, room.read("one/dist/SHA256SUMS")), lambda: (ran.status, ran.out or ran.err)
+
+
+def after_the_gate(room):
+    """After an `rt ci` of a clone, program and library are compiled over its libraries, and no other `rt ci` runs."""
+    clone = room.clone("gated")
+    refused = f"release: `rt ci` hasn't proved crates/sabr_model as it stands\nstatus 1"
+    yield "before the gate", refused, lambda: room.release(clone, "--compile").all().partition("\n")[2]
+    room.run("rt ci", at=clone, **room.around())
+    room.file("proving")
+    yield "it compiles", 0, lambda: room.release(clone, "--compile").status
+    made = room.release(clone, "--draft")
+    yield "then a release compiles nothing", (0, ""), lambda: (made.status, made.err)
+    yield "nothing was proved anew", "", room.read, "proving"
+    room.run("touch", [f"{clone}/crates/sabr_plan/src/lib.rt"])
+    os.remove(f"{clone}/crates/cgrlist/out/compiled.json")
+    yield "a source that is newer", refused.replace("model", "plan"), lambda: (
+        room.release(clone, "--compile").all().partition("\n")[2])
 
 
 def what_is_made_for_arm(room):
@@ -372,5 +390,5 @@ def checks(_):
             told(f"all is left out: there is no {tool}")
             return
     yield from checks_of("releasing", Clones(), [
-        what_names_the_version, what_is_made, the_same_bytes, what_is_made_for_arm, what_is_refused, what_stops_it, full_disks, files_of_others, the_package,
-        what_install_does])
+        what_names_the_version, what_is_made, the_same_bytes, after_the_gate, what_is_made_for_arm, what_is_refused, what_stops_it, full_disks,
+        files_of_others, the_package, what_install_does])
