@@ -231,7 +231,7 @@ def judging(it, room):
     show(it, "judge")
     wanted, found = judged(it, room, CHOSEN)
     yield "choices of all kinds", wanted, lambda: found
-    yield "the sum", "Of 10 choices 6 are no routes, and 1 delivers after the best.", state, it, "judge"
+    yield "the sum", "Of 10 choices, 6 aren't routes, and 1 delivers after the best.", state, it, "judge"
     rows = table_of(it, ROWS)
     yield "a row", ["3", "2", "2030/01/01-06:27:22", "3 h 40 min", "5 12 2"], lambda: [text.replace("\xa0", " ") for text in rows[2]]
     yield "a row of a fault", ["4", "hop 2: NotChained", "4 12 2"], lambda: rows[3]
@@ -243,7 +243,7 @@ def judging(it, room):
     yield "in words", "Hop 2, contact 12 (low relay → south station): the contact's sender isn't the node where the bundle is", lambda: told.split("\n")[0]
     yield "the hops before", [[str(contact), NAMES[to], send[11:], arrive[11:]] for contact, to, send, arrive in hops], lambda: table_of(it, ".judged .more:not([hidden]) tr")[1:]
     it.run("lateAfter.value = 20000; lateAfter.onchange()")
-    yield "late later", "Of 10 choices 6 are no routes, and 0 deliver more than 5 h 33 min 20 s after the best.", lambda: state(it, "judge").replace("\xa0", " ")
+    yield "late later", "Of 10 choices, 6 aren't routes, and 0 deliver more than 5 h 33 min 20 s after the best.", lambda: state(it, "judge").replace("\xa0", " ")
     it.run("onlyWrong.click()")
     yield "only wrong ones", 6, lambda: len(table_of(it, ROWS)) - 1
     it.run("onlyWrong.click(); lateAfter.value = 0; lateAfter.onchange()")
@@ -276,12 +276,12 @@ def judged_alone(it, room):
         dropped.items.add(new File(["4,11,2"], "dropped.txt"));
         choiceField.area.dispatchEvent(new DragEvent("drop", { dataTransfer: dropped, bubbles: true, cancelable: true }))""")
     yield "a file that is dropped", "4,11,2", waited, it, "choiceField.area.value === '4,11,2' && choiceField.area.value"
-    yield "is no plan", "Of 1 choice 0 are no routes, and 0 deliver after the best.", state, it, "judge"
+    yield "is no plan", "Of 1 choice, 0 aren't routes, and 0 deliver after the best.", state, it, "judge"
     it.run("lose(contactWith.get(4))")
     write(it, "choices", "4,11,2\n5,12,2")
     press(it, "judge", "Judge")
     told = state(it, "judge")
-    yield "a lost contact", "Of 2 choices 1 is no route, and 0 deliver after the best, over the plan without contact 4.", lambda: told
+    yield "a lost contact", "Of 2 choices, 1 isn't a route, and 0 deliver after the best, over the plan without contact 4.", lambda: told
     yield "then", [["hop 1: NoSuchContact", "4 11 2"], ["1", "2030/01/01-06:27:22", "", "5 12 2"]], lambda: [row[1:] for row in table_of(it, ROWS)[1:]]
     it.run("loseNothing(); change()")
 

@@ -133,13 +133,13 @@ function rankOf({ asked, contacts }, lists, told) {
   return { rank: ranks.get(contacts.join()) ?? `>${look}`, later: told.delivery - best };
 }
 
-// Whether a choice is no route, or delivers more than so many seconds after the best.
+// Whether a choice isn't a route, or delivers more than so many seconds after the best.
 const isWrong = (it, most) => it.later === undefined || it.later > most;
 
 // The sum of judged choices.
 function sumOf(told, most) {
   const none = told.filter((it) => it.later === undefined).length, late = told.filter((it) => it.later > most).length;
-  const are = none === 1 ? "is no route" : "are no routes", limit = most ? `more than ${durationText(most)} after` : "after";
+  const are = none === 1 ? "isn't a route" : "aren't routes", limit = most ? `more than ${durationText(most)} after` : "after";
   const deliver = late === 1 ? "delivers" : "deliver";
-  return `Of ${count(told.length, "choice")} ${none} ${are}, and ${late} ${deliver} ${limit} the best`;
+  return `Of ${count(told.length, "choice")}, ${none} ${are}, and ${late} ${deliver} ${limit} the best`;
 }
