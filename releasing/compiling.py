@@ -1,9 +1,9 @@
 """What a release is compiled from: proves the crates, in a folder that has no others, and compiles them.
 
-First `rt ci` proves the program, and all crates below it and the library; what it has proved on this machine it takes over.
-After an `rt ci` of the whole clone, as in ./test, its libraries serve instead. Then the prover proves the program's own crate
-once more, and the library's, and compiles each. What was compiled is kept in the crates' `out`, with a record of its sources,
-and serves again while these are the same.
+First `rt ci` proves the program, and all crates below it and the library; kit 13f takes over what it has proved before. After
+an `rt ci` of the whole clone, as in ./test, its libraries serve instead. Then the prover proves the program's own crate once
+more, and the library's, and compiles each. What was compiled is kept in the crates' `out`, with a record of its sources, and
+serves again while these are the same.
 """
 
 import hashlib
