@@ -689,6 +689,10 @@ def what_has_no_end(room):
     ):
         yield f"a plan without an end: {title}", f"{told}\nstatus 3", lambda: "\n".join(room.run(
             "bash -c", [f"ulimit -v 2000000; tools/check --plan {given}"]).all().splitlines()[-2:])
+    for title, line in (("no line of a plan", "x" * 200), ("contacts", f"a contact {DAY}-00:00:00 {DAY}-00:00:09 1 2 5")):
+        reads = "import sys; sys.path.insert(0, 'tools'); from cgrlist.reading import plan_bytes; print(len(plan_bytes('-')) < 5_000_000)"
+        yield f"of many lines, no more is read than it takes: {title}", "True", lambda: room.run(
+            "bash -c", [f"yes '{line}' | head -c 300000000 | python3 -B -c \"{reads}\""]).all()
     request = f"--from 31 --to 1 --at {DAY}-00:45:00"
     yield "a request over it", "cgrlist: plan line 1: LineTooLong", lambda: room.told(f"report --plan /dev/zero {request} --count 1").partition("\n")[0]
     for word in ("--names", "--choices", "--requests", "--report"):

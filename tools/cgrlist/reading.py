@@ -9,6 +9,7 @@ from .times import LAST, kept, seconds_of
 from .tool import beginning_of, scratch_with
 
 MOST = 20000  # contacts that a plan can give, and ranges that can stand in it at a time
+MOST_BAD = 10000  # bad lines that are looked for
 LINES = 1000000  # of a plan
 LINE = 255  # bytes of a line
 GREATEST = 2**64 - 1  # node, and rate in bytes in a second
@@ -18,13 +19,29 @@ _PLAIN = re.compile(r"[\t -~]*")
 _RELATIVE = re.compile(r"\+\d{1,12}", re.ASCII)
 _NODE = re.compile(r"[1-9]\d{0,19}", re.ASCII)
 _NUMBER = re.compile(r"0|[1-9]\d{0,19}", re.ASCII)
+_NO_COMMAND = re.compile(rb"\n[^#@ad \t\n]")  # the beginning of a line that is bad by that
+_CONTACT = re.compile(rb"\na[ \t]+contact[ \t]")
 
 
 def plan_bytes(path):
-    """The bytes of a plan's text. Of what has no end, or more than a plan can have, they are the beginning, in which a line is
-    bad, too.
+    """The bytes of a plan's text. A text that has no end, or is longer than a plan can be, is read until one line must be bad.
+    A text in which as many lines are bad as are looked for, by how they begin, is read no further.
     """
-    return beginning_of(path, LINES, LINES * (LINE + 1))[0]
+    return beginning_of(path, LINES, LINES * (LINE + 1), _Counted().is_bad)[0]
+
+
+class _Counted:
+    """How many lines of a text, which comes in pieces, begin with no command, and how many add a contact."""
+
+    def __init__(self):
+        self._last, self._bad, self._contacts = b"\n", 0, 0
+
+    def is_bad(self, piece):
+        """Takes a piece, and returns whether more lines are bad than are looked for."""
+        text, self._last = self._last + piece, piece[-1:]
+        self._bad += len(_NO_COMMAND.findall(text))
+        self._contacts += len(_CONTACT.findall(text))
+        return max(self._bad, self._contacts - MOST) > MOST_BAD
 
 
 def lines_in(data):

@@ -66,16 +66,17 @@ def bytes_of(path, most):
     return data
 
 
-def beginning_of(path, most_lines, most=None):
-    """The bytes of a text, and whether these are all. It is read until it has more than so many lines or bytes, or a line that
-    is longer than a piece, so that what has no end takes no more memory.
+def beginning_of(path, most_lines, most=None, is_bad=lambda piece: False):
+    """The bytes of a text, and whether these are all. It is read until it has more than so many lines or bytes, a line that is
+    longer than a piece, or pieces that a function finds bad, so that what has no end takes no more memory.
     """
     pieces, lines, size = [], 0, 0
     with opened(path) as file:
         while piece := file.read(PIECE):
             pieces.append(piece)
             lines, size = lines + piece.count(b"\n"), size + len(piece)
-            if lines > most_lines or (most and size > most) or (len(piece) == PIECE and b"\n" not in piece):
+            is_long = len(piece) == PIECE and b"\n" not in piece
+            if lines > most_lines or (most and size > most) or is_long or is_bad(piece):
                 return b"".join(pieces), False
     return b"".join(pieces), True
 

@@ -46,7 +46,7 @@ import json
 
 from ..errors import NO_STATUS, PLAN_STATUS, START_STATUS, Refused
 from ..hints import REPAIRS, of_text, shown
-from ..reading import Reader, lines_in, plan_bytes
+from ..reading import MOST_BAD, Reader, lines_in, plan_bytes
 from ..tables import JSON, NUMBER, TIME, WORD, Table, json_of, object_text
 from ..tool import run_tool, tell, waiting
 from ..version import VERSION
@@ -54,7 +54,6 @@ from ..words import Asked, Words, add_form_words, add_names_word, add_other_word
 
 BAD = {"line": NUMBER, "reason": WORD, "other": NUMBER, "text": WORD}
 SHOWN = 1000  # bad lines that a table has
-MOST = 10000  # bad lines that are looked for
 
 
 def parser_of_words():
@@ -89,7 +88,7 @@ def bad_text(bad, how):
 
 def counted(bad, shown=0):
     """How many bad lines there are besides those that are shown."""
-    return f"{'at least ' * (len(bad) == MOST)}{len(bad) - shown}"
+    return f"{'at least ' * (len(bad) == MOST_BAD)}{len(bad) - shown}"
 
 
 def bad_json(bad, how):
@@ -158,7 +157,7 @@ def tool():
     asked = Asked(parser_of_words())
     how, lines = asked.spelling, lines_in(plan_bytes(asked.plan_file))
     with waiting("lines are read"):
-        bad = [*itertools.islice(Reader().bad_lines(lines), MOST)]
+        bad = [*itertools.islice(Reader().bad_lines(lines), MOST_BAD)]
     for hint in of_text(lines, asked.words.plan) if bad else ():
         tell(f"hint: {hint}")
     if bad:
