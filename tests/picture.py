@@ -383,9 +383,13 @@ def a_plot(_):
     drawn = "".join(plot_svg([Stretch(0, 7200, route), Stretch(7201, 86400, None)], "a plot", time_text, str))
     yield "the words come after the grid", True, lambda: drawn.rindex('class="tick"') < drawn.index("no route")
     ground = r'<rect class="band" x="(\S+)" y="(\d+)" width="(\S+)" height="(\d+)"/>\n<text x="(\S+)" y="(\d+)"[^>]*>no route'
-    x, y, width, height, middle, low = map(float, re.search(ground, drawn).groups())
-    inside = x < middle - 28 and middle + 28 < x + width and y < low - 12 and low + 3 < y + height
-    yield "on a ground of their own", True, lambda: inside
+
+    def inside():
+        found = re.search(ground, drawn)
+        x, y, width, height, middle, low = map(float, found.groups()) if found else [0] * 6
+        return x < middle - 28 and middle + 28 < x + width and y < low - 12 and low + 3 < y + height
+
+    yield "on a ground of their own", True, inside
 
 
 def what_is_refused(room):
