@@ -214,6 +214,11 @@ CHOSEN = """# chosen
 4 31 1 2030-01-01T00:45:00Z
 4,99 31 1 2030-01-01T00:45:00Z
 4,11,2 lander control centre 2030-01-01T00:45:00Z
+- 31 1 2030-01-01T00:45:00Z
+- 31 1 1893542400
+{"contacts": [4, 11, 2], "from": 31, "to": "control centre", "at": 1893458700}
+{"contacts": [5, 12, 2], "request": {"from": 31, "to": 1, "at": "2030-01-01T00:45:00Z", "avoid": [22], "max_hops": 5}}
+{"contacts": null, "from": 31, "to": 1, "at": 1893458700}
 """
 ROWS = ".judged > table > tr:not(.more)"
 
@@ -231,7 +236,7 @@ def judging(it, room):
     show(it, "judge")
     wanted, found = judged(it, room, CHOSEN)
     yield "choices of all kinds", wanted, lambda: found
-    yield "the sum", "Of 10 choices, 6 aren't routes, and 1 delivers after the best.", state, it, "judge"
+    yield "the sum", "Of 15 choices, 6 aren't routes, 2 missed a route, and 1 delivers after the best.", state, it, "judge"
     rows = table_of(it, ROWS)
     yield "a row", ["3", "2", "2030/01/01-06:27:22", "3 h 40 min", "5 12 2"], lambda: [text.replace("\xa0", " ") for text in rows[2]]
     yield "a row of a fault", ["4", "hop 2: NotChained", "4 12 2"], lambda: rows[3]
@@ -243,9 +248,9 @@ def judging(it, room):
     yield "in words", "Hop 2, contact 12 (low relay → south station): the contact's sender isn't the node where the bundle is", lambda: told.split("\n")[0]
     yield "the hops before", [[str(contact), NAMES[to], send[11:], arrive[11:]] for contact, to, send, arrive in hops], lambda: table_of(it, ".judged .more:not([hidden]) tr")[1:]
     it.run("lateAfter.value = 20000; lateAfter.onchange()")
-    yield "late later", "Of 10 choices, 6 aren't routes, and 0 deliver more than 5 h 33 min 20 s after the best.", lambda: state(it, "judge").replace("\xa0", " ")
+    yield "late later", "Of 15 choices, 6 aren't routes, 2 missed a route, and 0 deliver more than 5 h 33 min 20 s after the best.", lambda: state(it, "judge").replace("\xa0", " ")
     it.run("onlyWrong.click()")
-    yield "only wrong ones", 6, lambda: len(table_of(it, ROWS)) - 1
+    yield "only wrong ones", 8, lambda: len(table_of(it, ROWS)) - 1
     it.run("onlyWrong.click(); lateAfter.value = 0; lateAfter.onchange()")
     times = "".join(f"6,12,2 31 1 2030-01-01T0{at // 3600}:{at // 60 % 60:02}:{at % 60:02}Z\n" for at in range(3600, 3600 + 120 * 7, 7))
     wanted, found = judged(it, room, times)
@@ -263,13 +268,14 @@ def judged_alone(it, room):
     yield "a route", "Route 2 of all: delivery 2030/01/01-06:27:22, 3 h 40 min after the best one", lambda: told.split("\n")[0]
     wanted = [[str(contact), NAMES[to], send[11:], arrive[11:]] for contact, to, send, arrive in room.hops_of(RELAY, [5, 12, 2])]
     yield "its hops", wanted, table_of, it, ".judged .more table tr:not(:first-child)"
-    path = room.file("router.txt", "4,11,1\n4,x\n31>22@2031-01-01\n<b>4</b>\n4,12,2 31 2030-01-01T00:45:00Z\n")
+    path = room.file("router.txt", "4,11,1\n4,x\n31>22@2031-01-01\n<b>4</b>\n4,12,2 31 2030-01-01T00:45:00Z\n[4, 11, 1]\n-\n{4\n{}\n[5, true]\n")
     it.run("firstNumber.value = '0'")
     given(it, "judge", path)
     waited(it, "choiceField.area.value.startsWith('4,11,1')")
     state(it, "judge")
     none = "the plan has no such contact, or it is no number"
-    wanted = ["2", f"{none}: x", f"{none}: 31>22@2031-01-01", f"{none}: <b>4</b>", "it needs from, to and time after its contacts"]
+    wanted = ["2", f"{none}: x", f"{none}: 31>22@2031-01-01", f"{none}: <b>4</b>", "it needs from, to and time after its contacts",
+              "2", "HasRoute", "it is no JSON", "it has no contacts", f"{none}: true"]
     yield "a file of a router that counts from 0", wanted, lambda: [row[1] for row in table_of(it, ROWS)[1:]]
     it.run("firstNumber.value = '1'")
     it.run("""const dropped = new DataTransfer();

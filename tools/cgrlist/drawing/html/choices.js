@@ -3,21 +3,24 @@
 
 const LOOKS = [100, 10000]; // routes that are looked at for ranks: of each of several requests as many as the first says
 const LISTS_OF_RUN = 200, REQUESTS_OF_RUN = 50; // that one run answers
+const NONE = "-"; // a router's choice of no route
+const HAS_ROUTE = "HasRoute"; // what is wrong with that if there is a route
 
 // ---- A text of choices ------------------------------------------------------------------------------------------
 
-// The choices of a text, a line each: contacts, and then a request, or else that of the page. Each is
-// `{ place, contacts, asked }`, where `asked` is the request's line, or `{ place, fault }`. A router may count contacts from 0.
+// The choices of a text, a line each: contacts, or `-` for no route, and then a request, or else that of the page; or JSON.
+// Each is `{ place, contacts, asked }`, where `asked` is the request's line, or `{ place, fault }`. A router may count
+// contacts from 0.
 function choicesOf(text, first = 1) {
   const lines = text.split(/\r\n?|\n/).map((line, place) => ({ place: place + 1, line: line.trim() }));
   const told = lines.filter(({ line }) => line && !line.startsWith("#")), numberOf = numbering(first);
-  return told.map(({ place, line }) => ({ place, ...choiceOf(line, numberOf) }));
+  return told.map(({ place, line }) => ({ place, ...(/^[[{]/.test(line) ? choiceOfJson : choiceOf)(line, numberOf) }));
 }
 
 // Contacts alone, or contacts before a request, which may begin at any word, since names may have blanks.
 function choiceOf(line, numberOf) {
   const alone = contactsOfText(line, numberOf), words = line.split(/\s+/);
-  if (!alone.fault) return request ? { ...alone, asked: lineOf(request.texts, request.at) } : { fault: NO_REQUEST };
+  if (!alone.fault) return withRequest(alone);
   for (let at = 1; at < words.length - 2; at++) {
     const asked = requestOfWords(words.slice(at));
     if (asked) return { ...contactsOfText(words.slice(0, at).join(" "), numberOf), asked };
@@ -26,10 +29,38 @@ function choiceOf(line, numberOf) {
 }
 
 const NO_REQUEST = "it needs from, to and time after its contacts";
+const withRequest = (choice) => (request ? { ...choice, asked: lineOf(request.texts, request.at) } : { fault: NO_REQUEST });
 
-// Contacts as `4,11,2`, `4 11 2` or `31>22@2030-01-01T01:00:00Z,..`, or what is wrong with them.
+// A list of contacts, or an object that has one and a request's fields, also in `request`; no contacts are null or [].
+function choiceOfJson(line, numberOf) {
+  const told = valueOfJson(line), { contacts = null, request: own, ...fields } = Array.isArray(told) ? { contacts: told } : told ?? {};
+  if (!told) return { fault: "it is no JSON" };
+  if (!Array.isArray(told) && told.contacts === undefined) return { fault: "it has no contacts" };
+  if (contacts && !Array.isArray(contacts)) return { fault: "its contacts are no list of numbers or texts" };
+  const choice = contacts?.length ? contactsOfWords(contacts.map(String), numberOf) : { contacts: [] }, asked = own ?? fields;
+  if (choice.fault || asked.from === undefined) return choice.fault ? choice : withRequest(choice);
+  const [from, to] = [asked.from, asked.to].map((node) => nodeOfText(String(node))), at = secondOfWord(String(asked.at));
+  if (!from || !to || at === undefined) return { fault: NO_REQUEST };
+  const avoid = avoidedOf([asked.avoid ?? []].flat().join(","));
+  return { ...choice, asked: lineOf({ from, to, marginPpm: asked.margin_ppm, maxHops: asked.max_hops, avoid }, at) };
+}
+
+function valueOfJson(text) {
+  try {
+    return JSON.parse(text);
+  } catch {
+    return undefined;
+  }
+}
+
+// Contacts as `4,11,2`, `4 11 2`, `31>22@2030-01-01T01:00:00Z,..` or `-`, or what is wrong with them.
 function contactsOfText(text, numberOf) {
-  const words = text.includes(">") ? text.split(",") : text.split(/[,\s]+/), contacts = words.map((it) => numberOf(it.trim()));
+  if (text === NONE) return { contacts: [] };
+  return contactsOfWords(text.includes(">") ? text.split(",") : text.split(/[,\s]+/), numberOf);
+}
+
+function contactsOfWords(words, numberOf) {
+  const contacts = words.map((it) => numberOf(it.trim()));
   const wrong = words[contacts.indexOf(undefined)];
   return wrong === undefined ? { contacts } : { fault: `the plan has no such contact, or it is no number: ${wrong}` };
 }
@@ -54,7 +85,10 @@ function nodeOfText(text) {
   return /^[1-9]\d{0,19}$/.test(text) ? text : [...names].find(([, name]) => name === text)?.[0];
 }
 
-const isTime = (word) => secondOfText(word) !== undefined;
+// A time, or seconds since 1970.
+const secondOfWord = (word) => (/^[1-9]\d{8,11}$/.test(word) ? Number(word) : secondOfText(word));
+const isTime = (word) => secondOfWord(word) !== undefined;
+const avoidedOf = (text) => text.split(",").map((it) => nodeOfText(it.trim()) ?? it).sort(byNumber).join(",");
 
 // The line for what words ask, `from to time` and then a margin, a limit of hops and nodes to avoid; undefined if they are
 // something else. The nodes' names may have blanks.
@@ -62,24 +96,24 @@ function requestOfWords(words) {
   const time = words.findIndex((word, place) => place > 1 && isTime(word));
   const [marginPpm, maxHops, ...further] = words.slice(time + 1);
   if (time < 0 || [marginPpm, maxHops].some((word) => word && !/^\d+$/.test(word))) return undefined;
-  const avoid = further.join(" ").split(",").map((it) => nodeOfText(it.trim()) ?? it).sort(byNumber).join(",");
+  const avoid = avoidedOf(further.join(" "));
   for (let cut = 1; cut < time; cut++) {
     const [from, to] = [words.slice(0, cut), words.slice(cut, time)].map((it) => nodeOfText(it.join(" ")));
-    if (from && to) return lineOf({ from, to, marginPpm, maxHops, avoid }, secondOfText(words[time]));
+    if (from && to) return lineOf({ from, to, marginPpm, maxHops, avoid }, secondOfWord(words[time]));
   }
 }
 
 // ---- Judging ----------------------------------------------------------------------------------------------------
 
-// What choices do: each with `hops`, and `delivery`, `rank` and `later`, the seconds after the best delivery, or `fault`. `tell`
-// is told how much is done. What can't be answered is thrown.
+// What choices do: each with `hops`, and `delivery`, `rank` and `later`, the seconds after the best delivery, or `fault`; with
+// neither, there is rightly no route. `tell` is told how much is done. What can't be answered is thrown.
 async function judged(ask, choices, tell) {
   const told = new Map(), read = choices.filter((it) => it.contacts);
   for (const [at, part] of cutIn(read, LISTS_OF_RUN).entries()) {
     tell(`${at * LISTS_OF_RUN} of ${count(read.length, "choice")} followed`);
     for (const [choice, it] of await followed(ask, part)) told.set(choice, it);
   }
-  const lists = await listingsOf(ask, read.filter((it) => told.get(it).delivery), tell);
+  const lists = await listingsOf(ask, read.filter((it) => !told.get(it).fault), tell);
   return choices.map((it) => ({ hops: [], ...it, ...told.get(it), ...rankOf(it, lists, told.get(it)) }));
 }
 
@@ -90,10 +124,10 @@ const cutIn = (all, size) => Array.from({ length: Math.ceil(all.length / size) }
 async function followed(ask, choices) {
   const left = [...choices], refused = [];
   while (left.length) {
-    const lists = left.map((it) => `${it.contacts.join(",")} ${it.asked}\n`).join("");
+    const lists = left.map((it) => `${it.contacts.join(",") || 1} ${it.asked}\n`).join(""); // any, to judge the request
     const { status, report, message } = await ask("follow", { lists });
     const [, line, fault] = /lists line (\d+): (\w+)/.exec(message) ?? [];
-    if (status === 0) return [...refused, ...explainedIn(report).map((it, at) => [left[at], endOf(it)])];
+    if (status === 0) return [...refused, ...explainedIn(report).map((it, at) => [left[at], left[at].contacts.length ? endOf(it) : {}])];
     if (!line) throw new Error(message);
     refused.push([left.splice(line - 1, 1)[0], { fault }]);
   }
@@ -110,7 +144,7 @@ function endOf({ hops, route, fault }) {
 async function listingsOf(ask, choices, tell) {
   const asked = [...new Set(choices.map((it) => it.asked))], lists = new Map();
   for (const look of asked.length > 1 ? LOOKS.slice(0, 1) : LOOKS) {
-    const isMissing = choices.some((it) => !lists.get(it.asked)?.ranks.has(it.contacts.join()));
+    const isMissing = choices.some((it) => !lists.has(it.asked) || (it.contacts.length && !lists.get(it.asked).ranks.has(it.contacts.join())));
     for (const [at, part] of cutIn(isMissing ? asked : [], REQUESTS_OF_RUN).entries()) {
       tell(`${at * REQUESTS_OF_RUN} of ${count(asked.length, "request")} answered`);
       const { status, report, message } = await ask("many", { requests: `${part.join("\n")}\n`, count: String(look) });
@@ -123,23 +157,25 @@ async function listingsOf(ask, choices, tell) {
 
 function listingIn(lines, look) {
   const found = routesIn(lines.join("\n"));
-  return { best: found[0].delivery, ranks: new Map(found.map((it) => [it.contacts.join(), it.rank])), look };
+  return { best: found[0]?.delivery, ranks: new Map(found.map((it) => [it.contacts.join(), it.rank])), look };
 }
 
 // The rank of a choice, and how many seconds it delivers after the best one, if it is a route.
 function rankOf({ asked, contacts }, lists, told) {
-  if (!told?.delivery) return {};
+  if (!told || told.fault) return {};
   const { best, ranks, look } = lists.get(asked);
+  if (!contacts.length) return best === undefined ? {} : { fault: HAS_ROUTE };
   return { rank: ranks.get(contacts.join()) ?? `>${look}`, later: told.delivery - best };
 }
 
 // Whether a choice isn't a route, or delivers more than so many seconds after the best.
-const isWrong = (it, most) => it.later === undefined || it.later > most;
+const isWrong = (it, most) => Boolean(it.fault) || it.later > most;
 
 // The sum of judged choices.
 function sumOf(told, most) {
-  const none = told.filter((it) => it.later === undefined).length, late = told.filter((it) => it.later > most).length;
+  const late = told.filter((it) => it.later > most).length, missed = told.filter((it) => it.fault === HAS_ROUTE).length;
+  const none = told.filter((it) => it.fault).length - missed, misses = missed ? `${missed} missed a route, ` : "";
   const are = none === 1 ? "isn't a route" : "aren't routes", limit = most ? `more than ${durationText(most)} after` : "after";
   const deliver = late === 1 ? "delivers" : "deliver";
-  return `Of ${count(told.length, "choice")}, ${none} ${are}, and ${late} ${deliver} ${limit} the best`;
+  return `Of ${count(told.length, "choice")}, ${none} ${are}, ${misses}and ${late} ${deliver} ${limit} the best`;
 }

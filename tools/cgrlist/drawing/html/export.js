@@ -37,7 +37,7 @@ const timeOfCsv = (second) => (data.iso ? isoText(second) : isoText(second).slic
 
 // A cell. One that a spreadsheet would take for a formula begins with a quote.
 function cell(value) {
-  const text = String(value ?? ""), isFormula = /^[=+\-@\t\r]/.test(text) && Number.isNaN(Number(text));
+  const text = String(value ?? ""), isFormula = /^[=+\-@\t\r]/.test(text) && !/^[+-]?\d*$/.test(text);
   const safe = isFormula ? `'${text}` : text;
   return /[",\r\n]/.test(safe) ? `"${safe.replaceAll('"', '""')}"` : safe;
 }

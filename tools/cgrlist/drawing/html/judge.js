@@ -3,7 +3,7 @@
 const MOST_ROWS = 1000; // that are shown
 
 const judgement = { told: [], isRunning: false };
-const CHOICES = { id: "choices", placeholder: "4,11,2\n5 12 2\n4,12,2 31 1 2030-01-01T00:45:00Z" };
+const CHOICES = { id: "choices", placeholder: "4,11,2\n5 12 2\n4,12,2 31 1 2030-01-01T00:45:00Z\n-" };
 const choiceField = textField("Contacts that a router chose, a line each; a request may follow", CHOICES, () => judge());
 const firstNumber = element("select", {}, element("option", {}, "1"), element("option", {}, "0"));
 const lateAfter = element("input", { type: "number", min: 0, value: 0 });
@@ -51,11 +51,16 @@ function judgedRows(it, most, isOpen) {
   const button = actButton(String(it.place), turn, { class: "small", "aria-expanded": isOpen, "aria-label": `Line ${it.place}` });
   const later = it.later === 0 ? "" : durationText(it.later ?? 0);
   const told = it.delivery ? [it.rank, timeText(it.delivery), later].map((text) => element("td", {}, text)) : [faultCell(it)];
-  const cells = [element("td", {}, button), ...told, element("td", {}, it.contacts?.join(" ") ?? "")];
+  const cells = [element("td", {}, button), ...told, element("td", {}, contactsText(it))];
   return [element("tr", { class: isWrong(it, most) ? "wrong" : "" }, ...cells), below];
 }
 
-const faultCell = (it) => element("td", { colspan: 3, class: "bad", title: faultText(it) }, it.fault);
+const contactsText = ({ contacts }) => (contacts ? contacts.join(" ") || NONE : "");
+
+function faultCell(it) {
+  if (!it.fault) return element("td", { colspan: 3 }, RIGHTLY_NONE);
+  return element("td", { colspan: 3, class: "bad", title: faultText(it) }, it.fault);
+}
 
 // What a choice is, in words, and its hops as far as they go.
 function aboutChoice(it) {
@@ -65,16 +70,19 @@ function aboutChoice(it) {
 }
 
 function verdictOf(it) {
-  if (!it.delivery) return faultText(it);
+  if (!it.delivery) return it.fault ? faultText(it) : RIGHTLY_NONE;
   const rank = it.rank.startsWith(">") ? `A route, not among the first ${it.rank.slice(1)}` : `Route ${it.rank} of all`;
   const later = it.later ? `${durationText(it.later)} after the best one` : "as early as the best one";
   return `${rank}: delivery ${timeText(it.delivery)}, ${later}`;
 }
 
+const RIGHTLY_NONE = "there is no route";
+
 // What a fault means, and of a hop's fault which contact has it.
 function faultText({ fault, contacts, hops }) {
   const [, hop, kind] = /^(?:hop (\d+): )?(\w+)$/.exec(fault) ?? [], number = contacts?.[hops.length];
   const link = contactWith.has(number) ? ` (${linkName(linkOf[contactWith.get(number)])})` : "";
+  if (fault === HAS_ROUTE) return "There is a route";
   return HOP_FAULTS[kind] ? `${hop ? `Hop ${hop}, contact ${number}${link}: ` : ""}${HOP_FAULTS[kind]}` : fault;
 }
 
@@ -85,7 +93,7 @@ function judgedCsv(told) {
   const rows = told.map((it) => {
     const [from, to, at = "", margin, hops, avoid = ""] = it.asked?.split(" ") ?? [], most = hops === "20000" ? "" : hops;
     const asked = [named(from), named(to), time(secondOf(at)), margin, most, avoid.split(",").map(named).join(",")];
-    return [it.place, ...asked, it.rank, time(it.delivery), it.later, it.contacts?.join(" "), it.fault];
+    return [it.place, ...asked, it.rank, time(it.delivery), it.later, contactsText(it), it.fault];
   });
   return csvOf([["line", ...ofRequest, "rank", "delivery", "later", "contacts", "fault"], ...rows]);
 }
