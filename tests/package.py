@@ -551,7 +551,7 @@ LIBRARY = os.environ.get("CGRLIST_LIBRARY") or f"{TOP}/library/out/libcgrlist.so
 def checks(asked):
     os.environ.pop("CGRLIST_LIBRARY", None)
     sections = [nodes_to_avoid, times, forms_of_calls, answers_and_plans, what_is_told, refused_choices, flat_rows, what_is_refused, hints_of_types, in_notebooks, signals]
-    if os.path.exists(LIBRARY) or os.path.exists(f"{TOP}/library/build"):
+    if os.path.exists(LIBRARY) or not asked.trials:  # a trial has none, unless it was built
         sections += [refusals_in_process, at_the_same_time, worked_plans, drawn_plans, satellites]
     else:
         print(f"package: in process: left out, there is no {LIBRARY}")
