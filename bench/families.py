@@ -10,8 +10,9 @@ spread   contacts among many nodes, one node for each twenty contacts; each link
          one in each quarter of it, and a light time for each quarter
 hub      all contacts from node 1, to four receivers; each receiver has a quarter of them, minute by minute, and a light
          time for each minute
+parallel all contacts from node 1 to node 2, minute by minute, with one light time
 
-Plans of spread and hub have as many ranges as contacts, and their lines stand in no order.
+Plans of spread and hub have as many ranges as contacts. The lines of these and of parallel stand in no order.
 """
 import math
 import random
@@ -310,4 +311,14 @@ def hub(name, seed, count):
         plan.light(begin, begin + MINUTE, 1, receivers[place], plan.dice.randrange(1, 20))
         start = begin + plan.dice.randrange(MINUTE // 2)
         plan.contact(start, start + plan.dice.randrange(10, MINUTE), 1, receivers[place])
+    return shuffled(plan)
+
+
+def parallel(name, seed, count):
+    plan = shape(name, seed, count, 2)
+    plan.head[0] = f"# {name}: {count} contacts, seed {seed}"
+    plan.light(0, count * MINUTE, 1, 2, 1)
+    for minute in range(count):
+        start = minute * MINUTE
+        plan.contact(start, start + plan.dice.randrange(10, MINUTE), 1, 2)
     return shuffled(plan)

@@ -5,12 +5,12 @@
 
 Without --only, these are the 20 plans of the figures, over which 24 questions are asked. Of a name, the number is
 mostly that of the contacts; of walkers the first is that of the satellites, of grids that of the nodes on a side, of
-dense the nodes. families.py tells what is drawn. `spread-N` and `hub-N` are further plans, for any number N of
-contacts. And two plans, in real/, were made up by nobody: windows of satellites from the orbital elements of 22 January
-2018 that Debian's gpredict has, reckoned by SGP4, with ten ground stations, and links between satellites in sight of
-each other; `iridium` has 128 satellites, with links up to 4500 km, and `cube` 437, with links up to 2500 km.
+dense the nodes. families.py tells what is drawn. `spread-N`, `hub-N` and `parallel-N` are further plans, for any number
+N of contacts. And two plans, in real/, were made up by nobody: windows of satellites from the orbital elements of 22
+January 2018 that Debian's gpredict has, reckoned by SGP4, with ten ground stations, and links between satellites in
+sight of each other; `iridium` has 128 satellites, with links up to 4500 km, and `cube` 437, with links up to 2500 km.
 
-relative    as the plan is written; of spread and hub, by their start, as planners write them
+relative    as the plan is written; of spread, hub and parallel, by their start, as planners write them
 shuffled    the same lines in no order
 absolute    the same lines, with absolute times
 aligned     in columns
@@ -23,7 +23,7 @@ import lzma
 import os
 from typing import NamedTuple
 
-from families import dense, grid, hub, line, relay, sparse, spread, walker
+from families import dense, grid, hub, line, parallel, relay, sparse, spread, walker
 from plan import BEGINS, SPELLINGS, respelled, second_of, text_of
 
 HERE = os.path.dirname(os.path.abspath(__file__))
@@ -50,7 +50,7 @@ PLANS = {
     "sparse-20000": (sparse, 20000, 1000, 40000),
 }
 REAL = {"iridium": [(1, 2), (6, 10), (3, 8)], "cube": [(1, 2), (6, 10), (3, 8)]}
-SHAPES = {"spread": spread, "hub": hub}
+SHAPES = {"spread": spread, "hub": hub, "parallel": parallel}
 
 
 class Question(NamedTuple):
@@ -96,7 +96,8 @@ def made(name, seed=1):
         make, *sizes = PLANS[name]
         return make(name, seed, *sizes)
     if shape not in SHAPES or not count.isdigit() or (shape == "spread" and not 32 <= int(count) <= 20000):
-        raise SystemExit(f"there is no plan {name}: there are {', '.join([*PLANS, *REAL])}, spread-32 to -20000, hub-N")
+        known = ", ".join([*PLANS, *REAL, "spread-32 to -20000", "hub-N", "parallel-N"])
+        raise SystemExit(f"there is no plan {name}: there are {known}")
     return SHAPES[shape](shape, seed, int(count))
 
 
@@ -130,7 +131,7 @@ def write_spelled(question, spelling, folder):
 
 
 def write_drawn(name, spelling, given):
-    """The same of a plan's name. Of spread and hub, lines stand in no order as they are drawn."""
+    """The same of a plan's name. Of spread, hub and parallel, lines stand in no order as they are drawn."""
     if name.partition("-")[0] not in SHAPES:
         return write_spelled(write(name, given.out, given.seed)[0], spelling, given.out)
     plan = made(name, given.seed)
