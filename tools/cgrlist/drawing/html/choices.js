@@ -33,9 +33,10 @@ const withRequest = (choice) => (request ? { ...choice, asked: lineOf(request.te
 
 // A list of contacts, or an object that has one and a request's fields, also in `request`; no contacts are null or [].
 function choiceOfJson(line, numberOf) {
-  const told = valueOfJson(line), { contacts = null, request: own, ...fields } = Array.isArray(told) ? { contacts: told } : told ?? {};
+  const value = valueOfJson(line), told = Array.isArray(value) ? { contacts: value } : value;
   if (!told) return { fault: "it is no JSON" };
-  if (!Array.isArray(told) && told.contacts === undefined) return { fault: "it has no contacts" };
+  const { contacts, request: own, ...fields } = told;
+  if (contacts === undefined) return { fault: "it has no contacts" };
   if (contacts && !Array.isArray(contacts)) return { fault: "its contacts are no list of numbers or texts" };
   const choice = contacts?.length ? contactsOfWords(contacts.map(String), numberOf) : { contacts: [] }, asked = own ?? fields;
   if (choice.fault || asked.from === undefined) return choice.fault ? choice : withRequest(choice);
@@ -144,7 +145,8 @@ function endOf({ hops, route, fault }) {
 async function listingsOf(ask, choices, tell) {
   const asked = [...new Set(choices.map((it) => it.asked))], lists = new Map();
   for (const look of asked.length > 1 ? LOOKS.slice(0, 1) : LOOKS) {
-    const isMissing = choices.some((it) => !lists.has(it.asked) || (it.contacts.length && !lists.get(it.asked).ranks.has(it.contacts.join())));
+    const isRanked = (it) => !it.contacts.length || lists.get(it.asked).ranks.has(it.contacts.join());
+    const isMissing = choices.some((it) => !lists.has(it.asked) || !isRanked(it));
     for (const [at, part] of cutIn(isMissing ? asked : [], REQUESTS_OF_RUN).entries()) {
       tell(`${at * REQUESTS_OF_RUN} of ${count(asked.length, "request")} answered`);
       const { status, report, message } = await ask("many", { requests: `${part.join("\n")}\n`, count: String(look) });
