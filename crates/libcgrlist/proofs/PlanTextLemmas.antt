@@ -5,7 +5,7 @@ use Rattle.std.specs.List.Sorted.{IsStrictlySortedBy}
 use Rattle.std.specs.Option.{option_map, option_or}
 use Rattle.std.specs.Cmp.{IsTotalOrder, on_total}
 use Rattle.std.specs.Ordering.{ordering_reverse}
-use Rattle.std.proofs.lemmas.Cmp.{nat_list_cmp_total}
+use Rattle.sabr_model.proofs.PlanLemmas.KeyOrder.{by_key_total}
 use Rattle.std.specs.declared.cmp.Ordering.TheVariants.{Less, Equal, Greater}
 use Rattle.std.proofs.lemmas.Bool.{and_parts, or_parts, or_from, not-true, false≢true, false_from_ne_true, ltb-true, eq-eqb}
 use Rattle.std.proofs.lemmas.Bool.Decides.{nat_tests}
@@ -15,7 +15,7 @@ use Rattle.std.proofs.lemmas.Map.Steps.{le-length_from_below}
 use Rattle.std.proofs.lemmas.List.{length-map}
 use Rattle.std.proofs.Math.Bool.{and-false}
 use Rattle.std.specs.Prelude.{if◌then◌else◌}
-use Rattle.sabr_model.specs.Order.{by_numbers, put_in}
+use Rattle.sabr_model.specs.Order.{by_key, put_in}
 use Rattle.sabr_model.proofs.ListLemmas.Has.{eqb_flip}
 use Rattle.sabr_model.proofs.PlanLemmas.ContactLemmas.{all_push}
 use Rattle.sabr_model.specs.declared.contact.Contact.{Contact}
@@ -260,7 +260,7 @@ module _ (s largest : ℕ) (late : s + 1 ≤ last_time) (room : largest ≤ 2000
 -- ---- ranges
 
 order_total : IsTotalOrder by_range_key
-order_total = on_total range_key nat_list_cmp_total
+order_total = on_total range_key by_key_total
 
 -- a range that comes after all goes behind them
 put_behind : (r : Range) (rs : List Range) → AllByRecursion (λ s. by_range_key s r ≡ Less) rs → put_in by_range_key r rs ≡ rs ++ r ∷ []
@@ -273,7 +273,7 @@ put_behind r (s ∷ rs) all =
 abbrev AllBefore : List Range → List Range → Type 0
 AllBefore ys xs = AllByRecursion (λ x. AllByRecursion (λ s. by_range_key s x ≡ Less) ys) xs
 
-before_more : (ys xs : List Range) (y : Range) → AllBefore ys xs → AllByRecursion (λ k. by_numbers (range_key y) k ≡ Less) (map range_key xs) → AllBefore (ys ++ y ∷ []) xs
+before_more : (ys xs : List Range) (y : Range) → AllBefore ys xs → AllByRecursion (λ k. by_key (range_key y) k ≡ Less) (map range_key xs) → AllBefore (ys ++ y ∷ []) xs
 before_more ys [] y all above = tt
 before_more ys (x ∷ xs) y all above = (all_push (λ s. by_range_key s x ≡ Less) ys y all.0 above.0, before_more ys xs y all.1 above.1)
 
@@ -281,7 +281,7 @@ before_more ys (x ∷ xs) y all above = (all_push (λ s. by_range_key s x ≡ Le
 record AreNextRanges (front rs : List Range) : Type 0 where
   pub apart : none_twice overlap (front ++ rs) ≡ true
   pub behind : AllBefore front rs
-  pub rise : IsStrictlySortedBy by_numbers (map range_key rs)
+  pub rise : IsStrictlySortedBy by_key (map range_key rs)
   pub windows : AllByRecursion (λ r. IsWindow r.start r.end) rs
   pub nodes : AllByRecursion (λ r. IsPair r.one r.other) rs
   pub lights : AllByRecursion (λ r. r.light ≤ most_light) rs

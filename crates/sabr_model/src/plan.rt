@@ -23,7 +23,6 @@ pub use arriving::arrive;
 pub use ends::Ends;
 use indexmap::IndexMap;
 use light_times::LightTimes;
-pub use ranges::comes_by;
 use std::alloc::{Allocator, Global};
 use std::marker::Model;
 

@@ -1,5 +1,5 @@
 -- What no two gathered contacts share, as the chains beside them have it.
-use Rattle.std.proofs.Common.{◌≡◌, ℕ, zero, suc, ◌<◌, ◌≤◌, Bool, true, false, cond, ◌&&◌, ◌||◌, not, ltb, List, [], ◌∷◌, ◌++◌, filter, length, get_or, set, refl, sym, ap, subst, ◌∙◌, arith}
+use Rattle.std.proofs.Common.{◌≡◌, ℕ, zero, suc, ◌<◌, Bool, true, false, cond, ◌&&◌, ◌||◌, not, ltb, List, [], ◌∷◌, ◌++◌, filter, length, get_or, set, refl, sym, ap, subst, ◌∙◌, arith}
 use Rattle.sabr_model.proofs.ListLemmas.Ordered.{all_weaker}
 use Rattle.std.specs.Prelude.{slice_get, option_map, is_some}
 use Rattle.std.specs.List.{list_any, find, position, position_or_len}
@@ -19,7 +19,10 @@ use Rattle.sabr_model.specs.declared.fault.AddFault.TheVariants.{DuplicateContac
 use Rattle.sabr_model.specs.plan.Plan.{ContactPlan, opens, same_opening, none_twice}
 use Rattle.sabr_model.specs.plan.Adding.{contact_refusal}
 use Rattle.sabr_model.specs.plan.Openings.{opening_of}
-use Rattle.sabr_plan.specs.Gathering.{stands, standing, stands_at, IsFound, opening_number, contact_bucket, OpenBy, KnowsSome}
+use Rattle.sabr_model.specs.Order.{by_key}
+use Rattle.std.specs.Ordering.{is_le, is_gt}
+use Rattle.sabr_model.proofs.PlanLemmas.KeyOrder.{is_le_by, le_is, greater_is, le_itself, by_more, not_both}
+use Rattle.sabr_plan.specs.Gathering.{stands, standing, stands_at, IsFound, opening_key, contact_bucket, OpenBy, KnowsSome}
 use Rattle.sabr_model.proofs.PlanLemmas.ContactLemmas.{all_push}
 use Rattle.sabr_model.proofs.PlanLemmas.Deletions.{opens_parts}
 use Rattle.sabr_plan.proofs.ChainedPlaces.{chained_push}
@@ -27,24 +30,28 @@ use Rattle.sabr_plan.proofs.ChainedPlaces.{chained_push}
 -- ---- contacts that open by a last opening
 
 -- none has an opening that comes after it
-pub after_all : (o last : Opening) (cs : List Contact) → OpenBy last cs → opening_number last < opening_number o → list_any (stands_at o) cs ≡ false
-after_all o last [] all lt = refl
-after_all o last (c ∷ cs) all lt =
+pub after_all : (o last : Opening) (cs : List Contact) → OpenBy last cs → is_gt (by_key (opening_key o) (opening_key last)) ≡ true → list_any (stands_at o) cs ≡ false
+after_all o last [] all more = refl
+after_all o last (c ∷ cs) all more =
     ap (λ b. (b && stands c) || list_any (stands_at o) cs)
-    (false_from_ne_true (opens o.from o.to o.start c) (λ yes.
-    let e = opens_parts o.from o.to o.start c yes in
-    omega (arith, all.0, lt, e.0, e.1, e.2)))
-    ∙ after_all o last cs all.1 lt
+    (false_from_ne_true (opens o.from o.to o.start c) (λ also.
+    let e = opens_parts o.from o.to o.start c also in
+    not_both (rw (e.0, e.1, e.2) (le_is (opening_key (opening_of c)) (opening_key last) all.0)) (greater_is (opening_key o) (opening_key last) more)))
+    ∙ after_all o last cs all.1 more
 
 -- and they open by a later one
-pub later_opening : (o last : Opening) (cs : List Contact) → OpenBy last cs → opening_number last < opening_number o → OpenBy o cs
-later_opening o last cs all lt = all_weaker (λ d. opening_number (opening_of d) ≤ opening_number last) (λ d. opening_number (opening_of d) ≤ opening_number o) (λ d le. omega (arith, le, lt)) cs all
+pub later_opening : (o last : Opening) (cs : List Contact) → OpenBy last cs → is_gt (by_key (opening_key o) (opening_key last)) ≡ true → OpenBy o cs
+later_opening o last cs all more =
+    all_weaker (λ d. is_le (by_key (opening_key (opening_of d)) (opening_key last)) ≡ true) (λ d. is_le (by_key (opening_key (opening_of d)) (opening_key o)) ≡ true)
+    (λ d le.
+    let by = by_more (le_is (opening_key (opening_of d)) (opening_key last) le) (greater_is (opening_key o) (opening_key last) more) in
+    is_le_by (opening_key (opening_of d)) (opening_key o) by) cs all
 
 -- one more contact, whose opening is the last one
 pub knows_push : (befores lasts : List ℕ) (rising : Bool) (last o : Opening) (cs : List Contact) → KnowsSome befores lasts rising last cs → (rising ≡ true → OpenBy o cs) → (c : Contact) → opening_of c ≡ o → KnowsSome befores lasts rising o (cs ++ c ∷ [])
 knows_push befores lasts rising last o cs h by c is = (
   chained_push contact_bucket cs c befores lasts h.0,
-  λ up. all_push (λ d. opening_number (opening_of d) ≤ opening_number o) cs c (by up) (let same = ap opening_number is in omega (arith, same)),
+  λ up. all_push (λ d. is_le (by_key (opening_key (opening_of d)) (opening_key o)) ≡ true) cs c (by up) (subst (λ p. is_le (by_key (opening_key p) (opening_key o)) ≡ true) (sym is) (le_itself (opening_key o))),
 )
 
 -- over a window, between two nodes, and where there is room, a contact is refused as a duplicate or not at all

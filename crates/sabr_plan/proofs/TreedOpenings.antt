@@ -13,7 +13,8 @@ use Rattle.sabr_model.specs.declared.contact.Contact.{Contact}
 use Rattle.sabr_model.specs.declared.opening.Opening.{Opening}
 use Rattle.sabr_model.specs.plan.Plan.{opens, same_opening, none_twice}
 use Rattle.sabr_model.proofs.PlanLemmas.Deletions.{opens_parts}
-use Rattle.sabr_plan.specs.Gathering.{stands, standing, stands_at, opening_cmp, IsTreed}
+use Rattle.sabr_model.specs.Order.{by_key}
+use Rattle.sabr_plan.specs.Gathering.{stands, standing, stands_at, IsTreed}
 use Rattle.sabr_plan.proofs.GatheredOpenings.{any_standing, no_contact}
 
 -- the tree of no contact
@@ -23,19 +24,19 @@ treed_none indexes cs = record { within = omega arith; found = λ k d lt stays. 
 -- ---- what it finds
 
 module _ (o : Opening) (indexes : BTreeMap (ℕ × ℕ × ℕ) ℕ) (treed : ℕ) (cs : List Contact) (h : IsTreed indexes treed cs) (all : treed ≡ length cs) where
-  at_own : (k : ℕ) → k < length cs → stands_at o (get_or cs k no_contact) ≡ true → get opening_cmp indexes (o.from, o.to, o.start) ≡ Some k
+  at_own : (k : ℕ) → k < length cs → stands_at o (get_or cs k no_contact) ≡ true → get by_key indexes (o.from, o.to, o.start) ≡ Some k
   at_own k lt also =
       let c = get_or cs k no_contact in
       let both = and_parts (opens o.from o.to o.start c) (stands c) also in
       let e = opens_parts o.from o.to o.start c both.0 in
       rw (e.0, e.1, e.2) (h.found k no_contact (omega (arith, lt, all)) both.1)
 
-  pub nothing_there : get opening_cmp indexes (o.from, o.to, o.start) ≡ None → list_any (stands_at o) cs ≡ false
+  pub nothing_there : get by_key indexes (o.from, o.to, o.start) ≡ None → list_any (stands_at o) cs ≡ false
   nothing_there is =
       or_from_places (list_any (stands_at o)) (stands_at o) refl (λ x ys. refl) cs no_contact (λ k lt.
       false_from_ne_true (stands_at o (get_or cs k no_contact)) (λ also. let no : None ≡ Some k = sym is ∙ at_own k lt also in absurd cc))
 
-  pub another_there : (i : ℕ) → get opening_cmp indexes (o.from, o.to, o.start) ≡ Some i → (i < length cs → stands_at o (get_or cs i no_contact) ≡ false) → list_any (stands_at o) cs ≡ false
+  pub another_there : (i : ℕ) → get by_key indexes (o.from, o.to, o.start) ≡ Some i → (i < length cs → stands_at o (get_or cs i no_contact) ≡ false) → list_any (stands_at o) cs ≡ false
   another_there i is fails =
       or_from_places (list_any (stands_at o)) (stands_at o) refl (λ x ys. refl) cs no_contact (λ k lt.
       false_from_ne_true (stands_at o (get_or cs k no_contact)) (λ also.
@@ -66,7 +67,7 @@ abbrev key : Contact → ℕ × ℕ × ℕ
 key c = (c.from, c.to, c.start)
 
 -- keys are equal where openings are
-tied : (c d : Contact) → same_opening c d ≡ is_at (opening_cmp (key c)) (key d)
+tied : (c d : Contact) → same_opening c d ≡ is_at (by_key (key c)) (key d)
 tied c d = both_tied _ _ (ordering_then (nat_cmp c.from d.from) (nat_cmp c.to d.to)) (nat_cmp c.start d.start) (both_tied _ _ (nat_cmp c.from d.from) (nat_cmp c.to d.to) (unsigned_ties c.from d.from) (unsigned_ties c.to d.to)) (unsigned_ties c.start d.start)
 
 flipped : (c d : Contact) → same_opening c d ≡ true → same_opening d c ≡ true
@@ -91,7 +92,7 @@ module _ (indexes : BTreeMap (ℕ × ℕ × ℕ) ℕ) (n : ℕ) (cs : List Conta
   }
 
   -- one that stands
-  pub treed_more : (then : BTreeMap (ℕ × ℕ × ℕ) ℕ) → none_twice same_opening (standing cs) ≡ true → stands (get_or cs n no_contact) ≡ true → Updates opening_cmp indexes then (key (get_or cs n no_contact)) (Some n) → IsTreed then (n + 1) cs
+  pub treed_more : (then : BTreeMap (ℕ × ℕ × ℕ) ℕ) → none_twice same_opening (standing cs) ≡ true → stands (get_or cs n no_contact) ≡ true → Updates by_key indexes then (key (get_or cs n no_contact)) (Some n) → IsTreed then (n + 1) cs
   treed_more then apart here u = record {
     within = omega (arith, lt);
     found = λ k d less stays.
@@ -106,7 +107,7 @@ module _ (indexes : BTreeMap (ℕ × ℕ × ℕ) ℕ) (n : ℕ) (cs : List Conta
           | inr high ↦
               let at : k ≡ n = omega (arith, less, high) in
               let same : get_or cs k d ≡ c = ap (λ j. get_or cs j d) at ∙ get_or_default cs n d no_contact lt in
-              ap (λ x. get opening_cmp then (key x)) same ∙ u.1 ∙ ap Some (sym at)
+              ap (λ x. get by_key then (key x)) same ∙ u.1 ∙ ap Some (sym at)
         ];
   }
 

@@ -5,15 +5,13 @@ use Rattle.std.specs.List.{filter, list_any, AllByRecursion}
 use Rattle.std.specs.declared.option.Option.{Option}
 use Rattle.std.specs.declared.option.Option.TheVariants.{Some, None}
 use Rattle.std.specs.BTreeMap.{BTreeMap, get}
-use Rattle.std.specs.Ordering.{nat_cmp, ordering_then}
-use Rattle.std.specs.declared.cmp.Ordering.{Ordering}
+use Rattle.std.specs.Ordering.{is_le}
 use Rattle.sabr_model.specs.declared.contact.Contact.{Contact}
 use Rattle.sabr_model.specs.declared.contact.Range.{Range}
 use Rattle.sabr_model.specs.declared.opening.Opening.{Opening}
-use Rattle.sabr_model.specs.Order.{put_in}
+use Rattle.sabr_model.specs.Order.{by_key, put_in}
 use Rattle.sabr_model.specs.plan.Plan.{ContactPlan, IsPlan, opens}
 use Rattle.sabr_model.specs.plan.Adding.{by_range_key}
-use Rattle.sabr_model.specs.plan.RangeOrder.{place_number}
 use Rattle.sabr_model.specs.plan.Openings.{opening_of}
 
 -- ---- chains of indexes by buckets: each has the last index of its bucket before it
@@ -47,9 +45,9 @@ standing contacts = filter stands contacts
 abbrev pub stands_at : Opening → Contact → Bool
 stands_at o c = opens o.from o.to o.start c && stands c
 
--- an opening as one number: by start, then by sender and receiver
-abbrev pub opening_number : Opening → ℕ
-opening_number o = place_number o.start o.from o.to
+-- the key of an opening: its start, then its sender and receiver
+abbrev pub opening_key : Opening → ℕ × ℕ × ℕ
+opening_key o = (o.start, o.from, o.to)
 
 -- the bucket of an opening, one of 4096
 abbrev pub opening_bucket : Opening → ℕ
@@ -61,7 +59,7 @@ contact_bucket c = opening_bucket (opening_of c)
 
 -- no contact opens after this
 abbrev pub OpenBy : Opening → List Contact → Type 0
-OpenBy last contacts = AllByRecursion (λ c. opening_number (opening_of c) ≤ opening_number last) contacts
+OpenBy last contacts = AllByRecursion (λ c. is_le (by_key (opening_key (opening_of c)) (opening_key last)) ≡ true) contacts
 
 -- the first contacts are in chains, and if the contacts ascend none opens after the last one
 abbrev pub KnowsSome : List ℕ → List ℕ → Bool → Opening → List Contact → Type 0
@@ -72,14 +70,10 @@ abbrev pub IsFound : Opening → List Contact → Option ℕ → Type 0
 IsFound o contacts (Some k) = (k < length contacts) × (option_map (stands_at o) (slice_get contacts k) ≡ Some true)
 IsFound o contacts None = list_any (stands_at o) contacts ≡ false
 
--- openings in order, as the keys of a tree
-abbrev pub opening_cmp : ℕ × ℕ × ℕ → ℕ × ℕ × ℕ → Ordering
-opening_cmp x y = ordering_then (ordering_then (nat_cmp x.0 y.0) (nat_cmp x.1 y.1)) (nat_cmp x.2 y.2)
-
 -- the tree has the index of each of the first contacts that stands
 pub record IsTreed (indexes : BTreeMap (ℕ × ℕ × ℕ) ℕ) (treed : ℕ) (contacts : List Contact) : Type 0 where
   pub within : treed ≤ length contacts
-  pub found : (k : ℕ) (d : Contact) → k < treed → stands (slice_index_or contacts k d) ≡ true → get opening_cmp indexes ((slice_index_or contacts k d).from, (slice_index_or contacts k d).to, (slice_index_or contacts k d).start) ≡ Some k
+  pub found : (k : ℕ) (d : Contact) → k < treed → stands (slice_index_or contacts k d) ≡ true → get by_key indexes ((slice_index_or contacts k d).from, (slice_index_or contacts k d).to, (slice_index_or contacts k d).start) ≡ Some k
 
 -- ---- ranges
 
@@ -105,9 +99,9 @@ IsPlaced p ranges None = list_any p ranges ≡ false
 abbrev pub range_bucket : Range → ℕ
 range_bucket r = (r.one % 2048 * 509 + r.other % 2048) % 2048
 
--- no range ends after a pair and second, given as a number, in the order of ranges
-abbrev pub EndBy : ℕ → List Range → Type 0
-EndBy number ranges = AllByRecursion (λ r. place_number r.one r.other r.end ≤ number) ranges
+-- no range ends after a pair and second, in the order of ranges
+abbrev pub EndBy : ℕ × ℕ × ℕ → List Range → Type 0
+EndBy key ranges = AllByRecursion (λ r. is_le (by_key (r.one, r.other, r.end) key) ≡ true) ranges
 
 -- the first ranges are in order, the next ones are in chains, and if each begins after those before it end, none ends
 -- after the last end
@@ -115,4 +109,4 @@ pub record KnowsRanges (befores lasts : List ℕ) (rising : Bool) (last : ℕ ×
   pub within : placed ≤ length ranges
   pub in_order : IsPlan (plan_of_ranges (take placed ranges))
   pub chained : AreChained (map range_bucket (drop placed ranges)) befores lasts
-  pub rises : rising ≡ true → EndBy (place_number last.0 last.1 last.2) ranges
+  pub rises : rising ≡ true → EndBy last ranges

@@ -14,7 +14,7 @@ use Rattle.sabr_model.specs.routes.Asking.{IsRequest}
 use Rattle.sabr_model.specs.routes.Record.{RouteRecord}
 use Rattle.sabr_model.specs.routes.Route.{delivery_of}
 use Rattle.sabr_model.proofs.PlanLemmas.Deletions.{all_found}
-use Rattle.sabr_model.proofs.PlanLemmas.RangeKeys.{light_of_limit}
+use Rattle.sabr_model.proofs.PlanLemmas.RangeOrder.{light_of_limit}
 use Rattle.sabr_model.proofs.RouteLemmas.Routes.{route_facts}
 use Rattle.sabr_frontier.specs.declared.tree.NodeId.{NodeId}
 use Rattle.sabr_frontier.specs.giving.SmallestKeys.{CarryKeys}

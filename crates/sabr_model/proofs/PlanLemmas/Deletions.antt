@@ -8,7 +8,7 @@ use Rattle.std.specs.declared.option.Option.TheVariants.{Some}
 use Rattle.std.specs.declared.cmp.Ordering.TheVariants.{Less}
 use Rattle.sabr_model.specs.declared.contact.Contact.{Contact}
 use Rattle.sabr_model.specs.declared.contact.Range.{Range}
-use Rattle.sabr_model.specs.Order.{by_numbers}
+use Rattle.sabr_model.specs.Order.{by_key}
 use Rattle.sabr_model.specs.plan.Plan.{ContactPlan, IsPlan, IsWindow, IsPair, rises_above, opens, same_opening, overlap, none_twice, range_key}
 use Rattle.sabr_model.specs.plan.Table.{without_number}
 use Rattle.sabr_model.proofs.PlanLemmas.Without.{all_above, is_one}
@@ -102,20 +102,20 @@ rises_filter low t (c ∷ cs) rises =
     ]
 
 -- some of the keys above a key are above it
-keys_filter : (t : Range → Bool) (k : List ℕ) (rs : List Range) → AllByRecursion (λ y. by_numbers k y ≡ Less) (map range_key rs) → AllByRecursion (λ y. by_numbers k y ≡ Less) (map range_key (filter t rs))
+keys_filter : (t : Range → Bool) (k : ℕ × ℕ × ℕ) (rs : List Range) → AllByRecursion (λ y. by_key k y ≡ Less) (map range_key rs) → AllByRecursion (λ y. by_key k y ≡ Less) (map range_key (filter t rs))
 keys_filter t k [] all = tt
 keys_filter t k (r ∷ rs) all =
-    elim (t r) as (λ b. AllByRecursion (λ y. by_numbers k y ≡ Less) (map range_key (cond b (r ∷ filter t rs) (filter t rs)))) [
+    elim (t r) as (λ b. AllByRecursion (λ y. by_key k y ≡ Less) (map range_key (cond b (r ∷ filter t rs) (filter t rs)))) [
       | true ↦ (all.0, keys_filter t k rs all.1)
       | false ↦ keys_filter t k rs all.1
     ]
 
 -- some of sorted ranges are sorted
-sorted_filter : (t : Range → Bool) (rs : List Range) → IsStrictlySortedBy by_numbers (map range_key rs) → IsStrictlySortedBy by_numbers (map range_key (filter t rs))
+sorted_filter : (t : Range → Bool) (rs : List Range) → IsStrictlySortedBy by_key (map range_key rs) → IsStrictlySortedBy by_key (map range_key (filter t rs))
 unfolding IsStrictlySortedBy
 sorted_filter t [] sorted = tt
 sorted_filter t (r ∷ rs) sorted =
-    elim (t r) as (λ b. IsStrictlySortedBy by_numbers (map range_key (cond b (r ∷ filter t rs) (filter t rs)))) [
+    elim (t r) as (λ b. IsStrictlySortedBy by_key (map range_key (cond b (r ∷ filter t rs) (filter t rs)))) [
       | true ↦ (keys_filter t (range_key r) rs sorted.0, sorted_filter t rs sorted.1)
       | false ↦ sorted_filter t rs sorted.1
     ]

@@ -1,21 +1,20 @@
 -- A plan with one more range that is not refused is a plan, and the place where that range goes.
-use Rattle.std.proofs.Common.{◌≡◌, ◌≢◌, ℕ, zero, suc, ◌+◌, ◌<◌, ◌≤◌, Bool, true, false, cond, ◌||◌, ◌&&◌, not, eqb, ltb, leb, List, [], ◌∷◌, length, get_or, map, refl, sym, ap, subst, ◌∙◌, arith}
+use Rattle.std.proofs.Common.{◌≡◌, ℕ, zero, suc, ◌+◌, ◌<◌, ◌≤◌, Bool, true, false, cond, ◌||◌, ◌&&◌, not, eqb, ltb, leb, List, [], ◌∷◌, length, get_or, map, refl, sym, ap, subst, ◌∙◌, arith}
 use Rattle.std.specs.List.{insert, list_any, AllByRecursion}
 use Rattle.std.specs.List.Sorted.{IsStrictlySortedBy}
-use Rattle.std.specs.FinMap.{slice_cmp-IsAntisymmetric, nat_cmp-IsAntisymmetric}
-use Rattle.std.proofs.lemmas.Cmp.{nat_list_cmp_total}
-use Rattle.std.proofs.lemmas.Bool.{and_parts, and_from, or_parts, or_from, not-true, not_from_false, lt-ltb, leb-false, eqb-false, eq-eqb, both_ways}
-use Rattle.std.proofs.lemmas.List.Folds.{list_any_at}
+use Rattle.std.proofs.lemmas.Bool.Decides.{nat_tests}
+use Rattle.std.proofs.lemmas.Bool.{and_parts, and_from, or_parts, or_from, not-true, not_from_false, leb-false, eqb-false}
 use Rattle.std.specs.declared.option.Option.TheVariants.{Some, None}
 use Rattle.std.specs.declared.cmp.Ordering.{Ordering}
 use Rattle.std.specs.declared.cmp.Ordering.TheVariants.{Less, Equal, Greater}
 use Rattle.sabr_model.specs.declared.contact.Range.{Range}
 use Rattle.sabr_model.specs.declared.fault.AddFault.TheVariants.{EmptyWindow, SelfPair, RangeOverlap, TooMany}
-use Rattle.sabr_model.specs.Order.{put_in, by_numbers}
+use Rattle.sabr_model.specs.Order.{put_in, by_key}
 use Rattle.sabr_model.specs.plan.Plan.{ContactPlan, IsPlan, IsWindow, IsNode, IsPair, overlap, none_twice, range_key, last_time}
 use Rattle.sabr_model.specs.plan.Adding.{range_refusal, with_range, by_range_key}
 use Rattle.sabr_model.proofs.ListLemmas.Has.{eqb_flip}
 use Rattle.sabr_model.proofs.ListLemmas.Ordered.{all_put, sorted_put}
+use Rattle.sabr_model.proofs.PlanLemmas.KeyOrder.{by_key_total}
 
 -- the facts of an accepted range
 pub record IsAcceptedRange (p : ContactPlan) (r : Range) : Type 0 where
@@ -101,10 +100,10 @@ module _ {X : Type 0} (cmp : X → X → Ordering) where
       ∙ ap (λ o. elim o as (λ _. List X) [ Less ↦ x ∷ y ∷ ys | Equal ↦ y ∷ ys | Greater ↦ y ∷ put_in cmp x ys ]) (sym (before zero (omega arith)))
 
 -- the keys after a put
-keys-put : (r : Range) (rs : List Range) → map range_key (put_in by_range_key r rs) ≡ put_in by_numbers (range_key r) (map range_key rs)
+keys-put : (r : Range) (rs : List Range) → map range_key (put_in by_range_key r rs) ≡ put_in by_key (range_key r) (map range_key rs)
 keys-put r [] = refl
 keys-put r (s ∷ rs) =
-    elim (by_range_key r s) as (λ o. map range_key (elim o [ Less ↦ r ∷ s ∷ rs | Equal ↦ s ∷ rs | Greater ↦ s ∷ put_in by_range_key r rs ]) ≡ elim o [ Less ↦ range_key r ∷ range_key s ∷ map range_key rs | Equal ↦ range_key s ∷ map range_key rs | Greater ↦ range_key s ∷ put_in by_numbers (range_key r) (map range_key rs) ]) [
+    elim (by_range_key r s) as (λ o. map range_key (elim o [ Less ↦ r ∷ s ∷ rs | Equal ↦ s ∷ rs | Greater ↦ s ∷ put_in by_range_key r rs ]) ≡ elim o [ Less ↦ range_key r ∷ range_key s ∷ map range_key rs | Equal ↦ range_key s ∷ map range_key rs | Greater ↦ range_key s ∷ put_in by_key (range_key r) (map range_key rs) ]) [
       | Less ↦ refl
       | Equal ↦ refl
       | Greater ↦ ap (λ ks. range_key s ∷ ks) (keys-put r rs)
@@ -118,7 +117,7 @@ IsPlan-range p r h one other ends light accept =
       contact_windows = h.contact_windows;
       contact_nodes = h.contact_nodes;
       rates = h.rates;
-      ranges_rise = subst (IsStrictlySortedBy by_numbers) (sym (keys-put r p.ranges)) (sorted_put by_numbers nat_list_cmp_total (range_key r) (map range_key p.ranges) h.ranges_rise);
+      ranges_rise = subst (IsStrictlySortedBy by_key) (sym (keys-put r p.ranges)) (sorted_put by_key by_key_total (range_key r) (map range_key p.ranges) h.ranges_rise);
       numbers_rise = h.numbers_rise;
       numbers_given = h.numbers_given;
       openings_differ = h.openings_differ;
@@ -132,37 +131,10 @@ IsPlan-range p r h one other ends light accept =
 
 -- ranges of one key overlap if neither is empty
 pub same_key_overlaps : (r s : Range) → r.start < r.end → s.start < s.end → by_range_key r s ≡ Equal → overlap r s ≡ true
-same_key_overlaps r s a b e =
-    let same : range_key r ≡ range_key s = slice_cmp-IsAntisymmetric nat_cmp-IsAntisymmetric (range_key r) (range_key s) e in
-    let one : r.one ≡ s.one = cc in
-    let other : r.other ≡ s.other = cc in
-    let start : r.start ≡ s.start = cc in
-    and_from (eqb r.one s.one && eqb r.other s.other && ltb r.start s.end) (ltb s.start r.end)
-    (and_from (eqb r.one s.one && eqb r.other s.other) (ltb r.start s.end)
-    (and_from (eqb r.one s.one) (eqb r.other s.other) (eq-eqb r.one s.one one) (eq-eqb r.other s.other other))
-    (lt-ltb r.start s.end (omega (arith, start, b))))
-    (lt-ltb s.start r.end (omega (arith, start, a)))
+same_key_overlaps r s a b e = grind (arith, nat_tests)
 
 -- what holds for all elements holds at each place
 pub all_at : {X : Type 0} (P : X → Type 0) (xs : List X) (i : ℕ) (d : X) → AllByRecursion P xs → i < length xs → P (get_or xs i d)
 all_at P [] i d all lt = absurd (omega arith)
 all_at P (x ∷ xs) zero d all lt = all.0
 all_at P (x ∷ xs) (suc i) d all lt = all_at P xs i d all.1 (omega arith)
-
--- an ordering that is neither greater nor equal is less
-order_left : (o : Ordering) → o ≢ Greater → o ≢ Equal → o ≡ Less
-order_left Less a b = refl
-order_left Equal a b = absurd (b refl)
-order_left Greater a b = absurd (a refl)
-
--- the range goes to the place of the first that does not come before it
-pub place_is_put : (p : ContactPlan) (r : Range) (i : ℕ) → IsPlan p → range_refusal p r ≡ None → i ≤ length p.ranges
-    → ((k : ℕ) → k < i → by_range_key r (get_or p.ranges k r) ≡ Greater) → (i < length p.ranges → by_range_key r (get_or p.ranges i r) ≢ Greater)
-    → insert p.ranges i r ≡ put_in by_range_key r p.ranges
-place_is_put p r i h accept within before at =
-    let a = accepted_range p r accept in
-    insert_is_put by_range_key r p.ranges i within before
-    (λ lt. order_left (by_range_key r (get_or p.ranges i r)) (at lt)
-    (λ e. both_ways (list_any (overlap r) p.ranges) a.new
-    (list_any_at (overlap r) p.ranges i r lt
-    (same_key_overlaps r (get_or p.ranges i r) a.window (all_at (λ s. IsWindow s.start s.end) p.ranges i r h.range_windows lt).0 e))))

@@ -9,7 +9,7 @@ use Rattle.sabr_model.specs.declared.contact.Contact.{Contact}
 use Rattle.sabr_model.specs.declared.contact.Range.{Range}
 use Rattle.sabr_model.specs.declared.fault.AddFault.{AddFault}
 use Rattle.sabr_model.specs.declared.fault.AddFault.TheVariants.{EmptyWindow, SelfPair, DuplicateContact, RangeOverlap, TooMany}
-use Rattle.sabr_model.specs.Order.{by_numbers, put_in}
+use Rattle.sabr_model.specs.Order.{by_key, put_in}
 use Rattle.sabr_model.specs.plan.Plan.{ContactPlan, most_records, opens, overlap, range_key}
 
 -- the contact that the plan would assign the next number
@@ -52,7 +52,7 @@ range_refusal p r = first_refusal r.one r.other r.start r.end (list_any (overlap
 
 -- ranges by their pair of nodes and then by their start
 abbrev pub by_range_key : Range → Range → Ordering
-by_range_key r s = by_numbers (range_key r) (range_key s)
+by_range_key r s = by_key (range_key r) (range_key s)
 
 -- the plan with one more range
 abbrev pub with_range : ContactPlan → Range → ContactPlan

@@ -4,7 +4,7 @@ use Rattle.std.specs.List.{find, list_any, AllByRecursion}
 use Rattle.std.specs.declared.option.Option.{Option}
 use Rattle.std.specs.declared.option.Option.TheVariants.{Some, None}
 use Rattle.std.specs.List.Sorted.{IsStrictlySortedBy}
-use Rattle.sabr_model.specs.Order.{by_numbers}
+use Rattle.sabr_model.specs.Order.{by_key}
 use Rattle.sabr_model.specs.declared.contact.Contact.{Contact}
 use Rattle.sabr_model.specs.declared.contact.Range.{Range}
 
@@ -85,8 +85,8 @@ none_twice same [] = true
 none_twice same (x ∷ xs) = not (list_any (same x) xs) && none_twice same xs
 
 -- the key of a range: its pair of nodes, then its start
-abbrev pub range_key : Range → List ℕ
-range_key r = r.one ∷ r.other ∷ r.start ∷ []
+abbrev pub range_key : Range → ℕ × ℕ × ℕ
+range_key r = (r.one, r.other, r.start)
 
 -- what holds for every plan: valid windows and nodes, ascending numbers up to the largest assigned, no two contacts
 -- with one opening, ranges in order that don't overlap, and the limits (this project's profile of ionrc(5))
@@ -99,7 +99,7 @@ pub record IsPlan (p : ContactPlan) : Type 0 where
   pub range_windows : AllByRecursion (λ r. IsWindow r.start r.end) p.ranges
   pub range_nodes : AllByRecursion (λ r. IsPair r.one r.other) p.ranges
   pub rates : AllByRecursion (λ c. c.rate < 2 ^ 64) p.contacts
-  pub ranges_rise : IsStrictlySortedBy by_numbers (map range_key p.ranges)
+  pub ranges_rise : IsStrictlySortedBy by_key (map range_key p.ranges)
   pub lights : AllByRecursion (λ r. r.light ≤ most_light) p.ranges
   pub ranges_apart : IsTrue (none_twice overlap p.ranges)
   pub count : p.largest ≤ most_records

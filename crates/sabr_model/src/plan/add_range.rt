@@ -26,7 +26,7 @@ impl<A: Allocator + Copy> Plan<A> {
         ensures err { OnErr result (self.new ≡ self.old) }
     {
         self.lights.clear();
-        let place = ranges_until(&self.ranges, range.one, range.other, range.start);
+        let place = ranges_until(&self.ranges, range.key());
         self.ranges.insert(place, range)?;
         Ok(())
     }

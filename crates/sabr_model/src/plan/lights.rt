@@ -139,7 +139,7 @@ fn light_behind(
     if light.is_some() {
         return (light, place);
     }
-    let count = ranges_until(ranges, one, other, t);
+    let count = ranges_until(ranges, (one, other, t));
     (
         light_until(ranges, count, one, other, t),
         count.saturating_sub(1),

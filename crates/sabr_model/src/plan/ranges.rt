@@ -3,46 +3,19 @@
 ghost use Rattle.std.specs.Prelude.{◌≡◌, ◌<◌, ◌≤◌, ◌-◌, ◌↔◌, ◌==◌, ◌&&◌, Some, None, if◌then◌else◌, IsTrue, length, slice_index_or};
 ghost use Rattle.std.specs.List.{list_any};
 ghost use Rattle.sabr_model.specs.declared.contact.Range.{Range};
-ghost use Rattle.sabr_model.specs.plan.Plan.{overlap};
+ghost use Rattle.sabr_model.specs.plan.Plan.{overlap, range_key};
 ghost use Rattle.sabr_model.specs.plan.Adding.{begins};
 ghost use Rattle.sabr_model.specs.plan.Light.{is_within, light_of_pair};
-ghost use Rattle.sabr_model.specs.plan.RangeOrder.{place_number, number_of_range, IsRangeList, IsCountUntil};
+ghost use Rattle.sabr_model.specs.plan.RangeOrder.{IsRangeList, IsCountUntil};
 
 use crate::contact::Range;
 
-/// Returns true if one pair and second come no later than another, in the order of ranges.
-pub fn comes_by(place: (u64, u64, u64), bound: (u64, u64, u64)) -> bool
-    ensures { IsTrue result ↔ (place_number place.0 place.1 place.2 ≤ place_number bound.0 bound.1 bound.2) }
-{
-    place.0 < bound.0
-        || (place.0 == bound.0 && (place.1 < bound.1 || (place.1 == bound.1 && place.2 <= bound.2)))
-}
-
-/// Returns true if the range at an index comes no later than a pair and second, in the order of ranges.
-fn range_comes_by(ranges: &[Range], place: usize, one: u64, other: u64, t: u64) -> bool
-    requires { place < length ranges.now }
-    ensures { (d : Range) → IsTrue result ↔ (number_of_range (slice_index_or ranges.now place d) ≤ place_number one other t) }
-{
-    let range = &ranges[place];
-    comes_by((range.one, range.other, range.start), (one, other, t))
-}
-
-/// Counts the ranges, from the front, that come no later than a pair and second.
-pub fn ranges_until(ranges: &[Range], one: u64, other: u64, t: u64) -> usize
+/// Counts the ranges, from the front, that come no later than a pair of nodes and a second. It is a binary search.
+pub fn ranges_until(ranges: &[Range], key: (u64, u64, u64)) -> usize
     requires { IsRangeList ranges.now }
-    ensures { IsCountUntil ranges.now (place_number one other t) result }
+    ensures { IsCountUntil ranges.now key result }
 {
-    let mut low = 0;
-    let mut high = ranges.len();
-    while low < high {
-        let middle = low + (high - low) / 2;
-        if range_comes_by(ranges, middle, one, other, t) {
-            low = middle + 1;
-        } else {
-            high = middle;
-        }
-    }
-    low
+    ranges.partition_point(|r| r.key() <= key)
 }
 
 /// Returns the light time of a range if it is of this ordered pair and in force at `t`, and `None` otherwise.
@@ -61,7 +34,7 @@ pub fn light_of_range(range: &Range, one: u64, other: u64, t: u64) -> Option<u32
 /// `None` if no range of the pair is in force.
 pub fn light_until(ranges: &[Range], count: usize, one: u64, other: u64, t: u64) -> Option<u32>
     requires ranges { IsRangeList ranges.now }
-    requires count { IsCountUntil ranges.now (place_number one other t) count }
+    requires count { IsCountUntil ranges.now (one, other, t) count }
     ensures { result ≡ light_of_pair ranges.now one other t }
 {
     if count == 0 {
@@ -75,11 +48,19 @@ pub fn light_in_force(ranges: &[Range], one: u64, other: u64, t: u64) -> Option<
     requires { IsRangeList ranges.now }
     ensures { result ≡ light_of_pair ranges.now one other t }
 {
-    let count = ranges_until(ranges, one, other, t);
+    let count = ranges_until(ranges, (one, other, t));
     light_until(ranges, count, one, other, t)
 }
 
 impl Range {
+    /// The pair of nodes and the start, by which the ranges of a plan are in order.
+    #[inline]
+    pub fn key(&self) -> (u64, u64, u64)
+        ensures { result ≡ range_key self.now }
+    {
+        (self.one, self.other, self.start)
+    }
+
     /// Returns true if the range is of this ordered pair and begins at this start.
     #[inline]
     pub fn begins(&self, one: u64, other: u64, start: u64) -> bool
@@ -111,7 +92,7 @@ impl Range {
         ensures { result ≡ list_any (overlap self.now) ranges.now }
     {
         let last = self.end.saturating_sub(1);
-        let count = ranges_until(ranges, self.one, self.other, last);
+        let count = ranges_until(ranges, (self.one, self.other, last));
         if count == 0 {
             return false;
         }

@@ -1,14 +1,16 @@
 //! The openings of contacts that come one by one. A contact whose opening is the largest so far needs no search for a
 //! duplicate.
 
-ghost use Rattle.std.specs.Prelude.{◌≡◌, ◌<◌, ◌≤◌, ◌↔◌, [], IsTrue, length, map};
+ghost use Rattle.std.specs.Prelude.{◌≡◌, ◌<◌, ◌≤◌, [], IsTrue, length, map};
 ghost use Rattle.std.specs.List.{list_any, position};
-ghost use Rattle.sabr_plan.specs.Gathering.{AreChained, opening_number, opening_bucket, contact_bucket, stands_at, OpenBy, KnowsSome, IsFound, IsTreed, standing};
+ghost use Rattle.std.specs.Ordering.{is_gt};
+ghost use Rattle.sabr_model.specs.Order.{by_key};
+ghost use Rattle.sabr_plan.specs.Gathering.{AreChained, opening_key, opening_bucket, contact_bucket, stands_at, OpenBy, KnowsSome, IsFound, IsTreed, standing};
 ghost use Rattle.sabr_model.specs.plan.Plan.{same_opening, none_twice};
 
 use crate::gathering::chains::Chains;
 use crate::gathering::opening_tree::OpeningTree;
-use sabr_model::{Contact, Opening, comes_by};
+use sabr_model::{Contact, Opening};
 use std::alloc::Allocator;
 
 /// The number of buckets. A chain of the largest plan has five contacts. With 8192, plans of 448 and 1833 contacts take
@@ -131,12 +133,9 @@ pub fn stands_at(contact: &Contact, opening: &Opening) -> bool
 
 /// Returns true if an opening comes after another, by start, sender and receiver.
 fn comes_after(opening: &Opening, other: &Opening) -> bool
-    ensures { IsTrue result ↔ (opening_number other.now < opening_number opening.now) }
+    ensures { result ≡ is_gt (by_key (opening_key opening.now) (opening_key other.now)) }
 {
-    !comes_by(
-        (opening.start, opening.from, opening.to),
-        (other.start, other.from, other.to),
-    )
+    (opening.start, opening.from, opening.to) > (other.start, other.from, other.to)
 }
 
 /// The bucket of an opening.

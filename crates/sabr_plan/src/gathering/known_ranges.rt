@@ -3,12 +3,13 @@
 
 ghost use Rattle.std.specs.Prelude.{◌≡◌, ◌<◌, ◌≤◌, [], IsTrue, false, drop, length, map, is_some, not};
 ghost use Rattle.std.specs.List.{list_any};
-ghost use Rattle.sabr_model.specs.plan.Plan.{overlap};
-ghost use Rattle.sabr_model.specs.plan.RangeOrder.{number_of_range};
+ghost use Rattle.std.specs.Ordering.{is_le};
+ghost use Rattle.sabr_model.specs.Order.{by_key};
+ghost use Rattle.sabr_model.specs.plan.Plan.{overlap, range_key};
 ghost use Rattle.sabr_plan.specs.Gathering.{AreChained, EndBy, KnowsRanges, range_bucket};
 
 use crate::gathering::chains::Chains;
-use sabr_model::{Range, comes_by};
+use sabr_model::Range;
 use std::alloc::Allocator;
 
 /// The number of buckets. With 4096, a plan of 10000 ranges by start takes 0.8 percent fewer instructions for one
@@ -60,9 +61,9 @@ impl<A: Allocator + Copy> KnownRanges<A> {
         requires { KnowsRanges self.old.chains.befores.items self.old.chains.lasts.items self.old.rising self.old.last self.old.placed ranges.now }
         ensures value { result ≡ list_any (overlap range.now) ranges.now }
         ensures knows { KnowsRanges self.new.chains.befores.items self.new.chains.lasts.items self.new.rising self.new.last self.new.placed ranges.now }
-        ensures rises { IsTrue self.new.rising → EndBy (number_of_range range.now) ranges.now }
+        ensures rises { IsTrue self.new.rising → EndBy (range_key range.now) ranges.now }
     {
-        if self.rising && comes_by(self.last, (range.one, range.other, range.start)) {
+        if self.rising && comes_by(self.last, range) {
             return false;
         }
         self.rising = false;
@@ -96,6 +97,13 @@ impl<A: Allocator + Copy> KnownRanges<A> {
         self.walked = 0;
         self.rising = false;
     }
+}
+
+/// Returns true if a pair and second come no later than a range, by its pair and start.
+fn comes_by(last: (u64, u64, u64), range: &Range) -> bool
+    ensures { result ≡ is_le (by_key last (range_key range.now)) }
+{
+    last <= range.key()
 }
 
 /// The bucket of a range, by its ordered pair.

@@ -4,7 +4,7 @@ use Rattle.std.specs.Option.{option_map}
 use Rattle.std.specs.declared.option.Option.TheVariants.{Some, None}
 use Rattle.sabr_model.specs.plan.Light.{light_of}
 use Rattle.sabr_model.specs.routes.Arrival.{arrival, cost}
-use Rattle.sabr_model.proofs.PlanLemmas.RangeKeys.{light_of_limit}
+use Rattle.sabr_model.proofs.PlanLemmas.RangeOrder.{light_of_limit}
 use Rattle.sabr_model.proofs.RouteLemmas.Follows.{ends_in_time, reached_on}
 use Rattle.sabr_model.proofs.following.Follower.take_hop.Goals as goal
 

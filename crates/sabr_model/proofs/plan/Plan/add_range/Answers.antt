@@ -1,7 +1,7 @@
 use Rattle.std.proofs.Common.{sym, subst}
 use Rattle.sabr_model.specs.plan.Plan.{ContactPlan}
 use Rattle.sabr_model.specs.plan.RangeOrder.{IsRangeList}
-use Rattle.sabr_model.proofs.PlanLemmas.RangeKeys.{range_list}
+use Rattle.sabr_model.proofs.PlanLemmas.RangeOrder.{range_list}
 use Rattle.sabr_model.proofs.plan.Plan.add_range.Goals as goal
 
 pub overlaps_some-clashes-requires : goal.overlaps_some-clashes-requires

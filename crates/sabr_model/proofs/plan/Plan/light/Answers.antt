@@ -4,7 +4,7 @@ use Rattle.sabr_model.specs.declared.contact.Range.{Range}
 use Rattle.sabr_model.specs.plan.Light.{light_of}
 use Rattle.sabr_model.specs.plan.Plan.{ContactPlan, TabledPlan}
 use Rattle.sabr_model.specs.plan.RangeOrder.{IsRangeList}
-use Rattle.sabr_model.proofs.PlanLemmas.RangeKeys.{range_list, light_of_limit}
+use Rattle.sabr_model.proofs.PlanLemmas.RangeOrder.{range_list, light_of_limit}
 use Rattle.sabr_model.proofs.plan.Plan.light.Goals as goal
 
 pub light_of_contact-requires : goal.light_of_contact-requires

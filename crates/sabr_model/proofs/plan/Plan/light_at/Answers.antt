@@ -3,7 +3,7 @@ use Rattle.sabr_model.specs.declared.contact.Contact.{Contact}
 use Rattle.sabr_model.specs.plan.Plan.{ContactPlan, TabledPlan}
 use Rattle.sabr_model.specs.plan.Light.{light_of}
 use Rattle.sabr_model.specs.plan.RangeOrder.{IsRangeList}
-use Rattle.sabr_model.proofs.PlanLemmas.RangeKeys.{range_list}
+use Rattle.sabr_model.proofs.PlanLemmas.RangeOrder.{range_list}
 use Rattle.sabr_model.proofs.plan.Plan.light_at.Goals as goal
 
 pub light_of_contact-requires : goal.light_of_contact-requires

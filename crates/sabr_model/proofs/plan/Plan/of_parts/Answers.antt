@@ -8,7 +8,7 @@ use Rattle.sabr_model.specs.plan.RangeOrder.{IsRangeList}
 use Rattle.sabr_model.specs.plan.Table.{IsTableOf}
 use Rattle.sabr_model.specs.plan.ContactEnds.{AreEnds}
 use Rattle.sabr_model.specs.plan.Known.{BeginLights}
-use Rattle.sabr_model.proofs.PlanLemmas.RangeKeys.{range_list}
+use Rattle.sabr_model.proofs.PlanLemmas.RangeOrder.{range_list}
 use Rattle.sabr_model.proofs.PlanLemmas.Limits.{few_contacts}
 use Rattle.sabr_model.proofs.plan.Plan.of_parts.Goals as goal
 

@@ -1,12 +1,11 @@
-use Rattle.std.proofs.Common.{◌≡◌, ◌∙◌, List, insert, ap, sym, subst, arith}
+use Rattle.std.proofs.Common.{◌≡◌, ◌∙◌, insert, ap, sym, subst, arith}
 use Rattle.std.specs.declared.option.Option.TheVariants.{None}
-use Rattle.sabr_model.specs.declared.contact.Range.{Range}
 use Rattle.sabr_model.specs.Order.{put_in}
-use Rattle.sabr_model.specs.plan.RangeOrder.{number_of_range, IsRangeList, IsCountUntil}
+use Rattle.sabr_model.specs.plan.RangeOrder.{IsRangeList}
 use Rattle.sabr_model.specs.plan.Plan.{ContactPlan, TabledPlan}
 use Rattle.sabr_model.specs.plan.Adding.{range_refusal, with_range, by_range_key}
 use Rattle.sabr_model.proofs.PlanLemmas.RangeLemmas.{IsPlan-range}
-use Rattle.sabr_model.proofs.PlanLemmas.RangeKeys.{range_list, count_is_put}
+use Rattle.sabr_model.proofs.PlanLemmas.RangeOrder.{range_list, count_is_put}
 use Rattle.sabr_model.proofs.PlanLemmas.KnownLemmas.{ends_known}
 use Rattle.sabr_model.proofs.plan.Plan.put_range.Goals as goal
 
@@ -22,7 +21,7 @@ invariant_of-self-2 g c =
     let place = c.ranges_until-place.result in
     let lent : c.deref.result.now ≡ p.ranges = c.deref.ensures.value in
     let put : insert p.ranges place c.args.range ≡ put_in by_range_key c.args.range p.ranges =
-    count_is_put p c.args.range place c.self.invariant.0 accept (omega arith) (omega arith) (subst (λ (rs : List Range). IsCountUntil rs (number_of_range c.args.range) place) lent c.ranges_until-place.ensures) in
+    count_is_put p c.args.range place c.self.invariant.0 accept (rw (lent, c.key.ensures) at c.ranges_until-place.ensures) in
     rw (c.in_ok-insert.ensures.items, put, c.clear.ensures.items)
     (IsPlan-range p c.args.range c.self.invariant.0 (c.requires.one, omega arith) (c.requires.other, omega arith) c.requires.end c.requires.light accept, c.self.invariant.1, ends_known _ _ c.self.invariant.2.ends)
 
@@ -33,6 +32,6 @@ returns-clause-ok g c =
     let place = c.ranges_until-place.result in
     let lent : c.deref.result.now ≡ p.ranges = c.deref.ensures.value in
     let put : insert p.ranges place c.args.range ≡ put_in by_range_key c.args.range p.ranges =
-    count_is_put p c.args.range place c.self.invariant.0 accept (omega arith) (omega arith) (subst (λ (rs : List Range). IsCountUntil rs (number_of_range c.args.range) place) lent c.ranges_until-place.ensures) in
+    count_is_put p c.args.range place c.self.invariant.0 accept (rw (lent, c.key.ensures) at c.ranges_until-place.ensures) in
     rw (c.in_ok-insert.ensures.items, put)
     (ap (λ (q : TabledPlan). let r : TabledPlan = record { plan = with_range q.plan c.args.range; table = q.table } in r) c.self.view_is)

@@ -1,4 +1,4 @@
-use Rattle.sabr_model.proofs.PlanLemmas.RangeKeys.{told_at}
+use Rattle.sabr_model.proofs.PlanLemmas.RangeOrder.{told_at}
 use Rattle.sabr_model.proofs.plan.lights.light_at.Goals as goal
 
 pub returns : goal.returns

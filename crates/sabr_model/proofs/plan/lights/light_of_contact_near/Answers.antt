@@ -2,7 +2,7 @@ use Rattle.std.proofs.Common.{◌≡◌, ℕ, false, Option, Some, None, sym, �
 use Rattle.std.specs.Prelude.{is_some}
 use Rattle.std.proofs.lemmas.Bool.{lt-ltb}
 use Rattle.sabr_model.specs.plan.Light.{light_of_pair}
-use Rattle.sabr_model.proofs.PlanLemmas.RangeKeys.{none_back}
+use Rattle.sabr_model.proofs.PlanLemmas.RangeOrder.{none_back}
 use Rattle.sabr_model.proofs.plan.lights.light_of_contact_near.Goals as goal
 use Rattle.sabr_model.proofs.plan.lights.light_of_contact_near.Goals.{then-not-rising+else-is_some, else-not-rising}
 

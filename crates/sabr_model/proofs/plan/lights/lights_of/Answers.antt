@@ -5,7 +5,7 @@ use Rattle.sabr_model.specs.declared.contact.Contact.{Contact}
 use Rattle.sabr_model.specs.plan.Plan.{ContactPlan}
 use Rattle.sabr_model.specs.plan.Known.{light_of_word}
 use Rattle.sabr_model.specs.plan.Light.{light_of}
-use Rattle.sabr_model.proofs.PlanLemmas.RangeKeys.{light_of_small}
+use Rattle.sabr_model.proofs.PlanLemmas.RangeOrder.{light_of_small}
 use Rattle.sabr_model.proofs.PlanLemmas.KnownLemmas.{beside_more}
 use Rattle.sabr_model.proofs.plan.lights.lights_of.Goals as goal
 

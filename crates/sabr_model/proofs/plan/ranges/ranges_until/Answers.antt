@@ -1,44 +1,22 @@
-use Rattle.std.proofs.Common.{◌≡◌, ◌+◌, ◌-◌, ◌/◌, ◌<◌, ◌≤◌, length, get_or, inl, inr, arith, ap}
-use Rattle.std.proofs.lemmas.Bool.{cases_order, both_ways, cases_lt}
-use Rattle.sabr_model.specs.plan.RangeOrder.{place_number, number_of_range}
+use Rattle.std.proofs.Common.{◌≡◌, Some, ◌∙◌, rules, of_calls}
+use Rattle.std.specs.Ordering.{nat_cmp, partial_ordering_then, is_le, is_some_and}
+use Rattle.std.proofs.lemmas.List.Sorted.{IsPartitionPoint-from_clause}
+use Rattle.sabr_model.specs.Order.{by_key}
+use Rattle.sabr_model.specs.plan.Plan.{range_key}
+use Rattle.sabr_model.proofs.PlanLemmas.KeyOrder.{told_by}
+use Rattle.sabr_model.proofs.PlanLemmas.RangeOrder.{is_parted}
 use Rattle.sabr_model.proofs.plan.ranges.ranges_until.Goals as goal
 
-pub loop-low-preserved-then-range_comes_by : goal.loop-low-preserved-then-range_comes_by
-loop-low-preserved-then-range_comes_by c =
-    let rs = c.args.ranges.now in
-    let middle = c.loop-low.low + (c.loop-low.high - c.loop-low.low) / 2 in
-    let most : c.loop-low.high ≤ length rs = c.loop-low.invariant.within in
+pub returns : goal.returns
+returns c =
+    let key = c.args.key in
     record {
-      ordered = omega arith;
-      within = most;
-      before = λ k d below.
-          let here = (c.range_comes_by.ensures d).0 c.if-range_comes_by.true in
-          elim (cases_order k middle) [
-            | inl e ↦ let same : number_of_range (get_or rs k d) ≡ number_of_range (get_or rs middle d) = ap (λ i. number_of_range (get_or rs i d)) e in omega (arith, same, here)
-            | inr (inl under) ↦ let less = c.requires.rises k middle d under (omega (arith, most)) in omega (arith, less, here)
-            | inr (inr over) ↦ absurd (omega (arith, over, below))
-          ];
-      behind = c.loop-low.invariant.behind;
-    }
-
-pub loop-low-preserved : goal.loop-low-preserved
-loop-low-preserved c =
-    let rs = c.args.ranges.now in
-    let middle = c.loop-low.low + (c.loop-low.high - c.loop-low.low) / 2 in
-    let most : c.loop-low.high ≤ length rs = c.loop-low.invariant.within in
-    record {
-      ordered = omega arith;
-      within = omega (arith, most);
-      before = c.loop-low.invariant.before;
-      behind = λ k d above lt.
-          let here : place_number c.args.one c.args.other c.args.t < number_of_range (get_or rs middle d) =
-          elim (cases_lt (place_number c.args.one c.args.other c.args.t) (number_of_range (get_or rs middle d))) [
-            | inl less ↦ less
-            | inr le ↦ absurd (both_ways c.range_comes_by.result c.if-range_comes_by.false ((c.range_comes_by.ensures d).1 le))
-          ] in
-          elim (cases_order k middle) [
-            | inl e ↦ let same : number_of_range (get_or rs k d) ≡ number_of_range (get_or rs middle d) = ap (λ i. number_of_range (get_or rs i d)) e in omega (arith, same, here)
-            | inr (inl under) ↦ absurd (omega (arith, under, above))
-            | inr (inr over) ↦ let more = c.requires.rises middle k d over lt in omega (arith, more, here)
-          ];
+      within = c.partition_point.ensures.bound;
+      point = IsPartitionPoint-from_clause (λ y. is_le (by_key (range_key y) key)) c.args.ranges.now c.partition_point.result c.partition_point.ensures.partitioned (is_parted c.args.ranges.now key c.requires)
+          (λ a r q k.
+          let one = nat_cmp a.0.now.one key.0 in
+          let other = nat_cmp a.0.now.other key.1 in
+          let start = nat_cmp a.0.now.start key.2 in
+          let told : r ≡ is_some_and is_le (partial_ordering_then (partial_ordering_then (Some one) (Some other)) (Some start)) = search (rules, of_calls) in
+          (told ∙ told_by is_le one other start, search (rules, of_calls)));
     }

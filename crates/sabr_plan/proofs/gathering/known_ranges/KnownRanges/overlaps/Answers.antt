@@ -3,15 +3,15 @@ use Rattle.std.proofs.Common.{◌∙◌, take, sym, ap, arith}
 use Rattle.std.specs.List.{list_any}
 use Rattle.sabr_model.specs.plan.Plan.{overlap}
 use Rattle.sabr_plan.specs.Gathering.{plan_of_ranges}
-use Rattle.sabr_model.proofs.PlanLemmas.RangeKeys.{range_list}
+use Rattle.sabr_model.proofs.PlanLemmas.RangeOrder.{range_list}
 use Rattle.sabr_plan.proofs.LastRanges.{any_parts, any_next, later_end, overlaps_none}
 use Rattle.sabr_plan.proofs.gathering.known_ranges.KnownRanges.overlaps.Goals as goal
 
 pub returns-then-comes_by-clause-value : goal.returns-then-comes_by-clause-value
-returns-then-comes_by-clause-value g c = sym (overlaps_none c.args.range.now c.args.ranges.now (later_end _ _ _ (c.comes_by.ensures.0 c.if-comes_by.true) (c.requires.rises c.if-self.true)))
+returns-then-comes_by-clause-value g c = sym (overlaps_none c.args.range.now c.args.ranges.now (later_end _ _ _ (sym c.comes_by.ensures ∙ c.if-comes_by.true) (c.requires.rises c.if-self.true)))
 
 pub returns-then-comes_by-clause-rises : goal.returns-then-comes_by-clause-rises
-returns-then-comes_by-clause-rises g c = λ up. later_end _ _ _ (c.comes_by.ensures.0 c.if-comes_by.true) (c.requires.rises up)
+returns-then-comes_by-clause-rises g c = λ up. later_end _ _ _ (sym c.comes_by.ensures ∙ c.if-comes_by.true) (c.requires.rises up)
 
 pub overlaps_some-requires : goal.overlaps_some-requires
 overlaps_some-requires g c = range_list (plan_of_ranges (take c.args.self.now.placed c.args.ranges.now)) c.requires.in_order
