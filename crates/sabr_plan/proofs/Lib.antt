@@ -2,7 +2,6 @@ pub mod ChainedPlaces
 pub mod LastRanges
 pub mod SortedRanges
 pub mod PlacedRanges
-pub mod RangeKeys
 pub mod GatheredOpenings
 pub mod TreedOpenings
 pub mod Digits

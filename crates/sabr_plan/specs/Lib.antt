@@ -1,5 +1,4 @@
 pub mod Gathering
-pub mod RangeKeys
 pub mod Steps
 pub mod Digits
 pub mod Numbers

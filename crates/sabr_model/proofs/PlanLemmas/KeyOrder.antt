@@ -33,9 +33,6 @@ not_less_is x y h = record { first = grind (arith, nat_tests); second = λ e. gr
 pub is_le_by : (x y : ℕ × ℕ × ℕ) → IsBy 0 x y → is_le (by_key x y) ≡ true
 is_le_by x y h = grind (arith, nat_tests)
 
-pub by_not_less : (x y : ℕ × ℕ × ℕ) → IsBy 0 x y → is_lt (by_key y x) ≡ false
-by_not_less x y h = grind (arith, nat_tests)
-
 pub le_itself : (x : ℕ × ℕ × ℕ) → is_le (by_key x x) ≡ true
 le_itself x = ap is_le (tied_itself by_key_total x)
 
