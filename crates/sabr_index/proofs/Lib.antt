@@ -2,7 +2,6 @@ pub mod PassNumbers
 pub mod LinkLemmas
 pub mod TableLemmas
 pub mod InRows
-pub mod GroupingLemmas
 pub mod IncomingLemmas
 pub mod ContactOrders
 pub mod SenderLemmas

@@ -1,7 +1,6 @@
 pub mod Links
 pub mod Linking
 pub mod Table
-pub mod Grouping
 pub mod Incoming
 pub mod Order
 pub mod Index

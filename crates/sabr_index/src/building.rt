@@ -6,11 +6,10 @@ ghost use Rattle.sabr_index.specs.Links.{links_in};
 ghost use Rattle.sabr_index.specs.Linking.{HasNoLight, IsPassOfNumber, ArePassesMore, AreLinked};
 ghost use Rattle.sabr_index.specs.Table.{IsPartMore};
 
-use crate::grouping::Grouped;
 use crate::link::{Link, Pass};
 use crate::rows::link_rows;
 use crate::table::{LinkTable, NodePart};
-use sabr_model::Plan;
+use sabr_model::{Grouped, Plan};
 use std::alloc::{AllocError, Allocator};
 
 /// Makes the links of each node of the table.

@@ -14,7 +14,6 @@
 mod bounds;
 mod building;
 mod counted_plan;
-mod grouping;
 mod incoming;
 mod index;
 mod link;

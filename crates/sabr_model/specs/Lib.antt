@@ -4,3 +4,4 @@ pub mod Order
 pub mod Rows
 pub mod Laws
 pub mod Devices
+pub mod Grouping

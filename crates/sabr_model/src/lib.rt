@@ -45,6 +45,7 @@ mod following;
 mod ghost_bytes;
 mod ghost_count;
 mod ghost_flag;
+mod grouping;
 mod hop;
 mod laws;
 mod limits;
@@ -66,6 +67,7 @@ pub use following::{Reached, follow, follow_behind, follow_hop};
 pub use ghost_bytes::GhostBytes;
 pub use ghost_count::GhostCount;
 pub use ghost_flag::GhostFlag;
+pub use grouping::{Grouped, Items, group};
 pub use hop::Hop;
 pub use laws::{
     candidates_hold_each_once, every_way_is_listed, faults_tell_routes, law1, law2, law3,

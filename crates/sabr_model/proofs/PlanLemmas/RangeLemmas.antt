@@ -1,5 +1,5 @@
 -- A plan with one more range that is not refused is a plan, and the place where that range goes.
-use Rattle.std.proofs.Common.{◌≡◌, ℕ, zero, suc, ◌+◌, ◌<◌, ◌≤◌, Bool, true, false, cond, ◌||◌, ◌&&◌, not, eqb, ltb, leb, List, [], ◌∷◌, length, get_or, map, refl, sym, ap, subst, ◌∙◌, arith}
+use Rattle.std.proofs.Common.{◌≡◌, ℕ, zero, suc, ◌+◌, ◌<◌, ◌≤◌, Bool, true, false, cond, ◌||◌, not, eqb, leb, List, [], ◌∷◌, length, get_or, map, refl, sym, ap, subst, ◌∙◌, arith}
 use Rattle.std.specs.List.{insert, list_any, AllByRecursion}
 use Rattle.std.specs.List.Sorted.{IsStrictlySortedBy}
 use Rattle.std.proofs.lemmas.Bool.Decides.{nat_tests}
@@ -12,7 +12,6 @@ use Rattle.sabr_model.specs.declared.fault.AddFault.TheVariants.{EmptyWindow, Se
 use Rattle.sabr_model.specs.Order.{put_in, by_key}
 use Rattle.sabr_model.specs.plan.Plan.{ContactPlan, IsPlan, IsWindow, IsNode, IsPair, overlap, none_twice, range_key, last_time}
 use Rattle.sabr_model.specs.plan.Adding.{range_refusal, with_range, by_range_key}
-use Rattle.sabr_model.proofs.ListLemmas.Has.{eqb_flip}
 use Rattle.sabr_model.proofs.ListLemmas.Ordered.{all_put, sorted_put}
 use Rattle.sabr_model.proofs.PlanLemmas.KeyOrder.{by_key_total}
 
@@ -37,26 +36,9 @@ accepted_range p r e =
     let parts = choice (leb r.end r.start) (eqb r.one r.other) (list_any (overlap r) p.ranges) (leb 20000 (length p.ranges)) e in
     record { window = leb-false r.end r.start parts.0; apart = parts.1; new = parts.2; room = leb-false 20000 (length p.ranges) parts.3 }
 
--- and is commutative
-and_swap : (a b : Bool) → (a && b) ≡ (b && a)
-and_swap true true = refl
-and_swap true false = refl
-and_swap false true = refl
-and_swap false false = refl
-
--- and is associative
-and_assoc : (a b c : Bool) → ((a && b) && c) ≡ (a && (b && c))
-and_assoc true b c = refl
-and_assoc false b c = refl
-
 -- overlap is symmetric
 pub overlap_flip : (a b : Range) → overlap a b ≡ overlap b a
-overlap_flip a b =
-    ap (λ x. x && eqb a.other b.other && ltb a.start b.end && ltb b.start a.end) (eqb_flip a.one b.one)
-    ∙ ap (λ x. eqb b.one a.one && x && ltb a.start b.end && ltb b.start a.end) (eqb_flip a.other b.other)
-    ∙ and_assoc (eqb b.one a.one && eqb b.other a.other) (ltb a.start b.end) (ltb b.start a.end)
-    ∙ ap (λ x. (eqb b.one a.one && eqb b.other a.other) && x) (and_swap (ltb a.start b.end) (ltb b.start a.end))
-    ∙ sym (and_assoc (eqb b.one a.one && eqb b.other a.other) (ltb b.start a.end) (ltb a.start b.end))
+overlap_flip a b = grind (arith, nat_tests)
 
 module _ {X : Type 0} (cmp : X → X → Ordering) where
   pub any_put : (p : X → Bool) (x : X) (ys : List X) → p x ≡ false → list_any p ys ≡ false → list_any p (put_in cmp x ys) ≡ false

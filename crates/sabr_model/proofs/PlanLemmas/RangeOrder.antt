@@ -6,7 +6,8 @@ use Rattle.std.specs.List.{find, insert, list_all, list_any, AllByRecursion}
 use Rattle.std.specs.List.Sorted.{IsStrictlySortedBy, IsPartitionedBy}
 use Rattle.std.specs.Option.{option_map}
 use Rattle.std.specs.Ordering.{is_le, ordering_reverse}
-use Rattle.std.proofs.lemmas.Bool.{and_parts, and_from, not-true, lt-ltb, le-ltb, ltb-true, leb-true, eqb-true, eq-eqb, cases_order, cases_lt, both_ways, false_from_ne_true}
+use Rattle.std.proofs.lemmas.Bool.Decides.{nat_tests}
+use Rattle.std.proofs.lemmas.Bool.{and_parts, not-true, le-ltb, ltb-true, leb-true, eqb-true, cases_order, cases_lt, both_ways, false_from_ne_true}
 use Rattle.std.proofs.lemmas.List.Folds.{list_all_at, list_any_at}
 use Rattle.std.specs.declared.option.Option.{Option}
 use Rattle.std.specs.declared.option.Option.TheVariants.{Some, None}
@@ -103,12 +104,7 @@ overlap_parts r s h =
 
 -- ranges that overlap, from the parts
 overlap_from : (r s : Range) → r.one ≡ s.one → r.other ≡ s.other → r.start < s.end → s.start < r.end → overlap r s ≡ true
-overlap_from r s one other a b =
-    and_from (eqb r.one s.one && eqb r.other s.other && ltb r.start s.end) (ltb s.start r.end)
-    (and_from (eqb r.one s.one && eqb r.other s.other) (ltb r.start s.end)
-    (and_from (eqb r.one s.one) (eqb r.other s.other) (eq-eqb r.one s.one one) (eq-eqb r.other s.other other))
-    (lt-ltb r.start s.end a))
-    (lt-ltb s.start r.end b)
+overlap_from r s one other a b = grind (arith, nat_tests)
 
 -- a range of a pair comes by a second if it starts by then
 comes_by : (r : Range) (one other t : ℕ) → r.one ≡ one → r.other ≡ other → r.start ≤ t → is_le (by_key (range_key r) (one, other, t)) ≡ true

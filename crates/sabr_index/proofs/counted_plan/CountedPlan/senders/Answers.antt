@@ -5,7 +5,7 @@ use Rattle.sabr_model.specs.plan.Plan.{TabledPlan}
 use Rattle.sabr_index.specs.declared.senders.Incoming.{Incoming}
 use Rattle.sabr_index.specs.Links.{SentLink, AreLinksTo}
 use Rattle.sabr_index.specs.Incoming.{links_named}
-use Rattle.sabr_index.specs.Grouping.{part_of_group}
+use Rattle.sabr_model.specs.Grouping.{part_of_group}
 use Rattle.sabr_index.proofs.SenderLemmas.{lie_there, links_to}
 use Rattle.sabr_index.proofs.counted_plan.CountedPlan.senders.Goals as goal
 
