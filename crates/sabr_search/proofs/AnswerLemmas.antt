@@ -1,5 +1,6 @@
 -- Answers to questions after a prefix, and kept answers.
 pub mod Law
+pub mod Stops
 pub mod UpTo
 pub mod Answered
 pub mod Around

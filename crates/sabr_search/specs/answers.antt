@@ -1,4 +1,4 @@
--- What is kept from one question for later ones.
+-- What one question leaves for later ones.
 pub mod AnswerLists
 pub mod CachedAnswers
 pub mod Asked

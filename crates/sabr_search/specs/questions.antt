@@ -10,3 +10,4 @@ pub mod FirstSteps
 pub mod WideTasks
 pub mod Bounded
 pub mod Calls
+pub mod Stops

@@ -18,9 +18,9 @@ use crate::node_bounds::NodeBounds;
 use crate::part::Excluded;
 use crate::prefix_path::PrefixPath;
 use crate::question::Question;
+use crate::stopped::Stopped;
 use crate::task::Task;
 use sabr_index::Looks;
-use sabr_model::NoMemory;
 use std::alloc::{Allocator, Global};
 
 /// An answer to a question before a search of its own.
@@ -67,7 +67,7 @@ impl<A: Allocator + Copy> Memory<A> {
         &mut self,
         asked: &Question<'_, '_, '_, A>,
         looks: &mut Looks,
-    ) -> Result<(), NoMemory>
+    ) -> Result<(), Stopped>
         requires memory { IsMemory (tabled_of asked.now.task.now) asked.now.task.now.request self.old }
         ensures { IsMemory (tabled_of asked.now.task.now) asked.now.task.now.request self.new }
     {
@@ -88,7 +88,7 @@ impl<A: Allocator + Copy> Memory<A> {
         };
         let whole = Task::new(plan, request, &prefix_path, excluded, source);
         if are_bounds_due {
-            self.node_bounds.find(self.alloc, &whole, looks, until)?;
+            self.node_bounds.find(self.alloc, &whole, looks, until);
         }
         if are_deadlines_due {
             let soon = &self.node_bounds.soon;

@@ -2,7 +2,7 @@
 
 ghost use Rattle.std.specs.Prelude.{IsTrue};
 ghost use Rattle.sabr_search.specs.answers.Found.{IsEnough};
-ghost use Rattle.sabr_search.specs.layers.Made.{IsOutcome};
+ghost use Rattle.sabr_search.specs.layers.Made.{IsFoundBest};
 
 use crate::bound::Bound;
 use std::alloc::{Allocator, Global};
@@ -16,26 +16,12 @@ pub struct Best {
 }
 
 impl Best {
-    /// Returns what a search that ends with this came to: `Outcome::None` if no way was found.
-    pub fn outcome(self) -> Outcome<Best>
-        ensures { IsOutcome self result }
+    /// This, if a way was found.
+    pub fn found(self) -> Option<Best>
+        ensures { IsFoundBest self result }
     {
-        if self.hops == 0 {
-            Outcome::None
-        } else {
-            Outcome::Found(self)
-        }
+        if self.hops == 0 { None } else { Some(self) }
     }
-}
-
-/// What a part of a search came to.
-pub enum Outcome<T> {
-    /// What it looked for.
-    Found(T),
-    /// There is none.
-    None,
-    /// More looks might be needed than it may take, or it came to too many dead ends.
-    GaveUp,
 }
 
 /// The contact numbers of a way, and when it delivers.

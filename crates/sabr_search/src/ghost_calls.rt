@@ -25,7 +25,7 @@ impl GhostCalls {
         GhostCalls {}
     }
 
-    /// Counts one more, which took so many looks.
+    /// Counts one more call, with this number of looks.
     pub fn add(&mut self, looks: u64)
         ensures { self.new.calls ≡ with_call self.old.calls looks }
     {}

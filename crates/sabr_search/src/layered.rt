@@ -11,8 +11,6 @@ ghost use Rattle.sabr_search.specs.layers.Late.{AreArrivals};
 ghost use Rattle.sabr_index.specs.Looks.{looks_taken};
 ghost use Rattle.sabr_search.specs.questions.RouteSummary.{answer_hops};
 
-use crate::backward::from_goal::Aim;
-use crate::backward::since::Since;
 use crate::best::BestOf;
 use crate::bound::{Bound, BoundedPart, Sought};
 use crate::ghost_calls::GhostCalls;
@@ -21,6 +19,7 @@ use crate::part::{Excluded, Part};
 use crate::prefix_path::PrefixPath;
 use crate::question::Question;
 use crate::search_cache::SearchCache;
+use crate::stopped::Stopped;
 use crate::task::Task;
 use sabr_index::{CountedPlan, Index, Looks};
 use sabr_model::{NoMemory, Plan, Request, Route, RouteSummary};
@@ -91,22 +90,14 @@ impl<A: Allocator + Copy> Layered<A> {
             bound: Bound::none(),
             floor: 0,
         };
-        let since = Since::soonest(self.since.len(), &self.since);
         let mut first = Vec::new(self.alloc);
-        let whole = task.first_steps(&mut self.looks, &mut first)?;
-        if !whole {
-            unreachable!();
-        }
-        let aim = Aim {
-            task,
-            since: &since,
-            first: &first,
-            delivery: 0,
-        };
-        let (hops, bound) = (asked.hops_left(), asked.bound_left());
-        let found = self.layers.best_within(&aim, &mut self.looks, hops, bound)?;
-        let Some(found) = found else {
-            unreachable!();
+        let found = match self
+            .layers
+            .best_of(&asked, self.since.as_slice(), &mut first, &mut self.looks)
+        {
+            Ok(found) => found,
+            Err(Stopped::NoLooks) => unreachable!(),
+            Err(Stopped::NoMemory) => return Err(NoMemory),
         };
         let answer = asked.answer(self.alloc, &mut self.looks, &found)?;
         match answer {

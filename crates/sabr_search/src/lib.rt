@@ -10,7 +10,8 @@
 //! **A call.** `Settled::find` follows the prefix (`prefix_path.rt`) and calls `Search::find_route`. That tries an
 //! early answer (`early.rt`): from the cache, by layers over the whole graph, or by a wide question. Otherwise
 //! `Search::run` searches: it settles nodes (`forward`), makes layers backward, and picks the smallest numbers by them
-//! (`backward`).
+//! (`backward`). A search that stops returns an error, `Stopped`. What is tried early and stops for want of looks isn't
+//! known.
 #![tactic(auto)]
 
 mod backward;
@@ -33,6 +34,7 @@ mod queue;
 mod search;
 mod search_cache;
 mod settled;
+mod stopped;
 mod task;
 mod throttle;
 mod visit;

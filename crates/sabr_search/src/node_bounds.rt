@@ -13,7 +13,6 @@ use crate::forward::soonest::soonest_of;
 use crate::task::Task;
 use crate::visit::{NEVER, UNDELIVERED};
 use sabr_index::Looks;
-use sabr_model::NoMemory;
 use std::alloc::Allocator;
 
 /// How many questions are asked before any of this is found. Finding it takes as long as several searches,
@@ -35,9 +34,10 @@ pub struct NodeBounds<A: Allocator + Copy> {
     late: Vec<u64, A>,
     /// For each node, a second from which on no way delivers before `until`. The list is empty if none is known.
     late_until: Vec<u64, A>,
-    /// The second for which `late_until` was last looked for. It is `UNDELIVERED` before the first time, and `NEVER`
-    /// before the other lists were found.
+    /// The second for which `late_until` was last looked for; `UNDELIVERED` before the first time.
     until: u64,
+    /// Whether the other lists were looked for.
+    is_begun: bool,
     /// For each node, a number of seconds that each way to the destination takes at least; 0 after the list's end.
     pub costs: Vec<u64, A>,
     /// For each node, the hops of such a way, as far as the list goes.
@@ -46,19 +46,20 @@ pub struct NodeBounds<A: Allocator + Copy> {
     pub soon: Vec<u64, A>,
     /// How many questions are still asked before more of this is looked for.
     wait: u32,
-    /// The same, after the next time.
+    /// How many will be asked after the next time.
     gap: u32,
 }
 
 impl<A: Allocator + Copy> NodeBounds<A> {
-    /// Knows nothing of any node. It doesn't allocate.
+    /// Makes bounds that know nothing of any node. It doesn't allocate.
     pub fn new(alloc: A) -> NodeBounds<A>
         ensures { (p : TabledPlan) (r : RouteRequest) → AreNodeBounds p r result }
     {
         NodeBounds {
             late: Vec::new(alloc),
             late_until: Vec::new(alloc),
-            until: NEVER,
+            until: UNDELIVERED,
+            is_begun: false,
             costs: Vec::new(alloc),
             hops: Vec::new(alloc),
             soon: Vec::new(alloc),
@@ -88,7 +89,7 @@ impl<A: Allocator + Copy> NodeBounds<A> {
             self.wait -= 1;
             return false;
         }
-        if until >= self.until {
+        if self.is_begun && until >= self.until {
             return false;
         }
         self.wait = self.gap;
@@ -99,30 +100,22 @@ impl<A: Allocator + Copy> NodeBounds<A> {
     /// Finds last seconds for `until`, or the first time what doesn't depend on it, from the question of the empty
     /// prefix, which excludes nothing. What might need more looks than are left, or an allocation that failed, isn't
     /// known.
-    pub fn find(
-        &mut self,
-        alloc: A,
-        task: &Task<'_, A>,
-        looks: &mut Looks,
-        until: u64,
-    ) -> Result<(), NoMemory>
+    pub fn find(&mut self, alloc: A, task: &Task<'_, A>, looks: &mut Looks, until: u64)
         requires asked { IsAsked task.now [] }
         requires none { task.now.excluded ≡ [] }
         requires node_bounds { AreNodeBounds (tabled_of task.now) task.now.request self.old }
         ensures { AreNodeBounds (tabled_of task.now) task.now.request self.new }
     {
-        if self.until < NEVER {
-            self.late_until = latest_by(alloc, task, looks, until)?;
+        if self.is_begun {
+            self.late_until = latest_by(alloc, task, looks, until).unwrap_or(Vec::new(alloc));
             self.until = until;
-            return Ok(());
+            return;
         }
-        let late = latest_by(alloc, task, looks, NEVER)?;
-        let costs = costs_of(alloc, task, &mut self.hops)?;
-        let soon = soonest_of(alloc, task, looks, &late)?;
+        let late = latest_by(alloc, task, looks, NEVER).unwrap_or(Vec::new(alloc));
+        let soon = soonest_of(alloc, task, looks, &late).unwrap_or(Vec::new(alloc));
         self.late = late;
-        self.costs = costs;
+        self.costs = costs_of(alloc, task, &mut self.hops).unwrap_or(Vec::new(alloc));
         self.soon = soon;
-        self.until = UNDELIVERED;
-        Ok(())
+        self.is_begun = true;
     }
 }

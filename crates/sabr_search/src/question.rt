@@ -2,7 +2,7 @@
 
 ghost use Rattle.std.specs.Prelude.{◌≡◌, ℕ, ◌++◌, ◌+◌, ◌-◌, ◌*◌, ◌^◌, ◌≤◌, IfOk, IsTrue, length, take};
 ghost use Rattle.sabr_model.specs.routes.Telling.{summary_of};
-ghost use Rattle.sabr_search.specs.questions.Task.{IsAsked};
+ghost use Rattle.sabr_search.specs.questions.Task.{IsAsked, IsTask};
 ghost use Rattle.sabr_search.specs.layers.Picks.{IsBestWay};
 ghost use Rattle.sabr_search.specs.answers.Answers.{IsWayBeyond};
 ghost use Rattle.sabr_search.specs.answers.Asked.{bound_left, hops_left};
@@ -92,9 +92,24 @@ impl<'t, 'a, 'p, A: Allocator + Copy> Question<'t, 'a, 'p, A> {
         }
     }
 
+    /// The same question, which another search is to answer.
+    pub fn with_task<'u, 'b>(&self, task: &'u Task<'b, A>) -> Question<'u, 'b, 'p, A>
+        ensures task { result.task.now ≡ task.now }
+        ensures prefix { result.prefix.now ≡ self.now.prefix.now }
+        ensures bound { result.bound ≡ self.now.bound }
+    {
+        Question {
+            task,
+            prefix: self.prefix,
+            summary: self.summary,
+            bound: self.bound,
+            floor: self.floor,
+        }
+    }
+
     /// The most hops that a way after the prefix may have: those that the limit leaves, and fewer than there are nodes.
     pub fn hops_left(&self) -> usize
-        requires { IsAsked self.now.task.now self.now.prefix.now }
+        requires { IsTask self.now.task.now }
         ensures { result ≡ hops_left self.now }
     {
         let others = self.task.forbidden().len() - 1;
@@ -102,7 +117,7 @@ impl<'t, 'a, 'p, A: Allocator + Copy> Question<'t, 'a, 'p, A> {
         if max_hops == MAX_HOPS {
             return others;
         }
-        let left = max_hops as usize - self.prefix.len();
+        let left = (max_hops as usize).saturating_sub(self.prefix.len());
         others.min(left)
     }
 

@@ -4,28 +4,29 @@ ghost use Rattle.std.specs.Prelude.{◌≡◌, ◌+◌, ◌*◌, ◌^◌, ◌≤
 ghost use Rattle.sabr_index.specs.Looks.{looks_taken};
 ghost use Rattle.sabr_model.specs.routes.Telling.{summary_of};
 ghost use Rattle.sabr_search.specs.answers.Answers.{narrowed};
-ghost use Rattle.sabr_search.specs.answers.Asked.{AnswersAt, hops_left};
+ghost use Rattle.sabr_search.specs.answers.Asked.{AnswersAt, bound_left, hops_left};
 ghost use Rattle.sabr_search.specs.answers.Early.{IsEarly};
-ghost use Rattle.sabr_search.specs.answers.Found.{IsEnoughUnless, IsFound, found_hops};
+ghost use Rattle.sabr_search.specs.answers.Found.{IsEnough, IsFound, found_hops};
 ghost use Rattle.sabr_search.specs.answers.SearchCache.{IsMemory};
 ghost use Rattle.sabr_search.specs.layers.Late.{AreSince, IsNoneSooner};
 ghost use Rattle.sabr_search.specs.layers.NodeBounds.{AreNodeBounds};
 ghost use Rattle.sabr_search.specs.questions.Bounded.{IsSought, IsCutUpTo, IsWhole, sought_hops};
 ghost use Rattle.sabr_search.specs.questions.FirstSteps.{tabled_of};
-ghost use Rattle.sabr_search.specs.questions.Task.{IsAsked, IsOfRequest, IsTask, most_nodes};
+ghost use Rattle.sabr_search.specs.questions.Task.{IsAsked, IsOfRequest, IsTask};
 ghost use Rattle.sabr_search.specs.questions.WideTasks.{ForbidsFewer};
+ghost use Rattle.sabr_search.specs.questions.Stops.{StopsOnlyIf};
 
 use crate::backward::from_goal::Aim;
 use crate::backward::since::Since;
-use crate::bound::{Bound, Sought};
+use crate::bound::Sought;
 use crate::early::widening::Breadth;
 use crate::early::{Early, Memory};
 use crate::forward::settling::{Forward, Settling};
-use crate::found::{Found, FoundWay, Outcome};
+use crate::found::{Found, FoundWay};
 use crate::layer_search::LayerSearch;
 use crate::node_bounds::NodeBounds;
 use crate::question::Question;
-use crate::task::Task;
+use crate::stopped::Stopped;
 use crate::throttle::Throttle;
 use crate::visit::Visit;
 use sabr_index::Looks;
@@ -73,64 +74,35 @@ impl<A: Allocator + Copy> Search<A> {
         }
     }
 
-    /// Returns what [`run`](Search::run) does, by layers forward for the earliest delivery and layers backward for its
-    /// way.
-    fn run_within(
-        &mut self,
-        task: &Task<'_, A>,
-        node_bounds: &NodeBounds<A>,
-        looks: &mut Looks,
-        hops: usize,
-        bound: Bound,
-    ) -> Result<Option<Found<FoundWay<A>>>, NoMemory>
-        requires task { IsTask task.now }
-        requires soon { AreSince task.now node_bounds.now.soon.items }
-        requires nodes { hops ≤ most_nodes }
-        ensures counted { looks.old.left ≤ looks.new.left + (3 * hops + 1) * length task.now.plan.contacts }
-        ensures found { IfOk result (λ o. IfSome o (IsFound task.now hops)) }
-        ensures enough { IfOk result (IsEnoughUnless (looks.old.left < (3 * hops + 1) * length task.now.plan.contacts) bound) }
-    {
-        let whole = task.first_steps(looks, &mut self.first)?;
-        if !whole {
-            return Ok(None);
-        }
-        let since = Since::soonest(task.forbidden().len(), &node_bounds.soon);
-        let aim = Aim {
-            task,
-            since: &since,
-            first: &self.first,
-            delivery: 0,
-        };
-        self.layers.best_within(&aim, looks, hops, bound)
-    }
-
-    /// Returns the best way of at most `hops` hops up to a bound, or a bound that each such way is above.
+    /// Returns the best way of a question up to its bound, or a bound that each way is above.
     ///
-    /// Settling finds a way with the earliest delivery. If that way has at most `hops` hops, layers backward find the
-    /// best way with that delivery. Otherwise layers forward first find the earliest delivery within `hops` hops. If
+    /// Settling finds a way with the earliest delivery. If that way has no more hops than are left, layers backward find
+    /// the best way with that delivery. Otherwise layers forward first find the earliest delivery within these hops. If
     /// settling answered too few of the latest questions whose limit may bind, the search begins with layers forward.
-    /// Returns `None` if more looks might be needed than are left.
+    #[tactic(auto, using(crate::proofs::AnswerLemmas::Answered::left_fewer))]
     pub fn run(
         &mut self,
-        task: &Task<'_, A>,
+        asked: &Question<'_, '_, '_, A>,
         node_bounds: &NodeBounds<A>,
         looks: &mut Looks,
-        hops: usize,
-        bound: Bound,
-    ) -> Result<Option<Found<FoundWay<A>>>, NoMemory>
-        requires task { IsTask task.now }
-        requires request { IsOfRequest task.now }
-        requires node_bounds { AreNodeBounds (tabled_of task.now) task.now.request node_bounds.now }
-        requires soon { AreSince task.now node_bounds.now.soon.items }
-        requires nodes { hops ≤ most_nodes }
-        ensures counted { looks.old.left ≤ looks.new.left + (3 * hops + 1) * length task.now.plan.contacts }
-        ensures cut { IfOk result (λ o. IfSome o (λ f. length task.now.table ≤ hops + 1 → looks.old.left ≤ looks.new.left + (2 * found_hops bound f + 1) * length task.now.plan.contacts)) }
-        ensures found { IfOk result (λ o. IfSome o (IsFound task.now hops)) }
-        ensures enough { IfOk result (IsEnoughUnless (looks.old.left < (3 * hops + 1) * length task.now.plan.contacts) bound) }
+    ) -> Result<Found<FoundWay<A>>, Stopped>
+        requires task { IsTask asked.now.task.now }
+        requires request { IsOfRequest asked.now.task.now }
+        requires node_bounds { AreNodeBounds (tabled_of asked.now.task.now) asked.now.task.now.request node_bounds.now }
+        requires soon { AreSince asked.now.task.now node_bounds.now.soon.items }
+        ensures counted { looks.old.left ≤ looks.new.left + (3 * hops_left asked.now + 1) * length asked.now.task.now.plan.contacts }
+        ensures cut { IfOk result (λ f. length asked.now.task.now.table ≤ hops_left asked.now + 1 → looks.old.left ≤ looks.new.left + (2 * found_hops (bound_left asked.now) f + 1) * length asked.now.task.now.plan.contacts) }
+        ensures found { IfOk result (IsFound asked.now.task.now (hops_left asked.now)) }
+        ensures enough { IfOk result (IsEnough (bound_left asked.now)) }
+        ensures stops { StopsOnlyIf result (looks.old.left < (3 * hops_left asked.now + 1) * length asked.now.task.now.plan.contacts) }
     {
+        let task = asked.task;
+        let (hops, bound) = (asked.hops_left(), asked.bound_left());
         let is_limited = hops + 1 < task.forbidden().len();
         if is_limited && !self.settles.takes() {
-            return self.run_within(task, node_bounds, looks, hops, bound);
+            return self
+                .layers
+                .best_of(asked, node_bounds.soon.as_slice(), &mut self.first, looks);
         }
         let until = bound.until();
         let forward = Forward {
@@ -141,13 +113,9 @@ impl<A: Allocator + Copy> Search<A> {
             until,
         };
         let reached = self.settling.run(&forward, looks, &mut self.first)?;
-        let best = match reached {
-            Outcome::Found(best) => best,
-            Outcome::None => {
-                self.settles.win(1);
-                return Ok(Some(Found::Beyond(bound.at_any_hops())));
-            }
-            Outcome::GaveUp => return Ok(None),
+        let Some(best) = reached else {
+            self.settles.win(1);
+            return Ok(Found::Beyond(bound.at_any_hops()));
         };
         let since = Since {
             nodes: task.forbidden().len(),
@@ -170,14 +138,35 @@ impl<A: Allocator + Copy> Search<A> {
     }
 
     /// Searches for the answer to a wide question, which forbids the nodes in `memory.widening.forbidden`, and caches
-    /// it. Returns the place of that answer in the cache if it is also the answer to the question `asked`.
+    /// it. Returns the place of that answer in the cache, unless an allocation for it failed.
+    fn run_wide(
+        &mut self,
+        memory: &mut Memory<A>,
+        asked: &Question<'_, '_, '_, A>,
+        looks: &mut Looks,
+        breadth: Breadth,
+    ) -> Result<Option<usize>, Stopped>
+        requires asked { IsAsked asked.now.task.now asked.now.prefix.now }
+        requires request { IsOfRequest (narrowed asked.now.task.now memory.old.widening.forbidden asked.now.task.now.at) }
+        requires fewer { ForbidsFewer asked.now.task.now memory.old.widening.forbidden }
+        requires memory { IsMemory (tabled_of asked.now.task.now) asked.now.task.now.request memory.old }
+        ensures memory { IsMemory (tabled_of asked.now.task.now) asked.now.task.now.request memory.new }
+    {
+        let task = asked.task.with_forbidden(&memory.widening.forbidden);
+        let wide = asked.with_task(&task);
+        let found = self.run(&wide, &memory.node_bounds, looks)?;
+        Ok(memory.answers.cache(&wide, &found, breadth))
+    }
+
+    /// Finds the answer to a wide question, which forbids the nodes in `memory.widening.forbidden`. Returns its place in
+    /// the cache if it is also the answer to the question `asked`.
     fn find_wide(
         &mut self,
         memory: &mut Memory<A>,
         asked: &Question<'_, '_, '_, A>,
         looks: &mut Looks,
         breadth: Breadth,
-    ) -> Result<Option<usize>, NoMemory>
+    ) -> Result<Option<usize>, Stopped>
         requires asked { IsAsked asked.now.task.now asked.now.prefix.now }
         requires fewer { ForbidsFewer asked.now.task.now memory.old.widening.forbidden }
         requires request { IsOfRequest (narrowed asked.now.task.now memory.old.widening.forbidden asked.now.task.now.at) }
@@ -185,18 +174,10 @@ impl<A: Allocator + Copy> Search<A> {
         ensures memory { IsMemory (tabled_of asked.now.task.now) asked.now.task.now.request memory.new }
         ensures some { IfOk result (λ o. IfSome o (AnswersAt memory.new.answers.slots.items asked.now)) }
     {
-        let wide = asked.task.with_forbidden(&memory.widening.forbidden);
-        let (hops, bound) = (asked.hops_left(), asked.bound_left());
         let before = looks.left();
-        let found = self.run(&wide, &memory.node_bounds, looks, hops, bound)?;
-        let spent = before.saturating_sub(looks.left());
-        let Some(found) = found else {
-            memory.count(breadth, spent);
-            return Ok(None);
-        };
-        let kept = memory.answers.cache(&wide, hops, &found, breadth);
-        memory.count(breadth, spent);
-        let Some(place) = kept else {
+        let cached = self.run_wide(memory, asked, looks, breadth);
+        memory.count(breadth, before.saturating_sub(looks.left()));
+        let Some(place) = cached? else {
             return Ok(None);
         };
         Ok(memory.answers.recall_at(place, asked, looks))
@@ -235,9 +216,11 @@ impl<A: Allocator + Copy> Search<A> {
         let Some(breadth) = memory.widening.next(recalled.near, asked)? else {
             return Ok(None);
         };
-        match self.find_wide(memory, asked, looks, breadth)? {
-            Some(place) => Ok(Some(Early::Cached(place))),
-            None => Ok(None),
+        match self.find_wide(memory, asked, looks, breadth) {
+            Ok(Some(place)) => Ok(Some(Early::Cached(place))),
+            Ok(None) => Ok(None),
+            Err(Stopped::NoLooks) => Ok(None),
+            Err(Stopped::NoMemory) => Err(NoMemory),
         }
     }
 
@@ -280,9 +263,10 @@ impl<A: Allocator + Copy> Search<A> {
             None => {}
         }
         let before = looks.left();
-        let (hops, bound) = (asked.hops_left(), asked.bound_left());
-        let Some(found) = self.run(asked.task, &memory.node_bounds, looks, hops, bound)? else {
-            unreachable!();
+        let found = match self.run(asked, &memory.node_bounds, looks) {
+            Ok(found) => found,
+            Err(Stopped::NoLooks) => unreachable!(),
+            Err(Stopped::NoMemory) => return Err(NoMemory),
         };
         memory.count(Breadth::Own, before.saturating_sub(looks.left()));
         let answer = asked.answer(self.alloc, looks, &found)?;

@@ -100,8 +100,8 @@ impl<A: Allocator + Copy> Settled<A> {
             .find_route(&mut cache.memory, &asked, &mut self.looks)
     }
 
-    /// Finds the best route of a part, whatever it is.
-    fn find_whole(
+    /// Finds the best route of a part, without an upper bound.
+    fn find_unbounded(
         &mut self,
         cache: &mut SearchCache<A>,
         index: &CountedPlan<'_, A>,
@@ -157,7 +157,7 @@ impl<A: Allocator + Copy> BestOf<A> for Settled<A> {
         };
         let mut cache = SearchCache::new(self.alloc);
         let excluded = Excluded::of(part.excluded);
-        self.find_whole(&mut cache, index.counted(), request, part.prefix, excluded)
+        self.find_unbounded(&mut cache, index.counted(), request, part.prefix, excluded)
     }
 
     fn best_beside(
@@ -178,7 +178,7 @@ impl<A: Allocator + Copy> BestOf<A> for Settled<A> {
         ensures cut { IfOk result (IsCut index.now.plan request.now.max_hops prefix.now (looks_taken self.new.looks)) }
     {
         self.begin(Looks::many());
-        self.find_whole(cache, index.counted(), request, prefix, excluded)
+        self.find_unbounded(cache, index.counted(), request, prefix, excluded)
     }
 
     fn best_up_to(

@@ -18,7 +18,7 @@ pub record LastSeen : Type 0 where
   pub looks : ℕ
   pub detour_looks : ℕ
 
--- it has the next routes of a session, at most so many, over the same plan. It took no more searches than their page, the
+-- it has the next routes of a session, at most `count` of them, over the same plan. It took no more searches than their page, the
 -- looks of these, and besides no more looks than one detour takes at most. If no search showed that a route is left after
 -- the last one, and before that one no part carried another, a detour did: a look at least for each contact of the last one
 pub record IsLastPage (s : Seen) (count : ℕ) (l : LastSeen) : Type 0 where

@@ -1,4 +1,4 @@
--- A tree some of whose nodes don't carry what they might: a route that comes after so many that others carry.
+-- A tree in which some nodes don't carry the route that they might, since other nodes carry enough routes before it.
 use Rattle.std.specs.Prelude.{◌≡◌, ◌⊎◌, ℕ, ◌≤◌, suc, Bool, false, List, [], ◌∷◌, if◌then◌else◌, Some, None}
 use Rattle.std.specs.Option.{option_map_or}
 use Rattle.std.specs.Ordering.{is_lt}
@@ -15,7 +15,7 @@ use Rattle.sabr_frontier.specs.tree.Sound.{IsTree}
 abbrev pub carries_before : {A : Type 0} → RouteRecord → Node A → Bool
 carries_before x n = option_map_or (λ y. is_lt (by_record y x)) n.route false
 
--- how many of these nodes do
+-- the number of these nodes that do
 abbrev pub count_before : {A : Type 0} → RouteRecord → List (Node A) → ℕ
 count_before x [] = 0
 count_before x (n ∷ nodes) = if carries_before x n then suc (count_before x nodes) else count_before x nodes

@@ -47,7 +47,7 @@ searching_over calls_of p a summed =
       calls = calls_of a.finder;
     }
 
--- at most how many looks a call of a finder takes
+-- the most looks that a call of a finder takes
 abbrev pub call_looks : ContactPlan → ℕ
 call_looks p = (3 * node_count p.contacts + 1) * length p.contacts
 
@@ -58,7 +58,7 @@ pub record IsSumOf (p : ContactPlan) (calls summed : Calls) (n : ℕ) : Type 0 w
   pub most : summed.looks ≤ summed.count * call_looks p
   pub sum : n ≡ min summed.looks many_looks
 
--- later calls of a finder: none is undone, and each new one took at most so many looks
+-- later calls of a finder: none is undone, and none of the new ones took more looks than a call may take
 pub record GoOn (p : ContactPlan) (before after : Calls) : Type 0 where
   pub count : before.count ≤ after.count
   pub looks : before.looks ≤ after.looks

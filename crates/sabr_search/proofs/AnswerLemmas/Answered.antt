@@ -11,7 +11,7 @@ use Rattle.sabr_search.specs.declared.bound.Bound.{Bound}
 use Rattle.sabr_index.specs.declared.looks.Looks.{Looks}
 use Rattle.sabr_search.specs.questions.Bounded.{IsBeyond, IsFloor, bound_after, is_up_to}
 use Rattle.sabr_search.specs.questions.Part.{IsBestOf}
-use Rattle.sabr_search.specs.questions.Task.{SearchTask, IsAsked, Takes, left_of}
+use Rattle.sabr_search.specs.questions.Task.{SearchTask, IsAsked, IsTask, Takes, left_of}
 use Rattle.sabr_search.specs.questions.Ways.{Leads}
 use Rattle.sabr_search.specs.layers.Late.{IsNoneSooner}
 use Rattle.sabr_search.specs.layers.Picks.{IsBestWay}
@@ -40,13 +40,16 @@ left_cases task prefix =
       | false ↦ λ e. inr ((λ same. both_ways (eqb m most_hops) e (eq-eqb m most_hops same)), refl)
     ] refl
 
+-- they are fewer than the nodes
+pub left_fewer : (task : SearchTask) → IsTask task → (prefix : List ℕ) → left_of task prefix < length task.table
+left_fewer task is prefix = elim (left_cases task prefix) [ inl free ↦ omega (arith, free.1, is.start_in) | inr limited ↦ omega (arith, limited.1, is.start_in) ]
+
 module _ (task : SearchTask) (prefix : List ℕ) (asked : IsAsked task prefix) where
   facts : IsPrefix task.plan task.request prefix
   facts = prefix_facts task.plan task.request prefix asked.fits
 
-  -- they are fewer than the nodes
   pub left_less : left_of task prefix < length task.table
-  left_less = elim (left_cases task prefix) [ inl free ↦ omega (arith, free.1, asked.task_is.start_in) | inr limited ↦ omega (arith, limited.1, asked.task_is.start_in) ]
+  left_less = left_fewer task asked.task_is prefix
 
   pub left_free : task.request.max_hops ≡ most_hops → length task.table ≤ left_of task prefix + 1
   left_free most = elim (left_cases task prefix) [ inl free ↦ omega (arith, free.1) | inr limited ↦ absurd (limited.0 most) ]

@@ -1,18 +1,12 @@
--- What a search up to a bound tells: each way is above the bound, and how many looks it took.
+-- What a search up to a bound finds: that each way is above the bound.
 use Rattle.std.proofs.Common.{◌≡◌, ◌≢◌, inl, inr, ℕ, ◌+◌, ◌≤◌, ◌<◌, min, length, false, refl, arith}
-use Rattle.std.specs.Prelude.{IfOk, IfSome, IsTrue}
-use Rattle.std.specs.declared.option.Option.{Option}
-use Rattle.std.specs.declared.option.Option.TheVariants.{Some, None}
-use Rattle.std.specs.declared.result.Result.{Result}
-use Rattle.std.specs.declared.result.Result.TheVariants.{Ok, Err}
+use Rattle.std.specs.Prelude.{IsTrue}
 use Rattle.std.proofs.lemmas.Bool.{cases_lt, cases_eq, cases_Bool}
 use Rattle.std.proofs.lemmas.Bool.Decides.{nat_tests}
 use Rattle.sabr_search.specs.declared.bound.Bound.{Bound}
 use Rattle.sabr_search.specs.questions.Bounded.{no_bound, is_none, is_up_to, at_any_hops}
 use Rattle.sabr_search.specs.questions.Task.{SearchTask, IsTask, never, latest_arrival}
 use Rattle.sabr_search.specs.layers.Late.{HasWayAt, IsNoneSooner, IsNoneWithin}
-use Rattle.sabr_search.specs.answers.Found.{IsEnoughUnless}
-use Rattle.sabr_search.specs.declared.found.Found.{Found}
 use Rattle.sabr_search.specs.answers.Answers.{IsWayBeyond}
 use Rattle.sabr_search.proofs.AnswerLemmas.Law.{way_early}
 use Rattle.sabr_search.proofs.AnswerLemmas.BoundedWays.{above_later}
@@ -55,15 +49,3 @@ least_stopped task b hops most d way same other none =
       | inl here ↦ (here, omega (arith, same here, less))
       | inr apart ↦ absurd (omega (arith, other apart, less))
     ]
-
--- what a search gives up for may be something else
-pub enough_unless : {W E : Type 0} (R S : Type 0) (b : Bound) → (R → S) → (result : Result (Option (Found W)) E) → IfOk result (IsEnoughUnless R b) → IfOk result (IsEnoughUnless S b)
-enough_unless R S b follows (Ok (Some found)) enough = enough
-enough_unless R S b follows (Ok None) enough = follows enough
-enough_unless R S b follows (Err e) enough = tt
-
--- what follows of what is found
-pub if_found : {T E : Type 0} (result : Result (Option T) E) (P Q : T → Type 0) → ((x : T) → P x → Q x) → IfOk result (λ o. IfSome o P) → IfOk result (λ o. IfSome o Q)
-if_found (Ok (Some x)) P Q follows is = follows x is
-if_found (Ok None) P Q follows is = tt
-if_found (Err e) P Q follows is = tt

@@ -6,7 +6,7 @@ use Rattle.sabr_search.specs.declared.backward.deadlines.Deadline.{Deadline}
 use Rattle.sabr_search.specs.declared.backward.deadlines.Deadlines.{Deadlines}
 use Rattle.sabr_search.specs.questions.Task.{SearchTask, Takes}
 use Rattle.sabr_search.specs.layers.Deadlines.{AreLinked, IsLastBelow, head_of}
-use Rattle.sabr_search.specs.layers.Late.{InTimeFor, AreLate, IsNotedLate}
+use Rattle.sabr_search.specs.layers.Late.{AreGrowing, AreGrown, AreLate, InTimeFor, IsNotedLate}
 use Rattle.sabr_search.proofs.BackwardLemmas.LateLists.{changed_late, pushed_late, take_set, take_push}
 use Rattle.sabr_search.proofs.WholeLemmas.Chained.{head_none, head_some, linked_set, linked_push}
 
@@ -37,6 +37,13 @@ last_of task first begin late place entries was v inside = elim (cases_eq (slice
 -- each head is within the entries
 pub head_within : (task : SearchTask) (first begin : ℕ) (late place : List ℕ) (entries : List Deadline) → AreLate task first begin late place entries → (v : ℕ) → v < length task.table → head_of late place v ≤ length entries
 head_within task first begin late place entries was v inside = (last_of task first begin late place entries was v inside).within
+
+-- layers that have grown no more, or once more
+pub grown_none : {A : Type 0} (task : SearchTask) (left : ℕ) (s : Deadlines A) → AreGrowing task left s → AreGrown task left s s
+grown_none task left s growing = record { growing = growing; ends = refl; before = refl }
+
+pub grown_more : {A : Type 0} (task : SearchTask) (left : ℕ) (s t u : Deadlines A) → AreGrown task left s t → AreGrown task left t u → AreGrown task left s u
+grown_more task left s t u first second = record { growing = second.growing; ends = second.ends ∙ first.ends; before = rw first.ends at second.before ∙ first.before }
 
 -- the lists with one node noted, and what stood before the layer
 pub record AreNoted {A : Type 0} (task : SearchTask) (first begin u x : ℕ) (s t : Deadlines A) : Type 0 where

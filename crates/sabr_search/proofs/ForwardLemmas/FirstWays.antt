@@ -1,5 +1,5 @@
 -- The search by arrival from its start to its stop: what holds between two events, and what it has found at the end.
-use Rattle.std.proofs.Common.{◌≡◌, ◌≢◌, ◌⊎◌, inl, inr, ℕ, zero, suc, ◌+◌, ◌-◌, ◌<◌, ◌≤◌, List, [], ◌∷◌, length, replicate, Bool, true, false, slice_index, slice_index_or, slice_set, All, Contains, refl, ap, sym, ◌∙◌, arith}
+use Rattle.std.proofs.Common.{◌≡◌, ◌≢◌, ◌⊎◌, inl, inr, ℕ, zero, suc, ◌+◌, ◌-◌, ◌<◌, ◌≤◌, Option, Some, None, List, [], ◌∷◌, length, replicate, Bool, true, false, slice_index, slice_index_or, slice_set, All, Contains, refl, ap, sym, ◌∙◌, arith}
 use Rattle.std.specs.List.{count_by}
 use Rattle.std.specs.List.Sorted.{IsPermutation}
 use Rattle.std.proofs.lemmas.Bool.{cases_lt, cases_eq, both_ways, cases_Bool, false_from_ne_true}
@@ -9,14 +9,12 @@ use Rattle.std.proofs.lemmas.List.{length-replicate}
 use Rattle.std.proofs.lemmas.Option.{slice_get_within}
 use Rattle.sabr_search.specs.declared.visit.Visit.{Visit}
 use Rattle.sabr_search.specs.declared.found.Best.{Best}
-use Rattle.sabr_search.specs.declared.found.Outcome.{Outcome}
-use Rattle.sabr_search.specs.declared.found.Outcome.TheVariants.{Found, None, GaveUp}
 use Rattle.sabr_search.specs.questions.Ways.{Leads}
 use Rattle.sabr_search.specs.questions.Task.{SearchTask, Takes, IsTask, never, latest_arrival}
 use Rattle.sabr_search.specs.questions.FirstSteps.{IsNoneBefore}
 use Rattle.sabr_search.specs.layers.Lists.{IsKnown, AreClosed}
 use Rattle.sabr_search.specs.questions.Steps.{senders, degree}
-use Rattle.sabr_search.specs.layers.Made.{IsWayTo, AreOpened, IsOutcome}
+use Rattle.sabr_search.specs.layers.Made.{IsWayTo, AreOpened, IsFoundBest}
 use Rattle.sabr_search.specs.layers.Settling.{IsBound, IsWaiting, AreBy, settled_count, AreArrivalsBy, IsQueue, AreSettling, IsFallen, AreSettledTaken, AreSettled, IsFirstWay, IsReached}
 use Rattle.sabr_search.proofs.WayLemmas.Ways.{Leads-later}
 use Rattle.sabr_search.proofs.LinkLemmas.Counts.{settled_more}
@@ -166,13 +164,12 @@ module _ (task : SearchTask) (is : IsTask task) (until : ℕ) (bounds costs : Li
     }
   ]
 
-  pub reached_found : ((f : Visit) → Contains queue f → best.delivery ≤ f.at) → (reason : Type 0) (outcome : Outcome Best) → IsOutcome best outcome → IsReached task until costs arrival reason outcome
-  reached_found stop reason (Found way) same = rw same.0 (first_way stop same.1, arrivals_found stop)
-  reached_found stop reason None zero_hops = elim was.found [
+  pub reached_found : ((f : Visit) → Contains queue f → best.delivery ≤ f.at) → (result : Option Best) → IsFoundBest best result → IsReached task until costs arrival result
+  reached_found stop (Some way) same = rw same.0 (first_way stop same.1, arrivals_found stop)
+  reached_found stop None zero_hops = elim was.found [
     | inl none ↦ (let least = first_least stop in let arrivals = arrivals_found stop in (rw none.1 at least, rw none.1 at arrivals))
     | inr found ↦ absurd (omega (arith, found.0, zero_hops))
   ]
-  reached_found stop reason GaveUp neither = absurd neither
 
 -- an event of a settled node goes
 pub settled_stale : (task : SearchTask) (until : ℕ) (late costs : List ℕ) (settled : List Bool) (arrival hops : List ℕ) (queue queue' : List Visit) (best : Best) → AreSettled task until late costs settled arrival hops queue best → IsQueue task late costs settled arrival queue' →

@@ -1,19 +1,16 @@
 -- One layer more: what the next layer leaves is again layers.
-use Rattle.std.proofs.Common.{◌≡◌, ◌≢◌, ◌⊎◌, inl, inr, ℕ, zero, suc, ◌+◌, ◌*◌, ◌<◌, ◌≤◌, List, [], ◌∷◌, ◌++◌, length, false, Some, slice_get, slice_index, slice_index_or, refl, ap, sym, ◌∙◌, arith, length-append, add-one}
+use Rattle.std.proofs.Common.{◌≡◌, ◌≢◌, ◌⊎◌, inl, inr, ℕ, zero, suc, ◌+◌, ◌*◌, ◌<◌, ◌≤◌, List, [], ◌∷◌, ◌++◌, length, false, Option, Some, None, slice_get, slice_index, slice_index_or, refl, ap, sym, ◌∙◌, arith, length-append, add-one}
 use Rattle.std.proofs.Math.Nat.{mul-le-mul_right}
 use Rattle.std.proofs.lemmas.Bool.{cases_lt, cases_eq}
 use Rattle.std.proofs.lemmas.List.{get_or_append_left, get_or_push}
 use Rattle.std.proofs.lemmas.Option.{slice_get-get_or, slice_get_within, get_or_from_slice_get}
 use Rattle.sabr_search.specs.declared.visit.Visit.{Visit}
 use Rattle.sabr_search.specs.declared.found.Best.{Best}
-use Rattle.sabr_search.specs.declared.found.Outcome.{Outcome}
-use Rattle.sabr_search.specs.declared.found.Outcome.TheVariants.{Found, None, GaveUp}
-use Rattle.sabr_index.specs.declared.looks.Looks.{Looks}
 use Rattle.sabr_search.specs.layers.Deadlines.{Entries}
 use Rattle.sabr_search.specs.questions.Ways.{Leads}
 use Rattle.sabr_search.specs.questions.Task.{SearchTask, Takes, IsTask, never}
 use Rattle.sabr_search.specs.layers.Lists.{AreLists, IsLowered, IsKnownFrom, GivenFrom, AreSources, IsBroughtTo}
-use Rattle.sabr_search.specs.layers.Made.{IsWayTo, IsFound, IsMade, IsOutcome}
+use Rattle.sabr_search.specs.layers.Made.{IsWayTo, IsFound, IsMade, IsFoundBest}
 use Rattle.sabr_search.specs.layers.Late.{IsNoneSooner}
 use Rattle.sabr_search.proofs.WayLemmas.Ways.{Leads-append, Leads-later}
 use Rattle.sabr_search.proofs.ForwardLemmas.HopLayers.{ReachedBy, IsTaken, none_sooner}
@@ -435,15 +432,14 @@ layers_first task until bounds arrival place reached bounds_is reached_is lists 
     one : List Visit
     one = record { node = task.start; at = task.at } ∷ []
 
--- what is found within that many hops is the outcome, if nothing is sooner there
-made_within : (task : SearchTask) (until hops : ℕ) (best : Best) → IsNoneSooner task hops best.delivery → IsFound task until hops best → (old : Looks) (outcome : Outcome Best) → IsOutcome best outcome → IsMade task until hops old outcome
-made_within task until hops best least found old (Found way) same = rw same.0 (elim found [ inl none ↦ absurd (omega (arith, none.0, same.1)) | inr within ↦ record { least = least; found = within } ])
-made_within task until hops best least found old None zero_hops = elim found [ inl none ↦ rw none.1 at least | inr within ↦ absurd (omega (arith, within.0, zero_hops)) ]
-made_within task until hops best least found old GaveUp neither = absurd neither
+-- what is found within that many hops is what layers find, if nothing is sooner there
+made_within : (task : SearchTask) (until hops : ℕ) (best : Best) → IsNoneSooner task hops best.delivery → IsFound task until hops best → (result : Option Best) → IsFoundBest best result → IsMade task until hops result
+made_within task until hops best least found (Some way) same = rw same.0 (elim found [ inl none ↦ absurd (omega (arith, none.0, same.1)) | inr within ↦ record { least = least; found = within } ])
+made_within task until hops best least found None zero_hops = elim found [ inl none ↦ rw none.1 at least | inr within ↦ absurd (omega (arith, within.0, zero_hops)) ]
 
 -- so it is with what is found within fewer hops
 pub best_within : (task : SearchTask) (until hop : ℕ) (bounds arrival place : List ℕ) (reached : List Visit) (best : Best) → AreLayers task until hop bounds arrival place reached best →
-    (hops : ℕ) → hop ≤ hops → IsNoneSooner task hops best.delivery → (old : Looks) (outcome : Outcome Best) → IsOutcome best outcome → IsMade task until hops old outcome
+    (hops : ℕ) → hop ≤ hops → IsNoneSooner task hops best.delivery → (result : Option Best) → IsFoundBest best result → IsMade task until hops result
 best_within task until hop bounds arrival place reached best made hops within least =
     made_within task until hops best least (elim made.found [ inl none ↦ inl none | inr found ↦ inr (found.0, omega (arith, found.1), found.2, found.3) ])
 
@@ -477,7 +473,7 @@ made_all task is until hop first arrival place reached best made none ns e way =
 -- with the links to the goal as one layer more, what is found is the best
 pub made_last : (task : SearchTask) → IsTask task → (until hop first : ℕ) (arrival place : List ℕ) (reached : List Visit) (best : Best) → AreMade task until hop first arrival place reached best → 0 < hop → (hops : ℕ) → hop + 1 ≡ hops → (delivery : ℕ) → delivery ≤ best.delivery →
     ((n u b : ℕ) → Takes task n u (slice_index arrival u) task.goal b → slice_index_or task.forbidden u false ≡ false → delivery ≤ b) → (delivery ≡ best.delivery) ⊎ IsBroughtTo task arrival delivery →
-    (best' : Best) → ((delivery < best.delivery) × (best' ≡ record { delivery = delivery; hops = hops })) ⊎ ((best.delivery ≤ delivery) × (best' ≡ best)) → (old : Looks) (outcome : Outcome Best) → IsOutcome best' outcome → IsMade task until hops old outcome
+    (best' : Best) → ((delivery < best.delivery) × (best' ≡ record { delivery = delivery; hops = hops })) ⊎ ((best.delivery ≤ delivery) × (best' ≡ best)) → (result : Option Best) → IsFoundBest best' result → IsMade task until hops result
 made_last task is until hop first arrival place reached best made more hops next delivery lower known found best' (inl better) = rw better.1 (made_within task until hops (record { delivery = delivery; hops = hops })
     (λ ns e le way. least_with_last task is until hop made.0 arrival place reached best made.2 delivery lower known more ns e (omega (arith, le, next)) way)
     (elim found [

@@ -1,4 +1,4 @@
--- The lists of an answer that is kept.
+-- The lists of a cached answer.
 use Rattle.std.specs.Prelude.{ℕ, List}
 
 -- the numbers that no way takes first, the nodes that were forbidden, and the best way: no numbers where there is none

@@ -1,4 +1,4 @@
--- The law of kept answers: an answer to one question answers later ones, too.
+-- The law of cached answers: an answer to one question answers later ones, too.
 use Rattle.std.specs.Prelude.{◌≡◌, ℕ, ◌≤◌, Bool, false, IsTrue, List, length, slice_index_or}
 use Rattle.sabr_search.specs.declared.bound.Bound.{Bound}
 use Rattle.sabr_search.specs.questions.Bounded.{is_up_to}
@@ -25,7 +25,7 @@ IsWayBeyond task hops b = (ns : List ℕ) (e : ℕ) → length ns ≤ hops → L
 
 -- The best way stays the best if more nodes are forbidden, the search starts no earlier and no more hops are left. It
 -- has to be one that may still be taken and delivers at the same second. If there was no way, there still is none. If
--- each way was above a bound, each is above whatever is up to that.
+-- each way was above a bound, each is above every bound that is up to that.
 pub record AnswersStay : Type 0 where
   pub least : (task : SearchTask) (forbidden : List Bool) (at hops fewer ceiling : ℕ) (s : List ℕ) (d : ℕ) → HasNodes task.plan task.table → Narrows task forbidden at → fewer ≤ hops
       → IsBestWay task hops ceiling s d → length s ≤ fewer → Leads (Takes (narrowed task forbidden at)) task.start at s task.goal d

@@ -1,4 +1,4 @@
--- What is left of a question after its prefix, and which answer that is kept is its answer.
+-- What is left of a question after its prefix, and which cached answer is its answer.
 use Rattle.std.specs.Prelude.{◌≡◌, ℕ, List, length, slice_get}
 use Rattle.std.specs.declared.option.Option.TheVariants.{Some}
 use Rattle.sabr_search.specs.declared.early.answers.Answer.{Answer}

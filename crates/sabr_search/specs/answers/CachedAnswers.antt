@@ -1,4 +1,4 @@
--- Answers that are kept: of which question each is the answer, and which questions it answers by the law of answers.
+-- Cached answers: of which question each is the answer, and which questions it answers by the law of answers.
 use Rattle.std.specs.Prelude.{◌≡◌, ◌⊎◌, ℕ, ◌≤◌, Bool, true, false, IsTrue, nat_lt, nat_le, ◌&&◌, All, List, length, slice_get, slice_index_or}
 use Rattle.std.specs.declared.option.Option.TheVariants.{Some}
 use Rattle.sabr_model.specs.declared.contact.Contact.{Contact}
@@ -40,7 +40,7 @@ pub record IsAnswer {A : Type 0} (p : TabledPlan) (r : RouteRequest) (a : Answer
   pub listed : AreListed flags a.lists.forbidden
   pub found : IsFoundWith (asked p r a flags goal) a.hops a.lists.way a.found
 
--- this many answers are kept
+-- the most answers that are cached
 abbrev pub most_answers : ℕ
 most_answers = 4096
 
@@ -48,7 +48,7 @@ most_answers = 4096
 abbrev pub AreAnswers : {A : Type 0} → TabledPlan → RouteRequest → List (Answer A) → Type 0
 AreAnswers p r answers = All (IsAnswer p r) answers × (length answers ≤ most_answers)
 
--- the answer after a prefix is kept if that has some contacts, since no other prefix ends at the source, and not too
+-- the answer after a prefix is cached if that has some contacts, since no other prefix ends at the source, and not too
 -- many, and if not too many numbers are excluded
 abbrev pub is_cached_after : List ℕ → List ℕ → Bool
 is_cached_after prefix excluded = nat_lt 0 (length prefix) && (nat_le (length prefix) 128 && nat_le (length excluded) 64)

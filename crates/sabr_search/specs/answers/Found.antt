@@ -1,7 +1,5 @@
 -- What a search for the best way finds.
 use Rattle.std.specs.Prelude.{⊤, ℕ, List, ◌+◌, IsTrue, length, if◌then◌else◌}
-use Rattle.std.specs.declared.option.Option.{Option}
-use Rattle.std.specs.declared.option.Option.TheVariants.{Some, None}
 use Rattle.sabr_search.specs.declared.bound.Bound.{Bound}
 use Rattle.sabr_search.specs.declared.found.Found.{Found}
 use Rattle.sabr_search.specs.declared.found.FoundWay.{FoundWay}
@@ -25,11 +23,6 @@ IsFoundWith task hops numbers (Beyond b) = IsWayBeyond task hops b
 abbrev pub IsEnough : {W : Type 0} → Bound → Found W → Type 0
 IsEnough b (Way way) = ⊤
 IsEnough b (Beyond own) = IsTrue (is_up_to own b.delivery b.hops)
-
--- something is found, and enough; or nothing, for this reason alone
-abbrev pub IsEnoughUnless : {W : Type 0} → Type 0 → Bound → Option (Found W) → Type 0
-IsEnoughUnless reason b (Some found) = IsEnough b found
-IsEnoughUnless reason b None = reason
 
 -- the hops of the bound asked for, where each way is above a bound; 0 if there is no way
 abbrev pub hops_above : Bound → Bound → ℕ

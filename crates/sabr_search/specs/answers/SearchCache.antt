@@ -1,4 +1,4 @@
--- What is kept for the searches of one plan and request.
+-- The cache of the searches of one plan and request.
 use Rattle.std.specs.Prelude.{IfSome}
 use Rattle.sabr_model.specs.plan.Plan.{TabledPlan}
 use Rattle.sabr_model.specs.routes.Arrival.{RouteRequest}
@@ -13,6 +13,6 @@ use Rattle.sabr_search.specs.answers.CachedAnswers.{AreAnswers}
 abbrev pub IsMemory : {A : Type 0} → TabledPlan → RouteRequest → Memory A → Type 0
 IsMemory p r memory = AreNodeBounds p r memory.node_bounds × AreWholeDeadlines p r memory.whole_deadlines × AreAnswers p r memory.answers.slots.items
 
--- so is all that is kept
+-- so is all that is cached
 abbrev pub IsSearchCache : {A : Type 0} → TabledPlan → RouteRequest → SearchCache A → Type 0
 IsSearchCache p r cache = IfSome cache.prefix_path (IsPrefixPath p r) × IsMemory p r cache.memory

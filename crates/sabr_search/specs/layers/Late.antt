@@ -1,10 +1,10 @@
 -- Layers made backward from the goal: for each node, the first second that is too late so far; and the entries, layer
 -- by layer, the goal's first.
-use Rattle.std.specs.Prelude.{◌≡◌, ◌≢◌, ◌⊎◌, ℕ, ◌+◌, ◌-◌, ◌≤◌, ◌<◌, List, [], ◌∷◌, ◌++◌, length, false, slice_get, slice_set, slice_index, slice_index_or}
+use Rattle.std.specs.Prelude.{◌≡◌, ◌≢◌, ◌⊎◌, ℕ, ◌+◌, ◌-◌, ◌≤◌, ◌<◌, List, [], ◌∷◌, ◌++◌, take, length, false, slice_get, slice_set, slice_index, slice_index_or}
 use Rattle.std.specs.declared.option.Option.TheVariants.{Some}
 use Rattle.sabr_search.specs.declared.backward.deadlines.Deadline.{Deadline}
 use Rattle.sabr_search.specs.declared.backward.deadlines.Deadlines.{Deadlines}
-use Rattle.sabr_search.specs.layers.Deadlines.{Entries}
+use Rattle.sabr_search.specs.layers.Deadlines.{AreLinked, Entries}
 use Rattle.sabr_search.specs.questions.Ways.{Leads}
 use Rattle.sabr_search.specs.questions.Task.{SearchTask, Takes}
 use Rattle.sabr_search.specs.questions.Linked.{IsLinkWithin, HasNumber}
@@ -45,9 +45,16 @@ pub record AreLate (task : SearchTask) (first begin : ℕ) (late place : List �
   pub once : (p : ℕ) (e : Deadline) → begin ≤ p → slice_get entries p ≡ Some e → slice_index place e.node ≡ p
   pub sound : (p : ℕ) (e : Deadline) (t : ℕ) → begin ≤ p → slice_get entries p ≡ Some e → t < e.before → (n : ℕ) × (w : ℕ) × (b : ℕ) × Takes task n e.node t w b × InTimeFor entries first begin w b
 
--- the same while the layer after layer `left` is made, by where the layers begin
-abbrev pub AreLateAfter : SearchTask → List ℕ → ℕ → List ℕ → List ℕ → List Deadline → Type 0
-AreLateAfter task ends left late place entries = AreLate task (slice_index ends left) (slice_index ends (left + 1)) late place entries
+-- layers while the one after layer `left` grows
+pub record AreGrowing {A : Type 0} (task : SearchTask) (left : ℕ) (s : Deadlines A) : Type 0 where
+  pub lists : AreLate task (slice_index s.ends.items left) (slice_index s.ends.items (left + 1)) s.late.items s.place.items s.entries.items
+  pub linked : AreLinked s.entries.items s.fewer.items
+
+-- the layer after layer `left` has grown: the ends of layers stay, and so do the entries before it
+pub record AreGrown {A : Type 0} (task : SearchTask) (left : ℕ) (s t : Deadlines A) : Type 0 where
+  pub growing : AreGrowing task left t
+  pub ends : t.ends ≡ s.ends
+  pub before : take (slice_index s.ends.items (left + 1)) t.entries.items ≡ take (slice_index s.ends.items (left + 1)) s.entries.items
 
 -- node u is too late from x on: its entry in the layer that begins at `begin` says so, or a new one does; the place
 -- after its last one is `head`

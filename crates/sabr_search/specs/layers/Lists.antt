@@ -16,7 +16,7 @@ pub record IsLinked (forbidden : List Bool) (arrival place : List ℕ) (reached 
   pub node : (k : ℕ) (d : Visit) → k < length arrival → slice_index_or forbidden k false ≡ false → slice_index arrival k < never → (slice_index_or reached (slice_index place k) d).node ≡ k
   pub time : (k : ℕ) (d : Visit) → k < length arrival → slice_index_or forbidden k false ≡ false → slice_index arrival k < never → (slice_index_or reached (slice_index place k) d).at ≡ slice_index arrival k
 
--- whatever nodes were forbidden, the open ones that are reached still have such entries
+-- for any forbidden nodes, the open ones that are reached still have such entries
 abbrev pub StayLinked : {A : Type 0} → Layers A → Layers A → Type 0
 StayLinked old new = (forbidden : List Bool) → IsLinked forbidden old.arrival.items old.place.items old.reached.items → IsLinked forbidden new.arrival.items new.place.items new.reached.items
 

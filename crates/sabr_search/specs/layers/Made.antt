@@ -1,9 +1,8 @@
 -- Hop layers while they are made: the layers as entries, and what holds once some are made.
-use Rattle.std.specs.Prelude.{⊤, ◌≡◌, ◌⊎◌, ℕ, ◌*◌, ◌≤◌, ◌<◌, List, length, false, slice_index, slice_index_or}
+use Rattle.std.specs.Prelude.{◌≡◌, ◌⊎◌, ℕ, ◌≤◌, ◌<◌, List, length, false, slice_index, slice_index_or}
+use Rattle.std.specs.declared.option.Option.{Option}
+use Rattle.std.specs.declared.option.Option.TheVariants.{Some, None}
 use Rattle.sabr_search.specs.declared.found.Best.{Best}
-use Rattle.sabr_search.specs.declared.found.Outcome.{Outcome}
-use Rattle.sabr_search.specs.declared.found.Outcome.TheVariants.{Found, None, GaveUp}
-use Rattle.sabr_index.specs.declared.looks.Looks.{Looks}
 use Rattle.sabr_search.specs.questions.Ways.{Leads}
 use Rattle.sabr_search.specs.questions.Task.{SearchTask, Takes, never}
 use Rattle.sabr_search.specs.layers.Lists.{AreClosed}
@@ -16,17 +15,10 @@ pub record AreOpened (task : SearchTask) (late arrival : List ℕ) : Type 0 wher
   pub start : slice_index arrival task.start ≡ task.at
   pub unreached : (k : ℕ) → k < length arrival → slice_index_or task.forbidden k false ≡ false → slice_index arrival k ≡ slice_index_or late k never
 
--- what a search that ends with this best came to: it is found unless it has no hops
-abbrev pub IsOutcome : Best → Outcome Best → Type 0
-IsOutcome best (Found found) = (found ≡ best) × (0 < best.hops)
-IsOutcome best None = best.hops ≡ 0
-IsOutcome best GaveUp = ⊥
-
--- it holds unless a search gave up
-abbrev pub UnlessGaveUp : {T : Type 0} → Type 0 → Outcome T → Type 0
-UnlessGaveUp is (Found found) = is
-UnlessGaveUp is None = is
-UnlessGaveUp is GaveUp = ⊤
+-- what a search that ends with this best found: this, unless it has no hops
+abbrev pub IsFoundBest : Best → Option Best → Type 0
+IsFoundBest best (Some found) = (found ≡ best) × (0 < best.hops)
+IsFoundBest best None = best.hops ≡ 0
 
 -- some way of h hops leads from the start to node v at second t
 abbrev pub IsWayTo : SearchTask → ℕ → ℕ → ℕ → Type 0
@@ -45,9 +37,8 @@ pub record IsBestWithin (task : SearchTask) (until hops : ℕ) (best : Best) : T
   pub least : IsNoneSooner task hops best.delivery
   pub found : IsFoundWithin task until hops best
 
--- how layers forward for a delivery before second `until` within that many hops ended: the earliest is found; there is
--- none; or there were too few looks
-abbrev pub IsMade : SearchTask → (until hops : ℕ) → (old : Looks) → Outcome Best → Type 0
-IsMade task until hops old (Found best) = IsBestWithin task until hops best
-IsMade task until hops old None = IsNoneSooner task hops until
-IsMade task until hops old GaveUp = old.left < hops * length task.plan.contacts
+-- what layers forward for a delivery before second `until` within that many hops find: the earliest, or that there is
+-- none
+abbrev pub IsMade : SearchTask → (until hops : ℕ) → Option Best → Type 0
+IsMade task until hops (Some best) = IsBestWithin task until hops best
+IsMade task until hops None = IsNoneSooner task hops until

@@ -1,11 +1,10 @@
 -- What a search by arrival keeps: the settled nodes, the waiting events, and the first delivery so far.
 use Rattle.std.specs.Prelude.{◌≡◌, ◌≢◌, ℕ, ◌+◌, ◌-◌, ◌≤◌, ◌<◌, min, List, length, Bool, true, false, All, Contains, slice_get, slice_index, slice_index_or}
 use Rattle.std.specs.List.{count_by}
-use Rattle.std.specs.declared.option.Option.TheVariants.{Some}
+use Rattle.std.specs.declared.option.Option.{Option}
+use Rattle.std.specs.declared.option.Option.TheVariants.{Some, None}
 use Rattle.sabr_search.specs.declared.visit.Visit.{Visit}
 use Rattle.sabr_search.specs.declared.found.Best.{Best}
-use Rattle.sabr_search.specs.declared.found.Outcome.{Outcome}
-use Rattle.sabr_search.specs.declared.found.Outcome.TheVariants.{Found, None, GaveUp}
 use Rattle.sabr_search.specs.declared.forward.settling.Forward.{Forward}
 use Rattle.sabr_search.specs.declared.forward.settling.Settling.{Settling}
 use Rattle.sabr_index.specs.declared.link.Pass.{Pass}
@@ -137,9 +136,8 @@ pub record IsFirstWay (task : SearchTask) (until : ℕ) (best : Best) : Type 0 w
   pub early : best.delivery ≤ latest_arrival
   pub few : best.hops < length task.table
 
--- how it ended: with such a way and arrivals by its delivery; no way delivers before second `until`, and the arrivals
--- are by that; or it gave up for this reason alone
-abbrev pub IsReached : SearchTask → (until : ℕ) → (costs arrival : List ℕ) → Type 0 → Outcome Best → Type 0
-IsReached task until costs arrival reason (Found best) = IsFirstWay task until best × AreArrivalsBy task costs arrival best.delivery
-IsReached task until costs arrival reason None = IsNoneBefore task until × AreArrivalsBy task costs arrival until
-IsReached task until costs arrival reason GaveUp = reason
+-- it found such a way, and the arrivals are by its delivery; or no way delivers before second `until`, and the arrivals
+-- are by that
+abbrev pub IsReached : SearchTask → (until : ℕ) → (costs arrival : List ℕ) → Option Best → Type 0
+IsReached task until costs arrival (Some best) = IsFirstWay task until best × AreArrivalsBy task costs arrival best.delivery
+IsReached task until costs arrival None = IsNoneBefore task until × AreArrivalsBy task costs arrival until

@@ -1,6 +1,7 @@
 -- Layers backward for one delivery, of a question or over the whole graph, and the pick by them that goes back.
 use Rattle.std.specs.Prelude.{◌≡◌, ℕ, ◌+◌, ◌*◌, ◌≤◌, ◌<◌, false, All, IfSome, List, [], ◌∷◌, length, slice_get, slice_index, slice_index_or}
-use Rattle.std.specs.declared.option.Option.TheVariants.{Some}
+use Rattle.std.specs.declared.option.Option.{Option}
+use Rattle.std.specs.declared.option.Option.TheVariants.{Some, None}
 use Rattle.sabr_model.specs.plan.Plan.{TabledPlan}
 use Rattle.sabr_model.specs.routes.Arrival.{RouteRequest}
 use Rattle.sabr_search.specs.declared.backward.deadlines.Deadlines.{Deadlines}
@@ -9,8 +10,6 @@ use Rattle.sabr_search.specs.declared.early.whole_deadlines.WholeDeadlines.{Whol
 use Rattle.sabr_search.specs.declared.backward.walk.DeadEnd.{DeadEnd}
 use Rattle.sabr_search.specs.declared.backward.walk.Walk.{Walk}
 use Rattle.sabr_search.specs.declared.found.FoundWay.{FoundWay}
-use Rattle.sabr_search.specs.declared.found.Outcome.{Outcome}
-use Rattle.sabr_search.specs.declared.found.Outcome.TheVariants.{Found, None, GaveUp}
 use Rattle.sabr_index.specs.declared.looks.Looks.{Looks}
 use Rattle.sabr_search.specs.declared.visit.Visit.{Visit}
 use Rattle.sabr_search.specs.questions.Ways.{Leads}
@@ -69,12 +68,11 @@ pub record AreMet {A : Type 0} (task : SearchTask) (d left : ℕ) (s : Deadlines
   pub fewer : IsDeadEnd task d task.start task.at left
   pub met : IsDeadEnd task d task.start task.at (left + 1) → ⊥
 
--- how layers backward for a delivery within that many hops ended: the start is in time for one, made with a look at
--- each contact for each layer; no way delivers by then; or there were too few looks
-abbrev pub IsMadeBack : {A : Type 0} → SearchTask → (d hops : ℕ) → (old new : Looks) → Deadlines A → Outcome ℕ → Type 0
-IsMadeBack task d hops old new s (Found left) = (left < hops) × (old.left ≤ new.left + (left + 1) * length task.plan.contacts) × AreMet task d left s
+-- how layers backward for a delivery within that many hops end: the start is in time for one, made with a look at each
+-- contact for each layer; or no way delivers by then
+abbrev pub IsMadeBack : {A : Type 0} → SearchTask → (d hops : ℕ) → (old new : Looks) → Deadlines A → Option ℕ → Type 0
+IsMadeBack task d hops old new s (Some left) = (left < hops) × (old.left ≤ new.left + (left + 1) * length task.plan.contacts) × AreMet task d left s
 IsMadeBack task d hops old new s None = IsNoneWithin task hops d
-IsMadeBack task d hops old new s GaveUp = old.left < hops * length task.plan.contacts
 
 -- a pick by layers in which each entry in time leads on, for a question of which that many hops deliver in time
 pub record LeadOn {A : Type 0} (task : SearchTask) (hops : ℕ) (s : Deadlines A) (walk : Walk A) : Type 0 where
@@ -98,8 +96,7 @@ abbrev pub last_visit : Visit → List Step → Visit
 last_visit from [] = from
 last_visit from (s ∷ steps) = last_visit (record { node = s.node; at = s.at }) steps
 
--- how a pick of that many hops ended; it gives up for this reason alone
-abbrev pub IsWalked : {A : Type 0} → SearchTask → ℕ → ℕ → Type 0 → Outcome (FoundWay A) → Type 0
-IsWalked task d hops reason (Found way) = (way.delivery ≡ d) × IsPicked task hops d way.numbers.items
-IsWalked task d hops reason None = IsDeadEnd task d task.start task.at hops
-IsWalked task d hops reason GaveUp = reason
+-- what a pick of that many hops finds
+abbrev pub IsWalked : {A : Type 0} → SearchTask → ℕ → ℕ → Option (FoundWay A) → Type 0
+IsWalked task d hops (Some way) = (way.delivery ≡ d) × IsPicked task hops d way.numbers.items
+IsWalked task d hops None = IsDeadEnd task d task.start task.at hops

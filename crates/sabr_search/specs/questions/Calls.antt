@@ -3,7 +3,7 @@ use Rattle.std.specs.Prelude.{ℕ, ◌+◌}
 use Rattle.sabr_index.specs.Looks.{looks_taken}
 use Rattle.sabr_index.specs.declared.looks.Looks.{Looks}
 
--- how many they are, and how many looks they took together
+-- their number, and the number of looks that they took together
 pub record Calls : Type 0 where
   pub count : ℕ
   pub looks : ℕ
@@ -12,7 +12,7 @@ pub record Calls : Type 0 where
 abbrev pub no_calls : Calls
 no_calls = record { count = 0; looks = 0 }
 
--- these, and one more, which took so many looks
+-- these and one more, with this number of looks
 abbrev pub with_call : Calls → ℕ → Calls
 with_call calls looks = record { count = calls.count + 1; looks = calls.looks + looks }
 

@@ -42,6 +42,6 @@ pub record IsPrefixPath {A : Type 0} (p : TabledPlan) (r : RouteRequest) (prefix
   pub forbids : AreForbidden p.table prefix_path.forbidden (is_closed p.plan r prefix_path.numbers.items)
   pub goal_is : slice_get p.table prefix_path.goal ≡ Some r.destination
 
--- the search that starts and goes there keeps the rules and starts where the prefix ends, whatever is excluded
+-- the search that starts and goes there keeps the rules and starts where the prefix ends, with any excluded numbers
 abbrev pub IsEntered : TabledPlan → RouteRequest → List ℕ → List Bool → ℕ → ℕ → ℕ → Type 0
 IsEntered p r prefix forbidden start at goal = (excluded : List ℕ) → IsTask (task_of p r forbidden excluded start at goal) × IsBehind (task_of p r forbidden excluded start at goal) prefix

@@ -1,20 +1,21 @@
 //! Hop layers made backward from the goal for a delivery. For each number of hops they hold the nodes from which that
 //! many hops lead to the goal by then, starting later than fewer hops can.
 
-ghost use Rattle.std.specs.Prelude.{◌≡◌, ◌≢◌, ℕ, ◌+◌, ◌*◌, ◌^◌, ◌≤◌, ◌<◌, take, length, true, false, IsTrue, slice_get, slice_index, slice_index_or, slice_set, Some, None, OnOk, IfOk, [], ◌∷◌};
+ghost use Rattle.std.specs.Prelude.{◌≡◌, ◌≢◌, ℕ, ◌+◌, ◌*◌, ◌^◌, ◌≤◌, ◌<◌, length, true, false, IsTrue, slice_get, slice_index, slice_index_or, slice_set, Some, None, OnOk, IfOk, [], ◌∷◌};
 ghost use Rattle.sabr_search.specs.questions.Task.{IsTask, never};
+ghost use Rattle.sabr_search.specs.questions.Stops.{StopsOnlyIf};
 ghost use Rattle.sabr_search.specs.questions.Steps.{received};
 ghost use Rattle.sabr_search.specs.questions.Linked.{IsLinkWithin};
-ghost use Rattle.sabr_search.specs.layers.Deadlines.{AreLinked, IsApart, head_of};
+ghost use Rattle.sabr_search.specs.layers.Deadlines.{IsApart, head_of};
 ghost use Rattle.sabr_search.specs.questions.FirstSteps.{AreFirstSteps};
 ghost use Rattle.sabr_search.specs.layers.Settling.{AreReal};
-ghost use Rattle.sabr_search.specs.layers.Late.{InTimeFor, AreLateAfter, IsNotedLate, AreLeftInTimeTo, AreLeftInTimeOver, AreLeftInTimeByHead, AreLeftInTimeFrom, AreArrivals};
+ghost use Rattle.sabr_search.specs.layers.Late.{InTimeFor, AreGrowing, AreGrown, IsNotedLate, AreLeftInTimeTo, AreLeftInTimeOver, AreLeftInTimeByHead, AreLeftInTimeFrom, AreArrivals};
 ghost use Rattle.sabr_search.specs.layers.WholeDeadlines.{AreWhole, IsMadeBack};
 
 use crate::backward::deadlines::{Deadline, Deadlines};
 use crate::backward::since::Since;
-use crate::found::Outcome;
 use crate::links::over_link::{WalkedLink, rules_out};
+use crate::stopped::Stopped;
 use crate::task::Task;
 use crate::visit::Visit;
 use sabr_index::{Looks, Sender, SenderHead};
@@ -94,22 +95,22 @@ impl<A: Allocator + Copy> Deadlines<A> {
         left: usize,
     ) -> Result<(), NoMemory>
         requires task { IsTask aim.now.task.now }
+        requires arrivals { length aim.now.since.now ≡ length aim.now.task.now.table }
         requires bounded { left + 1 < length self.old.ends.items }
-        requires permitted { slice_index_or aim.now.task.now.forbidden from.node false ≡ false }
-        requires other { from.node ≢ aim.now.task.now.goal }
+        requires growing { AreGrowing aim.now.task.now left self.old }
+
+        // The link leads from an open node that isn't the goal to the node of an entry of layer `left`.
         requires link { IsLinkWithin aim.now.task.now from.node to.node from.passes.now from.bounds }
         requires node { from.node < length aim.now.task.now.table }
+        requires permitted { slice_index_or aim.now.task.now.forbidden from.node false ≡ false }
+        requires other { from.node ≢ aim.now.task.now.goal }
         requires receiver { slice_index_or aim.now.task.now.forbidden to.node false ≡ false }
-        requires arrivals { length aim.now.since.now ≡ length aim.now.task.now.table }
-        requires few { length from.passes.now ≤ looks.old.left }
         requires given { (b : ℕ) → b < to.before → InTimeFor self.old.entries.items (slice_index self.old.ends.items left) (slice_index self.old.ends.items (left + 1)) to.node b }
-        requires lists { AreLateAfter aim.now.task.now self.old.ends.items left self.old.late.items self.old.place.items self.old.entries.items }
-        requires linked { AreLinked self.old.entries.items self.old.fewer.items }
-        ensures ends { self.new.ends ≡ self.old.ends }
+
+        // It takes no more looks than the link has passes.
+        requires few { length from.passes.now ≤ looks.old.left }
         ensures looks { looks.old.left ≤ looks.new.left + length from.entry.passes.now }
-        ensures lists { OnOk result (AreLateAfter aim.now.task.now self.old.ends.items left self.new.late.items self.new.place.items self.new.entries.items) }
-        ensures linked { OnOk result (AreLinked self.new.entries.items self.new.fewer.items) }
-        ensures kept { OnOk result (take (slice_index self.old.ends.items (left + 1)) self.new.entries.items ≡ take (slice_index self.old.ends.items (left + 1)) self.old.entries.items) }
+        ensures grown { OnOk result (AreGrown aim.now.task.now left self.old self.new) }
         ensures rises { OnOk result ((k : ℕ) → slice_index self.old.late.items k ≤ slice_index self.new.late.items k) }
         ensures in_time { OnOk result (AreLeftInTimeOver aim.now.task.now aim.now.since.now self.new.late.items from.entry.node from.entry.passes.now to.before) }
     {
@@ -133,31 +134,28 @@ impl<A: Allocator + Copy> Deadlines<A> {
         Ok(())
     }
 
-    /// Takes every link to the node of an entry of layer `left`. Returns false if more looks might be needed than are
-    /// left.
+    /// Takes every link to the node of an entry of layer `left`.
     fn take_senders(
         &mut self,
         aim: &Aim<'_, '_, '_, A>,
         looks: &mut Looks,
         to: Deadline,
         left: usize,
-    ) -> Result<bool, NoMemory>
+    ) -> Result<(), Stopped>
         requires task { IsTask aim.now.task.now }
+        requires arrivals { length aim.now.since.now ≡ length aim.now.task.now.table }
         requires bounded { left + 1 < length self.old.ends.items }
+        requires growing { AreGrowing aim.now.task.now left self.old }
+
+        // The entry is one of layer `left`.
         requires node { to.node < length aim.now.task.now.table }
         requires receiver { slice_index_or aim.now.task.now.forbidden to.node false ≡ false }
-        requires arrivals { length aim.now.since.now ≡ length aim.now.task.now.table }
         requires given { (b : ℕ) → b < to.before → InTimeFor self.old.entries.items (slice_index self.old.ends.items left) (slice_index self.old.ends.items (left + 1)) to.node b }
-        requires lists { AreLateAfter aim.now.task.now self.old.ends.items left self.old.late.items self.old.place.items self.old.entries.items }
-        requires linked { AreLinked self.old.entries.items self.old.fewer.items }
-        ensures ends { self.new.ends ≡ self.old.ends }
         ensures counted { looks.old.left ≤ looks.new.left + received aim.now.task.now to.node }
-        ensures none { IfOk result (λ whole. whole ≡ false → looks.old.left < received aim.now.task.now to.node) }
-        ensures lists { OnOk result (AreLateAfter aim.now.task.now self.old.ends.items left self.new.late.items self.new.place.items self.new.entries.items) }
-        ensures linked { OnOk result (AreLinked self.new.entries.items self.new.fewer.items) }
-        ensures kept { OnOk result (take (slice_index self.old.ends.items (left + 1)) self.new.entries.items ≡ take (slice_index self.old.ends.items (left + 1)) self.old.entries.items) }
+        ensures stops { StopsOnlyIf result (looks.old.left < received aim.now.task.now to.node) }
+        ensures grown { OnOk result (AreGrown aim.now.task.now left self.old self.new) }
         ensures rises { OnOk result ((k : ℕ) → slice_index self.old.late.items k ≤ slice_index self.new.late.items k) }
-        ensures in_time { IfOk result (λ whole. IsTrue whole → AreLeftInTimeTo aim.now.task.now aim.now.since.now self.new.late.items to) }
+        ensures in_time { OnOk result (AreLeftInTimeTo aim.now.task.now aim.now.since.now self.new.late.items to) }
     {
         let senders = aim.task.senders(to.node);
         for place in 0..senders.len() {
@@ -167,45 +165,37 @@ impl<A: Allocator + Copy> Deadlines<A> {
             }
             let from = senders.at(place);
             if from.passes.len() as u64 > looks.left() {
-                return Ok(false);
+                return Err(Stopped::NoLooks);
             }
             self.take_sender(aim, looks, from, to, left)?;
         }
-        Ok(true)
+        Ok(())
     }
 
-    /// Makes layer `left + 1` from layer `left`, with at most one look for each contact. Returns false if more looks
-    /// might be needed than are left.
+    /// Makes layer `left + 1` from layer `left`, with at most one look for each contact.
     fn next_back(
         &mut self,
         aim: &Aim<'_, '_, '_, A>,
         looks: &mut Looks,
         left: usize,
-    ) -> Result<bool, NoMemory>
+    ) -> Result<(), Stopped>
         requires task { IsTask aim.now.task.now }
         requires arrivals { length aim.now.since.now ≡ length aim.now.task.now.table }
         requires bounded { left + 1 < length self.old.ends.items }
         requires apart { IsApart self.old.ends.items self.old.entries.items left }
-        requires lists { AreLateAfter aim.now.task.now self.old.ends.items left self.old.late.items self.old.place.items self.old.entries.items }
-        requires linked { AreLinked self.old.entries.items self.old.fewer.items }
-        ensures ends { self.new.ends ≡ self.old.ends }
+        requires growing { AreGrowing aim.now.task.now left self.old }
         ensures counted { looks.old.left ≤ looks.new.left + length aim.now.task.now.plan.contacts }
-        ensures none { IfOk result (λ whole. whole ≡ false → looks.old.left < length aim.now.task.now.plan.contacts) }
-        ensures lists { OnOk result (AreLateAfter aim.now.task.now self.old.ends.items left self.new.late.items self.new.place.items self.new.entries.items) }
-        ensures linked { OnOk result (AreLinked self.new.entries.items self.new.fewer.items) }
-        ensures kept { OnOk result (take (slice_index self.old.ends.items (left + 1)) self.new.entries.items ≡ take (slice_index self.old.ends.items (left + 1)) self.old.entries.items) }
-        ensures in_time { IfOk result (λ whole. IsTrue whole → AreLeftInTimeFrom aim.now.task.now aim.now.since.now self.old.entries.items (slice_index self.old.ends.items left) (slice_index self.old.ends.items (left + 1)) self.new.late.items) }
+        ensures stops { StopsOnlyIf result (looks.old.left < length aim.now.task.now.plan.contacts) }
+        ensures grown { OnOk result (AreGrown aim.now.task.now left self.old self.new) }
+        ensures in_time { OnOk result (AreLeftInTimeFrom aim.now.task.now aim.now.since.now self.old.entries.items (slice_index self.old.ends.items left) (slice_index self.old.ends.items (left + 1)) self.new.late.items) }
     {
         let first = self.ends[left];
         let begin = self.ends[left + 1];
         for place in first..begin {
             let to = self.entries[place];
-            let whole = self.take_senders(aim, looks, to, left)?;
-            if !whole {
-                return Ok(false);
-            }
+            self.take_senders(aim, looks, to, left)?;
         }
-        Ok(true)
+        Ok(())
     }
 
     /// Makes layer 0: the goal alone.
@@ -254,42 +244,35 @@ impl<A: Allocator + Copy> Deadlines<A> {
         false
     }
 
-    /// Makes layers backward from the goal until one has no node, each with at most one look for each contact. Returns
-    /// false if more looks might be needed than are left, or more layers than there are nodes.
-    pub fn make_whole(
-        &mut self,
-        aim: &Aim<'_, '_, '_, A>,
-        looks: &mut Looks,
-    ) -> Result<bool, NoMemory>
+    /// Makes layers backward from the goal until one has no node, each with at most one look for each contact. It stops
+    /// after as many layers as there are nodes.
+    pub fn make_all(&mut self, aim: &Aim<'_, '_, '_, A>, looks: &mut Looks) -> Result<(), Stopped>
         requires task { IsTask aim.now.task.now }
         requires arrivals { AreArrivals aim.now.task.now aim.now.since.now }
         requires early { aim.now.delivery < never }
-        ensures whole { IfOk result (λ all. IsTrue all → (most : ℕ) → AreWhole aim.now.task.now aim.now.since.now aim.now.delivery most self.new) }
+        ensures whole { OnOk result ((most : ℕ) → AreWhole aim.now.task.now aim.now.since.now aim.now.delivery most self.new) }
     {
         self.first_back(aim.task, aim.delivery)?;
         for left in 0..aim.task.forbidden().len() {
             if self.ends[left] == self.ends[left + 1] {
-                return Ok(true);
+                return Ok(());
             }
-            let whole = self.next_back(aim, looks, left)?;
-            if !whole {
-                return Ok(false);
-            }
+            self.next_back(aim, looks, left)?;
             let end = self.entries.len();
             self.ends.push(end)?;
         }
-        Ok(false)
+        Err(Stopped::NoLooks)
     }
 
     /// Makes layers backward from the goal, each with at most one look for each contact, until a first step comes in
-    /// time to a node of one of them. Returns the number of hops from there to the goal, which is below `hops`; or
-    /// `Outcome::None` if there is no such node, or `Outcome::GaveUp` if more looks might be needed than are left.
+    /// time to a node of one of them. Returns the number of hops from there to the goal, which is below `hops`, or `None`
+    /// if there is no such node.
     pub fn make_back(
         &mut self,
         aim: &Aim<'_, '_, '_, A>,
         looks: &mut Looks,
         hops: usize,
-    ) -> Result<Outcome<usize>, NoMemory>
+    ) -> Result<Option<usize>, Stopped>
         requires task { IsTask aim.now.task.now }
         requires arrivals { AreArrivals aim.now.task.now aim.now.since.now }
         requires early { aim.now.delivery < never }
@@ -297,22 +280,20 @@ impl<A: Allocator + Copy> Deadlines<A> {
         requires real { AreReal aim.now.task.now aim.now.first.now }
         ensures counted { looks.old.left ≤ looks.new.left + hops * length aim.now.task.now.plan.contacts }
         ensures made { IfOk result (IsMadeBack aim.now.task.now aim.now.delivery hops looks.old looks.new self.new) }
+        ensures stops { StopsOnlyIf result (looks.old.left < hops * length aim.now.task.now.plan.contacts) }
     {
         self.first_back(aim.task, aim.delivery)?;
         for left in 0..hops {
             if self.is_met(aim.first) {
-                return Ok(Outcome::Found(left));
+                return Ok(Some(left));
             }
             if self.ends[left] == self.ends[left + 1] {
-                return Ok(Outcome::None);
+                return Ok(None);
             }
-            let whole = self.next_back(aim, looks, left)?;
-            if !whole {
-                return Ok(Outcome::GaveUp);
-            }
+            self.next_back(aim, looks, left)?;
             let end = self.entries.len();
             self.ends.push(end)?;
         }
-        Ok(Outcome::None)
+        Ok(None)
     }
 }

@@ -1,7 +1,7 @@
 //! For each node, the second from which on no way leads to the destination in time: from the goal backward over the
 //! whole graph.
 
-ghost use Rattle.std.specs.Prelude.{◌≡◌, ◌≢◌, ℕ, ◌+◌, ◌*◌, ◌^◌, ◌≤◌, ◌<◌, [], Some, IfOk, OnOk, IsTrue, false, length, slice_get, slice_index, slice_index_or};
+ghost use Rattle.std.specs.Prelude.{◌≡◌, ◌≢◌, ℕ, ◌+◌, ◌*◌, ◌^◌, ◌≤◌, ◌<◌, [], Some, IfOk, OnOk, false, length, slice_get, slice_index, slice_index_or};
 ghost use Rattle.sabr_search.specs.questions.Task.{IsTask};
 ghost use Rattle.sabr_search.specs.questions.Linked.{IsLinkWithin};
 ghost use Rattle.sabr_search.specs.questions.FirstSteps.{tabled_of};
@@ -11,6 +11,7 @@ ghost use Rattle.sabr_search.specs.layers.Latest.{IsWhole, IsBegun, AreRising, A
 
 use crate::links::over_link::{WalkedLink, rules_out};
 use crate::queue::{LAST_AT, Queue};
+use crate::stopped::Stopped;
 use crate::task::Task;
 use crate::visit::Visit;
 use sabr_index::{Looks, Sender};
@@ -101,19 +102,19 @@ impl<A: Allocator + Copy> Latest<A> {
         Ok(())
     }
 
-    /// Takes every link to a node. Returns false if more looks might be needed than are left.
+    /// Takes every link to a node.
     fn take_senders(
         &mut self,
         task: &Task<'_, A>,
         looks: &mut Looks,
         to: usize,
-    ) -> Result<bool, NoMemory>
+    ) -> Result<(), Stopped>
         requires task { IsTask task.now }
         requires node { to < length task.now.table }
         requires rising { AreRising (IsTakenBy task.now) task.now self.old.late.items self.old.taken.items self.old.queue to }
         ensures rising { OnOk result (AreRising (IsTakenBy task.now) task.now self.new.late.items self.new.taken.items self.new.queue to) }
         ensures rises { OnOk result ((k : ℕ) → slice_index self.old.late.items k ≤ slice_index self.new.late.items k) }
-        ensures taken { IfOk result (λ all. IsTrue all → IsTakenBy task.now self.new.late.items to) }
+        ensures taken { OnOk result (IsTakenBy task.now self.new.late.items to) }
     {
         let before = self.late[to];
         let senders = task.senders(to);
@@ -125,53 +126,45 @@ impl<A: Allocator + Copy> Latest<A> {
             }
             let from = senders.at(place);
             if from.passes.len() as u64 > looks.left() {
-                return Ok(false);
+                return Err(Stopped::NoLooks);
             }
             self.take_sender(task, looks, from, to, before)?;
         }
-        Ok(true)
+        Ok(())
     }
 
-    /// Takes the links of the nodes that wait, until none does. Returns false if more looks might be needed than are
-    /// left, or after two nodes for each contact.
-    fn take_all(&mut self, task: &Task<'_, A>, looks: &mut Looks) -> Result<bool, NoMemory>
+    /// Takes the links of the nodes that wait, until none does. It stops after two nodes for each contact.
+    fn take_all(&mut self, task: &Task<'_, A>, looks: &mut Looks) -> Result<(), Stopped>
         requires task { IsTask task.now }
         requires rising { AreRising (IsTakenBy task.now) task.now self.old.late.items self.old.taken.items self.old.queue (length task.now.table) }
         ensures rises { OnOk result ((k : ℕ) → slice_index self.old.late.items k ≤ slice_index self.new.late.items k) }
-        ensures taken { IfOk result (λ all. IsTrue all → AreTaken (IsTakenBy task.now) task.now self.new.late.items) }
+        ensures taken { OnOk result (AreTaken (IsTakenBy task.now) task.now self.new.late.items) }
     {
         for _ in 0..task.two_scans() {
             let Some(event) = self.queue.pop() else {
-                return Ok(true);
+                return Ok(());
             };
             if self.taken[event.node] {
                 continue;
             }
             self.taken[event.node] = true;
-            let all = self.take_senders(task, looks, event.node)?;
-            if !all {
-                return Ok(false);
-            }
+            self.take_senders(task, looks, event.node)?;
         }
-        Ok(false)
+        Err(Stopped::NoLooks)
     }
 }
 
-/// Returns for each node a second from which on no way over the whole graph delivers before `until`. Nothing is known
-/// of any node if more looks might be needed than are left.
+/// Returns for each node a second from which on no way over the whole graph delivers before `until`.
 pub fn latest_by<A: Allocator + Copy>(
     alloc: A,
     task: &Task<'_, A>,
     looks: &mut Looks,
     until: u64,
-) -> Result<Vec<u64, A>, NoMemory>
+) -> Result<Vec<u64, A>, Stopped>
     requires whole { IsWhole task.now }
     ensures late { IfOk result (λ v. AreLateFor (tabled_of task.now) task.now.request until v.items) }
 {
     let mut latest = Latest::begin(alloc, task, until)?;
-    let all = latest.take_all(task, looks)?;
-    if !all {
-        return Ok(Vec::new(alloc));
-    }
+    latest.take_all(task, looks)?;
     Ok(latest.late)
 }

@@ -2,7 +2,7 @@
 //! whole graph.
 
 ghost use Rattle.sabr_index.specs.Links.{SentLink};
-ghost use Rattle.std.specs.Prelude.{◌≡◌, ◌≢◌, ℕ, ◌+◌, ◌≤◌, ◌<◌, [], Some, IfOk, OnOk, IsTrue, false, length, slice_get, slice_index, slice_index_or};
+ghost use Rattle.std.specs.Prelude.{◌≡◌, ◌≢◌, ℕ, ◌+◌, ◌≤◌, ◌<◌, [], Some, IfOk, OnOk, false, length, slice_get, slice_index, slice_index_or};
 ghost use Rattle.sabr_search.specs.questions.Task.{IsTask, Takes, never};
 ghost use Rattle.sabr_search.specs.questions.Linked.{AreSendersAt, HasNumber};
 ghost use Rattle.sabr_search.specs.questions.FirstSteps.{tabled_of};
@@ -11,6 +11,7 @@ ghost use Rattle.sabr_search.specs.layers.Latest.{IsWhole, AreRising, AreTaken, 
 
 use crate::backward::latest::Latest;
 use crate::queue::LAST_AT;
+use crate::stopped::Stopped;
 use crate::task::Task;
 use crate::visit::{NEVER, Visit};
 use sabr_index::Senders;
@@ -99,16 +100,16 @@ impl<A: Allocator + Copy> Latest<A> {
         Ok(())
     }
 
-    /// Takes the links of the nodes that wait, of at most two for each contact. Returns whether none waits then.
-    fn near_all(&mut self, task: &Task<'_, A>, hops: &mut Vec<u64, A>) -> Result<bool, NoMemory>
+    /// Takes the links of the nodes that wait, until none does. It stops after two nodes for each contact.
+    fn near_all(&mut self, task: &Task<'_, A>, hops: &mut Vec<u64, A>) -> Result<(), Stopped>
         requires task { IsTask task.now }
         requires rising { AreRising (IsNearBy task.now) task.now self.old.late.items self.old.taken.items self.old.queue (length task.now.table) }
         ensures rises { OnOk result ((k : ℕ) → slice_index self.old.late.items k ≤ slice_index self.new.late.items k) }
-        ensures taken { IfOk result (λ all. IsTrue all → AreTaken (IsNearBy task.now) task.now self.new.late.items) }
+        ensures taken { OnOk result (AreTaken (IsNearBy task.now) task.now self.new.late.items) }
     {
         for _ in 0..task.two_scans() {
             let Some(event) = self.queue.pop() else {
-                return Ok(true);
+                return Ok(());
             };
             if self.taken[event.node] {
                 continue;
@@ -116,18 +117,18 @@ impl<A: Allocator + Copy> Latest<A> {
             self.taken[event.node] = true;
             self.near_senders(task, event.node, hops)?;
         }
-        Ok(false)
+        Err(Stopped::NoLooks)
     }
 }
 
-/// Returns the seconds of a way, by how near it makes its node.
+/// Returns the seconds of a way, from `NEVER` less these seconds.
 fn seconds_for(near: u64) -> u64
     ensures { result + near ≡ never }
 {
     NEVER - near
 }
 
-/// Turns how near each node is, `NEVER` less the seconds of a way, into these seconds.
+/// Replaces each `NEVER` less the seconds of a way by these seconds.
 fn turn<A: Allocator + Copy>(seconds: &mut Vec<u64, A>)
     ensures { (k : ℕ) → k < length seconds.old.items → slice_index seconds.new.items k + slice_index seconds.old.items k ≡ never }
 {
@@ -138,22 +139,18 @@ fn turn<A: Allocator + Copy>(seconds: &mut Vec<u64, A>)
 }
 
 /// Returns for each node what a way to the destination costs: the smallest sum of the links' smallest costs on a way
-/// over the links that haven't ended when the request begins. The hops of such a way are noted in `hops`. Nothing is
-/// known of any node if the links of more nodes than two for each contact would be taken.
+/// over the links that haven't ended when the request begins. The hops of such a way are noted in `hops`.
 pub fn costs_of<A: Allocator + Copy>(
     alloc: A,
     task: &Task<'_, A>,
     hops: &mut Vec<u64, A>,
-) -> Result<Vec<u64, A>, NoMemory>
+) -> Result<Vec<u64, A>, Stopped>
     requires whole { IsWhole task.now }
     ensures costs { IfOk result (λ v. AreCostsFor (tabled_of task.now) task.now.request v.items) }
 {
     let mut nearest = Latest::begin(alloc, task, NEVER)?;
     hops.resize(task.forbidden().len(), 0)?;
-    let all = nearest.near_all(task, hops)?;
-    if !all {
-        return Ok(Vec::new(alloc));
-    }
+    nearest.near_all(task, hops)?;
     turn(&mut nearest.late);
     Ok(nearest.late)
 }

@@ -9,16 +9,18 @@ ghost use Rattle.sabr_search.specs.questions.Linked.{AreLinksAt};
 ghost use Rattle.sabr_search.specs.layers.Deadlines.{IsInTimeWithin};
 ghost use Rattle.sabr_search.specs.layers.WholeDeadlines.{AreDeadEnds, IsDeadEnd, AreWholeDeadlinesOf, IsStepOn, IsWalked, LeadOn, last_visit};
 ghost use Rattle.sabr_search.specs.questions.Ways.{Leads};
+ghost use Rattle.sabr_search.specs.questions.Stops.{StopsOnlyIf};
 
 use crate::backward::deadlines::Deadlines;
-use crate::found::{FoundWay, Outcome};
+use crate::found::FoundWay;
+use crate::stopped::Stopped;
 use crate::task::Task;
 use crate::visit::{Step, Visit};
 use sabr_index::{Links, Looks};
 use sabr_model::NoMemory;
 use std::alloc::Allocator;
 
-/// A question gives up after this many dead ends. With 3, 1000 routes over a grid of 1600 nodes took 73 percent more
+/// A pick stops after this many dead ends. With 3, 1000 routes over a grid of 1600 nodes took 73 percent more
 /// instructions, and over one of 64 nodes 17 percent; with 32, the smaller grid took 4 percent more. It was varied in a
 /// copy of this design in plain Rust.
 const MAX_ENDS: usize = 8;
@@ -167,15 +169,15 @@ impl<A: Allocator + Copy> Walk<A> {
     }
 
     /// Picks the way of `hops` hops with the smallest numbers that is at the goal by the delivery of the layers. No way
-    /// of fewer hops is. The pick goes back from dead ends, of which there are none by a question's own layers. It
-    /// gives up after too many dead ends, or if more looks might be needed than are left.
+    /// of fewer hops is. The pick goes back from dead ends, of which there are none by a question's own layers. It stops
+    /// after too many of them.
     pub fn pick(
         &mut self,
         layers: &Deadlines<A>,
         task: &Task<'_, A>,
         looks: &mut Looks,
         hops: usize,
-    ) -> Result<Outcome<FoundWay<A>>, NoMemory>
+    ) -> Result<Option<FoundWay<A>>, Stopped>
         requires task { IsTask task.now }
         requires some { 0 < hops }
         requires whole_deadlines { AreWholeDeadlinesOf task.now self.old.delivery (hops - 1) layers.now }
@@ -184,7 +186,8 @@ impl<A: Allocator + Copy> Walk<A> {
         requires fewer { IsDeadEnd task.now self.old.delivery task.now.start task.now.at (hops - 1) }
         ensures delivery { self.new.delivery ≡ self.old.delivery }
         ensures ends { OnOk result (AreDeadEnds task.now self.old.delivery self.new.ends.items) }
-        ensures walked { IfOk result (IsWalked task.now self.old.delivery hops (LeadOn task.now hops layers.now self.old → looks.old.left < hops * length task.now.plan.contacts)) }
+        ensures walked { IfOk result (IsWalked task.now self.old.delivery hops) }
+        ensures stops { StopsOnlyIf result (LeadOn task.now hops layers.now self.old → looks.old.left < hops * length task.now.plan.contacts) }
         ensures counted { LeadOn task.now hops layers.now self.old → looks.old.left ≤ looks.new.left + hops * length task.now.plan.contacts }
     {
         self.steps.clear();
@@ -193,12 +196,12 @@ impl<A: Allocator + Copy> Walk<A> {
             let left = hops - 1 - self.steps.len();
             let links = task.links(from.node);
             if links.passes.len() as u64 > looks.left() {
-                return Ok(Outcome::GaveUp);
+                return Err(Stopped::NoLooks);
             }
             if let Some(step) = self.next(layers, task, looks, left, from, links) {
                 self.steps.push(step)?;
                 if left == 0 {
-                    return Ok(Outcome::Found(self.way(layers.alloc)?));
+                    return Ok(Some(self.way(layers.alloc)?));
                 }
                 continue;
             }
@@ -208,9 +211,9 @@ impl<A: Allocator + Copy> Walk<A> {
                 hops: left + 1,
             })?;
             let Some(_) = self.steps.pop() else {
-                return Ok(Outcome::None);
+                return Ok(None);
             };
         }
-        Ok(Outcome::GaveUp)
+        Err(Stopped::NoLooks)
     }
 }

@@ -9,7 +9,7 @@ mod lists;
 
 ghost use Rattle.std.specs.Prelude.{◌≡◌, ◌^◌, ◌≤◌, ◌<◌, [], Some, All, IfSome, IsTrue, length, slice_get, slice_set, false};
 ghost use Rattle.sabr_search.specs.questions.Ways.{Leads};
-ghost use Rattle.sabr_search.specs.questions.Task.{IsTask, IsAsked, Takes};
+ghost use Rattle.sabr_search.specs.questions.Task.{IsTask, IsAsked, IsOfRequest, Takes};
 ghost use Rattle.sabr_search.specs.questions.FirstSteps.{tabled_of};
 ghost use Rattle.sabr_search.specs.answers.Asked.{AnswersAt, hops_left};
 ghost use Rattle.sabr_search.specs.answers.Found.{IsFound};
@@ -87,7 +87,7 @@ pub struct Answer<A: Allocator + Copy = Global> {
 /// A bucket only says where to look. Whether an answer fits a question is decided by the answer itself.
 #[derive(Drop)]
 pub struct Answers<A: Allocator + Copy = Global> {
-    /// Where answers take their memory.
+    /// The allocator of the answers.
     alloc: A,
     /// The answers.
     pub slots: Vec<Answer<A>, A>,
@@ -239,7 +239,7 @@ fn bucket_of(node: usize, excluded: &[u32]) -> usize {
 }
 
 impl<A: Allocator + Copy> Answers<A> {
-    /// Begins with no answer. It doesn't allocate.
+    /// Makes an empty cache. It doesn't allocate.
     pub fn new(alloc: A) -> Answers<A>
         ensures { result.slots.items ≡ [] }
     {
@@ -271,7 +271,7 @@ impl<A: Allocator + Copy> Answers<A> {
     /// most nodes.
     pub fn recall(&self, asked: &Question<'_, '_, '_, A>, looks: &mut Looks) -> Recalled<'_>
         requires asked { IsAsked asked.now.task.now asked.now.prefix.now }
-        requires kept { All (IsAnswer (tabled_of asked.now.task.now) asked.now.task.now.request) self.now.slots.items }
+        requires cached { All (IsAnswer (tabled_of asked.now.task.now) asked.now.task.now.request) self.now.slots.items }
         ensures { IfSome result.place (AnswersAt self.now.slots.items asked.now) }
     {
         let task = asked.task;
@@ -306,7 +306,7 @@ impl<A: Allocator + Copy> Answers<A> {
         looks: &mut Looks,
     ) -> Option<usize>
         requires asked { IsAsked asked.now.task.now asked.now.prefix.now }
-        requires kept { All (IsAnswer (tabled_of asked.now.task.now) asked.now.task.now.request) self.now.slots.items }
+        requires cached { All (IsAnswer (tabled_of asked.now.task.now) asked.now.task.now.request) self.now.slots.items }
         ensures { IfSome result (AnswersAt self.now.slots.items asked.now) }
     {
         let mut passed = None;
@@ -361,17 +361,18 @@ impl<A: Allocator + Copy> Answers<A> {
     /// Makes the answer to a question from what was found; or none, if an allocation failed.
     fn made(
         &mut self,
-        task: &Task<'_, A>,
-        hops: usize,
+        asked: &Question<'_, '_, '_, A>,
         found: &Found<FoundWay<A>>,
         breadth: Breadth,
         bucket: usize,
     ) -> Option<Answer<A>>
-        requires goal { slice_get task.now.table task.now.goal ≡ Some task.now.request.destination }
-        requires found { IsFound task.now hops found.now }
+        requires task { IsTask asked.now.task.now }
+        requires request { IsOfRequest asked.now.task.now }
+        requires found { IsFound asked.now.task.now (hops_left asked.now) found.now }
         ensures slots { self.new.slots ≡ self.old.slots }
-        ensures answer { IfSome result (IsAnswer (tabled_of task.now) task.now.request) }
+        ensures answer { IfSome result (IsAnswer (tabled_of asked.now.task.now) asked.now.task.now.request) }
     {
+        let task = asked.task;
         let (way, found): (&[u32], Found<u64>) = match found {
             Found::Way(way) => (&way.numbers, Found::Way(way.delivery)),
             Found::Beyond(bound) => (&[], Found::Beyond(*bound)),
@@ -386,7 +387,7 @@ impl<A: Allocator + Copy> Answers<A> {
         };
         Some(Answer {
             from,
-            hops,
+            hops: asked.hops_left(),
             lists,
             found,
             breadth,
@@ -397,21 +398,21 @@ impl<A: Allocator + Copy> Answers<A> {
     /// Keeps the answer to a question, and returns its place; or leaves it out, if an allocation failed.
     pub fn cache(
         &mut self,
-        task: &Task<'_, A>,
-        hops: usize,
+        asked: &Question<'_, '_, '_, A>,
         found: &Found<FoundWay<A>>,
         breadth: Breadth,
     ) -> Option<usize>
-        requires goal { slice_get task.now.table task.now.goal ≡ Some task.now.request.destination }
-        requires kept { AreAnswers (tabled_of task.now) task.now.request self.old.slots.items }
-        requires found { IsFound task.now hops found.now }
-        ensures { AreAnswers (tabled_of task.now) task.now.request self.new.slots.items }
+        requires task { IsTask asked.now.task.now }
+        requires request { IsOfRequest asked.now.task.now }
+        requires cached { AreAnswers (tabled_of asked.now.task.now) asked.now.task.now.request self.old.slots.items }
+        requires found { IsFound asked.now.task.now (hops_left asked.now) found.now }
+        ensures { AreAnswers (tabled_of asked.now.task.now) asked.now.task.now.request self.new.slots.items }
     {
         if !self.make_heads() {
             return None;
         }
-        let bucket = bucket_of(task.start(), task.excluded());
-        let Some(answer) = self.made(task, hops, found, breadth, bucket) else {
+        let bucket = bucket_of(asked.task.start(), asked.task.excluded());
+        let Some(answer) = self.made(asked, found, breadth, bucket) else {
             return None;
         };
         let Some(place) = self.put(answer) else {
@@ -424,13 +425,13 @@ impl<A: Allocator + Copy> Answers<A> {
     /// Learns what was found for a question: caches it, if it is one that is cached and no allocation fails.
     pub fn learn(&mut self, asked: &Question<'_, '_, '_, A>, found: &Found<FoundWay<A>>)
         requires asked { IsAsked asked.now.task.now asked.now.prefix.now }
-        requires kept { AreAnswers (tabled_of asked.now.task.now) asked.now.task.now.request self.old.slots.items }
+        requires cached { AreAnswers (tabled_of asked.now.task.now) asked.now.task.now.request self.old.slots.items }
         requires found { IsFound asked.now.task.now (hops_left asked.now) found.now }
-        ensures kept { AreAnswers (tabled_of asked.now.task.now) asked.now.task.now.request self.new.slots.items }
+        ensures cached { AreAnswers (tabled_of asked.now.task.now) asked.now.task.now.request self.new.slots.items }
         ensures others { is_cached_after asked.now.prefix.now asked.now.task.now.excluded ≡ false → self.new.slots ≡ self.old.slots }
     {
         if is_cached(asked) {
-            self.cache(asked.task, asked.hops_left(), found, Breadth::Own);
+            self.cache(asked, found, Breadth::Own);
         }
     }
 }

@@ -23,8 +23,9 @@ use crate::backward::since::Since;
 use crate::backward::walk::Walk;
 use crate::bound::Bound;
 use crate::early::whole_deadlines::budget::WholeBudget;
-use crate::found::{Found, FoundWay, Outcome};
+use crate::found::{Found, FoundWay};
 use crate::question::Question;
+use crate::stopped::Stopped;
 use crate::task::Task;
 use crate::visit::NEVER;
 use sabr_index::Looks;
@@ -69,7 +70,7 @@ impl<A: Allocator + Copy> WholeDeadlines<A> {
         looks: &mut Looks,
         soon: &[u64],
         delivery: u64,
-    ) -> Result<(), NoMemory>
+    ) -> Result<(), Stopped>
         requires asked { IsAsked task.now [] }
         requires none { task.now.excluded ≡ [] }
         requires soon { AreSoonFor (tabled_of task.now) task.now.request soon.now }
@@ -87,13 +88,10 @@ impl<A: Allocator + Copy> WholeDeadlines<A> {
             delivery,
         };
         let before = looks.left();
-        let made = self.layers.make_whole(&aim, looks);
+        let made = self.layers.make_all(&aim, looks);
         self.budget
             .count_layers(before.saturating_sub(looks.left()));
-        let whole = made?;
-        if !whole {
-            return Ok(());
-        }
+        made?;
         self.delivery = Some(delivery);
         Ok(())
     }
@@ -108,18 +106,17 @@ impl<A: Allocator + Copy> WholeDeadlines<A> {
         }
     }
 
-    /// Returns the best way of a question by layers for its floor, or what each way is above. None if that would take
-    /// too many looks, or came to too many dead ends.
+    /// Returns the best way of a question by layers for its floor, or what each way is above.
     fn find(
         &self,
         walk: &mut Walk<A>,
         asked: &Question<'_, '_, '_, A>,
         looks: &mut Looks,
-    ) -> Result<Option<Found<FoundWay<A>>>, NoMemory>
+    ) -> Result<Found<FoundWay<A>>, Stopped>
         requires asked { IsAsked asked.now.task.now asked.now.prefix.now }
         requires floor { IsNoneSooner asked.now.task.now (hops_left asked.now) asked.now.floor }
         requires whole_deadlines { AreWholeDeadlinesOf asked.now.task.now asked.now.floor (hops_left asked.now) self.now.layers }
-        ensures { IfOk result (λ o. IfSome o (IsFound asked.now.task.now (hops_left asked.now))) }
+        ensures { IfOk result (IsFound asked.now.task.now (hops_left asked.now)) }
     {
         let hops = asked.hops_left();
         let most = asked.bound_left().hops_at(asked.floor, hops);
@@ -128,21 +125,18 @@ impl<A: Allocator + Copy> WholeDeadlines<A> {
             if walk.is_late(&self.layers, asked.task, count) {
                 continue;
             }
-            let walked = walk.pick(&self.layers, asked.task, looks, count)?;
-            match walked {
-                Outcome::Found(way) => return Ok(Some(Found::Way(way))),
-                Outcome::None => {}
-                Outcome::GaveUp => return Ok(None),
+            if let Some(way) = walk.pick(&self.layers, asked.task, looks, count)? {
+                return Ok(Found::Way(way));
             }
         }
-        Ok(Some(Found::Beyond(Bound {
+        Ok(Found::Beyond(Bound {
             delivery: asked.floor,
             hops: if most == hops { usize::MAX } else { most },
-        })))
+        }))
     }
 
-    /// The answer to a question by the layers. None if there are none for its floor, if they don't pay just now, or if
-    /// they don't decide it up to its bound.
+    /// The answer to a question by the layers. None if there are none for its floor, if they don't pay just now, if they
+    /// don't decide it up to its bound, or if that might take too many looks or dead ends.
     pub fn answer(
         &mut self,
         walk: &mut Walk<A>,
@@ -159,8 +153,10 @@ impl<A: Allocator + Copy> WholeDeadlines<A> {
         if !self.is_for(asked.floor) || !self.budget.takes() {
             return Ok(None);
         }
-        let Some(found) = self.find(walk, asked, looks)? else {
-            return Ok(None);
+        let found = match self.find(walk, asked, looks) {
+            Ok(found) => found,
+            Err(Stopped::NoLooks) => return Ok(None),
+            Err(Stopped::NoMemory) => return Err(NoMemory),
         };
         if !found.is_enough(asked.bound_left()) {
             return Ok(None);

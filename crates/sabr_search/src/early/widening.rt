@@ -15,8 +15,8 @@ use sabr_model::NoMemory;
 use std::alloc::{Allocator, Global};
 
 /// This many tries must save the looks that they take, or `PAUSE` go by. With 64 and 1024, 100 routes took 3 percent
-/// more instructions in the mean of the plans of `bench/figures.py`, and relays up to 16 percent more; 1000 routes as
-/// many in the mean, and `walker-24-5000` 9 percent fewer: in a copy of this design in plain Rust.
+/// more instructions on average over the plans of `bench/figures.py`, and relays up to 16 percent more; 1000 routes as
+/// many on average, and `walker-24-5000` 9 percent fewer: in a copy of this design in plain Rust.
 const TRIES: u32 = 16;
 
 /// This many questions go by before one is tried again.
@@ -62,7 +62,7 @@ fn forbid_few<A: Allocator + Copy>(
 }
 
 /// Forbids one node more, if it is forbidden in the search.
-fn forbidden_one<A: Allocator + Copy>(
+fn forbid_if_forbidden<A: Allocator + Copy>(
     forbidden: &mut ForbiddenNodes<A>,
     task: &Task<'_, A>,
     node: usize,
@@ -92,9 +92,9 @@ fn forbid_near<A: Allocator + Copy>(
     ensures fewer { OnOk result (ForbidsFewer task.now forbidden.new) }
     ensures request { OnOk result (IsOfRequest (narrowed task.now forbidden.new task.now.at)) }
 {
-    forbidden_one(forbidden, task, near.node)?;
+    forbid_if_forbidden(forbidden, task, near.node)?;
     for node in near.forbidden {
-        forbidden_one(forbidden, task, *node as usize)?;
+        forbid_if_forbidden(forbidden, task, *node as usize)?;
     }
     Ok(())
 }
@@ -161,8 +161,8 @@ impl<A: Allocator + Copy> Widening<A> {
         }
     }
 
-    /// Counts a question that has been answered from the cache. That of a wide question has saved the looks of a
-    /// search, in the mean.
+    /// Counts a question that has been answered from the cache. The answer to a wide question has saved the looks of a
+    /// search, on average.
     pub fn count_win(&mut self, breadth: Breadth) {
         let looks = self.looks / self.searched.max(1);
         match breadth {

@@ -25,8 +25,8 @@ fn too_late<A: Allocator + Copy>(
     Ok(())
 }
 
-/// Lets nothing improve a node that is forbidden.
-fn forbidden_out<A: Allocator + Copy>(arrival: &mut Vec<u64, A>, forbidden: &[bool], node: usize)
+/// Sets the arrival of a forbidden node to 0, which no arrival beats.
+fn close_arrival<A: Allocator + Copy>(arrival: &mut Vec<u64, A>, forbidden: &[bool], node: usize)
     requires { length arrival.old.items ≡ length forbidden.now }
     ensures many { length arrival.new.items ≡ length arrival.old.items }
     ensures kept { (k : ℕ) → slice_index_or forbidden.now k false ≡ false → slice_index arrival.new.items k ≡ slice_index arrival.old.items k }
@@ -52,7 +52,7 @@ pub fn open_nodes<A: Allocator + Copy>(
     too_late(arrival, forbidden.len(), late)?;
     let nodes = task.forbidden_nodes();
     for place in 0..nodes.len() {
-        forbidden_out(arrival, forbidden, nodes[place] as usize);
+        close_arrival(arrival, forbidden, nodes[place] as usize);
     }
     arrival[task.start()] = task.at();
     Ok(())

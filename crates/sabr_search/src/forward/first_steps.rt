@@ -1,11 +1,13 @@
 //! Where the first steps of a search come to, and when.
 
 ghost use Rattle.std.specs.Prelude.{◌≡◌, ◌⊎◌, ℕ, ◌+◌, ◌^◌, ◌≤◌, ◌<◌, Some, IfOk, OnOk, IsTrue, false, length, slice_get};
-ghost use Rattle.sabr_search.specs.questions.Task.{IsTask, Takes, never};
+ghost use Rattle.sabr_search.specs.questions.Task.{IsTask, never};
 ghost use Rattle.sabr_search.specs.questions.Steps.{degree};
-ghost use Rattle.sabr_search.specs.questions.FirstSteps.{ComesTo, AreFirstSteps};
+ghost use Rattle.sabr_search.specs.questions.Stops.{StopsOnlyIf};
+ghost use Rattle.sabr_search.specs.questions.FirstSteps.{AreFirstSteps};
 ghost use Rattle.sabr_search.specs.layers.Settling.{AreReal};
 
+use crate::stopped::Stopped;
 use crate::task::Task;
 use crate::visit::{NEVER, Visit};
 use sabr_index::Looks;
@@ -26,28 +28,25 @@ fn put_step<A: Allocator + Copy>(first: &mut Vec<Visit, A>, step: Visit) -> Resu
 }
 
 impl<'a, A: Allocator + Copy> Task<'a, A> {
-    /// Gathers where the steps from a node come to, and when. Returns true if these are all, and false if more
-    /// looks might be needed than are left.
-    fn steps_from(
-        &self,
-        looks: &mut Looks,
-        from: Visit,
-        first: &mut Vec<Visit, A>,
-    ) -> Result<bool, NoMemory>
+    /// Gathers where the first steps come to, and when.
+    pub fn first_steps(&self, looks: &mut Looks, first: &mut Vec<Visit, A>) -> Result<(), Stopped>
         requires task { IsTask self.now }
-        requires node { from.node < length self.now.table }
-        ensures counted { looks.old.left ≤ looks.new.left + degree self.now from.node }
-        ensures all { IfOk result (λ all. all ≡ false → looks.old.left < degree self.now from.node) }
-        ensures inside { IfOk result (λ all. (k : ℕ) (s : Visit) → slice_get first.new.items k ≡ Some s → s.node < length self.now.table) }
-        ensures real { IfOk result (λ all. (k : ℕ) (s : Visit) → slice_get first.new.items k ≡ Some s → (n : ℕ) × Takes self.now n from.node from.at s.node s.at) }
-        ensures whole { IfOk result (λ all. IsTrue all → (n w b : ℕ) → Takes self.now n from.node from.at w b → ComesTo first.new.items w b) }
+        ensures counted { looks.old.left ≤ looks.new.left + degree self.now self.now.start }
+        ensures stops { StopsOnlyIf result (looks.old.left < degree self.now self.now.start) }
+        ensures inside { OnOk result ((k : ℕ) (s : Visit) → slice_get first.new.items k ≡ Some s → s.node < length self.now.table) }
+        ensures real { OnOk result (AreReal self.now first.new.items) }
+        ensures all { OnOk result (AreFirstSteps self.now first.new.items) }
     {
+        let from = Visit {
+            node: self.start(),
+            at: self.at(),
+        };
         first.clear();
         let links = self.links(from.node);
         for place in 0..links.links.len() {
             let link = self.link(links, from.node, place);
             if link.passes.len() as u64 > looks.left() {
-                return Ok(false);
+                return Err(Stopped::NoLooks);
             }
             if self.forbidden()[link.to] {
                 continue;
@@ -55,27 +54,6 @@ impl<'a, A: Allocator + Copy> Task<'a, A> {
             let at = self.arrive_over(looks, link, from.at, NEVER);
             put_step(first, Visit { node: link.to, at })?;
         }
-        Ok(true)
-    }
-
-    /// Gathers where the first steps come to, and when. Returns true if these are all, and false if more looks might
-    /// be needed than are left.
-    pub fn first_steps(
-        &self,
-        looks: &mut Looks,
-        first: &mut Vec<Visit, A>,
-    ) -> Result<bool, NoMemory>
-        requires task { IsTask self.now }
-        ensures counted { looks.old.left ≤ looks.new.left + degree self.now self.now.start }
-        ensures all { IfOk result (λ all. all ≡ false → looks.old.left < degree self.now self.now.start) }
-        ensures inside { IfOk result (λ all. (k : ℕ) (s : Visit) → slice_get first.new.items k ≡ Some s → s.node < length self.now.table) }
-        ensures real { IfOk result (λ all. AreReal self.now first.new.items) }
-        ensures whole { IfOk result (λ all. IsTrue all → AreFirstSteps self.now first.new.items) }
-    {
-        let from = Visit {
-            node: self.start(),
-            at: self.at(),
-        };
-        self.steps_from(looks, from, first)
+        Ok(())
     }
 }

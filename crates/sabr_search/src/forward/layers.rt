@@ -3,6 +3,7 @@
 ghost use Rattle.std.specs.Prelude.{◌≡◌, ◌≢◌, ◌⊎◌, IsTrue, min, ℕ, [], ◌∷◌, ◌+◌, ◌*◌, ◌^◌, ◌≤◌, ◌<◌, length, take, slice_set, slice_index, slice_index_or, true, false, OnOk, IfOk};
 ghost use Rattle.sabr_search.specs.questions.Task.{IsTask, Takes, never, latest_arrival};
 ghost use Rattle.sabr_search.specs.questions.Steps.{degree};
+ghost use Rattle.sabr_search.specs.questions.Stops.{StopsOnlyIf};
 ghost use Rattle.sabr_search.specs.questions.Linked.{IsLinkWithin, HasNumber};
 ghost use Rattle.sabr_search.specs.layers.Lists.{IsPlaced, StayLinked, IsLayer, AddsGiven, AreLists, AreLowered, IsKnown, AreSources, GivenAt, GivenFrom, IsKnownFrom, IsBroughtTo};
 ghost use Rattle.sabr_search.specs.questions.FirstSteps.{IsNoneBefore};
@@ -10,8 +11,9 @@ ghost use Rattle.sabr_search.specs.layers.Made.{AreOpened, IsMade};
 
 use crate::forward::arrivals::open_nodes;
 use crate::forward::news::news_before;
-use crate::found::{Best, Outcome};
+use crate::found::Best;
 use crate::links::over_link::{WalkedLink, rules_out};
+use crate::stopped::Stopped;
 use crate::task::Task;
 use crate::visit::{NEVER, Visit};
 use sabr_index::Looks;
@@ -220,8 +222,8 @@ impl<A: Allocator + Copy> Layers<A> {
     }
 
     /// Makes layers until the goal is reached at `lower` or before, a layer has no node, or the hops are used up. No
-    /// way delivers before `lower`. Returns the earliest delivery and its hops, `Outcome::None` if no way delivers
-    /// before `until`, or `Outcome::GaveUp` if more looks might be needed than are left.
+    /// way delivers before `lower`. Returns the earliest delivery and its hops, or `None` if no way delivers before
+    /// `until`.
     pub fn make(
         &mut self,
         task: &Task<'_, A>,
@@ -229,11 +231,12 @@ impl<A: Allocator + Copy> Layers<A> {
         hops: usize,
         lower: u64,
         until: u64,
-    ) -> Result<Outcome<Best>, NoMemory>
+    ) -> Result<Option<Best>, Stopped>
         requires task { IsTask task.now }
         requires lower { IsNoneBefore task.now lower }
         ensures counted { looks.old.left ≤ looks.new.left + hops * length task.now.plan.contacts }
-        ensures made { IfOk result (IsMade task.now until hops looks.old) }
+        ensures made { IfOk result (IsMade task.now until hops) }
+        ensures stops { StopsOnlyIf result (looks.old.left < hops * length task.now.plan.contacts) }
     {
         self.first_layer(task)?;
         let mut best = Best {
@@ -243,14 +246,14 @@ impl<A: Allocator + Copy> Layers<A> {
         let mut first = 0;
         for hop in 0..hops {
             if task.one_scan() > looks.left() {
-                return Ok(Outcome::GaveUp);
+                return Err(Stopped::NoLooks);
             }
             if hop > 0 && hop + 1 == hops {
                 let delivery = self.last_layer(task, looks, best.delivery);
                 if delivery < best.delivery {
                     best = Best { delivery, hops };
                 }
-                return Ok(best.outcome());
+                return Ok(best.found());
             }
             let begin = self.reached.len();
             let delivery = self.next_layer(task, looks, first, begin, best.delivery)?;
@@ -262,13 +265,13 @@ impl<A: Allocator + Copy> Layers<A> {
             }
             let end = self.reached.len();
             if best.delivery <= lower {
-                return Ok(best.outcome());
+                return Ok(best.found());
             }
             if end == begin {
-                return Ok(best.outcome());
+                return Ok(best.found());
             }
             first = begin;
         }
-        Ok(best.outcome())
+        Ok(best.found())
     }
 }

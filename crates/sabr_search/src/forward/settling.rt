@@ -2,18 +2,19 @@
 
 ghost use Rattle.std.specs.Prelude.{◌≡◌, ◌≢◌, ℕ, min, [], ◌+◌, ◌-◌, ◌^◌, ◌≤◌, ◌<◌, length, slice_get, slice_set, slice_index, slice_index_or, replicate, Some, OnOk, IfOk, true, false};
 ghost use Rattle.sabr_search.specs.questions.Task.{IsTask, Takes, latest_arrival};
-ghost use Rattle.sabr_search.specs.questions.Steps.{degree};
+ghost use Rattle.sabr_search.specs.questions.Stops.{StopsOnlyIf};
 ghost use Rattle.sabr_search.specs.questions.Linked.{AreLinksAt, IsLinkWithin, HasNumber};
 ghost use Rattle.sabr_search.specs.layers.Lists.{IsKnown};
-ghost use Rattle.sabr_search.specs.layers.Made.{AreOpened, UnlessGaveUp};
+ghost use Rattle.sabr_search.specs.layers.Made.{AreOpened};
 ghost use Rattle.sabr_search.specs.questions.FirstSteps.{AreFirstSteps};
 ghost use Rattle.sabr_search.specs.layers.Settling.{IsBound, AreReal, IsReached, StaySettling, StaySettled, IsKnownOver, IsFallen, AreSettledTaken};
 
 use crate::forward::arrivals::open_nodes;
 use crate::forward::news::news_before;
-use crate::found::{Best, Outcome};
+use crate::found::Best;
 use crate::links::over_link::{WalkedLink, rules_out};
 use crate::queue::Queue;
+use crate::stopped::Stopped;
 use crate::task::Task;
 use crate::visit::{Visit, seconds_of};
 use sabr_index::{Links, Looks};
@@ -241,35 +242,36 @@ impl<A: Allocator + Copy> Settling<A> {
         Ok(best)
     }
 
-    /// Settles nodes until no waiting event comes before the first delivery at the goal. Returns that delivery and the
-    /// hops of a way with it, `Outcome::None` if no way delivers before `forward.until`, or `Outcome::GaveUp` if more
-    /// looks might be needed than are left. Takes at most one look for each contact that another node than the start
-    /// sends.
-    fn settle_all(
+    /// Settles as many nodes as it takes to find the first delivery at the goal. Returns that delivery and the hops of
+    /// a way with it, or `None` if no way delivers before `forward.until`. Each way comes to a node `n` at `arrival[n]`
+    /// or later, or so late that it doesn't deliver before the first delivery or `forward.until`.
+    #[tactic(auto, using(crate::proofs::WholeLemmas::Walks::degree_at_most))]
+    pub fn run(
         &mut self,
         forward: &Forward<'_, '_, '_, A>,
         looks: &mut Looks,
-        first: &[Visit],
-    ) -> Result<Outcome<Best>, NoMemory>
+        first: &mut Vec<Visit, A>,
+    ) -> Result<Option<Best>, Stopped>
         requires task { IsTask forward.now.task.now }
         requires until { forward.now.until ≤ latest_arrival + 1 }
         requires bound { IsBound forward.now.task.now forward.now.until forward.now.late.now forward.now.costs.now }
-        requires inside { (k : ℕ) (s : Visit) → slice_get first.now k ≡ Some s → s.node < length forward.now.task.now.table }
-        requires steps { AreFirstSteps forward.now.task.now first.now }
-        requires real { AreReal forward.now.task.now first.now }
-        ensures counted { looks.old.left + degree forward.now.task.now forward.now.task.now.start ≤ looks.new.left + length forward.now.task.now.plan.contacts }
-        ensures reached { IfOk result (IsReached forward.now.task.now forward.now.until forward.now.costs.now self.new.arrival.items (looks.old.left + degree forward.now.task.now forward.now.task.now.start < length forward.now.task.now.plan.contacts)) }
+        ensures counted { looks.old.left ≤ looks.new.left + length forward.now.task.now.plan.contacts }
+        ensures reached { IfOk result (IsReached forward.now.task.now forward.now.until forward.now.costs.now self.new.arrival.items) }
+        ensures stops { StopsOnlyIf result (looks.old.left < length forward.now.task.now.plan.contacts) }
+        ensures steps { OnOk result (AreFirstSteps forward.now.task.now first.new.items) }
+        ensures real { OnOk result (AreReal forward.now.task.now first.new.items) }
     {
+        forward.task.first_steps(looks, first)?;
         self.first_events(forward)?;
         let mut best = self.settle_start(forward, first)?;
         while let Some(event) = self.queue.pop() {
             if event.at >= best.delivery {
-                return Ok(best.outcome());
+                return Ok(best.found());
             }
             if !self.settled[event.node] {
                 let links = forward.task.links(event.node);
                 if links.passes.len() as u64 > looks.left() {
-                    return Ok(Outcome::GaveUp);
+                    return Err(Stopped::NoLooks);
                 }
                 let reached = Visit {
                     at: self.arrival[event.node],
@@ -278,31 +280,6 @@ impl<A: Allocator + Copy> Settling<A> {
                 best = self.settle(forward, looks, reached, links, best)?;
             }
         }
-        Ok(best.outcome())
-    }
-
-    /// Settles as many nodes as it takes to find the first delivery at the goal. Returns that delivery and the hops of
-    /// a way with it, `Outcome::None` if no way delivers before `forward.until`, or `Outcome::GaveUp` if more looks
-    /// might be needed than are left. Unless it gave up, each way comes to a node `n` at `arrival[n]` or later, or so
-    /// late that it doesn't deliver before the first delivery or `forward.until`.
-    pub fn run(
-        &mut self,
-        forward: &Forward<'_, '_, '_, A>,
-        looks: &mut Looks,
-        first: &mut Vec<Visit, A>,
-    ) -> Result<Outcome<Best>, NoMemory>
-        requires task { IsTask forward.now.task.now }
-        requires until { forward.now.until ≤ latest_arrival + 1 }
-        requires bound { IsBound forward.now.task.now forward.now.until forward.now.late.now forward.now.costs.now }
-        ensures counted { looks.old.left ≤ looks.new.left + length forward.now.task.now.plan.contacts }
-        ensures reached { IfOk result (IsReached forward.now.task.now forward.now.until forward.now.costs.now self.new.arrival.items (looks.old.left < length forward.now.task.now.plan.contacts)) }
-        ensures steps { IfOk result (UnlessGaveUp (AreFirstSteps forward.now.task.now first.new.items)) }
-        ensures real { IfOk result (UnlessGaveUp (AreReal forward.now.task.now first.new.items)) }
-    {
-        let whole = forward.task.first_steps(looks, first)?;
-        if !whole {
-            return Ok(Outcome::GaveUp);
-        }
-        self.settle_all(forward, looks, first)
+        Ok(best.found())
     }
 }

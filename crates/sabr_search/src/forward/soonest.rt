@@ -7,11 +7,10 @@ ghost use Rattle.sabr_search.specs.layers.Latest.{IsWhole};
 ghost use Rattle.sabr_search.specs.layers.NodeBounds.{AreLateFor, AreSoonFor};
 
 use crate::forward::settling::{Forward, Settling};
-use crate::found::Outcome;
+use crate::stopped::Stopped;
 use crate::task::Task;
 use crate::visit::UNDELIVERED;
 use sabr_index::Looks;
-use sabr_model::NoMemory;
 use std::alloc::Allocator;
 
 /// Lowers each second to a given one at the most.
@@ -24,14 +23,13 @@ fn lower<A: Allocator + Copy>(seconds: &mut Vec<u64, A>, most: u64)
 }
 
 /// Finds for each node a second before which no way over the whole graph comes there from the source: its soonest
-/// arrival, or the first delivery if that is sooner. Nothing is known of any node if more looks might be needed than
-/// are left.
+/// arrival, or the first delivery if that is sooner.
 pub fn soonest_of<A: Allocator + Copy>(
     alloc: A,
     task: &Task<'_, A>,
     looks: &mut Looks,
     late: &[u64],
-) -> Result<Vec<u64, A>, NoMemory>
+) -> Result<Vec<u64, A>, Stopped>
     requires whole { IsWhole task.now }
     requires source { IsBehind task.now [] }
     requires late { AreLateFor (tabled_of task.now) task.now.request never late.now }
@@ -48,9 +46,8 @@ pub fn soonest_of<A: Allocator + Copy>(
     let mut first = Vec::new(alloc);
     let found = settling.run(&forward, looks, &mut first)?;
     let most = match found {
-        Outcome::Found(best) => best.delivery,
-        Outcome::None => UNDELIVERED,
-        Outcome::GaveUp => return Ok(Vec::new(alloc)),
+        Some(best) => best.delivery,
+        None => UNDELIVERED,
     };
     lower(&mut settling.arrival, most);
     Ok(settling.arrival)

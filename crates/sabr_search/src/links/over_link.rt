@@ -27,7 +27,7 @@ pub struct WalkedLink<'a> {
 /// Returns true if two bounds of a whole link, `soonest` and `least_light`, show that nothing that is at its sender at
 /// `at` or later arrives before `before`.
 #[inline(always)]
-pub fn is_soonest(soonest: u64, least_light: u32, at: u64, before: u64) -> bool
+pub fn arrives_no_sooner(soonest: u64, least_light: u32, at: u64, before: u64) -> bool
     ensures late { IsTrue result → (before ≤ soonest) ⊎ (before ≤ at + least_light) }
     ensures early { result ≡ false → at < before }
 {
@@ -41,7 +41,7 @@ pub fn rules_out(bounds: LinkBounds, at: u64, before: u64) -> bool
     ensures late { IsTrue result → IsRuledOut bounds at before }
     ensures early { result ≡ false → at < before }
 {
-    bounds.latest_end <= at || is_soonest(bounds.soonest, bounds.least_light, at, before)
+    bounds.latest_end <= at || arrives_no_sooner(bounds.soonest, bounds.least_light, at, before)
 }
 
 /// Returns the number of passes at the front of a link that have ended by `at`. Those after them, or the only one, may
@@ -136,7 +136,7 @@ impl<'a, A: Allocator + Copy> Task<'a, A> {
             }
             let hop = self.hop_over(link.to, &pass);
             if let Some(arrival) = self.arrive_before(at, &hop, least) {
-                if is_soonest(link.bounds.soonest, link.bounds.least_light, at, arrival) {
+                if arrives_no_sooner(link.bounds.soonest, link.bounds.least_light, at, arrival) {
                     return arrival;
                 }
                 least = arrival;

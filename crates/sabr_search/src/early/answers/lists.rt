@@ -6,7 +6,7 @@ use sabr_model::NoMemory;
 use std::alloc::{Allocator, Global};
 use std::marker::Model;
 
-/// The three lists of an answer, one after the other, so that it takes memory once. Contracts see the three.
+/// The three lists of an answer, one after the other, so that one allocation serves. Contracts see the three.
 #[derive(Drop)]
 pub struct Lists<A: Allocator + Copy = Global> {
     items: Vec<u32, A>,
@@ -28,7 +28,7 @@ impl<A: Allocator + Copy> Model for Lists<A> {
 }
 
 impl<A: Allocator + Copy> Lists<A> {
-    /// Has no item. It doesn't allocate.
+    /// Makes empty lists. It doesn't allocate.
     pub fn new(alloc: A) -> Lists<A> {
         Lists {
             items: Vec::new(alloc),
@@ -37,8 +37,8 @@ impl<A: Allocator + Copy> Lists<A> {
         }
     }
 
-    /// Takes these in place of its own, in the memory that it has if they fit. If an allocation failed, its items are
-    /// of no more use.
+    /// Replaces the three lists, in the memory that they have if it is large enough. If an allocation failed, the
+    /// lists are of no more use.
     pub fn set(&mut self, excluded: &[u32], forbidden: &[u32], way: &[u32]) -> Result<(), NoMemory>
         ensures { OnOk result (self.new ≡ record { excluded = excluded.now; forbidden = forbidden.now; way = way.now }) }
     {

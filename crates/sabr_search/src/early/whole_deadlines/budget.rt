@@ -13,7 +13,7 @@ const TIMES: u64 = 32;
 const FIRST_PRICE: u64 = 64;
 
 /// This many questions are asked of layers before it is counted how many they answered. With 16, `iridium-6-10` took 13
-/// percent more and `grid-8` 6 fewer, with 0.7 more in the mean of twelve plans; with 64, `relay-moon-2000` took 4
+/// percent more and `grid-8` 6 fewer, with 0.7 more on average over twelve plans; with 64, `relay-moon-2000` took 4
 /// more.
 const TRIES: u32 = 32;
 

@@ -1,6 +1,6 @@
 use Rattle.std.proofs.Common.{refl}
 use Rattle.sabr_search.proofs.WayLemmas.FaultsOfPrefixes.{empty_fits}
-use Rattle.sabr_search.proofs.early.Memory.open.Goals.{then-are_bounds_due+in_ok-find, else-are_bounds_due, then-are_deadlines_due+in_ok-make, else-are_deadlines_due}
+use Rattle.sabr_search.proofs.early.Memory.open.Goals.{then-are_bounds_due, else-are_bounds_due, then-are_deadlines_due+in_ok-make, else-are_deadlines_due}
 use Rattle.sabr_search.proofs.early.Memory.open.Goals as goal
 
 pub go-requires-clause-prefix_path : goal.go-requires-clause-prefix_path
@@ -22,7 +22,7 @@ make-requires-clause-asked g c =
 pub make-requires-clause-soon : goal.make-requires-clause-soon
 make-requires-clause-soon g c =
     rw c.deref.ensures.value (elim c.if-are_bounds_due.branch [
-      | then-are_bounds_due+in_ok-find w ↦ rw w.self-is w.find.ensures.soon
+      | then-are_bounds_due w ↦ rw w.self-is w.find.ensures.soon
       | else-are_bounds_due w ↦ rw (w.self-is, c.new-whole.ensures, c.plan-plan.ensures, c.request-request.ensures) (c.is_due-are_bounds_due.ensures _ _ c.requires.memory.0).soon
     ])
 
@@ -30,7 +30,7 @@ pub returns-in_err-make : goal.returns-in_err-make
 returns-in_err-make g c =
     let deadlines = rw (c.new-whole.ensures, c.plan-plan.ensures, c.request-request.ensures) at c.make.ensures in
     elim c.if-are_bounds_due.branch [
-      | then-are_bounds_due+in_ok-find w ↦ rw w.self-is (rw (c.new-whole.ensures, c.plan-plan.ensures, c.request-request.ensures) at w.find.ensures, deadlines, c.requires.memory.2)
+      | then-are_bounds_due w ↦ rw w.self-is (rw (c.new-whole.ensures, c.plan-plan.ensures, c.request-request.ensures) at w.find.ensures, deadlines, c.requires.memory.2)
       | else-are_bounds_due w ↦ rw w.self-is (c.is_due-are_bounds_due.ensures _ _ c.requires.memory.0, deadlines, c.requires.memory.2)
     ]
 
@@ -40,13 +40,13 @@ returns g c =
       | then-are_deadlines_due+in_ok-make w ↦
           let deadlines = rw (c.new-whole.ensures, c.plan-plan.ensures, c.request-request.ensures) at w.make.ensures in
           rw w.self-is (elim c.if-are_bounds_due.branch [
-            | then-are_bounds_due+in_ok-find v ↦ rw v.self-is (rw (c.new-whole.ensures, c.plan-plan.ensures, c.request-request.ensures) at v.find.ensures, deadlines, c.requires.memory.2)
+            | then-are_bounds_due v ↦ rw v.self-is (rw (c.new-whole.ensures, c.plan-plan.ensures, c.request-request.ensures) at v.find.ensures, deadlines, c.requires.memory.2)
             | else-are_bounds_due v ↦ rw v.self-is (c.is_due-are_bounds_due.ensures _ _ c.requires.memory.0, deadlines, c.requires.memory.2)
           ])
       | else-are_deadlines_due w ↦
           let deadlines = c.is_due-are_deadlines_due.ensures _ _ c.requires.memory.1 in
           rw w.self-is (elim c.if-are_bounds_due.branch [
-            | then-are_bounds_due+in_ok-find v ↦ rw v.self-is (rw (c.new-whole.ensures, c.plan-plan.ensures, c.request-request.ensures) at v.find.ensures, deadlines, c.requires.memory.2)
+            | then-are_bounds_due v ↦ rw v.self-is (rw (c.new-whole.ensures, c.plan-plan.ensures, c.request-request.ensures) at v.find.ensures, deadlines, c.requires.memory.2)
             | else-are_bounds_due v ↦ rw v.self-is (c.is_due-are_bounds_due.ensures _ _ c.requires.memory.0, deadlines, c.requires.memory.2)
           ])
     ]

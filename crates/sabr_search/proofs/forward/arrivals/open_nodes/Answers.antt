@@ -32,7 +32,7 @@ opened_but_forbidden task is late xs nodes many opened zero listed =
 pub loop-place-preserved : goal.loop-place-preserved
 loop-place-preserved g c =
     let so_far = c.loop-place.invariant in
-    let forbidden = c.forbidden_out.ensures in
+    let forbidden = c.close_arrival.ensures in
     let nodes = c.forbidden_nodes-nodes.result.now in
     let i = c.loop-place.place in
     let here : slice_get nodes i ≡ Some (slice_index nodes i) = slice_get-get_or nodes i 0 c.loop-place-test.true in

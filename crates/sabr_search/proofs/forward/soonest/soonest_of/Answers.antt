@@ -1,10 +1,9 @@
 use Rattle.std.proofs.Common.{[], refl, arith}
-use Rattle.sabr_search.specs.questions.FirstSteps.{tabled_of}
 use Rattle.sabr_search.proofs.BackwardLemmas.LastSeconds.{late_before, no_costs}
 use Rattle.sabr_search.proofs.AnswerLemmas.Around.{of_request, bounds_of_nodes}
-use Rattle.sabr_search.proofs.AnswerLemmas.Soonest.{none_soon, soon_for}
+use Rattle.sabr_search.proofs.AnswerLemmas.Soonest.{soon_for}
 use Rattle.sabr_search.specs.layers.Settling.{AreArrivalsBy}
-use Rattle.sabr_search.proofs.forward.soonest.soonest_of.Goals.{in-Found, in-None}
+use Rattle.sabr_search.proofs.forward.soonest.soonest_of.Goals.{in-Some, in-None}
 use Rattle.sabr_search.proofs.forward.soonest.soonest_of.Goals as goal
 
 pub run-requires-clause-bound : goal.run-requires-clause-bound
@@ -12,13 +11,10 @@ run-requires-clause-bound g c =
     let task = c.args.task.now in
     bounds_of_nodes task c.requires.whole.is.nodes (of_request task [] c.requires.source) _ _ [] (late_before _ _ _ _ _ (omega arith) c.requires.late) (no_costs _ _ [] refl)
 
-pub returns-in-GaveUp : goal.returns-in-GaveUp
-returns-in-GaveUp g c = record { soon = none_soon (tabled_of c.args.task.now) c.args.task.now.request _ c.new.ensures.items }
-
 pub returns : goal.returns
 returns g c =
     let by : AreArrivalsBy c.args.task.now [] c.run.new.self.arrival.items c.match-found.most = elim c.match-found.branch [
-      | in-Found w ↦ rw w.most-is (rw w.in-Found.is at c.in_ok-found.ensures.reached).1
+      | in-Some w ↦ rw w.most-is (rw w.in-Some.is at c.in_ok-found.ensures.reached).1
       | in-None w ↦ rw w.most-is (rw w.in-None.is at c.in_ok-found.ensures.reached).1
     ] in
     record { soon = soon_for c.args.task.now c.requires.source c.requires.whole.free _ (λ ns v t some way. omega (arith, c.lower.ensures v, by ns v t some way)) }

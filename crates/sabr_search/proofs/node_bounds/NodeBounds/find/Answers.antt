@@ -1,6 +1,19 @@
 use Rattle.std.proofs.Common.{arith}
-use Rattle.sabr_search.proofs.BackwardLemmas.LastSeconds.{late_before, whole_task}
+use Rattle.std.specs.Prelude.{IfOk}
+use Rattle.std.specs.Result.{result_unwrap_or}
+use Rattle.std.specs.declared.result.Result.{Result}
+use Rattle.std.specs.declared.result.Result.TheVariants.{Ok, Err}
+use Rattle.sabr_search.specs.questions.FirstSteps.{tabled_of}
+use Rattle.sabr_search.specs.questions.Task.{never}
+use Rattle.sabr_search.specs.layers.NodeBounds.{AreCostsFor, AreLateFor, AreSoonFor}
+use Rattle.sabr_search.proofs.AnswerLemmas.Soonest.{none_soon}
+use Rattle.sabr_search.proofs.BackwardLemmas.LastSeconds.{no_costs, none_late, whole_task}
 use Rattle.sabr_search.proofs.node_bounds.NodeBounds.find.Goals as goal
+
+-- what holds of what was found, and of an empty list, holds of what is known
+known_is : {V E : Type 0} (found : Result V E) (P : V → Type 0) (empty : V) → IfOk found P → P empty → P (result_unwrap_or found empty)
+known_is (Ok v) P empty is none = is
+known_is (Err e) P empty is none = none
 
 pub latest_by-requires : goal.latest_by-requires
 latest_by-requires g c = record { whole = whole_task _ c.requires.asked.task_is c.requires.asked.behind c.requires.none }
@@ -15,18 +28,19 @@ pub soonest_of-requires : goal.soonest_of-requires
 soonest_of-requires g c = record {
   whole = whole_task _ c.requires.asked.task_is c.requires.asked.behind c.requires.none;
   source = c.requires.asked.behind;
-  late = rw c.deref.ensures.value c.in_ok-late.ensures.late;
+  late = rw (c.deref.ensures.value, c.unwrap_or-late.ensures) (known_is c.latest_by-2.result (λ v. AreLateFor (tabled_of c.args.task.now) c.args.task.now.request never v.items) _ c.latest_by-2.ensures.late (none_late (tabled_of c.args.task.now) c.args.task.now.request never _ (omega arith) c.new-2.ensures.items));
 }
 
-pub returns-then-self-lt-NEVER : goal.returns-then-self-lt-NEVER
-returns-then-self-lt-NEVER g c =
+pub returns-then-self : goal.returns-then-self
+returns-then-self g c =
     let was = c.requires.node_bounds in
-    record { late = was.late; late_until = c.in_ok-self.ensures.late; costs = was.costs; soon = was.soon }
+    let late = known_is c.latest_by.result (λ v. AreLateFor (tabled_of c.args.task.now) c.args.task.now.request c.args.until v.items) _ c.latest_by.ensures.late (none_late (tabled_of c.args.task.now) c.args.task.now.request c.args.until _ (omega (arith, c.ranges.until)) c.new.ensures.items) in
+    record { late = was.late; late_until = rw c.unwrap_or.ensures late; costs = was.costs; soon = was.soon }
 
 pub returns : goal.returns
 returns g c = record {
-  late = c.in_ok-late.ensures.late;
-  late_until = late_before _ _ _ _ _ (omega (arith, c.if-self-lt-NEVER.false)) c.requires.node_bounds.late_until;
-  costs = c.in_ok-costs.ensures.costs;
-  soon = c.in_ok-soon.ensures.soon;
+  late = rw c.unwrap_or-late.ensures (known_is c.latest_by-2.result (λ v. AreLateFor (tabled_of c.args.task.now) c.args.task.now.request never v.items) _ c.latest_by-2.ensures.late (none_late (tabled_of c.args.task.now) c.args.task.now.request never _ (omega arith) c.new-2.ensures.items));
+  late_until = c.requires.node_bounds.late_until;
+  costs = rw c.unwrap_or-2.ensures (known_is c.costs_of.result (λ v. AreCostsFor (tabled_of c.args.task.now) c.args.task.now.request v.items) _ c.costs_of.ensures.costs (no_costs (tabled_of c.args.task.now) c.args.task.now.request _ c.new-4.ensures.items));
+  soon = rw c.unwrap_or-soon.ensures (known_is c.soonest_of.result (λ v. AreSoonFor (tabled_of c.args.task.now) c.args.task.now.request v.items) _ c.soonest_of.ensures.soon (none_soon (tabled_of c.args.task.now) c.args.task.now.request _ c.new-3.ensures.items));
 }

@@ -2,7 +2,7 @@ use Rattle.std.proofs.Common.{arith}
 use Rattle.sabr_search.proofs.WayLemmas.Prefixes.{prefix_facts}
 use Rattle.sabr_search.proofs.AnswerLemmas.Around.{of_request}
 use Rattle.sabr_search.proofs.AnswerLemmas.Soonest.{stop_of, soon_after}
-use Rattle.sabr_search.proofs.AnswerLemmas.Answered.{left_less, left_free, layers_within, passes_within, search_fits}
+use Rattle.sabr_search.proofs.AnswerLemmas.Answered.{left_free, layers_within, passes_within, search_fits}
 use Rattle.sabr_search.proofs.AnswerLemmas.CachedAnswers.{found_at, holds_at}
 use Rattle.sabr_search.proofs.search.Search.find_route.Goals as goal
 
@@ -37,34 +37,31 @@ run-requires-clause-soon g c =
     let behind = c.requires.asked.behind in
     soon_after task prefix (of_request task prefix behind) (prefix_facts task.plan task.request prefix c.requires.asked.fits) (stop_of task prefix behind) _ c.find_early-found.ensures.memory.0.soon
 
-pub run-requires-clause-nodes : goal.run-requires-clause-nodes
-run-requires-clause-nodes g c = omega (arith, c.hops_left-hops.ensures, left_less c.args.asked.now.task.now c.args.asked.now.prefix.now c.requires.asked, c.requires.asked.task_is.few)
-
--- it would give up only for want of looks
+-- it would stop only for want of looks
 pub unreachable-requires : goal.unreachable-requires
 unreachable-requires g c =
-    let gave_up = rw c.in_default.is at c.in_ok-found.ensures.enough in
-    omega (arith, rw c.hops_left-hops.ensures at gave_up, c.put_back.ensures, c.set_aside-aside.ensures.aside, c.two_scans.ensures, search_fits c.args.asked.now.task.now c.args.asked.now.prefix.now c.requires.asked)
+    let few = rw c.in-Err-NoLooks.field-0-is at (rw c.in-Err-NoLooks.is at c.run.ensures.stops) in
+    omega (arith, few, c.put_back.ensures, c.set_aside-aside.ensures.aside, c.two_scans.ensures, search_fits c.args.asked.now.task.now c.args.asked.now.prefix.now c.requires.asked)
 
 pub returns-clause-cut : goal.returns-clause-cut
 returns-clause-cut g c =
     let task = c.args.asked.now.task.now in
-    let cut = rw c.in-Some.is at c.in_ok-found.ensures.cut in
-    c.in_ok-answer.ensures.cut (λ most. omega (arith, (rw (c.hops_left-hops.ensures, c.bound_left-bound.ensures) at cut) (left_free task c.args.asked.now.prefix.now c.requires.asked most), c.put_back.ensures, c.set_aside-aside.ensures.aside, c.two_scans.ensures))
+    let cut = rw c.in-Ok.is at c.run.ensures.cut in
+    c.in_ok-answer.ensures.cut (λ most. omega (arith, cut (left_free task c.args.asked.now.prefix.now c.requires.asked most), c.put_back.ensures, c.set_aside-aside.ensures.aside, c.two_scans.ensures))
 
 pub returns-in_err-answer-clause-memory : goal.returns-in_err-answer-clause-memory
 returns-in_err-answer-clause-memory g c = c.count.ensures _ _ c.find_early-found.ensures.memory
 
-pub learn-requires-clause-kept : goal.learn-requires-clause-kept
-learn-requires-clause-kept g c = (c.count.ensures _ _ c.find_early-found.ensures.memory).2
+pub learn-requires-clause-cached : goal.learn-requires-clause-cached
+learn-requires-clause-cached g c = (c.count.ensures _ _ c.find_early-found.ensures.memory).2
 
 pub returns-clause-memory : goal.returns-clause-memory
 returns-clause-memory g c =
     let memory = c.count.ensures _ _ c.find_early-found.ensures.memory in
-    (memory.0, memory.1, c.learn.ensures.kept)
+    (memory.0, memory.1, c.learn.ensures.cached)
 
-pub returns-in_err-found-clause-bound : goal.returns-in_err-found-clause-bound
-returns-in_err-found-clause-bound g c = omega (arith, rw c.hops_left-hops.ensures at c.run.ensures.counted, c.put_back.ensures, c.set_aside-aside.ensures.aside, c.two_scans.ensures, layers_within c.args.asked.now.task.now c.args.asked.now.prefix.now c.requires.asked)
+pub returns-in-Err-NoMemory-clause-bound : goal.returns-in-Err-NoMemory-clause-bound
+returns-in-Err-NoMemory-clause-bound g c = omega (arith, c.run.ensures.counted, c.put_back.ensures, c.set_aside-aside.ensures.aside, c.two_scans.ensures, layers_within c.args.asked.now.task.now c.args.asked.now.prefix.now c.requires.asked)
 
 pub answer-requires-2-clause-few : goal.answer-requires-2-clause-few
-answer-requires-2-clause-few g c = omega (arith, rw c.hops_left-hops.ensures at c.run.ensures.counted, c.put_back.ensures, c.set_aside-aside.ensures.aside, c.two_scans.ensures, layers_within c.args.asked.now.task.now c.args.asked.now.prefix.now c.requires.asked)
+answer-requires-2-clause-few g c = omega (arith, c.run.ensures.counted, c.put_back.ensures, c.set_aside-aside.ensures.aside, c.two_scans.ensures, layers_within c.args.asked.now.task.now c.args.asked.now.prefix.now c.requires.asked)

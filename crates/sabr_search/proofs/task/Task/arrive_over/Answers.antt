@@ -5,7 +5,7 @@ use Rattle.sabr_search.proofs.LinkLemmas.PlanFacts.{hop_arrives}
 use Rattle.sabr_search.proofs.ForwardLemmas.Forward.{step_of_hop, last_or_before}
 use Rattle.sabr_search.proofs.LinkLemmas.OverLinks.{no_pass, none_ended, none_excluded, late_over, ruled_out, pass_takes, step_at, step_over}
 use Rattle.sabr_search.proofs.task.Task.arrive_over.Goals as goal
-use Rattle.sabr_search.proofs.task.Task.arrive_over.Goals.{in-Some+else-is_soonest, in_default}
+use Rattle.sabr_search.proofs.task.Task.arrive_over.Goals.{in-Some+else-arrives_no_sooner, in_default}
 use Rattle.sabr_search.proofs.WayLemmas.RoutesAndWays.{same_some}
 
 pub returns-then-rules_out-clause-full : goal.returns-then-rules_out-clause-full
@@ -82,7 +82,7 @@ loop-place-preserved g c =
     let hop = c.hop_over-hop.result in
     let is_hop = c.hop_over-hop.ensures.value in
     elim c.match-arrive_before.branch [
-      | in-Some+else-is_soonest z ↦
+      | in-Some+else-arrives_no_sooner z ↦
           (let got = z.in-Some.ensures.some in
           rw z.least-is (record {
             within = omega (arith, c.loop-place-test.true);
@@ -118,8 +118,8 @@ loop-place-preserved g c =
           })
     ]
 
-pub returns-then-is_soonest-clause-sound : goal.returns-then-is_soonest-clause-sound
-returns-then-is_soonest-clause-sound g c = λ less open'.
+pub returns-then-arrives_no_sooner-clause-sound : goal.returns-then-arrives_no_sooner-clause-sound
+returns-then-arrives_no_sooner-clause-sound g c = λ less open'.
     let task = c.args.self.now in
     let passes = c.args.link.passes.now in
     let pass = c.look-pass.result in
@@ -129,9 +129,9 @@ returns-then-is_soonest-clause-sound g c = λ less open'.
       pass_takes task c.requires.task c.args.link.from c.args.link.to c.args.at pass c.in-Some.arrival c.hop_over-hop.result (c.requires.link.0.each c.loop-place.place pass here) c.hop_over-hop.ensures.receiver c.hop_over-hop.ensures.value open' (c.excluded_from-excluded.ensures.none (omega (arith, c.if-excluded-gt0.false))) got.0,
     )
 
-pub returns-then-is_soonest-clause-full : goal.returns-then-is_soonest-clause-full
-returns-then-is_soonest-clause-full g c = λ n w b has s.
-    ruled_out c.args.self.now c.requires.task c.args.link.from c.args.link.to c.args.link.passes.now c.requires.link.0 c.args.link.bounds c.requires.link.1 c.args.at c.in-Some.arrival (inr (c.is_soonest.ensures.late c.if-is_soonest.true)) n c.args.at w b has (omega arith) s
+pub returns-then-arrives_no_sooner-clause-full : goal.returns-then-arrives_no_sooner-clause-full
+returns-then-arrives_no_sooner-clause-full g c = λ n w b has s.
+    ruled_out c.args.self.now c.requires.task c.args.link.from c.args.link.to c.args.link.passes.now c.requires.link.0 c.args.link.bounds c.requires.link.1 c.args.at c.in-Some.arrival (inr (c.arrives_no_sooner.ensures.late c.if-arrives_no_sooner.true)) n c.args.at w b has (omega arith) s
 
 pub returns-clause-full : goal.returns-clause-full
 returns-clause-full g c = λ n w b has s.

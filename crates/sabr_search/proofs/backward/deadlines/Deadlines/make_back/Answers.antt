@@ -6,6 +6,7 @@ use Rattle.sabr_search.proofs.ForwardLemmas.MadeLayers.{spent_more, spent_fewer,
 use Rattle.sabr_search.proofs.BackwardLemmas.LateMade.{back_first, late_next, linked_first, met_by, unmet_by}
 use Rattle.sabr_search.proofs.BackwardLemmas.LateLayers.{are_met, own_dead}
 use Rattle.sabr_search.proofs.BackwardLemmas.Whole.{before_last}
+use Rattle.sabr_search.proofs.AnswerLemmas.Stops.{stops_by}
 use Rattle.sabr_search.proofs.backward.deadlines.Deadlines.make_back.Goals as goal
 
 pub loop-left-init : goal.loop-left-init
@@ -45,20 +46,20 @@ loop-left-preserved g c =
     let old = c.loop-left.self in
     let next = c.next_back.new.self in
     let made = c.loop-left.invariant.made in
-    let one = c.in_ok-whole.ensures in
-    let same_ends : next.ends.items ≡ old.ends.items = ap (λ v. v.items) c.next_back.ensures.ends in
+    let one = c.in_ok-next_back.ensures in
+    let same_ends : next.ends.items ≡ old.ends.items = ap (λ v. v.items) one.grown.ends in
     let many : c.len-end.result ≡ length next.entries.items = omega (arith, c.len-end.ensures, next.entries.ok.0) in
     record {
       counted = omega (arith, c.next_back.ensures.counted, c.loop-left.invariant.counted);
       made = late_next task c.requires.task c.args.aim.now.since.now c.args.aim.now.delivery left old.ends.items old.late.items old.place.items old.entries.items made.layers
-          c.push.new.self.items next.late.items next.place.items next.entries.items one.lists one.kept (one.in_time c.if-not-whole.false)
+          c.push.new.self.items next.late.items next.place.items next.entries.items (rw one.grown.ends at one.grown.growing.lists) one.grown.before one.in_time
           (c.in_ok-push.ensures.items ∙ ap (λ xs. xs ++ c.len-end.result ∷ []) same_ends ∙ ap (λ k. old.ends.items ++ k ∷ []) many)
           made.unmet
           (λ w x n b entry by step.
           let s = c.requires.steps n w b step in
           let node : s.1.node ≡ w = s.3 in
           unmet_by task _ _ left old.ends.items old.late.items old.place.items old.entries.items made n w b step left x entry (omega (arith, c.is_met.ensures.unmet c.if-is_met.false s.0 s.1 s.2, s.4, ap (slice_index old.late.items) node)) by);
-      linked = one.linked;
+      linked = one.grown.growing.linked;
     }
 
 pub returns-then-index-clause-made : goal.returns-then-index-clause-made
@@ -82,14 +83,12 @@ returns-then-is_met-clause-counted g c = spent_fewer _ _ _ _ _ (omega arith) c.l
 pub returns-then-index-clause-counted : goal.returns-then-index-clause-counted
 returns-then-index-clause-counted g c = spent_fewer _ _ _ _ _ (omega arith) c.loop-left.invariant.counted
 
-pub returns-in_err-whole-clause-counted : goal.returns-in_err-whole-clause-counted
-returns-in_err-whole-clause-counted g c = spent_more _ _ _ _ _ _ c.loop-left-test.true c.loop-left.invariant.counted c.next_back.ensures.counted
+pub returns-in_err-next_back-clause-counted : goal.returns-in_err-next_back-clause-counted
+returns-in_err-next_back-clause-counted g c = spent_more _ _ _ _ _ _ c.loop-left-test.true c.loop-left.invariant.counted c.next_back.ensures.counted
 
-pub returns-then-not-whole-clause-counted : goal.returns-then-not-whole-clause-counted
-returns-then-not-whole-clause-counted g c = spent_more _ _ _ _ _ _ c.loop-left-test.true c.loop-left.invariant.counted c.next_back.ensures.counted
-
-pub returns-then-not-whole-clause-made : goal.returns-then-not-whole-clause-made
-returns-then-not-whole-clause-made g c = none_more _ _ _ _ _ c.loop-left-test.true c.loop-left.invariant.counted (c.in_ok-whole.ensures.none c.if-not-whole.true)
+pub returns-in_err-next_back-clause-stops : goal.returns-in_err-next_back-clause-stops
+returns-in_err-next_back-clause-stops g c =
+    stops_by _ _ (λ is. none_more _ _ _ _ _ c.loop-left-test.true c.loop-left.invariant.counted (rw is at c.in_err-next_back.ensures.stops)) c.from_residual-in_err-next_back.result c.from_residual-in_err-next_back.ensures.1
 
 pub returns-in_err-push-clause-counted : goal.returns-in_err-push-clause-counted
 returns-in_err-push-clause-counted g c = spent_more _ _ _ _ _ _ c.loop-left-test.true c.loop-left.invariant.counted c.next_back.ensures.counted

@@ -4,8 +4,10 @@ use Rattle.sabr_search.specs.layers.Late.{InTimeFor}
 use Rattle.sabr_search.proofs.ForwardLemmas.LayerEntries.{late_between, received_by_all, entry_read, received_next, received_within, received_at_most, read_at}
 use Rattle.sabr_search.proofs.ForwardLemmas.Forward.{last_or_before}
 use Rattle.sabr_search.proofs.BackwardLemmas.LateLists.{in_time_kept, left_rises}
+use Rattle.sabr_search.proofs.BackwardLemmas.LateNoted.{grown_more, grown_none}
 use Rattle.sabr_search.proofs.BackwardLemmas.LateMade.{open_entry}
 use Rattle.sabr_search.proofs.WayLemmas.RoutesAndWays.{same_some}
+use Rattle.sabr_search.proofs.AnswerLemmas.Stops.{stops_by}
 use Rattle.sabr_search.proofs.backward.deadlines.Deadlines.next_back.Given.{Over}
 use Rattle.sabr_search.proofs.backward.deadlines.Deadlines.next_back.Goals.{After-index-to}
 use Rattle.sabr_search.proofs.backward.deadlines.Deadlines.next_back.Goals as goal
@@ -18,7 +20,7 @@ read g c =
     let begin : c.index-begin.result.now ≡ slice_index old.ends.items (c.args.left + 1) = read_at old.ends.items (c.args.left + 1) c.index-begin.result.now c.requires.bounded c.index-begin.ensures in (
       read_at old.ends.items c.args.left c.index-first.result.now (omega (arith, c.requires.bounded)) c.index-first.ensures,
       begin,
-      entry_read c.loop-place.self.entries.items old.entries.items (slice_index old.ends.items (c.args.left + 1)) c.loop-place.place c.index-to.result.now so_far.kept (omega (arith, begin, c.loop-place-test.true)) so_far.lists.begins c.index-to.ensures,
+      entry_read c.loop-place.self.entries.items old.entries.items (slice_index old.ends.items (c.args.left + 1)) c.loop-place.place c.index-to.result.now so_far.grown.before (omega (arith, begin, c.loop-place-test.true)) (rw so_far.grown.ends at so_far.grown.growing.lists.begins) c.index-to.ensures,
     )
 
 -- whoever is at its node before its deadline is in time for it
@@ -34,7 +36,7 @@ within g c =
 
 -- and its node is open
 open_node : (g : Over) (c : After-index-to g) → (c.index-to.result.now.node < length c.args.aim.now.task.now.table) × (slice_index_or c.args.aim.now.task.now.forbidden c.index-to.result.now.node false ≡ false)
-open_node g c = open_entry c.args.aim.now.task.now c.requires.task _ _ _ _ c.args.self.now.entries.items c.requires.lists c.loop-place.place c.index-to.result.now (read g c).2
+open_node g c = open_entry c.args.aim.now.task.now c.requires.task _ _ _ _ c.args.self.now.entries.items c.requires.growing.lists c.loop-place.place c.index-to.result.now (read g c).2
 
 pub take_senders-requires-clause-node : goal.take_senders-requires-clause-node
 take_senders-requires-clause-node g c = (open_node g (goal.at.take_senders-requires-clause-node g c).After-index-to).0
@@ -42,16 +44,21 @@ take_senders-requires-clause-node g c = (open_node g (goal.at.take_senders-requi
 pub take_senders-requires-clause-receiver : goal.take_senders-requires-clause-receiver
 take_senders-requires-clause-receiver g c = (open_node g (goal.at.take_senders-requires-clause-receiver g c).After-index-to).1
 
-pub take_senders-requires-clause-bounded : goal.take_senders-requires-clause-bounded
-take_senders-requires-clause-bounded g c = rw c.loop-place.invariant.ends c.requires.bounded
+pub loop-place-init : goal.loop-place-init
+loop-place-init g c = record {
+  grown = grown_none _ _ _ c.requires.growing;
+  counted = omega arith;
+  in_time = λ p e n u t b above below. absurd (omega (arith, above, below, read_at c.args.self.now.ends.items c.args.left c.index-first.result.now (omega (arith, c.requires.bounded)) c.index-first.ensures));
+}
 
-pub take_senders-requires-clause-lists : goal.take_senders-requires-clause-lists
-take_senders-requires-clause-lists g c = rw c.loop-place.invariant.ends c.loop-place.invariant.lists
+pub take_senders-requires-clause-bounded : goal.take_senders-requires-clause-bounded
+take_senders-requires-clause-bounded g c = rw c.loop-place.invariant.grown.ends c.requires.bounded
 
 pub take_senders-requires-clause-given : goal.take_senders-requires-clause-given
 take_senders-requires-clause-given g c = λ b less.
     let old = c.args.self.now in
-    rw c.loop-place.invariant.ends (in_time_kept (slice_index old.ends.items c.args.left) (slice_index old.ends.items (c.args.left + 1)) c.loop-place.self.entries.items old.entries.items c.loop-place.invariant.kept c.index-to.result.now.node b
+    let so_far = c.loop-place.invariant.grown in
+    rw so_far.ends (in_time_kept (slice_index old.ends.items c.args.left) (slice_index old.ends.items (c.args.left + 1)) c.loop-place.self.entries.items old.entries.items so_far.before c.index-to.result.now.node b
     (in_time g (goal.at.take_senders-requires-clause-given g c).After-index-to b less))
 
 pub loop-place-preserved : goal.loop-place-preserved
@@ -62,35 +69,31 @@ loop-place-preserved g c =
     let place = c.loop-place.place in
     let to = c.index-to.result.now in
     let read = read g (goal.at.loop-place-preserved g c).After-index-to in
-    let one = c.in_ok-whole.ensures in
+    let one = c.in_ok-take_senders.ensures in
     let received_here = rw (← read.0) at (received_next task old.ends.items old.entries.items c.args.left place to c.requires.apart (omega (arith, read.0)) (omega (arith, read.1, c.loop-place-test.true)) read.2) in
     record {
-      ends = c.take_senders.ensures.ends ∙ so_far.ends;
+      grown = grown_more _ _ _ _ _ so_far.grown one.grown;
       counted = omega (arith, c.take_senders.ensures.counted, so_far.counted, received_here);
-      lists = rw so_far.ends at one.lists;
-      linked = one.linked;
-      kept = rw so_far.ends at one.kept ∙ so_far.kept;
       in_time = λ p e n u t b above below here s less. elim (last_or_before p place below) [
         | inl before ↦ left_rises task c.args.aim.now.since.now _ _ u t one.rises (so_far.in_time p e n u t b above before here s less)
         | inr same ↦
             (let entry : e ≡ to = same_some (sym here ∙ ap (slice_get old.entries.items) same ∙ read.2) in
-            one.in_time c.if-not-whole.false n u t b (rw entry at s) (rw entry at less))
+            one.in_time n u t b (rw entry at s) (rw entry at less))
       ];
     }
 
-pub returns-in_err-whole-clause-counted : goal.returns-in_err-whole-clause-counted
-returns-in_err-whole-clause-counted g c = omega (arith, c.take_senders.ensures.counted, c.loop-place.invariant.counted, within g (goal.at.returns-in_err-whole-clause-counted g c).After-index-to)
+pub returns-in_err-take_senders-clause-counted : goal.returns-in_err-take_senders-clause-counted
+returns-in_err-take_senders-clause-counted g c = omega (arith, c.take_senders.ensures.counted, c.loop-place.invariant.counted, within g (goal.at.returns-in_err-take_senders-clause-counted g c).After-index-to)
 
-pub returns-then-not-whole-clause-counted : goal.returns-then-not-whole-clause-counted
-returns-then-not-whole-clause-counted g c = omega (arith, c.take_senders.ensures.counted, c.loop-place.invariant.counted, within g (goal.at.returns-then-not-whole-clause-counted g c).After-index-to)
-
-pub returns-then-not-whole-clause-none : goal.returns-then-not-whole-clause-none
-returns-then-not-whole-clause-none g c = omega (arith, c.in_ok-whole.ensures.none c.if-not-whole.true, c.loop-place.invariant.counted, within g (goal.at.returns-then-not-whole-clause-none g c).After-index-to)
+pub returns-in_err-take_senders-clause-stops : goal.returns-in_err-take_senders-clause-stops
+returns-in_err-take_senders-clause-stops g c =
+    let within = within g (goal.at.returns-in_err-take_senders-clause-stops g c).After-index-to in
+    stops_by _ _ (λ is. let few = rw is at c.in_err-take_senders.ensures.stops in omega (arith, few, c.loop-place.invariant.counted, within)) c.from_residual.result c.from_residual.ensures.1
 
 pub returns-clause-counted : goal.returns-clause-counted
 returns-clause-counted g c = omega (arith, c.loop-place.invariant.counted, received_at_most c.args.aim.now.task.now (late_between c.args.self.now.entries.items c.index-first.result.now c.loop-place.place))
 
 pub returns-clause-in_time : goal.returns-clause-in_time
-returns-clause-in_time g c = λ same p e n u t b above below here s less.
+returns-clause-in_time g c = λ p e n u t b above below here s less.
     let begin = read_at c.args.self.now.ends.items (c.args.left + 1) c.index-begin.result.now c.requires.bounded c.index-begin.ensures in
     c.loop-place.invariant.in_time p e n u t b above (omega (arith, begin, c.loop-place-test.false)) here s less

@@ -1,7 +1,7 @@
 use Rattle.std.proofs.Common.{◌≡◌, ◌+◌, slice_index, arith}
 use Rattle.sabr_search.proofs.ForwardLemmas.LayerEntries.{read_at}
 use Rattle.sabr_search.proofs.BackwardLemmas.LateLists.{sound_back}
-use Rattle.sabr_search.proofs.BackwardLemmas.LateNoted.{AreNoted, head_within, late_noted}
+use Rattle.sabr_search.proofs.BackwardLemmas.LateNoted.{AreNoted, grown_none, head_within, late_noted}
 use Rattle.sabr_search.specs.declared.backward.deadlines.Deadlines.{Deadlines}
 use Rattle.sabr_search.specs.layers.Deadlines.{head_of}
 use Rattle.sabr_search.specs.layers.Late.{IsNotedLate}
@@ -12,11 +12,11 @@ use Rattle.sabr_search.proofs.ForwardLemmas.Queues.{set_here}
 
 pub returns-then-last-max-clause-in_time : goal.returns-then-last-max-clause-in_time
 returns-then-last-max-clause-in_time g c = λ n t w b has s less permitted other soon.
-    let latest = read_at c.args.self.now.late.items c.args.from.node c.index-latest.result.now (omega (arith, c.requires.node, c.requires.lists.many)) c.index-latest.ensures in
+    let latest = read_at c.args.self.now.late.items c.args.from.node c.index-latest.result.now (omega (arith, c.requires.node, c.requires.growing.lists.many)) c.index-latest.ensures in
     omega (arith, c.leave_over-last.ensures.full n t w b has s less, latest, soon, c.at.ensures, c.max.ensures, c.if-last-max.true)
 
 pub note_late-requires-clause-placed : goal.note_late-requires-clause-placed
-note_late-requires-clause-placed g c = head_within c.args.aim.now.task.now _ _ c.args.self.now.late.items c.args.self.now.place.items c.args.self.now.entries.items c.requires.lists c.args.from.node c.requires.node
+note_late-requires-clause-placed g c = head_within c.args.aim.now.task.now _ _ c.args.self.now.late.items c.args.self.now.place.items c.args.self.now.entries.items c.requires.growing.lists c.args.from.node c.requires.node
 
 -- the lists with the sender noted
 noted : (g : Over) (c : After-index-begin g) (new : Deadlines g.row.A.Denot) →
@@ -25,21 +25,25 @@ noted : (g : Over) (c : After-index-begin g) (new : Deadlines g.row.A.Denot) →
 noted g c new how =
     let task = c.args.aim.now.task.now in
     let own = c.args.self.now in
-    let latest = read_at own.late.items c.args.from.node c.index-latest.result.now (omega (arith, c.requires.node, c.requires.lists.many)) c.index-latest.ensures in
+    let latest = read_at own.late.items c.args.from.node c.index-latest.result.now (omega (arith, c.requires.node, c.requires.growing.lists.many)) c.index-latest.ensures in
     let begin : c.index-begin.result.now ≡ slice_index own.ends.items (c.args.left + 1) = read_at own.ends.items (c.args.left + 1) c.index-begin.result.now c.requires.bounded c.index-begin.ensures in
-    late_noted task _ _ own new c.requires.lists c.requires.linked c.args.from.node c.leave_over-last.result c.requires.node c.requires.permitted c.requires.other (omega (arith, latest, c.max.ensures, c.if-last-max.false))
+    late_noted task _ _ own new c.requires.growing.lists c.requires.growing.linked c.args.from.node c.leave_over-last.result c.requires.node c.requires.permitted c.requires.other (omega (arith, latest, c.max.ensures, c.if-last-max.false))
     (sound_back task c.requires.task c.args.from.node c.args.to.node c.index-latest.result.now c.leave_over-last.result c.args.to.before _ _ own.entries.items (λ t from less. c.leave_over-last.ensures.sound t from less) (omega (arith, c.max.ensures, c.if-last-max.false)) c.requires.receiver c.requires.given)
     (rw begin at how)
 
-pub returns-clause-lists : goal.returns-clause-lists
-returns-clause-lists g c = rw c.in_ok-note_late.ensures.late (noted g (goal.at.returns-clause-lists g c).After-index-begin c.note_late.new.self c.in_ok-note_late.ensures.noted).lists
+pub returns-then-last-max-clause-grown : goal.returns-then-last-max-clause-grown
+returns-then-last-max-clause-grown g c = grown_none _ _ _ c.requires.growing
 
-pub returns-clause-linked : goal.returns-clause-linked
-returns-clause-linked g c = (noted g (goal.at.returns-clause-linked g c).After-index-begin c.note_late.new.self c.in_ok-note_late.ensures.noted).linked
-
-pub returns-clause-kept : goal.returns-clause-kept
-returns-clause-kept g c = (noted g (goal.at.returns-clause-kept g c).After-index-begin c.note_late.new.self c.in_ok-note_late.ensures.noted).kept
+pub returns-clause-grown : goal.returns-clause-grown
+returns-clause-grown g c =
+    let new = c.in_ok-note_late.ensures in
+    let noted = noted g (goal.at.returns-clause-grown g c).After-index-begin c.note_late.new.self new.noted in
+    record {
+      growing = record { lists = rw (c.note_late.ensures.ends, new.late) noted.lists; linked = noted.linked };
+      ends = c.note_late.ensures.ends;
+      before = noted.kept;
+    }
 
 pub returns-clause-in_time : goal.returns-clause-in_time
 returns-clause-in_time g c = λ n t w b has s less permitted other soon.
-    rw c.in_ok-note_late.ensures.late (omega (arith, set_here c.args.self.now.late.items c.args.from.node c.leave_over-last.result (omega (arith, c.requires.node, c.requires.lists.many)), c.leave_over-last.ensures.full n t w b has s less))
+    rw c.in_ok-note_late.ensures.late (omega (arith, set_here c.args.self.now.late.items c.args.from.node c.leave_over-last.result (omega (arith, c.requires.node, c.requires.growing.lists.many)), c.leave_over-last.ensures.full n t w b has s less))

@@ -4,6 +4,7 @@ use Rattle.std.proofs.lemmas.Option.{slice_get_within}
 use Rattle.sabr_search.specs.layers.Late.{AreLeftInTimeOver}
 use Rattle.sabr_search.proofs.BackwardLemmas.LastSeconds.{each_until}
 use Rattle.sabr_search.proofs.BackwardLemmas.LateLists.{in_time_kept, left_rises}
+use Rattle.sabr_search.proofs.BackwardLemmas.LateNoted.{grown_more, grown_none}
 use Rattle.sabr_search.proofs.LinkLemmas.Linking.{passes_within}
 use Rattle.sabr_search.proofs.LinkLemmas.StepLists.{sum_taken_le}
 use Rattle.sabr_search.proofs.backward.deadlines.Deadlines.take_senders.Given.{Over}
@@ -14,15 +15,22 @@ use Rattle.sabr_search.proofs.WayLemmas.RoutesAndWays.{same_some}
 pub take_sender-requires-clause-link : goal.take_sender-requires-clause-link
 take_sender-requires-clause-link g c = (c.senders-senders.ensures.each c.loop-place.place (record { sender = c.at-from.result.node; passes = c.at-from.result.passes.now }) c.at-from.ensures.link, c.at-from.ensures.bounds)
 
-pub take_sender-requires-clause-bounded : goal.take_sender-requires-clause-bounded
-take_sender-requires-clause-bounded g c = rw c.loop-place.invariant.ends c.requires.bounded
+pub loop-place-init : goal.loop-place-init
+loop-place-init g c = record {
+  grown = grown_none _ _ _ c.requires.growing;
+  counted = omega arith;
+  rises = λ k. omega arith;
+  in_time = λ j s less. absurd (omega (arith, less));
+}
 
-pub take_sender-requires-clause-lists : goal.take_sender-requires-clause-lists
-take_sender-requires-clause-lists g c = rw c.loop-place.invariant.ends c.loop-place.invariant.lists
+pub take_sender-requires-clause-bounded : goal.take_sender-requires-clause-bounded
+take_sender-requires-clause-bounded g c = rw c.loop-place.invariant.grown.ends c.requires.bounded
 
 pub take_sender-requires-clause-given : goal.take_sender-requires-clause-given
 take_sender-requires-clause-given g c = λ b less.
-    rw c.loop-place.invariant.ends (in_time_kept (slice_index c.args.self.now.ends.items c.args.left) (slice_index c.args.self.now.ends.items (c.args.left + 1)) c.loop-place.self.entries.items c.args.self.now.entries.items c.loop-place.invariant.kept c.args.to.node b (c.requires.given b less))
+    let old = c.args.self.now in
+    let so_far = c.loop-place.invariant.grown in
+    rw so_far.ends (in_time_kept (slice_index old.ends.items c.args.left) (slice_index old.ends.items (c.args.left + 1)) c.loop-place.self.entries.items old.entries.items so_far.before c.args.to.node b (c.requires.given b less))
 
 -- the sender and the head at one place are of one node
 one_node : (g : Over) (c : After-at-from g) → c.at-from.result.node ≡ c.head-head.result.node
@@ -43,11 +51,8 @@ loop-place-preserved-then-brings_nothing g c =
     let here = c.head-head.ensures in
     let link = c.senders-senders.ensures.each c.loop-place.place (record { sender = c.head-head.result.node; passes = here.0 }) here.1 in
     record {
-      ends = so_far.ends;
+      grown = so_far.grown;
       counted = omega (arith, so_far.counted, (passes_within c.args.aim.now.task.now c.args.to.node c.senders-senders.result c.senders-senders.ensures c.loop-place.place _ here.1).0);
-      lists = so_far.lists;
-      linked = so_far.linked;
-      kept = so_far.kept;
       rises = so_far.rises;
       in_time = each_until (λ (s : SentLink). AreLeftInTimeOver c.args.aim.now.task.now c.args.aim.now.since.now c.loop-place.self.late.items s.sender s.passes c.args.to.before) c.senders-senders.result c.loop-place.place _ here.1 so_far.in_time
           (c.brings_nothing.ensures.in_time c.if-brings_nothing.true c.args.to.node here.0 (link, here.2));
@@ -59,19 +64,16 @@ loop-place-preserved g c =
     let so_far = c.loop-place.invariant in
     let one = c.in_ok-take_sender.ensures in
     record {
-      ends = c.take_sender.ensures.ends ∙ so_far.ends;
+      grown = grown_more _ _ _ _ _ so_far.grown one.grown;
       counted = omega (arith, so_far.counted, c.take_sender.ensures.looks, (passes_within task c.args.to.node c.senders-senders.result c.senders-senders.ensures c.loop-place.place _ c.at-from.ensures.link).0);
-      lists = rw so_far.ends at one.lists;
-      linked = one.linked;
-      kept = rw so_far.ends at one.kept ∙ so_far.kept;
       rises = λ k. omega (arith, so_far.rises k, one.rises k);
       in_time = each_until (λ (s : SentLink). AreLeftInTimeOver task c.args.aim.now.since.now c.take_sender.new.self.late.items s.sender s.passes c.args.to.before) c.senders-senders.result c.loop-place.place _ c.at-from.ensures.link
           (λ j s less at n t w b has step by. left_rises task c.args.aim.now.since.now _ _ s.sender t one.rises (so_far.in_time j s less at n t w b has step by))
           one.in_time;
     }
 
-pub returns-then-from-left-clause-none : goal.returns-then-from-left-clause-none
-returns-then-from-left-clause-none g c =
+pub returns-then-from-left-clause-stops : goal.returns-then-from-left-clause-stops
+returns-then-from-left-clause-stops g c =
     omega (arith, c.if-from-left.true, c.left.ensures, c.loop-place.invariant.counted, (passes_within c.args.aim.now.task.now c.args.to.node c.senders-senders.result c.senders-senders.ensures c.loop-place.place _ c.at-from.ensures.link).1)
 
 pub returns-then-from-left-clause-counted : goal.returns-then-from-left-clause-counted
@@ -87,6 +89,6 @@ returns-clause-counted g c =
     omega (arith, c.loop-place.invariant.counted, sum_taken_le (λ (x : SentLink). length x.passes) c.senders-senders.result c.loop-place.place, c.senders-senders.ensures.few)
 
 pub returns-clause-in_time : goal.returns-clause-in_time
-returns-clause-in_time g c = λ same n u t b step by.
+returns-clause-in_time g c = λ n u t b step by.
     let on = c.senders-senders.ensures.whole n u t b step in
     rw (← on.3) (c.loop-place.invariant.in_time on.0 on.1 (omega (arith, slice_get_within c.senders-senders.result on.0 on.1 on.2, c.loop-place-test.false, c.len-place-end.ensures)) on.2 n t c.args.to.node b on.4 (rw (← on.3) at step) by)

@@ -23,7 +23,7 @@ pub near_senders-requires-clause-rising : goal.near_senders-requires-clause-risi
 near_senders-requires-clause-rising g c = begun _ c.args.task.now _ _ _ _ c.in-Some.event c.loop.invariant.rising c.in-Some.ensures.moved
 
 pub returns-in_default-clause-taken : goal.returns-in_default-clause-taken
-returns-in_default-clause-taken g c = λ yes'. all_taken _ c.args.task.now _ _ _ c.loop.invariant.rising c.in_default.ensures.none
+returns-in_default-clause-taken g c = all_taken _ c.args.task.now _ _ _ c.loop.invariant.rising c.in_default.ensures.none
 
 pub loop-preserved-then-index : goal.loop-preserved-then-index
 loop-preserved-then-index g c =

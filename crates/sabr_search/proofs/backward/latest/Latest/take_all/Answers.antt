@@ -23,7 +23,7 @@ pub take_senders-requires-clause-rising : goal.take_senders-requires-clause-risi
 take_senders-requires-clause-rising g c = begun _ c.args.task.now _ _ _ _ c.in-Some.event c.loop.invariant.rising c.in-Some.ensures.moved
 
 pub returns-in_default-clause-taken : goal.returns-in_default-clause-taken
-returns-in_default-clause-taken g c = λ yes'. all_taken _ c.args.task.now _ _ _ c.loop.invariant.rising c.in_default.ensures.none
+returns-in_default-clause-taken g c = all_taken _ c.args.task.now _ _ _ c.loop.invariant.rising c.in_default.ensures.none
 
 pub loop-preserved-then-index : goal.loop-preserved-then-index
 loop-preserved-then-index g c =
@@ -32,4 +32,4 @@ loop-preserved-then-index g c =
     record { rises = c.loop.invariant.rises; rising = skipped _ c.args.task.now _ _ _ _ c.in-Some.event was c.in-Some.ensures.moved (sym (read_flag c.loop.self.taken.items c.in-Some.event.node c.index.result.now within c.index.ensures) ∙ c.if-index.true) }
 
 pub loop-preserved : goal.loop-preserved
-loop-preserved g c = record { rises = λ k. omega (arith, c.loop.invariant.rises k, c.in_ok-all.ensures.rises k); rising = finished _ c.args.task.now _ _ _ c.in-Some.event.node c.in_ok-all.ensures.rising (c.in_ok-all.ensures.taken c.if-not-all.false) }
+loop-preserved g c = record { rises = λ k. omega (arith, c.loop.invariant.rises k, c.in_ok-take_senders.ensures.rises k); rising = finished _ c.args.task.now _ _ _ c.in-Some.event.node c.in_ok-take_senders.ensures.rising c.in_ok-take_senders.ensures.taken }

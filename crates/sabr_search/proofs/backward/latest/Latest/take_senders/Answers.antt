@@ -61,7 +61,7 @@ loop-place-preserved g c =
     }
 
 pub returns-clause-taken : goal.returns-clause-taken
-returns-clause-taken g c = λ yes' n u t b step less.
+returns-clause-taken g c = λ n u t b step less.
     let so_far = c.loop-place.invariant in
     let on = c.senders-senders.ensures.whole n u t b step in
     rw (← on.3) (so_far.in_time on.0 on.1 (omega (arith, slice_get_within c.senders-senders.result on.0 on.1 on.2, c.loop-place-test.false, c.len-place-end.ensures)) on.2 n t c.args.to b on.4 (rw (← on.3) at step) (omega (arith, less, so_far.same)))

@@ -131,10 +131,10 @@ returns-then-links-left-clause-counted g c = λ lead. spent_fewer _ _ (length c.
 pub returns-clause-counted : goal.returns-clause-counted
 returns-clause-counted g c = λ lead. spent_fewer _ _ (length c.loop-self.self.steps.items) c.args.hops (length c.args.task.now.plan.contacts) (omega (arith, c.loop-self.invariant.less)) (c.loop-self.invariant.leads lead).counted
 
-pub returns-then-links-left-clause-walked : goal.returns-then-links-left-clause-walked
-returns-then-links-left-clause-walked g c = λ lead.
+pub returns-then-links-left-clause-stops : goal.returns-then-links-left-clause-stops
+returns-then-links-left-clause-stops g c = λ lead.
     none_more _ _ (length c.loop-self.self.steps.items) c.args.hops (length c.args.task.now.plan.contacts) c.loop-self.invariant.less (c.loop-self.invariant.leads lead).counted
     (omega (arith, c.if-links-left.true, c.left.ensures, c.links-links.ensures.few, degree_at_most c.args.task.now c.here-from.result.node))
 
-pub returns-clause-walked : goal.returns-clause-walked
-returns-clause-walked g c = λ lead. absurd (omega (arith, c.loop-self-test.false, c.len.ensures, ap length (c.loop-self.invariant.leads lead).none))
+pub returns-clause-stops : goal.returns-clause-stops
+returns-clause-stops g c = λ lead. absurd (omega (arith, c.loop-self-test.false, c.len.ensures, ap length (c.loop-self.invariant.leads lead).none))

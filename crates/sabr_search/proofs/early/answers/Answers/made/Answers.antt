@@ -1,3 +1,4 @@
+use Rattle.sabr_search.specs.answers.Asked.{hops_left}
 use Rattle.sabr_search.specs.answers.Found.{IsFoundWith}
 use Rattle.sabr_search.proofs.AnswerLemmas.CachedAnswers.{kept_is}
 use Rattle.sabr_search.proofs.early.answers.Answers.made.Goals as goal
@@ -5,10 +6,10 @@ use Rattle.sabr_search.proofs.early.answers.Answers.made.Goals.{in-Way, in-Beyon
 
 pub returns-clause-answer : goal.returns-clause-answer
 returns-clause-answer g c =
-    let task = c.args.task.now in
+    let task = c.args.asked.now.task.now in
     let lists = c.in-Ok.ensures in
-    let found : IsFoundWith task c.args.hops c.match-found.found.0.now c.match-found.found.1 = elim c.match-found.branch [
+    let found : IsFoundWith task (hops_left c.args.asked.now) c.match-found.found.0.now c.match-found.found.1 = elim c.match-found.branch [
       | in-Way w ↦ rw w.found-is (rw w.deref.ensures.value (rw w.in-Way.is at c.requires.found))
       | in-Beyond w ↦ rw w.found-is (rw w.in-Beyond.is at c.requires.found)
     ] in
-    kept_is task _ c.requires.goal (rw lists found) c.start.ensures c.at.ensures (rw lists c.excluded.ensures) (rw lists c.forbidden_nodes.ensures)
+    kept_is task _ c.requires.request.goal_is (rw lists (rw c.hops_left.ensures found)) c.start.ensures c.at.ensures (rw lists c.excluded.ensures) (rw lists c.forbidden_nodes.ensures)

@@ -9,7 +9,7 @@ answers-requires-clause-answer g c =
     let task = c.args.asked.now.task.now in
     let answer = c.in-Some.answer.now in
     let lookup = rw c.deref.ensures.value at c.in-Some.ensures.lookup in
-    subst (IsAnswer (tabled_of task) task.request) (sym lookup.1) (c.requires.kept c.args.place answer lookup.3.0)
+    subst (IsAnswer (tabled_of task) task.request) (sym lookup.1) (c.requires.cached c.args.place answer lookup.3.0)
 
 pub returns-then-answers : goal.returns-then-answers
 returns-then-answers g c =

@@ -48,9 +48,9 @@ pick-requires-clause-ends g c = rw c.loop-count.invariant.delivery c.loop-count.
 pub pick-requires-clause-fewer : goal.pick-requires-clause-fewer
 pick-requires-clause-fewer g c = rw c.loop-count.invariant.delivery c.loop-count.invariant.dead
 
-pub returns-in-Found : goal.returns-in-Found
-returns-in-Found g c =
-    let picked = rw (c.in-Found.is, c.loop-count.invariant.delivery) at c.in_ok-walked.ensures.walked in
+pub returns-in-Some : goal.returns-in-Some
+returns-in-Some g c =
+    let picked = rw (c.in-Some.is, c.loop-count.invariant.delivery) at c.in_ok-way.ensures.walked in
     rw picked.0 (picked_is c.args.asked.now.task.now c.args.asked.now.floor (hops_left c.args.asked.now) c.loop-count.count _ c.requires.floor c.loop-count.invariant.some
     (omega (arith, c.loop-count-test.true, c.hops_at-most.ensures.most, c.hops_left-hops.ensures)) c.loop-count.invariant.dead picked.1)
 
@@ -58,8 +58,8 @@ pub loop-count-preserved : goal.loop-count-preserved
 loop-count-preserved g c = record {
   delivery = c.pick.ensures.delivery ∙ c.loop-count.invariant.delivery;
   some = omega arith;
-  ends = rw c.loop-count.invariant.delivery at c.in_ok-walked.ensures.ends;
-  dead = dead_fewer c.args.asked.now.task.now _ _ _ c.loop-count.count _ (omega arith) (rw (c.in-None.is, c.loop-count.invariant.delivery) at c.in_ok-walked.ensures.walked);
+  ends = rw c.loop-count.invariant.delivery at c.in_ok-way.ensures.ends;
+  dead = dead_fewer c.args.asked.now.task.now _ _ _ c.loop-count.count _ (omega arith) (rw (c.in_default.is, c.loop-count.invariant.delivery) at c.in_ok-way.ensures.walked);
 }
 
 pub returns : goal.returns

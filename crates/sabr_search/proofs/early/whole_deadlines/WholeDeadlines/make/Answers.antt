@@ -5,8 +5,8 @@ use Rattle.sabr_search.proofs.AnswerLemmas.Soonest.{stop_of, soon_after}
 use Rattle.sabr_search.proofs.WholeLemmas.Leaves.{of_each}
 use Rattle.sabr_search.proofs.early.whole_deadlines.WholeDeadlines.make.Goals as goal
 
-pub make_whole-made-requires-clause-arrivals : goal.make_whole-made-requires-clause-arrivals
-make_whole-made-requires-clause-arrivals g c =
+pub make_all-made-requires-clause-arrivals : goal.make_all-made-requires-clause-arrivals
+make_all-made-requires-clause-arrivals g c =
     let task = c.args.task.now in
     let asked = c.requires.asked in
     record {
@@ -19,4 +19,4 @@ pub returns : goal.returns
 returns g c =
     of_each c.args.task.now _ _ c.requires.asked c.requires.none c.soonest-since.result
     (λ ns v node t some at chained after open'. omega (arith, c.soonest-since.ensures.each v, c.requires.soon ns v node t some at chained after open'))
-    (c.in_ok-whole.ensures.whole c.if-not-whole.false)
+    c.in_ok-made.ensures.whole

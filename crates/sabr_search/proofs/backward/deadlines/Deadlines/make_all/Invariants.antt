@@ -1,6 +1,6 @@
 use Rattle.sabr_search.specs.layers.Deadlines.{AreLinked}
 use Rattle.sabr_search.proofs.BackwardLemmas.LateMade.{AreBackLayers}
-use Rattle.sabr_search.proofs.backward.deadlines.Deadlines.make_whole.Given as goal
+use Rattle.sabr_search.proofs.backward.deadlines.Deadlines.make_all.Given as goal
 
 abbrev pub invariant-loop-left : goal.invariant-loop-left
 invariant-loop-left g l = record {

@@ -5,7 +5,7 @@ use Rattle.sabr_search.specs.declared.visit.Visit.{Visit}
 use Rattle.sabr_search.specs.questions.Task.{Takes}
 use Rattle.sabr_search.specs.questions.Linked.{HasNumber, AreLinksAt}
 use Rattle.sabr_search.specs.questions.FirstSteps.{ComesTo}
-use Rattle.sabr_search.proofs.task.Task.steps_from.Given as goal
+use Rattle.sabr_search.proofs.task.Task.first_steps.Given as goal
 
 abbrev pub invariant-loop-place : goal.invariant-loop-place
 invariant-loop-place g l = record {
