@@ -48,5 +48,5 @@ pub use session_fault::SessionFault;
 pub use text_laws::{law7, one_answer, pieces_are_one_text};
 pub use verifying::verify;
 pub use writing::{
-    TextBuffer, put_pieces, put_route_line, write_report, write_route, write_session,
+    TextBuffer, put_pieces, put_report, put_route_line, write_report, write_route, write_session,
 };

@@ -10,12 +10,12 @@ ghost use Rattle.commands.specs.words.Lines.{asked_in, list_in, seen_list};
 ghost use Rattle.commands.specs.runs.Many.{IsFirstPage, IsWithin, LeavesAnswer, answer_text, form_of, heading, word_of};
 
 use crate::failure::Failure;
-use crate::texts::{put_explanation, write_pieces};
+use crate::texts::put_explanation;
 use crate::words::{LineForm, Listed, list_in, request_in};
 use sabr_frontier::{LastPage, Session};
 use sabr_model::{NoMemory, Plan, Request, Write, WriteFault};
 use sabr_search::Settled;
-use sabr_session::{TextBuffer, put_pieces, write_report};
+use sabr_session::{TextBuffer, put_pieces, put_report};
 use std::alloc::{Allocator, Global};
 use std::marker::Model;
 
@@ -157,7 +157,7 @@ impl<'p, A: Allocator + Copy> Answering<'p, A> {
     }
 }
 
-/// Writes an answer: its heading, and the report of a first page.
+/// Writes an answer by one buffer: its heading, and the report of a first page.
 fn write_answer<O: Write, A: Allocator + Copy>(
     last: &LastPage<'_, Settled<A>, A>,
     count: u32,
@@ -167,8 +167,10 @@ fn write_answer<O: Write, A: Allocator + Copy>(
     requires { All HasSpelledTimes last.now.routes }
     ensures { WritesText (O.output out.old) (heading (kind.FirstRoutes count) line.now ++ report_text last.now.routes 1 last.now.more) result (O.output out.new) }
 {
-    write_heading(AnswerKind::FirstRoutes(count), line, out)?;
-    write_report(last.routes(), 1, last.more(), out)
+    let mut text = TextBuffer::new(out);
+    put_heading(&mut text, AnswerKind::FirstRoutes(count), line)?;
+    put_report(&mut text, last.routes(), 1, last.more())?;
+    text.send()
 }
 
 /// Writes the answer to a line of lists. One that has a fault gets none.
@@ -212,12 +214,4 @@ fn put_heading<O: Write>(
 {
     let pieces: [&[u8]; 3] = [kind.word(), line, b"\n"];
     put_pieces(text, &pieces)
-}
-
-/// Writes the line before an answer.
-fn write_heading<O: Write>(kind: AnswerKind, line: &[u8], out: &mut O) -> Result<(), WriteFault>
-    ensures { WritesText (O.output out.old) (heading kind line.now) result (O.output out.new) }
-{
-    let pieces: [&[u8]; 3] = [kind.word(), line, b"\n"];
-    write_pieces(out, &pieces)
 }

@@ -34,9 +34,27 @@ pub fn write_report<W: Write, A: Allocator + Copy>(
     ensures { WritesText (W.output writer.old) (report_text routes.now first_rank more) result (W.output writer.new) }
 {
     let mut text = TextBuffer::new(writer);
-    put_lines(&mut text, routes, first_rank)?;
-    put_last_line(&mut text, more)?;
+    put_report(&mut text, routes, first_rank, more)?;
     text.send()
+}
+
+/// Puts what [`write_report`] writes.
+///
+/// # Errors
+///
+/// [`WriteFault`] if the writer failed. Then a prefix of the bytes held and the report was written.
+pub fn put_report<W: Write, A: Allocator + Copy>(
+    text: &mut TextBuffer<'_, W>,
+    routes: &[Route<A>],
+    first_rank: u128,
+    more: bool,
+) -> Result<(), WriteFault>
+    requires ranks { first_rank + length routes.now < 2 ^ 128 }
+    requires times { All HasSpelledTimes routes.now }
+    ensures { Puts W.output text.old (report_text routes.now first_rank more) result text.new }
+{
+    put_lines(text, routes, first_rank)?;
+    put_last_line(text, more)
 }
 
 /// Writes the line of one route, without a rank.

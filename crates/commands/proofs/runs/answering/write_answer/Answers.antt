@@ -1,15 +1,17 @@
-use Rattle.std.proofs.lemmas.Result.{err_from_is_err_and}
-use Rattle.sabr_model.proofs.ListLemmas.WrittenTexts.{WritesText-after, WrittenInPart-more}
-use Rattle.sabr_session.specs.ReportText.{report_text}
-use Rattle.commands.specs.declared.runs.answering.AnswerKind.TheVariants.{FirstRoutes}
-use Rattle.commands.specs.runs.Many.{heading}
+use Rattle.std.proofs.Common.{rules}
+use Rattle.sabr_session.proofs.TextLemmas.Gathering.{HasPut-append, StopsIn-after, StopsIn-before, WritesText-sent, WritesText-stopped}
 use Rattle.commands.proofs.runs.answering.write_answer.Goals as goal
 
-pub returns-in_err-write_heading : goal.returns-in_err-write_heading
-returns-in_err-write_heading g c =
-    let (failure, is, same) = err_from_is_err_and c.from_residual.result c.from_residual.ensures.1 in
-    rw is (WrittenInPart-more (g.O.Write.output c.args.out.now) (g.O.Write.output c.write_heading.new.out) (heading (FirstRoutes c.args.count) c.args.line.now) (report_text c.args.last.now.routes 1 c.args.last.now.more) c.in_err-write_heading.ensures)
+pub returns-in_err-put_heading : goal.returns-in_err-put_heading
+returns-in_err-put_heading g c =
+    WritesText-stopped _ _ _ c.from_residual.result c.new-text.ensures (search rules) c.from_residual.ensures.1 (StopsIn-before _ _ c.in_err-put_heading.ensures)
+
+pub returns-in_err-put_report : goal.returns-in_err-put_report
+returns-in_err-put_report g c =
+    WritesText-stopped _ _ _ c.from_residual-in_err-put_report.result c.new-text.ensures (search rules) c.from_residual-in_err-put_report.ensures.1
+    (StopsIn-after _ _ c.in_ok-put_heading.ensures (rw (c.routes.ensures, c.more.ensures) at c.in_err-put_report.ensures))
 
 pub returns : goal.returns
 returns g c =
-    WritesText-after (g.O.Write.output c.args.out.now) (g.O.Write.output c.write_heading.new.out) (g.O.Write.output c.write_report.new.writer) (heading (FirstRoutes c.args.count) c.args.line.now) _ c.write_report.result c.in_ok-write_heading.ensures (rw (c.routes.ensures, c.more.ensures) at c.write_report.ensures)
+    WritesText-sent _ _ _ c.send.result c.new-text.ensures (search rules)
+    (HasPut-append _ _ c.in_ok-put_heading.ensures (rw (c.routes.ensures, c.more.ensures) at c.in_ok-put_report.ensures)) c.send.ensures
