@@ -2,6 +2,7 @@ pub mod ChainedPlaces
 pub mod LastRanges
 pub mod SortedRanges
 pub mod PlacedRanges
+pub mod PairedRanges
 pub mod GatheredOpenings
 pub mod TreedOpenings
 pub mod Digits

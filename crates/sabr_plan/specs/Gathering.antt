@@ -9,6 +9,8 @@ use Rattle.std.specs.Ordering.{is_le}
 use Rattle.sabr_model.specs.declared.contact.Contact.{Contact}
 use Rattle.sabr_model.specs.declared.contact.Range.{Range}
 use Rattle.sabr_model.specs.declared.opening.Opening.{Opening}
+use Rattle.sabr_plan.specs.declared.gathering.paired_ranges.Side.{Side}
+use Rattle.sabr_plan.specs.declared.gathering.paired_ranges.Side.TheVariants.{One, Other}
 use Rattle.sabr_model.specs.Order.{by_key, put_in}
 use Rattle.sabr_model.specs.plan.Plan.{ContactPlan, IsPlan, opens}
 use Rattle.sabr_model.specs.plan.Adding.{by_range_key}
@@ -89,6 +91,25 @@ put_in_turn (x ∷ xs) ys = put_in_turn xs (put_in by_range_key x ys)
 -- put in one by one, the ranges obey the rules of a plan, and none of them is lost
 abbrev pub ObeyInTurn : List Range → Type 0
 ObeyInTurn ranges = IsPlan (plan_of_ranges (put_in_turn ranges [])) × IsPermutation ranges (put_in_turn ranges [])
+
+-- ranges, each at a digit of 11 bits of one of its nodes
+pub record Digits : Type 0 where
+  pub ranges : List Range
+  pub side : Side
+  pub shift : ℕ
+
+-- a node of a range
+abbrev pub side_node : Side → Range → ℕ
+side_node One r = r.one
+side_node Other r = r.other
+
+-- the digit at a shift
+abbrev pub digit_of : Side → ℕ → Range → ℕ
+digit_of side shift r = side_node side r / 2 ^ shift % 2048
+
+-- the range at a place
+abbrev pub range_at : List Range → ℕ → Range
+range_at ranges place = slice_index_or ranges place (record { one = 0; other = 0; start = 0; end = 0; light = 0 })
 
 -- the index of a range that passes, or none does
 abbrev pub IsPlaced : (Range → Bool) → List Range → Option ℕ → Type 0

@@ -33,6 +33,7 @@ mod gathered_ranges;
 mod known_openings;
 mod known_ranges;
 mod opening_tree;
+mod paired_ranges;
 mod plan;
 mod sorted_ranges;
 
