@@ -10,7 +10,7 @@ use Rattle.sabr_plan.specs.Times.{pair_at, spelled}
 use Rattle.sabr_plan.specs.TimeShape.{is_pair, has_shape, fields_at, HasWidth}
 
 -- the bytes of two digits, by the number that they stand for
-pub pair_bytes : (word : List ℕ) (i : ℕ) → is_pair word i ≡ true → (get_or word i 0 ≡ 48 + pair_at word i / 10) × (get_or word (i + 1) 0 ≡ 48 + pair_at word i % 10) × (pair_at word i < 100)
+pair_bytes : (word : List ℕ) (i : ℕ) → is_pair word i ≡ true → (get_or word i 0 ≡ 48 + pair_at word i / 10) × (get_or word (i + 1) 0 ≡ 48 + pair_at word i % 10) × (pair_at word i < 100)
 pair_bytes word i h = grind (arith, nat_tests)
 
 -- the parts of the shape

@@ -4,9 +4,9 @@ ghost use Rattle.std.specs.Prelude.{◌≡◌, ℕ, List, ◌+◌, ◌*◌, ◌%
 ghost use Rattle.core.specs.Dec2flt.Digits.{less_zero, IsEightBytes, IsEightDigits};
 ghost use Rattle.core.specs.Float.Numeral.{digits_len};
 ghost use Rattle.core.specs.Int.{w64, trailing_zeros};
-ghost use Rattle.core.specs.Int.Digits.{number_from_digits};
+ghost use Rattle.core.specs.Int.Digits.{AllBelowBase, number_from_digits};
 ghost use Rattle.sabr_plan.specs.Digits.{SpellsNumber};
-ghost use lib.Lanes.{number_l};
+ghost use lib.Lanes.{digits_l, number_l};
 
 use core::dec2flt::read_digits;
 
@@ -15,21 +15,22 @@ const ZEROS: u64 = 0x3030_3030_3030_3030;
 
 /// Returns the first eight bytes as one number, of which the first byte is the lowest.
 #[inline(always)]
-#[tactic(auto, using(core::proofs::dec2flt::Eight::word_at))]
 pub fn first_eight(text: &[u8]) -> u64
     requires { 8 ≤ length text.now }
     ensures { result ≡ number_l 256 (take 8 text.now) }
 {
-    u64::from_le_bytes([
-        text[0], text[1], text[2], text[3], text[4], text[5], text[6], text[7],
-    ])
+    let Some(eight) = text.first_chunk::<8>() else {
+        unreachable!();
+    };
+    u64::from_le_bytes(*eight)
 }
 
 /// Returns a number whose lowest set bit is the highest of the first byte that is at least 10, or 0 if there is no such
 /// byte. Only that byte and those after it carry into the next one.
 #[inline(always)]
-fn mark_from_ten(word: u64) -> u64
-    ensures { (text : List ℕ) → IsEightBytes text → word ≡ number_l 256 (map less_zero text) → 0 < result → (digits_len text < 8) × (trailing_zeros w64 result ≡ 8 * digits_len text + 7) }
+pub fn mark_from_ten(word: u64) -> u64
+    ensures none { result ≡ 0 → AllBelowBase 10 (digits_l 256 8 word) }
+    ensures first { (text : List ℕ) → IsEightBytes text → word ≡ number_l 256 (map less_zero text) → 0 < result → (digits_len text < 8) × (trailing_zeros w64 result ≡ 8 * digits_len text + 7) }
 {
     (word.wrapping_add(0x7676_7676_7676_7676) | word) & 0x8080_8080_8080_8080
 }
@@ -49,7 +50,7 @@ fn value_of_seven(word: u64) -> u64
 /// function of its own, since most numbers are shorter than eight digits, with more text after them.
 #[cold]
 #[inline(never)]
-fn count_any_digits(text: &[u8]) -> (usize, u64)
+pub fn count_any_digits(text: &[u8]) -> (usize, u64)
     ensures range { result.0 ≤ length text.now }
     ensures digits { SpellsNumber (take result.0 text.now) result.1 }
 {
@@ -60,16 +61,14 @@ fn count_any_digits(text: &[u8]) -> (usize, u64)
     (count, value)
 }
 
-/// Returns the number of digits that a text begins with, and their value. Up to seven digits are read from one load of
-/// eight bytes.
+/// Returns the number of digits that a text of at least eight bytes begins with, and their value. Both are 0 if there
+/// are more than 19. Up to seven digits are read from one load of eight bytes.
 #[inline(always)]
 pub fn count_digits(text: &[u8]) -> (usize, u64)
+    requires { 8 ≤ length text.now }
     ensures range { result.0 ≤ length text.now }
     ensures digits { SpellsNumber (take result.0 text.now) result.1 }
 {
-    if text.len() < 8 {
-        return count_any_digits(text);
-    }
     let lanes = first_eight(text) ^ ZEROS;
     let others = mark_from_ten(lanes);
     if others == 0 {

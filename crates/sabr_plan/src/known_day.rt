@@ -7,14 +7,20 @@ ghost use Rattle.sabr_model.specs.plan.Plan.{last_time};
 ghost use Rattle.sabr_plan.specs.Times.{time_text_of};
 ghost use Rattle.sabr_plan.specs.TimeShape.{IsDate};
 
-use crate::eight_digits::first_eight;
-use crate::time::{is_pair, pair_at, parse_time};
+use crate::eight_digits::{first_eight, mark_from_ten};
+use crate::time::parse_time;
 
 /// The number of seconds of a day.
 const DAY_SECONDS: u64 = 86400;
 
 /// The bytes `1970/01/` as one number, of which the first byte is the lowest.
 const FIRST_MONTH: u64 = 0x2f31_302f_3037_3931;
+
+/// The bytes `00:00:00` as one number, of which the first byte is the lowest.
+const MIDNIGHT: u64 = 0x3030_3a30_303a_3030;
+
+/// Those bits of such a number that stand for `:`.
+const COLONS: u64 = 0x0000_ff00_00ff_0000;
 
 /// A day: the bytes `yyyy/mm/dd`, and its first second.
 #[derive(Clone, Copy)]
@@ -35,15 +41,15 @@ fn clock_of(text: &[u8]) -> Option<u64>
     requires { length text.now ≡ 9 }
     ensures { IfSome result (λ s. (text.now ≡ drop 10 (time_text_of s)) × (s < 86400)) }
 {
-    if text[0] != b'-' || text[3] != b':' || text[6] != b':' {
+    // What each byte is above that of midnight: a digit's value, and 0 for `:`.
+    let lanes = first_eight(&text[1..]).wrapping_sub(MIDNIGHT);
+    if text[0] != b'-' || lanes & COLONS != 0 || mark_from_ten(lanes) != 0 {
         return None;
     }
-    if !is_pair(text, 1) || !is_pair(text, 4) || !is_pair(text, 7) {
-        return None;
-    }
-    let hour = pair_at(text, 1) as u64;
-    let minute = pair_at(text, 4) as u64;
-    let second = pair_at(text, 7) as u64;
+    let pairs = lanes.wrapping_mul(10).wrapping_add(lanes >> 8);
+    let hour = pairs % 256;
+    let minute = (pairs >> 24) % 256;
+    let second = (pairs >> 48) % 256;
     if hour > 23 || minute > 59 || second > 59 {
         return None;
     }

@@ -6,7 +6,7 @@ ghost use Rattle.std.specs.Str.Parse.{digits_value};
 ghost use Rattle.sabr_plan.specs.Digits.{is_digit, are_digits, leads_with_zero, SpellsNumber};
 ghost use Rattle.sabr_plan.specs.Numbers.{number_within};
 
-use crate::eight_digits::count_digits;
+use crate::eight_digits::{count_any_digits, count_digits};
 
 /// Appends a digit to a number, if the result is below 2^64.
 fn push_digit(value: u64, byte: u8) -> Option<u64>
@@ -53,10 +53,11 @@ pub fn number_within(text: &[u8], low: u64, high: u64) -> Option<u64>
     Some(value)
 }
 
-/// Returns the value of the digits at the front of a text, those digits, and the text after them. There are no digits
-/// if the text begins with more than 19.
+/// Returns the value of the digits at the front of a text of at least eight bytes, those digits, and the text after them.
+/// There are no digits if the text begins with more than 19.
 #[inline(always)]
 pub fn leading_digits(text: &[u8]) -> (u64, &[u8], &[u8])
+    requires { 8 ≤ length text.now }
     ensures parts { text.now ≡ result.1.now ++ result.2.now }
     ensures digits { SpellsNumber result.1.now result.0 }
 {
@@ -66,6 +67,7 @@ pub fn leading_digits(text: &[u8]) -> (u64, &[u8], &[u8])
 }
 
 /// Returns false only if a word of digits with this value has a digit and no leading zero.
+#[inline(always)]
 fn starts_amiss(word: &[u8], value: u64) -> bool
     requires { 0 < value → 0 < length word.now }
     ensures { IsFalse result → (0 < length word.now) × (leads_with_zero word.now ≡ false) }
@@ -75,6 +77,20 @@ fn starts_amiss(word: &[u8], value: u64) -> bool
     } else {
         word.len() != 1
     }
+}
+
+/// Returns the value of a word of digits, if it is from `low` to `high` and the word has no leading zero.
+#[inline(always)]
+pub fn checked_value(value: u64, word: &[u8], low: u64, high: u64) -> Option<u64>
+    requires { SpellsNumber word.now value }
+    ensures some { IfSome result (λ _. 0 < length word.now) }
+    ensures value { IfSome result (λ n. number_within low high word.now ≡ Some n) }
+    ensures range { IfSome result (λ n. (low ≤ n) × (n ≤ high)) }
+{
+    if value < low || value > high || starts_amiss(word, value) {
+        return None;
+    }
+    Some(value)
 }
 
 /// Returns the value of the digits at the front of a text, those digits, and the text after them. There are 1 to 19
@@ -87,9 +103,12 @@ pub fn leading_number(text: &[u8], low: u64, high: u64) -> Option<(u64, &[u8], &
     ensures value { IfSome result (λ r. number_within low high r.1.now ≡ Some r.0) }
     ensures range { IfSome result (λ r. (low ≤ r.0) × (r.0 ≤ high)) }
 {
-    let (value, word, rest) = leading_digits(text);
-    if value < low || value > high || starts_amiss(word, value) {
-        return None;
-    }
+    let (count, value) = if text.len() < 8 {
+        count_any_digits(text)
+    } else {
+        count_digits(text)
+    };
+    let (word, rest) = text.split_at(count);
+    let value = checked_value(value, word, low, high)?;
     Some((value, word, rest))
 }

@@ -82,7 +82,7 @@ fn second_of(fields: TimeFields) -> Option<u64>
 }
 
 /// Returns true if there are two digits from an index on.
-pub fn is_pair(text: &[u8], at: usize) -> bool
+fn is_pair(text: &[u8], at: usize) -> bool
     requires { at + 1 < length text.now }
     ensures { result ≡ is_pair text.now at }
 {
@@ -90,7 +90,7 @@ pub fn is_pair(text: &[u8], at: usize) -> bool
 }
 
 /// Returns the value of two digits.
-pub fn pair_at(text: &[u8], at: usize) -> u8
+fn pair_at(text: &[u8], at: usize) -> u8
     requires room { at + 1 < length text.now }
     requires digits { IsTrue (is_pair text.now at) }
     ensures value { result ≡ pair_at text.now at }

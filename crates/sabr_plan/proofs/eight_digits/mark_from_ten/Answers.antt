@@ -1,12 +1,13 @@
 -- A sum carries only out of a byte that is at least 10, so no byte before the first of them is marked.
-use Rattle.std.proofs.Common.{◌≡◌, ℕ, zero, suc, ◌+◌, ◌*◌, ◌/◌, ◌%◌, ◌^◌, ◌<◌, Bool, true, false, cond, eqb, List, [], ◌∷◌, length, map, refl, ap, ◌∙◌, arith}
+use Rattle.std.proofs.Common.{◌≡◌, ℕ, zero, suc, ◌+◌, ◌*◌, ◌/◌, ◌%◌, ◌^◌, ◌<◌, Bool, true, false, cond, eqb, ltb, List, [], ◌∷◌, length, map, refl, sym, ap, ◌∙◌, arith}
 use Rattle.std.specs.Prelude.{bit_and, bit_or}
 use native.Mathlib.Nat.{mul_assoc, pow-suc, pow-succ'}
 use lib.Arith.{mod-mul}
 use lib.Bits.{and_block, or_block, or_lt, xor_lt}
 use lib.Count.{count_trailing_zeros}
 use lib.Dec.{eqb→eq}
-use lib.Lanes.{number_l}
+use borrow.Author.Tests.{ltb-true}
+use lib.Lanes.{digits_l, number_l}
 use Rattle.core.specs.Char.{is_ascii_digit}
 use Rattle.core.specs.Dec2flt.Digits.{less_zero}
 use Rattle.core.specs.Float.Numeral.{digits_len}
@@ -93,5 +94,28 @@ marked (y ∷ xs) h some = by (is_ascii_digit y) (byte y h.0) (marked xs h.1)
         let long : 8 * suc n ≡ 7 + suc (8 * n) = omega arith in
         (omega arith, rw (is, long, zeros 7 (suc (8 * n)) (1 + 2 * high), odd (8 * n) high) refl)
 
-pub returns : goal.returns
-returns c text eight is some = (rw (eight.0, ← is) at (marked text eight.1)) some
+unmarked : (n w : ℕ) → mark n w ≡ 0 → AllBelowBase 10 (digits_l 256 n w)
+unmarked zero w none = tt
+unmarked (suc n) w none =
+    let b = w % 256 in
+    let v = w / 256 in
+    let whole : w ≡ b + 256 * v = omega arith in
+    let parts = sym (ap (mark (suc n)) whole ∙ step n b v (omega arith)) ∙ none in
+    let digit : b < 10 = below_ten b (omega arith) (omega (arith, parts)) in
+    let carry : (b + 118) / 256 ≡ 0 = omega arith in
+    let same : v + each 118 n + 0 ≡ v + each 118 n = omega arith in
+    let rest : mark n v ≡ 0 = omega (arith, rw (carry, same) at parts) in
+    (digit, unmarked n v rest)
+  where
+    of_test : (b : ℕ) (t : Bool) → ltb b 10 ≡ t → ◌≡◌ {A = ℕ} (cond t 128 0) 128 → b < 10
+    of_test b true small e = ltb-true b 10 small
+    of_test b false small e = absurd (omega (arith, e))
+
+    below_ten : (b : ℕ) → b < 256 → low b ≡ 0 → b < 10
+    below_ten b h none = of_test b (ltb b 10) refl (rw none at (eqb→eq _ _ (every_below (λ b. eqb (cond (ltb b 10) 128 (low b)) 128) 256 tt b h)))
+
+pub returns-clause-none : goal.returns-clause-none
+returns-clause-none c none = unmarked 8 c.args.word none
+
+pub returns-clause-first : goal.returns-clause-first
+returns-clause-first c text eight is some = (rw (eight.0, ← is) at (marked text eight.1)) some

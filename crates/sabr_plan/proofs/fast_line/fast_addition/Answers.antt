@@ -22,8 +22,8 @@ unfolding line_command
 said reference Contact line name operands a comment plain words named value = rw (comment, plain, words, named) value
 said reference Range line name operands a comment plain words named value = rw (comment, plain, words, named) value
 
-pub time_ahead-requires : goal.time_ahead-requires
-time_ahead-requires c = let adds = c.in_ok-target.ensures in ended_ahead adds.name (still_ended (97 ∷ []) adds.behind refl (ended_blanks adds.first c.requires))
+pub time_ahead-requires-clause-ended : goal.time_ahead-requires-clause-ended
+time_ahead-requires-clause-ended c = let adds = c.in_ok-target.ensures.adds in ended_ahead adds.name (still_ended (97 ∷ []) adds.behind refl (ended_blanks adds.first c.requires))
 
 pub returns : goal.returns
 returns c =
@@ -32,7 +32,7 @@ returns c =
     let first = c.in_ok-first.ensures.word in
     let second = c.in_ok-second.ensures.word in
     let value = c.in_ok-value.ensures.word in
-    let adds = c.in_ok-target.ensures in
+    let adds = c.in_ok-target.ensures.adds in
     let back = more_words adds.name (more_words start (more_words end (more_words first (more_words second (more_words value (no_words c.in_ok-behind.ensures)))))) in
     let whole = first_a adds.first back in
     let line = adds.first.blanks ++ 97 ∷ back.line in

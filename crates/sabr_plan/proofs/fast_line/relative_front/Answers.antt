@@ -16,8 +16,8 @@ module _ (digits : List ℕ) (some : 0 < length digits) (all : list_all is_digit
       let is : relative_of (43 ∷ digits) ≡ Some (digits_value 10 digits) = rw (lt-ltb 0 (length digits) some, all, le-leb _ _ few) refl in
       ap (λ o. elim o [ Some seconds ↦ after_reference reference seconds | None ↦ absolute_time (43 ∷ digits) ]) is
 
-pub returns : goal.returns
-returns c =
+pub returns-clause-word : goal.returns-clause-word
+returns-clause-word c =
     let d = c.leading_digits-seconds.ensures in
     let digits = c.leading_digits-seconds.result.1.now in
     let some : 0 < length digits = grind (arith, nat_tests) in

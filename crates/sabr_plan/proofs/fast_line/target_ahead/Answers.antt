@@ -25,18 +25,18 @@ adds_plain target count line front = record {
   };
 }
 
-pub returns-then-line-eq116 : goal.returns-then-line-eq116
-returns-then-line-eq116 c =
+pub returns-then-line-eq116-clause-adds : goal.returns-then-line-eq116-clause-adds
+returns-then-line-eq116-clause-adds c =
     let line = c.args.line.now in
-    let eight = eight_at line 0 (λ i. (c.type_inv.line i).fits) (omega (arith, c.if-line-gt8.true)) in
+    let eight = eight_at line 0 (λ i. (c.type_inv.line i).fits) (omega (arith, c.requires.room)) in
     let front = bytes_are (take 8 line) 8 _ eight (sym c.first_eight-word.ensures ∙ c.if-word-eq-A_CONTAC.true) in
-    let all : take 9 line ≡ 97 ∷ 32 ∷ name_of Contact = take_more line 8 0 (omega (arith, c.if-line-gt8.true)) ∙ (λ i. front i ++ c.if-line-eq116.true i ∷ []) in
+    let all : take 9 line ≡ 97 ∷ 32 ∷ name_of Contact = take_more line 8 0 (omega (arith, c.requires.room)) ∙ (λ i. front i ++ c.if-line-eq116.true i ∷ []) in
     rw (take_all (length line - 9) (drop 9 line) (omega (arith, length-drop 9 line))) (adds_plain Contact 9 line all)
 
-pub returns-then-word-eq-A_RANGE : goal.returns-then-word-eq-A_RANGE
-returns-then-word-eq-A_RANGE c =
+pub returns-then-word-eq-A_RANGE-clause-adds : goal.returns-then-word-eq-A_RANGE-clause-adds
+returns-then-word-eq-A_RANGE-clause-adds c =
     let line = c.args.line.now in
-    let eight = eight_at line 0 (λ i. (c.type_inv.line i).fits) (omega (arith, c.if-line-gt8.true)) in
+    let eight = eight_at line 0 (λ i. (c.type_inv.line i).fits) (omega (arith, c.requires.room)) in
     let front = bytes_are (take 8 line) 8 _ eight (sym c.first_eight-word.ensures ∙ c.if-word-eq-A_RANGE.true) in
     let all : take 7 line ≡ 97 ∷ 32 ∷ name_of Range = sym (take-take 7 8 line (omega arith)) ∙ ap (take 7) front in
     rw (take_all (length line - 7) (drop 7 line) (omega (arith, length-drop 7 line))) (adds_plain Range 7 line all)

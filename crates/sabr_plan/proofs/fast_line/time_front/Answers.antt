@@ -4,8 +4,8 @@ use Rattle.sabr_plan.specs.Operands.{time_at}
 use Rattle.sabr_plan.proofs.KnownDays.{graphic_time, time_at-text}
 use Rattle.sabr_plan.proofs.fast_line.time_front.Goals as goal
 
-pub returns : goal.returns
-returns c =
+pub returns-clause-word : goal.returns-clause-word
+returns-clause-word c =
     let reference = c.args.reference.now in
     let h = c.in_ok-time.ensures in
     record {

@@ -1,31 +1,105 @@
--- Three pairs of digits, with bytes between them.
-use Rattle.std.proofs.Common.{◌≡◌, ℕ, ◌+◌, ◌*◌, ◌/◌, ◌%◌, ◌<◌, ◌≤◌, List, length, drop, get_or, true, sym, ◌∙◌, arith}
-use Rattle.std.proofs.lemmas.Slice.Eq.{text_from_reads}
-use Rattle.sabr_plan.specs.Times.{pair_at, fields_of, time_text_of}
-use Rattle.sabr_plan.specs.TimeShape.{is_pair}
-use Rattle.sabr_plan.proofs.Spelling.{pair_bytes}
+-- No byte but `:` is above that of midnight by ten or more, so none of the differences borrows from the next one.
+use Rattle.std.proofs.Common.{◌≡◌, ℕ, ◌+◌, ◌-◌, ◌*◌, ◌/◌, ◌%◌, ◌^◌, ◌<◌, ◌≤◌, List, [], ◌∷◌, length, take, drop, get_or, refl, sym, ap, ◌∙◌, arith, length-drop}
+use Rattle.std.specs.Prelude.{bit_and}
+use Rattle.std.proofs.lemmas.List.{take_all}
+use lib.Bits.{and_block, and_mask}
+use lib.Lanes.{number_l, digits_l}
+use Rattle.core.specs.Dec2flt.Digits.{IsEightBytes}
+use Rattle.core.specs.Int.Digits.{AllBelowBase}
+use Rattle.core.proofs.dec2flt.Eight.{eight_at}
+use Rattle.sabr_plan.specs.Times.{fields_of, time_text_of}
+use Rattle.sabr_plan.proofs.Digits.{bytes_are}
 use Rattle.sabr_plan.proofs.known_day.clock_of.Goals as goal
 
-spelled : (text : List ℕ) (s : ℕ) → length text ≡ 9 → get_or text 0 0 ≡ 45 → get_or text 3 0 ≡ 58 → get_or text 6 0 ≡ 58 → is_pair text 1 ≡ true → is_pair text 4 ≡ true → is_pair text 7 ≡ true → pair_at text 4 ≤ 59 → pair_at text 7 ≤ 59 → s ≡ pair_at text 1 * 3600 + pair_at text 4 * 60 + pair_at text 7 → s < 86400 → text ≡ drop 10 (time_text_of s)
+-- the bytes that stand for `:`
+colons : (x : ℕ) → bit_and x 0x0000_ff00_00ff_0000 ≡ 0 → (x / 2 ^ 16 % 256 ≡ 0) × (x / 2 ^ 40 % 256 ≡ 0)
+colons x none =
+    let y = x / 2 ^ 16 in
+    let e : x ≡ y * 2 ^ 16 + x % 2 ^ 16 = omega arith in
+    let f : y ≡ y / 2 ^ 24 * 2 ^ 24 + y % 2 ^ 24 = omega arith in
+    let low : bit_and y 0xff00_00ff ≡ y / 2 ^ 24 % 256 * 2 ^ 24 + y % 2 ^ 24 % 256 =
+    ap (λ z. bit_and z 0xff00_00ff) f ∙ and_block 24 (y / 2 ^ 24) 255 (y % 2 ^ 24) 255 (omega arith) (omega arith) ∙ (λ i. and_mask (y / 2 ^ 24) 8 i * 2 ^ 24 + and_mask (y % 2 ^ 24) 8 i) in
+    let all : bit_and x 0x0000_ff00_00ff_0000 ≡ bit_and y 0xff00_00ff * 2 ^ 16 + bit_and (x % 2 ^ 16) 0 =
+    ap (λ z. bit_and z 0x0000_ff00_00ff_0000) e ∙ and_block 16 y 0xff00_00ff (x % 2 ^ 16) 0 (omega arith) (omega arith) in
+    (omega (arith, low, all, none), omega (arith, low, all, none))
+
+-- eight bytes, by what each is above that of midnight
+bytes : (text : List ℕ) → IsEightBytes text → number_l 256 text < 2 ^ 64 → (a b c d e f g h : ℕ) → a < 10 → b < 10 → c < 10 → d < 10 → e < 10 → f < 10 → g < 10 → h < 10
+    → a + 256 * (b + 256 * (c + 256 * (d + 256 * (e + 256 * (f + 256 * (g + 256 * h)))))) ≡ (number_l 256 text + (2 ^ 64 - 0x3030_3a30_303a_3030)) % 2 ^ 64
+    → text ≡ (48 + a) ∷ (48 + b) ∷ (58 + c) ∷ (48 + d) ∷ (48 + e) ∷ (58 + f) ∷ (48 + g) ∷ (48 + h) ∷ []
+bytes text eight fits a b c d e f g h A B C D E F G H is =
+    let above = (48 + a) ∷ (48 + b) ∷ (58 + c) ∷ (48 + d) ∷ (48 + e) ∷ (58 + f) ∷ (48 + g) ∷ (48 + h) ∷ [] in
+    let small : AllBelowBase 256 above = (omega arith, (omega arith, (omega arith, (omega arith, (omega arith, (omega arith, (omega arith, (omega arith, tt)))))))) in
+    let same : number_l 256 above ≡ number_l 256 text = omega (arith, is, fits) in
+    bytes_are text 8 (number_l 256 text) eight refl ∙ sym (bytes_are above 8 (number_l 256 text) (refl, small) same)
+
+-- the pairs of digits
+values : (a b d e g h lanes : ℕ) → a < 10 → b < 10 → d < 10 → e < 10 → g < 10 → h < 10
+    → lanes ≡ a + 256 * (b + 256 * (0 + 256 * (d + 256 * (e + 256 * (0 + 256 * (g + 256 * h))))))
+    → let pairs = (lanes * 10 % 2 ^ 64 + lanes / 2 ^ 8) % 2 ^ 64 in (pairs % 256 ≡ 10 * a + b) × (pairs / 2 ^ 24 % 256 ≡ 10 * d + e) × (pairs / 2 ^ 48 % 256 ≡ 10 * g + h)
+values a b d e g h lanes A B D E G H is = (omega arith, omega arith, omega arith)
+
+-- the text of the second that they name
+spelled : (a b d e g h s : ℕ) → a < 10 → b < 10 → d < 10 → e < 10 → g < 10 → h < 10 → 10 * d + e ≤ 59 → 10 * g + h ≤ 59 → s ≡ (10 * a + b) * 3600 + (10 * d + e) * 60 + (10 * g + h) → s < 86400
+    → 45 ∷ (48 + a) ∷ (48 + b) ∷ 58 ∷ (48 + d) ∷ (48 + e) ∷ 58 ∷ (48 + g) ∷ (48 + h) ∷ [] ≡ drop 10 (time_text_of s)
 unfolding time_text_of fields_of
-spelled text s long dash first second hour minute clock m k e below =
-    let h = pair_bytes text 1 hour in
-    let n = pair_bytes text 4 minute in
-    let c = pair_bytes text 7 clock in
-    let a : s % 86400 / 3600 ≡ pair_at text 1 = omega arith in
-    let b : s % 86400 % 3600 / 60 ≡ pair_at text 4 = omega arith in
-    let d : s % 86400 % 60 ≡ pair_at text 7 = omega arith in
-    text_from_reads text (drop 10 (time_text_of s)) long
-    (dash, (rw a h.0, (rw a h.1, (first, (rw b n.0, (rw b n.1, (second, (rw d c.0, (rw d c.1, tt)))))))))
+spelled a b d e g h s A B D E G H M S is day =
+    let hour : s % 86400 / 3600 ≡ 10 * a + b = omega arith in
+    let minute : s % 86400 % 3600 / 60 ≡ 10 * d + e = omega arith in
+    let second : s % 86400 % 60 ≡ 10 * g + h = omega arith in
+    let p : a ≡ (10 * a + b) / 10 = omega arith in
+    let q : b ≡ (10 * a + b) % 10 = omega arith in
+    let r : d ≡ (10 * d + e) / 10 = omega arith in
+    let t : e ≡ (10 * d + e) % 10 = omega arith in
+    let u : g ≡ (10 * g + h) / 10 = omega arith in
+    let v : h ≡ (10 * g + h) % 10 = omega arith in
+    rw (hour, minute, second) (λ i. 45 ∷ (48 + p i) ∷ (48 + q i) ∷ 58 ∷ (48 + r i) ∷ (48 + t i) ∷ 58 ∷ (48 + u i) ∷ (48 + v i) ∷ [])
+
+-- the first byte and the others
+first_of : (text : List ℕ) → length text ≡ 9 → get_or text 0 0 ≡ 45 → text ≡ 45 ∷ take 8 (drop 1 text)
+first_of [] long dash = absurd (omega (arith, long))
+first_of (b ∷ bs) long dash = λ i. dash i ∷ sym (take_all 8 bs (omega (arith, long))) i
+
+clock : (text : List ℕ) (lanes hour minute second : ℕ) → length text ≡ 9 → get_or text 0 0 ≡ 45 → IsEightBytes (take 8 (drop 1 text)) → number_l 256 (take 8 (drop 1 text)) < 2 ^ 64
+    → lanes ≡ (number_l 256 (take 8 (drop 1 text)) + (2 ^ 64 - 0x3030_3a30_303a_3030)) % 2 ^ 64 → AllBelowBase 10 (digits_l 256 8 lanes) → bit_and lanes 0x0000_ff00_00ff_0000 ≡ 0
+    → let pairs = (lanes * 10 % 2 ^ 64 + lanes / 2 ^ 8) % 2 ^ 64 in hour ≡ pairs % 256 → minute ≡ pairs / 2 ^ 24 % 256 → second ≡ pairs / 2 ^ 48 % 256 → hour ≤ 23 → minute ≤ 59 → second ≤ 59
+    → (text ≡ drop 10 (time_text_of (hour * 3600 + minute * 60 + second))) × (hour * 3600 + minute * 60 + second < 86400)
+clock text lanes hour minute second long dash eight fits is ten none H M S h59 m59 s59 =
+    let q1 = lanes / 256 in
+    let q2 = q1 / 256 in
+    let q3 = q2 / 256 in
+    let q4 = q3 / 256 in
+    let q5 = q4 / 256 in
+    let q6 = q5 / 256 in
+    let q7 = q6 / 256 in
+    let t1 = ten.1 in
+    let t2 = t1.1 in
+    let t3 = t2.1 in
+    let t4 = t3.1 in
+    let t5 = t4.1 in
+    let t6 = t5.1 in
+    let t7 = t6.1 in
+    let whole : lanes % 256 + 256 * (q1 % 256 + 256 * (q2 % 256 + 256 * (q3 % 256 + 256 * (q4 % 256 + 256 * (q5 % 256 + 256 * (q6 % 256 + 256 * (q7 % 256))))))) ≡ lanes = omega (arith, is) in
+    let colon = colons lanes none in
+    let x : q2 % 256 ≡ 0 = omega (arith, colon.0) in
+    let y : q5 % 256 ≡ 0 = omega (arith, colon.1) in
+    let v = values (lanes % 256) (q1 % 256) (q3 % 256) (q4 % 256) (q6 % 256) (q7 % 256) lanes ten.0 t1.0 t3.0 t4.0 t6.0 t7.0 (sym whole ∙ (λ i. lanes % 256 + 256 * (q1 % 256 + 256 * (x i + 256 * (q3 % 256 + 256 * (q4 % 256 + 256 * (y i + 256 * (q6 % 256 + 256 * (q7 % 256))))))))) in
+    let hours = H ∙ v.0 in
+    let minutes = M ∙ v.1 in
+    let seconds = S ∙ v.2 in
+    let day : hour * 3600 + minute * 60 + second < 86400 = omega (arith, h59, m59, s59) in
+    let front = bytes (take 8 (drop 1 text)) eight fits (lanes % 256) (q1 % 256) (q2 % 256) (q3 % 256) (q4 % 256) (q5 % 256) (q6 % 256) (q7 % 256) ten.0 t1.0 t2.0 t3.0 t4.0 t5.0 t6.0 t7.0 (whole ∙ is) in (
+      first_of text long dash ∙ ap (λ f. 45 ∷ f) front
+          ∙ (λ i. 45 ∷ (48 + lanes % 256) ∷ (48 + q1 % 256) ∷ (58 + x i) ∷ (48 + q3 % 256) ∷ (48 + q4 % 256) ∷ (58 + y i) ∷ (48 + q6 % 256) ∷ (48 + q7 % 256) ∷ [])
+          ∙ spelled (lanes % 256) (q1 % 256) (q3 % 256) (q4 % 256) (q6 % 256) (q7 % 256) (hour * 3600 + minute * 60 + second) ten.0 t1.0 t3.0 t4.0 t6.0 t7.0 (omega (arith, minutes, m59)) (omega (arith, seconds, s59)) (λ i. hours i * 3600 + minutes i * 60 + seconds i) day,
+      day,
+    )
 
 pub returns : goal.returns
 returns c =
-    let hour = c.pair_at-hour.ensures.value in
-    let minute = c.pair_at-minute.ensures.value in
-    let second = c.pair_at-second.ensures.value in
-    let text = c.args.text.now in (
-      spelled text (c.pair_at-hour.result * 3600 + c.pair_at-minute.result * 60 + c.pair_at-second.result) c.requires c.if-text-ne45.false c.if-text-ne58.false c.if-text-ne58-2.false
-          (sym c.is_pair.ensures ∙ c.if-not-is_pair.false) (sym c.is_pair-else-not-is_pair.ensures ∙ c.if-not-is_pair-2.false) (sym c.is_pair-else-not-is_pair-2.ensures ∙ c.if-not-is_pair-3.false)
-          (omega (arith, minute, c.if-minute-gt59.false)) (omega (arith, second, c.if-second-gt59.false)) (omega (arith, hour, minute, second)) (omega arith),
-      omega arith,
-    )
+    let text = c.args.text.now in
+    let back : take (length text - 1) (drop 1 text) ≡ drop 1 text = take_all (length text - 1) (drop 1 text) (omega (arith, length-drop 1 text)) in
+    let word = c.first_eight-lanes.ensures ∙ ap (λ t. number_l 256 (take 8 t)) back in
+    let eight = eight_at text 1 (λ i. (c.type_inv.text i).fits) (omega (arith, c.requires)) in
+    clock text _ _ _ _ c.requires c.if-text-ne45.false eight (rw word at c.first_eight-lanes.type_inv) (ap (λ w. (w + 14974404782364938192) % 2 ^ 64) word)
+    (c.mark_from_ten.ensures.none c.if-mark_from_ten-ne0.false) c.if-lanes-ne0.false refl refl refl c.if-hour-gt23.false c.if-minute-gt59.false c.if-second-gt59.false
