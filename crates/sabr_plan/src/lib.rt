@@ -3,7 +3,8 @@
 //! [`read_plan`] reads a plan from a reader, and [`parse_plan`] from a text in memory. Both report the first bad line
 //! as a [`PlanFault`]: the number of the line, from 1, and a [`PlanKind`]. [`canonical`] writes one text for each plan,
 //! and [`digest`] is the SHA-256 of that text, by which a saved session knows its plan. [`parse_time`] and
-//! [`time_text`] convert a second from and to `yyyy/mm/dd-hh:mm:ss`. [`number_within`] reads a decimal number.
+//! [`time_text`] convert a second from and to `yyyy/mm/dd-hh:mm:ss`; [`DayText`] does so for many seconds.
+//! [`number_within`] reads a decimal number.
 //!
 //! **Commands.** `a contact FROM-TIME TO-TIME SENDER RECEIVER RATE`, `a range FROM-TIME TO-TIME NODE NODE LIGHT`,
 //! `d contact TIME SENDER RECEIVER`, `d range TIME NODE NODE`, and `@ TIME`, from which the relative times `+N` of the
@@ -33,6 +34,7 @@
 
 mod canonical_text;
 mod command;
+mod day_text;
 mod eight_digits;
 mod fast_line;
 mod fault;
@@ -49,6 +51,7 @@ mod time;
 mod words;
 
 pub use canonical_text::{canonical, digest};
+pub use day_text::DayText;
 pub use fault::{PlanFault, PlanKind};
 pub use feed::line_end;
 pub use laws::spelled_plans_obey;

@@ -150,7 +150,7 @@ pub fn parse_time(text: &[u8]) -> Option<u64>
 }
 
 /// Returns the ASCII digit of a value.
-fn digit(value: u8) -> u8
+pub fn digit(value: u8) -> u8
     requires { value < 10 }
     ensures { result ≡ 48 + value }
 {

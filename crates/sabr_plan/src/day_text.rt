@@ -1,0 +1,81 @@
+//! Times as text, of which most have the day of the last one.
+
+ghost use Rattle.std.specs.Prelude.{◌≡◌, ◌+◌, ◌%◌, ◌<◌, ◌≤◌};
+ghost use Rattle.sabr_plan.specs.Times.{last_spelled, time_text_of};
+
+use crate::time::{digit, time_text};
+
+/// The number of seconds of a day.
+const DAY_SECONDS: u64 = 86400;
+
+/// The text of the first second of a day. A writer of times keeps it, since most times that come one after another have
+/// one day.
+#[derive(Clone, Copy)]
+pub struct DayText {
+    /// The first second of the day.
+    begin: u64,
+    /// Its text.
+    text: [u8; 19],
+    ghost whole: { begin % 86400 ≡ 0 },
+    ghost spelled: { text ≡ time_text_of begin },
+}
+
+impl DayText {
+    /// Returns the text of 1970/01/01.
+    #[tactic(auto, unfolding(crate::specs::Times::time_text_of, crate::specs::Times::fields_of, crate::specs::Times::day_after_epoch))]
+    pub fn new() -> DayText {
+        DayText {
+            begin: 0,
+            text: *b"1970/01/01-00:00:00",
+        }
+    }
+
+    /// Returns the 19 bytes `yyyy/mm/dd-hh:mm:ss` of a second since 1970-01-01T00:00:00Z, as [`time_text`] does, and
+    /// keeps the text of its day. The second is at most 253402300799, the last of the year 9999. It is O(1), and quicker
+    /// for a second of the day that was kept.
+    pub fn time_text(&mut self, second: u64) -> [u8; 19]
+        requires { second ≤ last_spelled }
+        ensures { result ≡ time_text_of second }
+    {
+        if second < self.begin || second - self.begin >= DAY_SECONDS {
+            let begin = second - second % DAY_SECONDS;
+            *self = DayText {
+                begin,
+                text: time_text(begin),
+            };
+        }
+        self.at_clock((second - self.begin) as u32)
+    }
+
+    /// Returns the text of the second of the day that is this many seconds after its first.
+    fn at_clock(&self, clock: u32) -> [u8; 19]
+        requires { clock < 86400 }
+        ensures { result ≡ time_text_of (self.now.begin + clock) }
+    {
+        let day = &self.text;
+        let hour = (clock / 3600) as u8;
+        let minute = (clock % 3600 / 60) as u8;
+        let second = (clock % 60) as u8;
+        [
+            day[0],
+            day[1],
+            day[2],
+            day[3],
+            day[4],
+            day[5],
+            day[6],
+            day[7],
+            day[8],
+            day[9],
+            day[10],
+            digit(hour / 10),
+            digit(hour % 10),
+            b':',
+            digit(minute / 10),
+            digit(minute % 10),
+            b':',
+            digit(second / 10),
+            digit(second % 10),
+        ]
+    }
+}
