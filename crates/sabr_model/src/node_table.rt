@@ -199,6 +199,7 @@ fn note_guess(guesses: &mut [u16], node: u64, guess: usize, index: usize) {
 /// Removes the number from those that the node sends.
 fn take_number<A: Allocator + Copy>(table: &mut NodeTable<A>, node: u64, number: u32)
     requires { IsUnique nat_eq table.old }
+    ensures nodes { keys table.new ≡ keys table.old }
     ensures lists { (q : ℕ) → list_at table.new q ≡ (if q == node then option_map (filter (λ n. not (n == number))) (list_at table.old q) else list_at table.old q) }
     ensures unique { IsUnique nat_eq table.new }
 {
@@ -217,6 +218,7 @@ fn take_out<A: Allocator + Copy>(numbers: &mut Vec<u32, A>, number: u32)
 /// Removes the node from the table unless it is in use.
 fn keep_node<A: Allocator + Copy>(table: &mut NodeTable<A>, node: u64, used: bool)
     requires { IsUnique nat_eq table.old }
+    ensures kept { IsTrue used → keys table.new ≡ keys table.old }
     ensures lists { (q : ℕ) → list_at table.new q ≡ (if q == node && not used then None else list_at table.old q) }
     ensures unique { IsUnique nat_eq table.new }
 {
@@ -232,20 +234,23 @@ fn is_in_use(contacts: &[Contact], number: u32, node: u64) -> bool
     contacts.iter().any(|c| !(c.number == number) && (node == c.from || node == c.to))
 }
 
-/// Removes a contact that is to be deleted, and each of its nodes that no other contact has.
+/// Removes a contact that is to be deleted, and each of its nodes that no other contact has. Returns true if both nodes
+/// stay.
 pub fn forget_contact<A: Allocator + Copy>(
     table: &mut NodeTable<A>,
     contacts: &[Contact],
     contact: &Contact,
-)
+) -> bool
     requires numbered { IsTrue (rises_above 0 (map (λ c. c.number) contacts.now)) }
     requires stands { find (λ c. c.number == contact.now.number) contacts.now ≡ Some contact.now }
     requires table { IsTableOf contacts.now table.old }
-    ensures { IsTableOf (without_number contact.now.number contacts.now) table.new }
+    ensures table { IsTableOf (without_number contact.now.number contacts.now) table.new }
+    ensures kept { IsTrue result → keys table.new ≡ keys table.old }
 {
     take_number(table, contact.from, contact.number);
     let from_used = is_in_use(contacts, contact.number, contact.from);
     keep_node(table, contact.from, from_used);
     let to_used = is_in_use(contacts, contact.number, contact.to);
     keep_node(table, contact.to, to_used);
+    from_used & to_used
 }

@@ -9,6 +9,7 @@ mod light;
 mod light_times;
 mod lights;
 mod nodes;
+mod openings;
 mod parts;
 pub mod places;
 mod ranges;
@@ -23,6 +24,7 @@ pub use arriving::arrive;
 pub use ends::Ends;
 use indexmap::IndexMap;
 use light_times::LightTimes;
+use openings::Openings;
 use std::alloc::{Allocator, Global};
 use std::marker::Model;
 
@@ -44,8 +46,10 @@ pub struct Plan<A: Allocator + Copy = Global> {
     largest: u32,
     /// The indexes of the nodes of each contact.
     ends: Vec<Ends, A>,
-    /// The light time of each contact, or an empty list.
+    /// The light times of the first contacts.
     lights: LightTimes<A>,
+    /// The contacts by sender, receiver and start, from the first that is added by a call on.
+    openings: Openings<A>,
 }
 
 impl<A: Allocator + Copy> Model for Plan<A> {
@@ -53,12 +57,13 @@ impl<A: Allocator + Copy> Model for Plan<A> {
     ghost use Rattle.sabr_model.specs.plan.Plan.{TabledPlan, IsPlan};
     ghost use Rattle.sabr_model.specs.plan.Table.{IsTableOf};
     ghost use Rattle.sabr_model.specs.plan.Known.{IsKnown};
+    ghost use Rattle.sabr_model.specs.plan.Openings.{IsNoted};
 
     ghost Value = { TabledPlan };
 
     ghost view = { λ a. record { plan = record { contacts = a.contacts.items; ranges = a.ranges.items; largest = a.largest }; table = keys a.table } };
 
-    ghost invariant = { λ a. IsPlan (record { contacts = a.contacts.items; ranges = a.ranges.items; largest = a.largest }) × IsTableOf a.contacts.items a.table × IsKnown (record { plan = record { contacts = a.contacts.items; ranges = a.ranges.items; largest = a.largest }; table = keys a.table }) a.ends.items a.lights };
+    ghost invariant = { λ a. IsPlan (record { contacts = a.contacts.items; ranges = a.ranges.items; largest = a.largest }) × IsTableOf a.contacts.items a.table × IsKnown (record { plan = record { contacts = a.contacts.items; ranges = a.ranges.items; largest = a.largest }; table = keys a.table }) a.ends.items a.lights × IsNoted a.openings.numbers a.openings.noted a.contacts.items };
 }
 
 impl<A: Allocator + Copy> Plan<A> {
@@ -74,6 +79,7 @@ impl<A: Allocator + Copy> Plan<A> {
             largest: 0,
             ends: Vec::new(alloc),
             lights: LightTimes::new(alloc),
+            openings: Openings::new(alloc),
         }
     }
 }

@@ -1,17 +1,20 @@
 -- What a plan stores of its contacts.
-use Rattle.std.proofs.Common.{◌≡◌, ℕ, zero, suc, ◌+◌, ◌<◌, ◌≤◌, true, ◌||◌, eqb, List, [], ◌∷◌, ◌++◌, length, get_or, take, refl, sym, ap, ◌∙◌, inl, inr, arith, length-append}
+use Rattle.std.proofs.Common.{◌≡◌, ℕ, zero, suc, ◌+◌, ◌<◌, ◌≤◌, true, ◌||◌, eqb, List, [], ◌∷◌, ◌++◌, length, get_or, take, refl, sym, ap, subst, ◌∙◌, inl, inr, arith, length-append}
 use Rattle.std.specs.Prelude.{Vec}
 use Rattle.std.proofs.Math.ListN.{get_or-append}
 use Rattle.std.proofs.Math.Seq.{get_or-append_seam}
 use Rattle.std.proofs.lemmas.Bool.{or_left, or_right, eq-eqb, cases_lt}
-use Rattle.std.proofs.lemmas.List.{get_or_default}
+use Rattle.std.proofs.lemmas.List.{get_or_default, get_or_past}
+use Rattle.std.specs.declared.option.Option.{Option}
 use Rattle.indexmap.specs.IndexMap.{IndexMap, keys}
 use Rattle.sabr_model.specs.declared.contact.Contact.{Contact}
+use Rattle.sabr_model.specs.declared.contact.Range.{Range}
 use Rattle.sabr_model.specs.declared.plan.ends.Ends.{Ends}
 use Rattle.sabr_model.specs.plan.Plan.{TabledPlan, has}
 use Rattle.sabr_model.specs.plan.Table.{ends_of, KeepsPlaces, IsTableOf}
 use Rattle.sabr_model.specs.plan.ContactEnds.{AreEndsOf, AreEnds}
-use Rattle.sabr_model.specs.plan.Known.{IsKnown}
+use Rattle.sabr_model.specs.plan.Light.{light_of}
+use Rattle.sabr_model.specs.plan.Known.{IsKnown, BeginLights}
 use Rattle.sabr_model.proofs.PlanLemmas.TableLemmas.{has_node}
 
 -- where no light times are stored, the ends are all that has to be right
@@ -21,6 +24,16 @@ ends_known p ends are = record { ends = are; lights = λ k d t lt. absurd (omega
 -- no contact has ends
 pub no_ends : (table : List ℕ) → AreEnds table [] []
 no_ends table = record { as_many = refl; each = λ k d e lt. absurd (omega (arith, lt)) }
+
+-- light times stay right if a contact is added
+pub lights_push : (ranges : List Range) (cs : List Contact) (c : Contact) (lights : List (Option ℕ)) → BeginLights ranges cs lights → BeginLights ranges (cs ++ c ∷ []) lights
+lights_push ranges cs c lights h k d t lt =
+    elim (cases_lt k (length cs)) [
+      | inl early ↦ rw (get_or-append cs (c ∷ []) d k early) (h k d t lt)
+      | inr late ↦
+          let x = get_or (cs ++ c ∷ []) k d in
+          subst (λ y. get_or lights k t ≡ light_of (record { contacts = []; ranges = ranges; largest = 0 }) y) (get_or_past cs k x late) (h k x t lt)
+    ]
 
 -- what holds beside each element holds with one more
 module _ {X Y : Type 0} (P : X → Y → Type 0) (xs : List X) (ys : List Y) (x : X) (y : Y) (range : length ys < length xs) (before : (k : ℕ) (d : X) (e : Y) → k < length ys → P (get_or xs k d) (get_or ys k e)) (here : P (get_or xs (length ys) x) y) where

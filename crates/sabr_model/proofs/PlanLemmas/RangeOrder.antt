@@ -40,34 +40,34 @@ sorted_keys (r ∷ rs) i zero d sorted lt within = absurd (omega arith)
 sorted_keys (r ∷ rs) zero (suc j) d sorted lt within = key_at rs j d (λ y. by_key (range_key r) y ≡ Less) sorted.0 (omega arith)
 sorted_keys (r ∷ rs) (suc i) (suc j) d sorted lt within = sorted_keys rs i j d sorted.1 (omega arith) (omega arith)
 
--- two ranges of a plan do not overlap
-apart_at : (rs : List Range) (i j : ℕ) (d : Range) → none_twice overlap rs ≡ true → i < j → j < length rs → overlap (get_or rs i d) (get_or rs j d) ≡ false
-apart_at [] i j d none lt within = absurd (omega arith)
-apart_at (r ∷ rs) i zero d none lt within = absurd (omega arith)
-apart_at (r ∷ rs) zero (suc j) d none lt within =
-    let parts = and_parts (not (list_any (overlap r) rs)) (none_twice overlap rs) none in
-    all_at (λ s. overlap r s ≡ false) rs j d (any_none (overlap r) rs (not-true (list_any (overlap r) rs) parts.0)) (omega arith)
-apart_at (r ∷ rs) (suc i) (suc j) d none lt within = apart_at rs i j d (and_parts (not (list_any (overlap r) rs)) (none_twice overlap rs) none).1 (omega arith) (omega arith)
+-- where no two elements pass a test, those at two places don't
+pub apart_at : {X : Type 0} (same : X → X → Bool) (xs : List X) (i j : ℕ) (d : X) → none_twice same xs ≡ true → i < j → j < length xs → same (get_or xs i d) (get_or xs j d) ≡ false
+apart_at same [] i j d none lt within = absurd (omega arith)
+apart_at same (x ∷ xs) i zero d none lt within = absurd (omega arith)
+apart_at same (x ∷ xs) zero (suc j) d none lt within =
+    let parts = and_parts (not (list_any (same x) xs)) (none_twice same xs) none in
+    all_at (λ y. same x y ≡ false) xs j d (any_none (same x) xs (not-true (list_any (same x) xs) parts.0)) (omega arith)
+apart_at same (x ∷ xs) (suc i) (suc j) d none lt within = apart_at same xs i j d (and_parts (not (list_any (same x) xs)) (none_twice same xs) none).1 (omega arith) (omega arith)
 
 -- a plan's ranges stand in order and apart
 pub range_list : (p : ContactPlan) → IsPlan p → IsRangeList p.ranges
 range_list p h = record {
   windows = λ k d lt. (all_at (λ r. IsWindow r.start r.end) p.ranges k d h.range_windows lt).0;
   rises = λ i j d lt within. sorted_keys p.ranges i j d h.ranges_rise lt within;
-  apart = λ i j d lt within. apart_at p.ranges i j d h.ranges_apart lt within;
+  apart = λ i j d lt within. apart_at overlap p.ranges i j d h.ranges_apart lt within;
 }
 
 -- ---- what a count tells
 
 -- nothing is found where nothing passes
-find_none : {X : Type 0} (p : X → Bool) (xs : List X) → ((k : ℕ) (d : X) → k < length xs → p (get_or xs k d) ≡ true → ⊥) → find p xs ≡ None
+pub find_none : {X : Type 0} (p : X → Bool) (xs : List X) → ((k : ℕ) (d : X) → k < length xs → p (get_or xs k d) ≡ true → ⊥) → find p xs ≡ None
 find_none p [] none = refl
 find_none p (x ∷ xs) none =
     ap (λ b. cond b (Some x) (find p xs)) (false_from_ne_true (p x) (none zero x (omega arith)))
     ∙ find_none p xs (λ k d lt. none (suc k) d (omega arith))
 
 -- where one place alone can pass, it decides what is found
-find_only : {X : Type 0} (p : X → Bool) (xs : List X) (i : ℕ) (e : X) → i < length xs → ((k : ℕ) (d : X) → k < length xs → (k ≡ i → ⊥) → p (get_or xs k d) ≡ true → ⊥) → find p xs ≡ cond (p (get_or xs i e)) (Some (get_or xs i e)) None
+pub find_only : {X : Type 0} (p : X → Bool) (xs : List X) (i : ℕ) (e : X) → i < length xs → ((k : ℕ) (d : X) → k < length xs → (k ≡ i → ⊥) → p (get_or xs k d) ≡ true → ⊥) → find p xs ≡ cond (p (get_or xs i e)) (Some (get_or xs i e)) None
 find_only p [] i e lt none = absurd (omega arith)
 find_only p (x ∷ xs) zero e lt none =
     ap (λ o. cond (p x) (Some x) o) (find_none p xs (λ k d within. none (suc k) d (omega arith) (λ q. omega (arith, q))))

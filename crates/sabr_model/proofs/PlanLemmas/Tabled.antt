@@ -35,7 +35,7 @@ is_tabled p table h = record { nodes = λ q. has_node p.contacts table q h; once
 -- ---- the place of a node
 
 -- if nothing is found, no element passes
-none_any : {X : Type 0} (p : X → Bool) (xs : List X) → find p xs ≡ None → list_any p xs ≡ false
+pub none_any : {X : Type 0} (p : X → Bool) (xs : List X) → find p xs ≡ None → list_any p xs ≡ false
 none_any p [] e = refl
 none_any p (x ∷ xs) e =
     elim (p x) as (λ b. cond b (Some x) (find p xs) ≡ None → (b || list_any p xs) ≡ false) [

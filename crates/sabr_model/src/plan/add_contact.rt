@@ -47,16 +47,17 @@ impl<A: Allocator + Copy> Plan<A> {
         self.ends.reserve(1)?;
         let both = note_contact(self.alloc, &mut self.table, &contact, (0, 0))?;
         self.ends.push_reserved(Ends::of(both.0, both.1));
-        self.lights.clear();
         self.contacts.push_reserved(contact);
         self.largest = number;
+        self.openings.note_all(&self.contacts).is_ok();
         Ok(number)
     }
 
     /// Adds a contact, and returns its number: one more than the largest number ever assigned.
     ///
     /// Times are seconds since 1970-01-01T00:00:00Z, and `end` is at most 253370764799. The rate is in bytes per
-    /// second. An error leaves the plan as it was. It is a pass over the contacts.
+    /// second. An error leaves the plan as it was. The first
+    /// addition is a pass over the contacts, and later ones look the contact up by its sender, receiver and start.
     ///
     /// # Errors
     ///
@@ -84,7 +85,7 @@ impl<A: Allocator + Copy> Plan<A> {
         ensures ok { OnOk result (self.new.plan ≡ with_contact self.old.plan (next_contact self.old.plan from to start end rate)) }
         ensures err { OnErr result (self.new ≡ self.old) }
     {
-        let clashes = Contact::any_opens(&self.contacts, from, to, start);
+        let clashes = self.openings.has(&self.contacts, from, to, start);
         let opening = Opening { from, to, start };
         if let Some(fault) = opening.refusal(end, clashes, self.largest) {
             return Err(fault);

@@ -9,8 +9,8 @@ ghost use Rattle.sabr_model.specs.declared.fault.AddFault.TheVariants.{NothingTo
 ghost use Rattle.sabr_model.specs.plan.Adding.{number_of_opening, without_contact, begins, without_range};
 
 use super::Plan;
-use super::ends::look_up_ends;
-use crate::contact::{Contact, Range};
+use super::ends::remove_ends;
+use crate::contact::Range;
 use crate::fault::AddFault;
 use crate::node_table::forget_contact;
 use std::alloc::Allocator;
@@ -19,8 +19,8 @@ impl<A: Allocator + Copy> Plan<A> {
     /// Deletes the contact with this sender, receiver and start, and returns its number, which is never assigned again.
     /// The start is in seconds since 1970-01-01T00:00:00Z.
     ///
-    /// It doesn't allocate. Its time grows with the number of records. Afterwards reading a light time is a binary
-    /// search.
+    /// It doesn't allocate. It moves the later contacts. Unless the plan was changed by an addition before, it is a
+    /// pass over the contacts. If one of its nodes has no other contact, the nodes of all contacts are looked up.
     ///
     /// # Errors
     ///
@@ -30,14 +30,15 @@ impl<A: Allocator + Copy> Plan<A> {
         ensures ok { OnOk result (self.new.plan ≡ without_contact self.old.plan from to start) }
         ensures err { OnErr result (self.new ≡ self.old) }
     {
-        let Some(contact) = Contact::find(&self.contacts, from, to, start) else {
+        let Some(place) = self.openings.find(&self.contacts, from, to, start) else {
             return Err(AddFault::NothingToDelete);
         };
-        let contact = *contact;
-        self.lights.clear();
-        forget_contact(&mut self.table, &self.contacts, &contact);
-        self.contacts.retain(|c| !(c.number == contact.number));
-        look_up_ends(&self.table, &self.contacts, &mut self.ends);
+        let contact = self.contacts[place];
+        let kept = forget_contact(&mut self.table, &self.contacts, &contact);
+        self.contacts.remove(place);
+        remove_ends(&self.table, &self.contacts, &mut self.ends, place, kept);
+        self.lights.remove(place);
+        self.openings.remove(place);
         Ok(contact.number)
     }
 

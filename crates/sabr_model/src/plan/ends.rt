@@ -1,6 +1,6 @@
 //! The ends of contacts, as indexes in the table of nodes.
 
-ghost use Rattle.std.specs.Prelude.{◌≡◌, ◌<◌, ◌≤◌, ◌^◌, Some, IsTrue, length, slice_get, slice_index_or, vec_capacity};
+ghost use Rattle.std.specs.Prelude.{◌≡◌, ◌<◌, ◌≤◌, ◌^◌, Some, IsTrue, length, remove, slice_get, slice_index_or, vec_capacity};
 ghost use Rattle.indexmap.specs.IndexMap.{keys};
 ghost use Rattle.sabr_model.specs.declared.contact.Contact.{Contact};
 ghost use Rattle.sabr_model.specs.plan.Plan.{has, most_records};
@@ -53,7 +53,7 @@ impl<A: Allocator + Copy> Plan<A> {
 }
 
 /// Looks up the indexes of the nodes of each contact. It doesn't allocate.
-pub fn look_up_ends<A: Allocator + Copy>(
+fn look_up_ends<A: Allocator + Copy>(
     table: &NodeTable<A>,
     contacts: &[Contact],
     ends: &mut Vec<Ends, A>,
@@ -68,6 +68,29 @@ pub fn look_up_ends<A: Allocator + Copy>(
         let from = index_of(table, contact.from);
         let to = index_of(table, contact.to);
         ends.push_reserved(Ends::of(from, to));
+    }
+}
+
+/// Removes the ends of a contact that was deleted. Unless its nodes are `kept`, so that each node has its old index, all
+/// ends are looked up.
+pub fn remove_ends<A: Allocator + Copy>(
+    table: &NodeTable<A>,
+    contacts: &[Contact],
+    ends: &mut Vec<Ends, A>,
+    place: usize,
+    kept: bool,
+)
+    requires table { IsTableOf contacts.now table.now }
+    requires few { length contacts.now ≤ most_records }
+    requires room { length contacts.now ≤ vec_capacity ends.old }
+    requires place { place < length ends.old.items }
+    requires kept { IsTrue kept → AreEnds (keys table.now) contacts.now (remove ends.old.items place) }
+    ensures { AreEnds (keys table.now) contacts.now ends.new.items }
+{
+    if kept {
+        ends.remove(place);
+    } else {
+        look_up_ends(table, contacts, ends);
     }
 }
 

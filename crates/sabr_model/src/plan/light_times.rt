@@ -1,6 +1,6 @@
 //! A list of light times, in 32 bits each.
 
-ghost use Rattle.std.specs.Prelude.{◌≡◌, ◌≤◌, ◌<◌, [], IfSome, MatchOption, length, map, slice_index_or};
+ghost use Rattle.std.specs.Prelude.{◌≡◌, ◌≤◌, ◌<◌, [], IfSome, MatchOption, length, map, remove, slice_index_or};
 ghost use Rattle.sabr_model.specs.plan.Plan.{most_light};
 ghost use Rattle.sabr_model.specs.plan.Known.{light_of_word};
 
@@ -59,6 +59,15 @@ impl<A: Allocator + Copy> LightTimes<A> {
     {
         let word = *self.words.get(place)?;
         Some(if word == NO_LIGHT { None } else { Some(word) })
+    }
+
+    /// Removes the light time at an index, if the list is that long. The later ones move down.
+    pub fn remove(&mut self, place: usize)
+        ensures items { self.new ≡ remove self.old place }
+    {
+        if place < self.words.len() {
+            self.words.remove(place);
+        }
     }
 
     /// Removes all light times.

@@ -5,6 +5,7 @@ ghost use Rattle.sabr_model.specs.plan.Plan.{IsPlan};
 
 use super::Plan;
 use super::lights::lights_of;
+use super::openings::Openings;
 use crate::contact::{Contact, Range};
 use crate::fault::NoMemory;
 use crate::node_table::table_of;
@@ -37,6 +38,7 @@ impl<A: Allocator + Copy> Plan<A> {
             largest,
             ends,
             lights,
+            openings: Openings::new(alloc),
         })
     }
 }

@@ -1,9 +1,9 @@
 //! Finding the index of a contact by its number.
 
-ghost use Rattle.std.specs.Prelude.{◌≡◌, ℕ, ◌<◌, ◌≤◌, ◌-◌, ◌==◌, IsTrue, map, find, length, slice_index_or};
+ghost use Rattle.std.specs.Prelude.{◌≡◌, ℕ, ◌<◌, ◌≤◌, ◌-◌, ◌==◌, None, MatchOption, IsTrue, map, find, length, slice_get, slice_index_or};
 ghost use Rattle.std.specs.Option.{option_copied};
 ghost use Rattle.sabr_model.specs.declared.contact.Contact.{Contact};
-ghost use Rattle.sabr_model.specs.plan.Plan.{rises_above, IsPlaceOf};
+ghost use Rattle.sabr_model.specs.plan.Plan.{rises_above, opens, IsPlaceOf};
 
 use crate::contact::Contact;
 
@@ -73,6 +73,13 @@ fn halved_place(contacts: &[Contact], number: u32) -> Option<usize>
         }
     }
     None
+}
+
+/// Returns the index of the contact with this sender, receiver and start. It is a pass over the contacts.
+pub fn place_of_opening(contacts: &[Contact], from: u64, to: u64, start: u64) -> Option<usize>
+    ensures { MatchOption result (find (opens from to start) contacts.now ≡ None) (λ k. (k < length contacts.now) × (find (opens from to start) contacts.now ≡ slice_get contacts.now k)) }
+{
+    contacts.iter().position(|c| c.opens(from, to, start))
 }
 
 /// Finds the contact with this number, or returns `None`.

@@ -1,53 +1,114 @@
-use Rattle.std.proofs.Common.{◌≡◌, ◌∙◌, ap, sym, subst, not, eqb, rules, find, Some, List}
-use Rattle.std.proofs.lemmas.Fn.{filter_same}
+use Rattle.std.proofs.Common.{◌<◌, ◌-◌, ◌∙◌, cond, ltb, length, ap, sym, subst, not, eqb, arith, remove, List}
+use Rattle.std.specs.Prelude.{ok_or}
+use Rattle.std.specs.Option.{option_map}
+use Rattle.std.specs.declared.option.Option.{Option}
 use Rattle.indexmap.specs.IndexMap.{keys}
 use Rattle.sabr_model.specs.declared.contact.Contact.{Contact}
+use Rattle.sabr_model.specs.declared.fault.AddFault.TheVariants.{NothingToDelete}
 use Rattle.sabr_model.specs.plan.Plan.{ContactPlan, TabledPlan, opens}
-use Rattle.sabr_model.specs.plan.Adding.{without_contact}
+use Rattle.sabr_model.specs.plan.Adding.{number_of_opening, without_contact}
 use Rattle.sabr_model.specs.plan.ContactEnds.{AreEnds}
+use Rattle.sabr_model.specs.plan.Known.{BeginLights}
 use Rattle.sabr_model.proofs.PlanLemmas.Deletions.{found_by_number, without_opening, IsPlan-fewer_contacts}
-use Rattle.sabr_model.proofs.PlanLemmas.KnownLemmas.{ends_known}
 use Rattle.sabr_model.proofs.PlanLemmas.Limits.{few_contacts}
+use Rattle.sabr_model.specs.plan.Openings.{IsNoted}
+use Rattle.sabr_model.proofs.PlanLemmas.Noted.{noted_removed}
+use Rattle.sabr_model.proofs.PlanLemmas.Removed.{found_there, others, ends_removed, lights_removed}
 use Rattle.sabr_model.proofs.plan.Plan.delete_contact.Goals as goal
 
-pub forget_contact-requires : goal.forget_contact-requires
-forget_contact-requires g c =
+pub find-requires : goal.find-requires
+find-requires g c = rw c.deref.ensures.value (record { noted = c.self.invariant.3; numbered = c.self.invariant.0.numbers_rise })
+
+pub index-requires : goal.index-requires
+index-requires g c =
+    let lt = subst (λ (cs : List Contact). c.in-Some.place < length cs) c.deref.ensures.value c.in-Some.ensures.0 in
+    omega (arith, lt, c.self.inside.contacts.ok.0)
+
+pub forget_contact-kept-requires : goal.forget_contact-kept-requires
+forget_contact-kept-requires g c =
     let cs = c.self.inside.contacts.items in
-    let found : find (opens c.args.from c.args.to c.args.start) cs ≡ Some c.in-Some.contact.now = ap (find (opens c.args.from c.args.to c.args.start)) (sym c.deref.ensures.value) ∙ sym c.in-Some.ensures in
+    let x = c.index.result.now in
+    let there = found_there (opens c.args.from c.args.to c.args.start) cs c.deref.result.now c.in-Some.place x c.deref.ensures.value c.in-Some.ensures c.index.ensures in
     rw c.deref-2.ensures.value
-    (record {
-      numbered = c.self.invariant.0.numbers_rise;
-      stands = found_by_number 0 (opens c.args.from c.args.to c.args.start) cs c.in-Some.contact.now c.self.invariant.0.numbers_rise found;
-      table = c.self.invariant.1;
-    })
+    (record { numbered = c.self.invariant.0.numbers_rise; stands = found_by_number 0 (opens c.args.from c.args.to c.args.start) cs x c.self.invariant.0.numbers_rise there.1; table = c.self.invariant.1 })
 
-pub look_up_ends-requires-clause-table : goal.look_up_ends-requires-clause-table
-look_up_ends-requires-clause-table g c =
-    let kept = filter_same _ (λ (d : Contact). not (eqb d.number c.in-Some.contact.now.number)) _ (λ d b f' k. search rules) _ _ c.retain.ensures.filtered in
-    rw (c.deref-3.ensures.value, kept) (rw c.deref-2.ensures.value at c.forget_contact.ensures)
+pub remove-requires : goal.remove-requires
+remove-requires g c =
+    let cs = c.self.inside.contacts.items in
+    let x = c.index.result.now in
+    let there = found_there (opens c.args.from c.args.to c.args.start) cs c.deref.result.now c.in-Some.place x c.deref.ensures.value c.in-Some.ensures c.index.ensures in
+    let lt = there.0 in
+    omega (arith, lt, c.self.inside.contacts.ok.0)
 
-pub look_up_ends-requires-clause-few : goal.look_up_ends-requires-clause-few
-look_up_ends-requires-clause-few g c =
-    let p : ContactPlan = record { contacts = c.self.inside.contacts.items; ranges = c.self.inside.ranges.items; largest = c.self.inside.largest } in
-    let kept = filter_same _ (λ (d : Contact). not (eqb d.number c.in-Some.contact.now.number)) _ (λ d b f' k. search rules) _ _ c.retain.ensures.filtered in
-    rw (c.deref-3.ensures.value, kept) (few_contacts _ (IsPlan-fewer_contacts p (λ d. not (eqb d.number c.in-Some.contact.now.number)) c.self.invariant.0))
+pub remove_ends-requires-clause-table : goal.remove_ends-requires-clause-table
+remove_ends-requires-clause-table g c =
+    let cs = c.self.inside.contacts.items in
+    let x = c.index.result.now in
+    let there = found_there (opens c.args.from c.args.to c.args.start) cs c.deref.result.now c.in-Some.place x c.deref.ensures.value c.in-Some.ensures c.index.ensures in
+    let left = others cs c.in-Some.place x c.self.invariant.0.numbers_rise there.0 c.index.ensures in
+    rw (c.deref-3.ensures.value, c.remove.ensures.items, left) (rw c.deref-2.ensures.value at c.forget_contact-kept.ensures.table)
+
+pub remove_ends-requires-clause-few : goal.remove_ends-requires-clause-few
+remove_ends-requires-clause-few g c =
+    let cs = c.self.inside.contacts.items in
+    let x = c.index.result.now in
+    let there = found_there (opens c.args.from c.args.to c.args.start) cs c.deref.result.now c.in-Some.place x c.deref.ensures.value c.in-Some.ensures c.index.ensures in
+    let left = others cs c.in-Some.place x c.self.invariant.0.numbers_rise there.0 c.index.ensures in
+    let p : ContactPlan = record { contacts = cs; ranges = c.self.inside.ranges.items; largest = c.self.inside.largest } in
+    rw (c.deref-3.ensures.value, c.remove.ensures.items, left) (few_contacts _ (IsPlan-fewer_contacts p (λ d. not (eqb d.number x.number)) c.self.invariant.0))
+
+pub remove_ends-requires-clause-place : goal.remove_ends-requires-clause-place
+remove_ends-requires-clause-place g c =
+    let cs = c.self.inside.contacts.items in
+    let x = c.index.result.now in
+    let there = found_there (opens c.args.from c.args.to c.args.start) cs c.deref.result.now c.in-Some.place x c.deref.ensures.value c.in-Some.ensures c.index.ensures in
+    let lt = there.0 in
+    let many = c.self.invariant.2.ends.as_many in
+    omega (arith, lt, many)
+
+pub remove_ends-requires-clause-kept : goal.remove_ends-requires-clause-kept
+remove_ends-requires-clause-kept g c = λ same.
+    let cs = c.self.inside.contacts.items in
+    let x = c.index.result.now in
+    let there = found_there (opens c.args.from c.args.to c.args.start) cs c.deref.result.now c.in-Some.place x c.deref.ensures.value c.in-Some.ensures c.index.ensures in
+    rw (c.deref-3.ensures.value, c.remove.ensures.items, c.forget_contact-kept.ensures.kept same)
+    (ends_removed (keys c.self.inside.table) cs c.self.inside.ends.items c.in-Some.place there.0 c.self.invariant.2.ends)
 
 pub invariant_of-self : goal.invariant_of-self
 invariant_of-self g c =
-    let p : ContactPlan = record { contacts = c.self.inside.contacts.items; ranges = c.self.inside.ranges.items; largest = c.self.inside.largest } in
-    let kept = filter_same _ (λ (d : Contact). not (eqb d.number c.in-Some.contact.now.number)) _ (λ d b f' k. search rules) _ _ c.retain.ensures.filtered in
-    rw (kept, c.clear.ensures.items) (
-      IsPlan-fewer_contacts p (λ d. not (eqb d.number c.in-Some.contact.now.number)) c.self.invariant.0,
-      rw c.deref-2.ensures.value at c.forget_contact.ensures,
-      ends_known _ _ (subst (λ (ds : List Contact). AreEnds (keys c.forget_contact.new.table) ds c.look_up_ends.new.ends.items) (c.deref-3.ensures.value ∙ kept) c.look_up_ends.ensures),
+    let cs = c.self.inside.contacts.items in
+    let x = c.index.result.now in
+    let there = found_there (opens c.args.from c.args.to c.args.start) cs c.deref.result.now c.in-Some.place x c.deref.ensures.value c.in-Some.ensures c.index.ensures in
+    let left = others cs c.in-Some.place x c.self.invariant.0.numbers_rise there.0 c.index.ensures in
+    let p : ContactPlan = record { contacts = cs; ranges = c.self.inside.ranges.items; largest = c.self.inside.largest } in
+    let kept = c.remove.ensures.items ∙ left in
+    rw (kept, c.remove-2.ensures.items) (
+      IsPlan-fewer_contacts p (λ d. not (eqb d.number x.number)) c.self.invariant.0,
+      rw c.deref-2.ensures.value at c.forget_contact-kept.ensures.table,
+      record {
+        ends = subst (λ (ds : List Contact). AreEnds (keys c.forget_contact-kept.new.table) ds c.remove_ends.new.ends.items) (c.deref-3.ensures.value ∙ kept) c.remove_ends.ensures;
+        lights = subst (λ (ds : List Contact). BeginLights p.ranges ds (remove c.self.inside.lights c.in-Some.place)) left (lights_removed p.ranges cs c.self.inside.lights c.in-Some.place there.0 c.self.invariant.2.lights);
+      },
+      rw (c.remove-3.ensures.numbers, c.remove-3.ensures.noted)
+          (subst (λ (ds : List Contact). IsNoted c.self.inside.openings.numbers (cond (ltb c.in-Some.place c.self.inside.openings.noted) (c.self.inside.openings.noted - 1) c.self.inside.openings.noted) ds) left
+          (noted_removed c.self.inside.openings.numbers c.self.inside.openings.noted cs c.self.invariant.3 c.in-Some.place there.0)),
     )
+
+pub returns-clause-value : goal.returns-clause-value
+returns-clause-value g c =
+    let cs = c.self.inside.contacts.items in
+    let x = c.index.result.now in
+    let there = found_there (opens c.args.from c.args.to c.args.start) cs c.deref.result.now c.in-Some.place x c.deref.ensures.value c.in-Some.ensures c.index.ensures in
+    ap (λ (o : Option Contact). ok_or (option_map (λ (d : Contact). d.number) o) NothingToDelete) (sym there.1)
+    ∙ ap (λ (q : TabledPlan). ok_or (number_of_opening q.plan c.args.from c.args.to c.args.start) NothingToDelete) c.self.view_is
 
 pub returns-clause-ok : goal.returns-clause-ok
 returns-clause-ok g c =
-    let p : ContactPlan = record { contacts = c.self.inside.contacts.items; ranges = c.self.inside.ranges.items; largest = c.self.inside.largest } in
-    let kept = filter_same _ (λ (d : Contact). not (eqb d.number c.in-Some.contact.now.number)) _ (λ d b f' k. search rules) _ _ c.retain.ensures.filtered in
     let cs = c.self.inside.contacts.items in
-    let found : find (opens c.args.from c.args.to c.args.start) cs ≡ Some c.in-Some.contact.now = ap (find (opens c.args.from c.args.to c.args.start)) (sym c.deref.ensures.value) ∙ sym c.in-Some.ensures in
-    ap (λ (xs : List Contact). let q : ContactPlan = record { contacts = xs; ranges = c.self.inside.ranges.items; largest = c.self.inside.largest } in q)
-    (kept ∙ sym (without_opening p c.args.from c.args.to c.args.start c.in-Some.contact.now c.self.invariant.0 found))
+    let x = c.index.result.now in
+    let there = found_there (opens c.args.from c.args.to c.args.start) cs c.deref.result.now c.in-Some.place x c.deref.ensures.value c.in-Some.ensures c.index.ensures in
+    let left = others cs c.in-Some.place x c.self.invariant.0.numbers_rise there.0 c.index.ensures in
+    let p : ContactPlan = record { contacts = cs; ranges = c.self.inside.ranges.items; largest = c.self.inside.largest } in
+    ap (λ (xs : List Contact). let q : ContactPlan = record { contacts = xs; ranges = p.ranges; largest = p.largest } in q)
+    (c.remove.ensures.items ∙ left ∙ sym (without_opening p c.args.from c.args.to c.args.start x c.self.invariant.0 there.1))
     ∙ ap (λ (q : TabledPlan). without_contact q.plan c.args.from c.args.to c.args.start) c.self.view_is

@@ -10,7 +10,7 @@ pub invariant_of-self : goal.invariant_of-self
 invariant_of-self g c =
     let p : ContactPlan = record { contacts = c.self.inside.contacts.items; ranges = c.self.inside.ranges.items; largest = c.self.inside.largest } in
     let kept = filter_same _ (λ r. not (begins c.args.one c.args.other c.args.start r)) _ (λ r b f' k. search rules) _ _ c.retain.ensures.filtered in
-    rw (kept, c.clear.ensures.items) (IsPlan-fewer_ranges p (λ r. not (begins c.args.one c.args.other c.args.start r)) c.self.invariant.0, c.self.invariant.1, ends_known _ _ c.self.invariant.2.ends)
+    rw (kept, c.clear.ensures.items) (IsPlan-fewer_ranges p (λ r. not (begins c.args.one c.args.other c.args.start r)) c.self.invariant.0, c.self.invariant.1, ends_known _ _ c.self.invariant.2.ends, c.self.invariant.3)
 
 pub returns-clause-ok : goal.returns-clause-ok
 returns-clause-ok g c =

@@ -10,6 +10,7 @@ use Rattle.sabr_model.specs.plan.ContactEnds.{AreEnds}
 use Rattle.sabr_model.specs.plan.Known.{BeginLights}
 use Rattle.sabr_model.proofs.PlanLemmas.RangeOrder.{range_list}
 use Rattle.sabr_model.proofs.PlanLemmas.Limits.{few_contacts}
+use Rattle.sabr_model.proofs.PlanLemmas.Noted.{noted_none}
 use Rattle.sabr_model.proofs.plan.Plan.of_parts.Goals as goal
 
 pub table_of-requires : goal.table_of-requires
@@ -36,4 +37,5 @@ invariant_of-result g c =
         ends = subst (λ (cs : List Contact). AreEnds (keys table) cs c.in_ok-table.ends.items) lent c.in_ok-table.ensures.ends;
         lights = subst (λ (rs : List Range). BeginLights rs c.args.contacts.items lights) c.deref-3.ensures.value (subst (λ (cs : List Contact). BeginLights c.deref-3.result.now cs lights) c.deref-2.ensures.value (c.in_ok-lights.ensures {u = tt}).each);
       },
+      noted_none _ _ _ c.new.ensures,
     )

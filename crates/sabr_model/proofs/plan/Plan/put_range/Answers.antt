@@ -23,7 +23,7 @@ invariant_of-self-2 g c =
     let put : insert p.ranges place c.args.range ≡ put_in by_range_key c.args.range p.ranges =
     count_is_put p c.args.range place c.self.invariant.0 accept (rw (lent, c.key.ensures) at c.ranges_until-place.ensures) in
     rw (c.in_ok-insert.ensures.items, put, c.clear.ensures.items)
-    (IsPlan-range p c.args.range c.self.invariant.0 (c.requires.one, omega arith) (c.requires.other, omega arith) c.requires.end c.requires.light accept, c.self.invariant.1, ends_known _ _ c.self.invariant.2.ends)
+    (IsPlan-range p c.args.range c.self.invariant.0 (c.requires.one, omega arith) (c.requires.other, omega arith) c.requires.end c.requires.light accept, c.self.invariant.1, ends_known _ _ c.self.invariant.2.ends, c.self.invariant.3)
 
 pub returns-clause-ok : goal.returns-clause-ok
 returns-clause-ok g c =
