@@ -61,7 +61,7 @@ impl<A: Allocator + Copy> Tree<A> {
         ensures some { IfSome result (λ x. IsNext self.now.nodes.items x.now) }
         ensures none { IfNone result (CarriesNone self.now.nodes.items) }
     {
-        carried(self.nodes.as_slice(), self.least()?)
+        carried(self.nodes.as_slice(), self.best_node()?)
     }
 
     /// Returns true if each part carries its best route: one search for each. It allocates what a search does.

@@ -1,10 +1,10 @@
 //! Giving the best routes that a tree carries, one after another.
 
 mod divide;
+mod give_last;
 mod give_next;
 mod give_page;
 pub mod other_way;
 pub mod route_front;
 pub mod searcher;
-mod show_next;
 mod smallest_keys;

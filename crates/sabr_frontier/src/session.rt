@@ -91,7 +91,7 @@ impl<'p, B: BestOf<A>, A: Allocator + Copy> Session<'p, B, A> {
         let mut searcher = Searcher::over(alloc, index, request, finder);
         let found = searcher.find_best(&[], &[], 0, None)?;
         let tree = Tree::root(alloc, found)?;
-        searcher.take_sum();
+        searcher.take_looks();
         Ok(Session {
             searcher,
             tree,
@@ -160,25 +160,24 @@ impl<'p, B: BestOf<A>, A: Allocator + Copy> Session<'p, B, A> {
         ensures at_most { OnErr result (self.new.calls.count ≤ self.old.calls.count + page_searches self.old count) }
         ensures free { (count ≡ 0) ⊎ (next_route self.old.plan.plan self.old.request self.old.state ≡ None) → IsOk result }
     {
-        let mut given = Vec::new(self.searcher.alloc());
         if count == 0 || self.tree.is_empty() {
             self.searches = 0;
             self.looks = 0;
-            return Ok(given);
+            return Ok(Vec::new(self.searcher.alloc()));
         }
         self.pages.reserve(1)?;
         let start = self.tree.journal.len();
-        match self.tree.give_page(&mut self.searcher, count, &mut given) {
-            Ok(searches) => {
-                self.tree.settle(self.searcher.alloc());
+        match self.tree.give_page(&mut self.searcher, count) {
+            Ok(page) => {
+                self.tree.merge_new(self.searcher.alloc());
                 self.pages.push_reserved(start);
-                self.searches = searches;
-                self.looks = self.searcher.take_sum();
-                Ok(given)
+                self.searches = page.searches;
+                self.looks = self.searcher.take_looks();
+                Ok(page.routes)
             }
             Err(refused) => {
                 self.tree.undo_to(start);
-                self.searcher.take_sum();
+                self.searcher.take_looks();
                 Err(refused)
             }
         }
@@ -225,7 +224,7 @@ impl<'p, B: BestOf<A>, A: Allocator + Copy> Session<'p, B, A> {
         ensures ok { IfOk result (λ yes. IsTrue yes ↔ (self.old.state ≡ state_at self.old.plan.plan self.old.request self.old.state.emitted)) }
     {
         let placed = self.tree.is_placed(&mut self.searcher);
-        self.searcher.take_sum();
+        self.searcher.take_looks();
         placed
     }
 

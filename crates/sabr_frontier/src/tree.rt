@@ -1,12 +1,12 @@
 //! The parts of a listing as nodes in one vector, with the routes given and a journal of the changes.
 
-mod change;
+pub mod change;
 pub mod excluded_numbers;
 pub mod index;
 pub mod places;
 mod root;
 mod shifting;
-mod undo;
+pub mod undo;
 pub mod winners;
 
 use crate::tree::excluded_numbers::ExcludedNumbers;

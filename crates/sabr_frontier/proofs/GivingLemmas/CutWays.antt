@@ -10,7 +10,7 @@ use Rattle.sabr_model.specs.plan.Plan.{IsPlan}
 use Rattle.sabr_model.specs.routes.Record.{RouteRecord, by_record, record_of}
 use Rattle.sabr_search.specs.declared.bound.Bound.{Bound}
 use Rattle.sabr_search.specs.questions.Bounded.{is_up_to}
-use Rattle.sabr_frontier.specs.declared.giving.give_next.Step.{Step}
+use Rattle.sabr_frontier.specs.declared.giving.give_next.GivenRoute.{GivenRoute}
 use Rattle.sabr_frontier.specs.declared.tree.Node.{Node}
 use Rattle.sabr_frontier.specs.giving.SmallestKeys.{AreNoted, IsBoundOf, SeenKeys, carried_keys, key_hops, key_of, keys_of}
 use Rattle.sabr_frontier.specs.listing.Listing.{searches_in}
@@ -111,11 +111,11 @@ module _ {A : Type 0} (b : ℕ) where
   changed_up_to f (m ∷ nodes) (suc i) n e =
       omega (arith, changed_up_to f nodes i n e, up_to-append b (keys_of m.route) (carried_keys nodes), up_to-append b (keys_of m.route) (carried_keys (modify f nodes i)))
 
-drop_at : {X : Type 0} (xs ys : List X) → drop (length xs) (xs ++ ys) ≡ ys
+pub drop_at : {X : Type 0} (xs ys : List X) → drop (length xs) (xs ++ ys) ≡ ys
 drop_at [] ys = refl
 drop_at (x ∷ xs) ys = drop_at xs ys
 
-module _ {A : Type 0} {best : List ℕ → List ℕ → Option RouteRecord} {t u : Shape A} {before after : List RouteRecord} {step : Step} (w : IsNextGiven best t u before after step) where
+module _ {A : Type 0} {best : List ℕ → List ℕ → Option RouteRecord} {t u : Shape A} {step : GivenRoute} (w : IsNextGiven best t u step) where
   abbrev change : Node A → Node A
   change = widened (wide_of w.part w.route.contacts) (best (take w.part.length w.route.contacts) (wide_of w.part w.route.contacts))
 
@@ -160,9 +160,9 @@ module _ {A : Type 0} {best : List ℕ → List ℕ → Option RouteRecord} {t u
 
 -- where the loop is: what is given, and what k further steps give, is what all steps give from the state s; and the keys are
 -- of routes that were given or are carried
-pub record IsCutWay {A : Type 0} (a : Asked) (s : State) (all : ℕ) (before : List RouteRecord) (start k : ℕ) (t : Shape A) (given : List RouteRecord) (calls : ℕ) (keys : SeenKeys) : Type 0 where
+pub record IsCutWay {A : Type 0} (a : Asked) (s : State) (all : ℕ) (before : List RouteRecord) (start k : ℕ) (t : Shape A) (calls : ℕ) (keys : SeenKeys) : Type 0 where
   pub state : State
-  pub routes : given ++ records_for a (steps_for a k state).0 ≡ before ++ records_for a (steps_for a all s).0
+  pub routes : t.leaves ++ records_for a (steps_for a k state).0 ≡ before ++ records_for a (steps_for a all s).0
   pub reaches : (steps_for a k state).1 ≡ (steps_for a all s).1
   pub shows : ShowsCut a (suc (suc k)) state t
   pub searches : calls + searches_in a.plan.plan a.request k state ≡ start + searches_in a.plan.plan a.request all s
@@ -170,11 +170,11 @@ pub record IsCutWay {A : Type 0} (a : Asked) (s : State) (all : ℕ) (before : L
   pub most : keys.most ≡ all + 2
   pub kept : (b : ℕ) → up_to b keys.keys ≤ (all - k) + up_to b (carried_keys t.nodes)
 
-pub way_first : {A : Type 0} (a : Asked) (all k : ℕ) (t : Shape A) (given : List RouteRecord) (calls : ℕ) (none keys : SeenKeys) → k ≡ all → IsTree a.plan.plan a.request t
-    → none ≡ record { most = all + 2; keys = [] } → AreNoted none (carried_keys t.nodes) keys → IsCutWay a (shown t) all given calls k t given calls keys
-way_first a all k t given calls none keys e is new noted = record {
+pub way_first : {A : Type 0} (a : Asked) (all k : ℕ) (t : Shape A) (calls : ℕ) (none keys : SeenKeys) → k ≡ all → IsTree a.plan.plan a.request t
+    → none ≡ record { most = all + 2; keys = [] } → AreNoted none (carried_keys t.nodes) keys → IsCutWay a (shown t) all t.leaves calls k t calls keys
+way_first a all k t calls none keys e is new noted = record {
   state = shown t;
-  routes = ap (λ n. given ++ records_for a (steps_for a n (shown t)).0) e;
+  routes = ap (λ n. t.leaves ++ records_for a (steps_for a n (shown t)).0) e;
   reaches = ap (λ n. (steps_for a n (shown t)).1) e;
   shows = cut_first a (suc (suc k)) t is;
   searches = ap (λ n. calls + searches_in a.plan.plan a.request n (shown t)) e;
@@ -184,15 +184,15 @@ way_first a all k t given calls none keys e is new noted = record {
 }
 
 -- the turn of the loop is that of the state
-module _ {A : Type 0} {a : Asked} (good : IsPlan a.plan.plan) {s : State} {all : ℕ} {before : List RouteRecord} {start : ℕ} (k : ℕ) {t : Shape A} {given : List RouteRecord} {calls : ℕ} {keys : SeenKeys}
-    (way : IsCutWay a s all before start (suc k) t given calls keys) (b : Option Bound) (bound : IsBoundOf keys b) {u : Shape A} {new : List RouteRecord} {step : Step} (w : IsNextGiven (best_for a b) t u given new step) where
-  pub turn_is : IsTurn a (suc (suc k)) way.state u given new step
+module _ {A : Type 0} {a : Asked} (good : IsPlan a.plan.plan) {s : State} {all : ℕ} {before : List RouteRecord} {start : ℕ} (k : ℕ) {t : Shape A} {calls : ℕ} {keys : SeenKeys}
+    (way : IsCutWay a s all before start (suc k) t calls keys) (b : Option Bound) (bound : IsBoundOf keys b) {u : Shape A} {step : GivenRoute} (w : IsNextGiven (best_for a b) t u step) where
+  pub turn_is : IsTurn a (suc (suc k)) way.state t u step
   turn_is =
       let few = way.few in
       let most = way.most in
-      cut_turn a b (suc (suc k)) way.state t u given new step good way.shows (bound_for b (suc (suc (suc k))) (all - suc k) keys t.nodes (omega (arith, few, most)) bound way.kept) w
+      cut_turn a b (suc (suc k)) way.state t u step good way.shows (bound_for b (suc (suc (suc k))) (all - suc k) keys t.nodes (omega (arith, few, most)) bound way.kept) w
 
-  pub way_on : (now : ℕ) → now ≡ calls + step.searches → (then : SeenKeys) → OfNode u.nodes step.node (λ m. AreNoted keys (keys_of m.route ++ carried_keys (drop step.first u.nodes)) then) → IsCutWay a s all before start k u new now then
+  pub way_on : (now : ℕ) → now ≡ calls + step.searches → (then : SeenKeys) → OfNode u.nodes step.node (λ m. AreNoted keys (keys_of m.route ++ carried_keys (drop step.first u.nodes)) then) → IsCutWay a s all before start k u now then
   way_on now called then noted =
       let p = a.plan.plan in
       let r = a.request in
@@ -204,7 +204,7 @@ module _ {A : Type 0} {a : Asked} (good : IsPlan a.plan.plan) {s : State} {all :
       let sum = way.searches in
       record {
         state = next.1;
-        routes = ap (λ z. z ++ more) turn_is.given ∙ append_assoc given (record_of p r next.0 ∷ []) more ∙ ap (λ (z : List (List ℕ) × State). given ++ records_for a z.0) (sym go) ∙ way.routes;
+        routes = ap (λ z. z ++ more) turn_is.leaves ∙ append_assoc t.leaves (record_of p r next.0 ∷ []) more ∙ ap (λ (z : List (List ℕ) × State). t.leaves ++ records_for a z.0) (sym go) ∙ way.routes;
         reaches = ap (λ (z : List (List ℕ) × State). z.1) (sym go) ∙ way.reaches;
         shows = turn_is.then;
         searches = omega (arith, called, counts, sum, turn_is.searches);
@@ -214,14 +214,14 @@ module _ {A : Type 0} {a : Asked} (good : IsPlan a.plan.plan) {s : State} {all :
       }
 
 -- the loop ends after all steps, or if no node carries a route
-pub record IsCutEnd {A : Type 0} (a : Asked) (s : State) (all : ℕ) (before : List RouteRecord) (start : ℕ) (t : Shape A) (given : List RouteRecord) (calls : ℕ) : Type 0 where
-  pub routes : given ≡ before ++ records_for a (steps_for a all s).0
+pub record IsCutEnd {A : Type 0} (a : Asked) (s : State) (all : ℕ) (before : List RouteRecord) (start : ℕ) (t : Shape A) (calls : ℕ) : Type 0 where
+  pub routes : t.leaves ≡ before ++ records_for a (steps_for a all s).0
   pub state : ShowsCut a 2 (steps_for a all s).1 t
   pub searches : calls ≡ start + searches_in a.plan.plan a.request all s
 
-pub way_end : {A : Type 0} {a : Asked} {s : State} {all : ℕ} {before : List RouteRecord} {start k : ℕ} {t : Shape A} {given : List RouteRecord} {calls : ℕ} {keys : SeenKeys} → IsPlan a.plan.plan
-    → IsCutWay a s all before start k t given calls keys → (k ≡ 0) ⊎ CarriesNone t.nodes → IsCutEnd a s all before start t given calls
-way_end {a = a} {k = k} {t = t} {given = given} good way none =
+pub way_end : {A : Type 0} {a : Asked} {s : State} {all : ℕ} {before : List RouteRecord} {start k : ℕ} {t : Shape A} {calls : ℕ} {keys : SeenKeys} → IsPlan a.plan.plan
+    → IsCutWay a s all before start k t calls keys → (k ≡ 0) ⊎ CarriesNone t.nodes → IsCutEnd a s all before start t calls
+way_end {a = a} {k = k} {t = t} good way none =
     let p = a.plan.plan in
     let r = a.request in
     let idle : steps_for a k way.state ≡ ([], way.state) = elim none [
@@ -234,7 +234,7 @@ way_end {a = a} {k = k} {t = t} {given = given} good way none =
     ] in
     let sum = way.searches in
     record {
-      routes = sym (append-nil given) ∙ ap (λ (z : List (List ℕ) × State). given ++ records_for a z.0) (sym idle) ∙ way.routes;
+      routes = sym (append-nil t.leaves) ∙ ap (λ (z : List (List ℕ) × State). t.leaves ++ records_for a z.0) (sym idle) ∙ way.routes;
       state = subst (λ z. ShowsCut a 2 z t) (ap (λ (z : List (List ℕ) × State). z.1) (sym idle) ∙ way.reaches) (cut_weaker a (suc (suc k)) 2 way.state t (omega arith) way.shows);
       searches = omega (arith, sum, still);
     }

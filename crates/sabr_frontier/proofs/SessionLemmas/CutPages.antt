@@ -9,7 +9,7 @@ use Rattle.sabr_model.specs.plan.Plan.{ContactPlan, IsPlan}
 use Rattle.sabr_model.specs.routes.Arrival.{RouteRequest}
 use Rattle.sabr_model.specs.routes.Record.{RouteRecord, by_record, record_of}
 use Rattle.sabr_search.specs.declared.bound.Bound.{Bound}
-use Rattle.sabr_frontier.specs.declared.giving.give_next.Step.{Step}
+use Rattle.sabr_frontier.specs.declared.giving.give_next.GivenRoute.{GivenRoute}
 use Rattle.sabr_frontier.specs.declared.tree.Node.{Node}
 use Rattle.sabr_frontier.specs.declared.tree.NodeId.{NodeId}
 use Rattle.sabr_frontier.specs.giving.Detours.{CarriesNoOther, HasLooks}
@@ -32,10 +32,10 @@ use Rattle.sabr_frontier.proofs.SessionLemmas.LeftSteps.{left_after, one_step_is
 use Rattle.sabr_frontier.proofs.SessionLemmas.Pages.{counts_one, counts_stop, given_by, nothing_carried, nothing_given, steps_stop}
 
 -- giving the least route that a node of the tree carries is the step of the state, and leaves a tree of the state then
-pub record IsTurn {A : Type 0} (a : Asked) (k : ℕ) (s : State) (v : Shape A) (before after : List RouteRecord) (step : Step) : Type 0 where
+pub record IsTurn {A : Type 0} (a : Asked) (k : ℕ) (s : State) (t v : Shape A) (step : GivenRoute) : Type 0 where
   pub next : List ℕ × State
   pub is : one_step a.plan.plan a.request s ≡ Some next
-  pub given : after ≡ before ++ record_of a.plan.plan a.request next.0 ∷ []
+  pub leaves : v.leaves ≡ t.leaves ++ record_of a.plan.plan a.request next.0 ∷ []
   pub searches : step.searches ≡ searches_for s next.0
   pub then : ShowsCut a k next.1 v
 
@@ -61,9 +61,8 @@ module _ {A : Type 0} (p : ContactPlan) (r : RouteRequest) (k : ℕ) (u t : Shap
   stands_whole : slice_get u.nodes node.0 ≡ Some n
   stands_whole = stands_in (suc k) t.nodes u.nodes t.nodes h.nodes node n x stands carries
 
-pub cut_turn : {A : Type 0} (a : Asked) (o : Option Bound) (k : ℕ) (s : State) (t v : Shape A) (before after : List RouteRecord) (step : Step)
-    → IsPlan a.plan.plan → ShowsCut a (suc k) s t → IsBoundFor o (suc k) t.nodes → IsNextGiven (best_for a o) t v before after step → IsTurn a k s v before after step
-cut_turn a o k s t v before after step good h bound taken =
+pub cut_turn : {A : Type 0} (a : Asked) (o : Option Bound) (k : ℕ) (s : State) (t v : Shape A) (step : GivenRoute) → IsPlan a.plan.plan → ShowsCut a (suc k) s t → IsBoundFor o (suc k) t.nodes → IsNextGiven (best_for a o) t v step → IsTurn a k s t v step
+cut_turn a o k s t v step good h bound taken =
     let p = a.plan.plan in
     let r = a.request in
     let u = h.0 in
@@ -78,7 +77,7 @@ cut_turn a o k s t v before after step good h bound taken =
     record {
       next = (x.contacts, shown D);
       is = ap (one_step p r) h.1 ∙ g.stepped;
-      given = taken.given ∙ ap (λ (z : RouteRecord). before ++ z ∷ []) g.told;
+      leaves = ap (λ (z : Shape _). z.leaves) taken.shape ∙ ap (λ (z : RouteRecord). t.leaves ++ z ∷ []) g.told;
       searches = taken.counted ∙ sym (ap (λ z. searches_for z x.contacts) h.1 ∙ searches_are p r u h.2.sound node taken.part x stands taken.carries);
       then = (D, refl, subst (IsCutTree p r k D) (sym taken.shape) cut);
     }

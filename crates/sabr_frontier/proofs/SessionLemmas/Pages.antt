@@ -4,7 +4,7 @@ use Rattle.sabr_model.specs.plan.Plan.{ContactPlan, IsPlan}
 use Rattle.sabr_model.specs.routes.Arrival.{RouteRequest}
 use Rattle.sabr_model.specs.routes.Record.{RouteRecord, record_of}
 use Rattle.sabr_search.specs.declared.bound.Bound.{Bound}
-use Rattle.sabr_frontier.specs.declared.giving.give_next.Step.{Step}
+use Rattle.sabr_frontier.specs.declared.giving.give_next.GivenRoute.{GivenRoute}
 use Rattle.sabr_frontier.specs.declared.tree.NodeId.{NodeId}
 use Rattle.sabr_frontier.specs.declared.tree.Node.{Node}
 use Rattle.sabr_frontier.specs.listing.State.{State, PartState, Member}
@@ -40,14 +40,15 @@ pub new_nodes : (A : Type 0) (best : List ℕ → List ℕ → Option RouteRecor
 new_nodes A best leaf s d l = omega (arith, length_fresh A best leaf (take (d + 1) s) (drop (d + 1) s), length-drop (d + 1) s)
 
 -- with the same question the searches answer the same routes
-pub given_same : {A : Type 0} {a b : Asked} {t u : Shape A} {before after : List RouteRecord} {step : Step} (o : Option Bound) → b ≡ a → IsNextGiven (best_for b o) t u before after step → IsNextGiven (best_for a o) t u before after step
-given_same {t = t} {u = u} {before = before} {after = after} {step = step} o same w = subst (λ (z : Asked). IsNextGiven (best_for z o) t u before after step) same w
+pub given_same : {A : Type 0} {a b : Asked} {t u : Shape A} {step : GivenRoute} (o : Option Bound) → b ≡ a → IsNextGiven (best_for b o) t u step → IsNextGiven (best_for a o) t u step
+given_same {t = t} {u = u} {step = step} o same w = subst (λ (z : Asked). IsNextGiven (best_for z o) t u step) same w
 
 -- a step from one tree to another is the step of the state, and can be undone
 pub record IsGiven {A : Type 0} (p : ContactPlan) (r : RouteRequest) (t u : Shape A) : Type 0 where
   pub route : RouteRecord
   pub next : next_route p r (shown t) ≡ Some route.contacts
   pub told : route ≡ record_of p r route.contacts
+  pub leaves : u.leaves ≡ t.leaves ++ route ∷ []
   pub stepped : one_step p r (shown t) ≡ Some (route.contacts, shown u)
   pub sound : IsTree p r u
   pub entries : length u.journal ≡ length t.journal + 1
@@ -62,6 +63,7 @@ module _ {A : Type 0} (p : ContactPlan) (r : RouteRequest) (good : IsPlan p) (t 
       route = x;
       next = next_is p r t is node n x stands carries least;
       told = record_is p r t is node n x stands carries;
+      leaves = refl;
       stepped = ap (option_map (given (is_route p r) (least_in p r) (shown t))) (next_is p r t is node n x stands carries least)
           ∙ (λ i. Some (x.contacts, sym (shown_divided p r t is node n x stands carries) i));
       sound = tree_divided p r good t is node n x stands carries;
@@ -71,10 +73,10 @@ module _ {A : Type 0} (p : ContactPlan) (r : RouteRequest) (good : IsPlan p) (t 
       can = can_undo p r good t is node n x stands carries;
     }
 
-  pub is_given : (u : Shape A) (before after : List RouteRecord) (step : Step) → IsNextGiven (best_of p r) t u before after step → (g : IsGiven p r t u) × (after ≡ before ++ g.route ∷ []) × (step.searches ≡ searches_for (shown t) g.route.contacts)
-  is_given u before after step w =
-      let Q = λ (z : Shape A). (g : IsGiven p r t z) × (after ≡ before ++ g.route ∷ []) × (step.searches ≡ searches_for (shown t) g.route.contacts) in
-      subst Q (sym w.shape) (given_by step.node w.part w.route w.stands w.carries w.least, w.given, w.counted ∙ sym (searches_are p r t is step.node w.part w.route w.stands w.carries))
+  pub is_given : (u : Shape A) (step : GivenRoute) → IsNextGiven (best_of p r) t u step → (g : IsGiven p r t u) × (step.searches ≡ searches_for (shown t) g.route.contacts)
+  is_given u step w =
+      let Q = λ (z : Shape A). (g : IsGiven p r t z) × (step.searches ≡ searches_for (shown t) g.route.contacts) in
+      subst Q (sym w.shape) (given_by step.node w.part w.route w.stands w.carries w.least, w.counted ∙ sym (searches_are p r t is step.node w.part w.route w.stands w.carries))
 
   -- where some node carries a route, a step can be made
   pub some_given : CarriesSome t.nodes → (u : Shape A) × IsGiven p r t u
@@ -155,19 +157,19 @@ module _ {A : Type 0} (p : ContactPlan) (r : RouteRequest) where
 -- ---- the loop of a page
 
 -- where the loop is: what is given, and what k further steps give, is what all steps give from the state s
-pub record IsOnTheWay {A : Type 0} (p : ContactPlan) (r : RouteRequest) (s : State) (all : ℕ) (first : Shape A) (before : List RouteRecord) (k : ℕ) (t : Shape A) (given : List RouteRecord) : Type 0 where
-  pub routes : given ++ map (record_of p r) (steps p r k (shown t)).0 ≡ before ++ map (record_of p r) (steps p r all s).0
+pub record IsOnTheWay {A : Type 0} (p : ContactPlan) (r : RouteRequest) (s : State) (all : ℕ) (first : Shape A) (k : ℕ) (t : Shape A) : Type 0 where
+  pub routes : t.leaves ++ map (record_of p r) (steps p r k (shown t)).0 ≡ first.leaves ++ map (record_of p r) (steps p r all s).0
   pub state : (steps p r k (shown t)).1 ≡ (steps p r all s).1
   pub sound : IsSound p r t
   pub longer : length first.journal ≤ length t.journal
   pub back : tree_before (length first.journal) t ≡ first
   pub entries : length t.journal + length (steps p r k (shown t)).0 ≡ length first.journal + length (steps p r all s).0
 
-pub at_first : {A : Type 0} (p : ContactPlan) (r : RouteRequest) (all k : ℕ) (t : Shape A) (given : List RouteRecord) → k ≡ all → IsSound p r t → IsOnTheWay p r (shown t) all t given k t given
-at_first p r all k t given e h =
+pub at_first : {A : Type 0} (p : ContactPlan) (r : RouteRequest) (all k : ℕ) (t : Shape A) → k ≡ all → IsSound p r t → IsOnTheWay p r (shown t) all t k t
+at_first p r all k t e h =
     let none : length t.journal - length t.journal ≡ 0 = omega arith in
     record {
-      routes = ap (λ n. given ++ map (record_of p r) (steps p r n (shown t)).0) e;
+      routes = ap (λ n. t.leaves ++ map (record_of p r) (steps p r n (shown t)).0) e;
       state = ap (λ n. (steps p r n (shown t)).1) e;
       sound = h;
       longer = omega arith;
@@ -175,15 +177,14 @@ at_first p r all k t given e h =
       entries = ap (λ n. length t.journal + length (steps p r n (shown t)).0) e;
     }
 
-pub one_on : {A : Type 0} (p : ContactPlan) (r : RouteRequest) (s : State) (all : ℕ) (first : Shape A) (before : List RouteRecord) (k : ℕ) (t u : Shape A) (given new : List RouteRecord) (g : IsGiven p r t u)
-    → new ≡ given ++ g.route ∷ [] → IsOnTheWay p r s all first before (suc k) t given → IsOnTheWay p r s all first before k u new
-one_on p r s all first before k t u given new g e h =
+pub one_on : {A : Type 0} (p : ContactPlan) (r : RouteRequest) (s : State) (all : ℕ) (first : Shape A) (k : ℕ) (t u : Shape A) (g : IsGiven p r t u) → IsOnTheWay p r s all first (suc k) t → IsOnTheWay p r s all first k u
+one_on p r s all first k t u g h =
     let go = steps_go p r (shown t) (shown u) g.route.contacts k g.stepped in
     record {
-      routes = ap (λ z. z ++ map (record_of p r) (steps p r k (shown u)).0) e
-          ∙ append_assoc given (g.route ∷ []) (map (record_of p r) (steps p r k (shown u)).0)
-          ∙ ap (λ (z : RouteRecord). given ++ z ∷ map (record_of p r) (steps p r k (shown u)).0) g.told
-          ∙ ap (λ (z : List (List ℕ) × State). given ++ map (record_of p r) z.0) (sym go)
+      routes = ap (λ z. z ++ map (record_of p r) (steps p r k (shown u)).0) g.leaves
+          ∙ append_assoc t.leaves (g.route ∷ []) (map (record_of p r) (steps p r k (shown u)).0)
+          ∙ ap (λ (z : RouteRecord). t.leaves ++ z ∷ map (record_of p r) (steps p r k (shown u)).0) g.told
+          ∙ ap (λ (z : List (List ℕ) × State). t.leaves ++ map (record_of p r) z.0) (sym go)
           ∙ h.routes;
       state = ap (λ (z : List (List ℕ) × State). z.1) (sym go) ∙ h.state;
       sound = sound_taken p r t u g h.sound;
@@ -219,18 +220,17 @@ module _ {A : Type 0} (p : ContactPlan) (r : RouteRequest) (good : IsPlan p) (t 
   more_is false none some = let w = some refl in sym (ap is_some (next_carried p r good t tree_is w.0 w.1).0)
 
 -- what all steps gave
-pub record IsAllGiven {A : Type 0} (p : ContactPlan) (r : RouteRequest) (s : State) (all : ℕ) (first : Shape A) (before : List RouteRecord) (t : Shape A) (given : List RouteRecord) : Type 0 where
-  pub routes : given ≡ before ++ map (record_of p r) (steps p r all s).0
+pub record IsAllGiven {A : Type 0} (p : ContactPlan) (r : RouteRequest) (s : State) (all : ℕ) (first t : Shape A) : Type 0 where
+  pub routes : t.leaves ≡ first.leaves ++ map (record_of p r) (steps p r all s).0
   pub state : shown t ≡ (steps p r all s).1
   pub entries : length t.journal ≡ length first.journal + length (steps p r all s).0
 
 -- the loop ends after all steps, or if no part carries a route
-pub at_end : {A : Type 0} {p : ContactPlan} {r : RouteRequest} {s : State} {all : ℕ} {first : Shape A} {before : List RouteRecord} {k : ℕ} {t : Shape A} {given : List RouteRecord} → IsPlan p
-    → IsOnTheWay p r s all first before k t given → (k ≡ 0) ⊎ CarriesNone t.nodes → IsAllGiven p r s all first before t given
-at_end {p = p} {r = r} {k = k} {t = t} {given = given} good h none =
+pub at_end : {A : Type 0} {p : ContactPlan} {r : RouteRequest} {s : State} {all : ℕ} {first : Shape A} {k : ℕ} {t : Shape A} → IsPlan p → IsOnTheWay p r s all first k t → (k ≡ 0) ⊎ CarriesNone t.nodes → IsAllGiven p r s all first t
+at_end {p = p} {r = r} {k = k} {t = t} good h none =
     let e = idle p r good t h.sound k none in
     record {
-      routes = sym (append-nil given) ∙ ap (λ (z : List (List ℕ) × State). given ++ map (record_of p r) z.0) (sym e) ∙ h.routes;
+      routes = sym (append-nil t.leaves) ∙ ap (λ (z : List (List ℕ) × State). t.leaves ++ map (record_of p r) z.0) (sym e) ∙ h.routes;
       state = ap (λ (z : List (List ℕ) × State). z.1) (sym e) ∙ h.state;
       entries = (let a = h.entries in let b = ap (λ (z : List (List ℕ) × State). length z.0) e in omega (arith, a, b));
     }

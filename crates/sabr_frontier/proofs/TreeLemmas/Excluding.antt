@@ -40,6 +40,10 @@ forget-put_in x (y ∷ ys) h =
       | Greater ↦ λ _. ap (λ b. cond b (y ∷ filter p (put_in nat_cmp x ys)) (filter p (put_in nat_cmp x ys))) (differs x y w.0) ∙ ap (λ t. y ∷ t) (forget-put_in x ys w.1)
     ] w.0
 
+-- a number that isn't excluded can be taken out, too
+pub including_none : {A : Type 0} (nodes : List (Node A)) (i : ℕ) (s : List ℕ) (n : Node A) → slice_get nodes i ≡ Some n → CanExclude n s → modify (including s) nodes i ≡ nodes
+including_none nodes i s n stands can = modify_back (including s) nodes i n stands (ap (λ z. record n { excluded = z }) (forget_absent (slice_index s n.length) n.excluded can.absent))
+
 module _ {A : Type 0} (nodes then : List (Node A)) (i : ℕ) (s : List ℕ) (n : Node A) (stands : slice_get nodes i ≡ Some n) (changed : then ≡ modify (excluding s) nodes i) where
   -- what stands there then
   pub excluded_there : (m : Node A) → slice_get then i ≡ Some m → m ≡ excluding s n

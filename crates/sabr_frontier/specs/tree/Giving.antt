@@ -5,7 +5,7 @@ use Rattle.sabr_model.specs.Order.{put_in}
 use Rattle.sabr_model.specs.routes.Record.{RouteRecord}
 use Rattle.sabr_frontier.specs.declared.tree.NodeId.{NodeId}
 use Rattle.sabr_frontier.specs.declared.tree.Node.{Node}
-use Rattle.sabr_frontier.specs.declared.giving.give_next.Step.{Step}
+use Rattle.sabr_frontier.specs.declared.giving.give_next.GivenRoute.{GivenRoute}
 use Rattle.sabr_frontier.specs.tree.Shape.{Shape}
 pub use Rattle.sabr_frontier.specs.tree.Shape.{ids_from, stands_before}
 use Rattle.sabr_frontier.specs.tree.Undo.{modify}
@@ -71,14 +71,13 @@ divided_with best t node n x =
     let nodes = modify (widened (wide_of n s) (best (take n.length s) (wide_of n s))) t.nodes node.0 ++ fresh in
     changed_by t node x (length t.nodes) (with_block place (ids_from (length t.nodes) (length fresh)) t.index) nodes
 
--- this step gave the best route that a node carries, with a search for each hop of the route after the node's prefix
-pub record IsNextGiven {A : Type 0} (best : List ℕ → List ℕ → Option RouteRecord) (t u : Shape A) (before after : List RouteRecord) (step : Step) : Type 0 where
+-- the best route that a node carries was given, with a search for each hop of it after the node's prefix
+pub record IsNextGiven {A : Type 0} (best : List ℕ → List ℕ → Option RouteRecord) (t u : Shape A) (given : GivenRoute) : Type 0 where
   pub part : Node A
   pub route : RouteRecord
-  pub stands : slice_get t.nodes step.node.0 ≡ Some part
-  pub former : step.first ≡ length t.nodes
+  pub stands : slice_get t.nodes given.node.0 ≡ Some part
+  pub former : given.first ≡ length t.nodes
   pub carries : part.route ≡ Some route
   pub least : IsBestOf t.nodes route
-  pub shape : u ≡ divided_with best t step.node part route
-  pub given : after ≡ before ++ route ∷ []
-  pub counted : step.searches ≡ length route.contacts - part.length
+  pub shape : u ≡ divided_with best t given.node part route
+  pub counted : given.searches ≡ length route.contacts - part.length

@@ -14,23 +14,10 @@ ghost use Rattle.sabr_search.specs.questions.Bounded.{IsFloor};
 use crate::giving::searcher::Searcher;
 use crate::tree::excluded_numbers::ExcludedNumbers;
 use crate::tree::{Node, NodeId};
-use sabr_model::{NoMemory, Numbers, Route};
+use sabr_model::{NoMemory, Route};
 use sabr_search::{BestOf, Bound};
 use std::alloc::Allocator;
 use std::slice;
-
-/// Copies a route.
-pub fn copied<A: Allocator + Copy>(alloc: A, route: &Route<A>) -> Result<Route<A>, NoMemory>
-    ensures { IfOk result (λ x. x ≡ route.now) }
-{
-    let contacts = Vec::from_slice(alloc, route.contacts.as_slice())?;
-    Ok(Route {
-        contacts: Numbers::new(contacts),
-        delivery: route.delivery,
-        until: route.until,
-        entry: route.entry,
-    })
-}
 
 /// The contact numbers of a route.
 pub fn numbers<A: Allocator + Copy>(route: &Route<A>) -> &[u32]
@@ -48,6 +35,15 @@ pub struct Given {
     pub floor: u64,
     /// The bound of the searches for the new parts' routes, if they have one.
     pub bound: Option<Bound>,
+}
+
+/// What dividing a part found.
+#[derive(Drop)]
+pub struct Division<A: Allocator + Copy> {
+    /// The route that the part's node carries then, if it has one.
+    pub route: Option<Route<A>>,
+    /// The searches that it took.
+    pub searches: u64,
 }
 
 /// Finds the best route that begins with the first `count` numbers of a route and takes another number next. None
@@ -100,7 +96,8 @@ fn fresh_node<B: BestOf<A>, A: Allocator + Copy>(
     })
 }
 
-/// Adds the nodes of a leaf for the beginnings of a route from `first` numbers on, for which there is room.
+/// Adds the nodes of a leaf for the beginnings of a route from `first` numbers on, for which there is room. Returns how
+/// many searches that took.
 #[tactic(auto, using(crate::proofs::TreeLemmas::ListFronts::fresh_push, crate::proofs::TreeLemmas::ListFronts::fresh_all))]
 fn fresh_nodes<B: BestOf<A>, A: Allocator + Copy>(
     searcher: &mut Searcher<'_, B, A>,
@@ -108,7 +105,7 @@ fn fresh_nodes<B: BestOf<A>, A: Allocator + Copy>(
     route: &[u32],
     given: Given,
     first: usize,
-) -> Result<(), NoMemory>
+) -> Result<u64, NoMemory>
     requires route { IsTrue (is_route searcher.old.asked.plan.plan searcher.old.asked.request route.now) }
     requires floor { IsFloor searcher.old.asked.plan.plan searcher.old.asked.request (take first route.now) [] given.floor }
     requires within { first ≤ length route.now }
@@ -116,66 +113,24 @@ fn fresh_nodes<B: BestOf<A>, A: Allocator + Copy>(
 
     // It adds a node for each number left, by a search each.
     ensures nodes { OnOk result (nodes.new.items ≡ nodes.old.items ++ fresh_nodes (best_for searcher.old.asked given.bound) given.leaf (take first route.now) (drop first route.now)) }
-    ensures called { OnOk result (searcher.new.calls.count + vec_len nodes.old ≡ searcher.old.calls.count + vec_len nodes.new) }
+    ensures searches { IfOk result (λ n. n + first ≡ length route.now) }
+    ensures called { IfOk result (λ n. searcher.new.calls.count ≡ searcher.old.calls.count + n) }
 
     // If an allocation failed, some of the searches were taken, and some of the nodes may stay.
     ensures no_fewer { OnErr result (searcher.old.calls.count ≤ searcher.new.calls.count) }
     ensures at_most { OnErr result (searcher.new.calls.count + first ≤ searcher.old.calls.count + length route.now) }
 
     // The question and the former nodes stay.
-    ensures longer { OnOk result (vec_len nodes.old ≤ vec_len nodes.new) }
     ensures same { searcher.new.asked ≡ searcher.old.asked }
     ensures front { take (length nodes.old.items) nodes.new.items ≡ nodes.old.items }
 {
+    let mut searches = 0;
     for count in first..route.len() {
         let node = fresh_node(searcher, route, given, count)?;
         nodes.push_reserved(node);
+        searches += 1;
     }
-    Ok(())
-}
-
-/// Finds what a node carries next, for the numbers that it excludes, and adds the new nodes of its route, which is then
-/// a leaf. It takes one search for the node itself, and one for each new node.
-#[tactic(auto, using(crate::proofs::ListingLemmas::Paths::beginning_fits, crate::proofs::TreeLemmas::ModifiedPlaces::get_there, crate::proofs::TreeLemmas::TestBoundaries::increasing))]
-fn search<B: BestOf<A>, A: Allocator + Copy>(
-    searcher: &mut Searcher<'_, B, A>,
-    nodes: &mut Vec<Node<A>, A>,
-    node: NodeId,
-    route: &[u32],
-    given: Given,
-) -> Result<Option<Route<A>>, NoMemory>
-    requires in_range { node.0 < vec_len nodes.old }
-    requires route { IsTrue (is_route searcher.old.asked.plan.plan searcher.old.asked.request route.now) }
-    requires longer { OfNode nodes.old.items node (λ n. n.length < length route.now) }
-    requires rising { OfNode nodes.old.items node (λ n. Rises nat_cmp n.excluded) }
-    requires floor { OfNode nodes.old.items node (λ n. IsFloor searcher.old.asked.plan.plan searcher.old.asked.request (take n.length route.now) n.excluded given.floor) }
-    requires after { OfNode nodes.old.items node (λ n. IsFloor searcher.old.asked.plan.plan searcher.old.asked.request (take (n.length + 1) route.now) [] given.floor) }
-    requires room { vec_len nodes.old + length route.now ≤ vec_capacity nodes.old }
-
-    // It finds what the node carries, and adds the new nodes, by a search each.
-    ensures found { IfOk result (λ found. OfNode nodes.old.items node (λ n. found ≡ best_for searcher.old.asked given.bound (take n.length route.now) n.excluded)) }
-    ensures nodes { OnOk result (OfNode nodes.old.items node (λ n. nodes.new.items ≡ nodes.old.items ++ fresh_after (best_for searcher.old.asked given.bound) given.leaf n route.now)) }
-    ensures called { OnOk result (searcher.new.calls.count + vec_len nodes.old ≡ searcher.old.calls.count + (vec_len nodes.new + 1)) }
-
-    // If an allocation failed, some of the searches were taken, and some of the nodes may stay.
-    ensures no_fewer { OnErr result (searcher.old.calls.count ≤ searcher.new.calls.count) }
-    ensures at_most { OnErr result (OfNode nodes.old.items node (λ n. searcher.new.calls.count + n.length ≤ searcher.old.calls.count + length route.now)) }
-
-    // The question and the former nodes stay.
-    ensures longer { OnOk result (vec_len nodes.old ≤ vec_len nodes.new) }
-    ensures same { searcher.new.asked ≡ searcher.old.asked }
-    ensures front { take (length nodes.old.items) nodes.new.items ≡ nodes.old.items }
-{
-    let part = &nodes[node.0];
-    let count = part.length;
-    let found = searcher.find_best(
-        &route[..count],
-        part.excluded.as_slice(),
-        given.floor,
-        given.bound,
-    )?;
-    fresh_nodes(searcher, nodes, route, given, count + 1)?;
-    Ok(found)
+    Ok(searches)
 }
 
 /// Excludes the number that a route takes after the node's prefix, or changes nothing if an allocation failed.
@@ -198,27 +153,17 @@ fn exclude_next<A: Allocator + Copy>(
     Ok(())
 }
 
-/// Includes the number again that a route takes after the node's prefix. It allocates nothing.
-fn include_next<A: Allocator + Copy>(nodes: &mut Vec<Node<A>, A>, node: NodeId, route: &[u32])
-    requires in_range { node.0 < vec_len nodes.old }
-    requires longer { OfNode nodes.old.items node (λ n. n.length < length route.now) }
-    ensures { nodes.new.items ≡ modify (including route.now) nodes.old.items node.0 }
-{
-    let part = &mut nodes[node.0];
-    let number = route[part.length];
-    part.excluded.forget(number);
-}
-
 /// Divides the part of a node by a route of it, which is then a leaf: the node excludes one number more, and the new
-/// parts come after the others, for which there is room. It returns what the node carries then.
-#[tactic(auto, using(crate::proofs::TreeLemmas::ModifiedPlaces::get_same))]
+/// parts come after the others, for which there is room. It takes one search for the node itself, and one for each new
+/// part.
+#[tactic(auto, using(crate::proofs::ListingLemmas::Paths::beginning_fits, crate::proofs::TreeLemmas::ModifiedPlaces::get_there, crate::proofs::TreeLemmas::TestBoundaries::increasing))]
 pub fn divide<B: BestOf<A>, A: Allocator + Copy>(
     searcher: &mut Searcher<'_, B, A>,
     nodes: &mut Vec<Node<A>, A>,
     node: NodeId,
     route: &[u32],
     given: Given,
-) -> Result<Option<Route<A>>, NoMemory>
+) -> Result<Division<A>, NoMemory>
     requires in_range { node.0 < vec_len nodes.old }
     requires route { IsTrue (is_route searcher.old.asked.plan.plan searcher.old.asked.request route.now) }
     requires next { OfNode nodes.old.items node (λ n. CanExclude n route.now) }
@@ -226,27 +171,32 @@ pub fn divide<B: BestOf<A>, A: Allocator + Copy>(
     requires room { vec_len nodes.old + length route.now ≤ vec_capacity nodes.old }
 
     // It finds what the node carries, and changes and adds nodes, by a search each.
-    ensures found { IfOk result (λ found. OfNode nodes.old.items node (λ n. found ≡ best_for searcher.old.asked given.bound (take n.length route.now) (wide_of n route.now))) }
+    ensures found { IfOk result (λ d. OfNode nodes.old.items node (λ n. d.route ≡ best_for searcher.old.asked given.bound (take n.length route.now) (wide_of n route.now))) }
     ensures ok { OnOk result (OfNode nodes.old.items node (λ n. nodes.new.items ≡ parted (best_for searcher.old.asked given.bound) given.leaf nodes.old.items node route.now n)) }
-    ensures called { OnOk result (searcher.new.calls.count + vec_len nodes.old ≡ searcher.old.calls.count + (vec_len nodes.new + 1)) }
+    ensures searches { IfOk result (λ d. OfNode nodes.old.items node (λ n. d.searches + n.length ≡ length route.now)) }
+    ensures called { IfOk result (λ d. searcher.new.calls.count ≡ searcher.old.calls.count + d.searches) }
 
-    // If an allocation failed, some of the searches were taken, and the nodes are as they were.
+    // If an allocation failed, some of the searches were taken. Once the new nodes are cut off and the number is no
+    // longer excluded, the nodes are as they were.
     ensures no_fewer { OnErr result (searcher.old.calls.count ≤ searcher.new.calls.count) }
     ensures at_most { OnErr result (OfNode nodes.old.items node (λ n. searcher.new.calls.count + n.length ≤ searcher.old.calls.count + length route.now)) }
-    ensures err { OnErr result (nodes.new.items ≡ nodes.old.items) }
+    ensures err { OnErr result (modify (including route.now) (take (length nodes.old.items) nodes.new.items) node.0 ≡ nodes.old.items) }
 
-    // No node goes, and the question stays.
-    ensures longer { OnOk result (vec_len nodes.old ≤ vec_len nodes.new) }
+    // The question stays.
     ensures same { searcher.new.asked ≡ searcher.old.asked }
 {
     exclude_next(nodes, node, route)?;
-    let count = nodes.len();
-    match search(searcher, nodes, node, route, given) {
-        Ok(found) => Ok(found),
-        Err(refused) => {
-            nodes.truncate(count);
-            include_next(nodes, node, route);
-            Err(refused)
-        }
-    }
+    let part = &nodes[node.0];
+    let count = part.length;
+    let found = searcher.find_best(
+        &route[..count],
+        part.excluded.as_slice(),
+        given.floor,
+        given.bound,
+    )?;
+    let searches = fresh_nodes(searcher, nodes, route, given, count + 1)?;
+    Ok(Division {
+        route: found,
+        searches: searches + 1,
+    })
 }

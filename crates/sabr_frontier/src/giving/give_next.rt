@@ -1,7 +1,8 @@
 //! Giving the best route that the tree carries.
 
-ghost use Rattle.std.specs.Prelude.{◌≡◌, ◌+◌, ◌≤◌, Some, IsSome, IsTrue, IsFalse, IfOk, OnErr};
+ghost use Rattle.std.specs.Prelude.{◌≡◌, ◌+◌, ◌≤◌, length, Some, IsSome, IsTrue, IsFalse, IfOk, OnErr};
 ghost use Rattle.sabr_model.specs.plan.Plan.{IsPlan};
+ghost use Rattle.sabr_model.specs.routes.Record.{RouteRecord};
 ghost use Rattle.sabr_frontier.specs.listing.Listing.{searches_in};
 ghost use Rattle.sabr_frontier.specs.tree.Searching.{best_for};
 ghost use Rattle.sabr_frontier.specs.tree.Shape.{shape_of, route_at, shown};
@@ -10,23 +11,36 @@ ghost use Rattle.sabr_frontier.specs.tree.Giving.{IsNextGiven};
 ghost use Rattle.sabr_frontier.specs.tree.Sound.{IsTree};
 ghost use Rattle.sabr_frontier.specs.tree.Winners.{CarriesSome};
 
-use crate::giving::divide::{Given, copied, divide, numbers};
+use crate::giving::divide::{Given, divide, numbers};
 use crate::giving::searcher::Searcher;
+use crate::tree::change::carry;
 use crate::tree::places::carried;
-use crate::tree::{NodeId, Tree};
+use crate::tree::undo::give_back;
+use crate::tree::{Node, NodeId, Tree};
 use sabr_model::{NoMemory, Route};
 use sabr_search::{BestOf, Bound};
 use std::alloc::Allocator;
 
 /// What giving a route changed.
 #[derive(Clone, Copy)]
-pub struct Step {
+pub struct GivenRoute {
     /// The node that carried the route.
     pub node: NodeId,
     /// The first of the nodes that it made.
     pub first: usize,
     /// The searches that it took.
     pub searches: u64,
+}
+
+/// How many hops the route has that a node carries.
+fn hops_carried<A: Allocator + Copy>(nodes: &[Node<A>], node: NodeId) -> usize
+    requires { IsSome (route_at nodes.now node) }
+    ensures { (x : RouteRecord) → route_at nodes.now node ≡ Some x → result ≡ length x.contacts }
+{
+    let Some(route) = carried(nodes, node) else {
+        unreachable!()
+    };
+    numbers(route).len()
 }
 
 impl<A: Allocator + Copy> Tree<A> {
@@ -42,33 +56,22 @@ impl<A: Allocator + Copy> Tree<A> {
         0
     }
 
-    /// Copies the route that a node carries.
-    pub fn copy_carried(&self, alloc: A, node: NodeId) -> Result<Route<A>, NoMemory>
-        requires { IsSome (route_at self.now.nodes.items node) }
-        ensures { IfOk result (λ x. route_at self.now.nodes.items node ≡ Some x) }
-    {
-        let Some(route) = carried(self.nodes.as_slice(), node) else {
-            unreachable!()
-        };
-        copied(alloc, route)
-    }
-
-    /// Gives the best route that a node carries. Room for all is reserved first. Then come the searches, and one that
-    /// fails leaves the parts as they were. The new parts carry no route above the bound, where there is one.
+    /// Gives the best route that a node carries: it moves to the leaves. Room for all is reserved first. Then come the
+    /// searches, and one that fails leaves the tree as it was. The new parts carry no route above the bound, where there
+    /// is one.
     pub fn give_next<B: BestOf<A>>(
         &mut self,
         searcher: &mut Searcher<'_, B, A>,
-        given: &mut Vec<Route<A>, A>,
         bound: Option<Bound>,
-    ) -> Result<Step, NoMemory>
+    ) -> Result<GivenRoute, NoMemory>
         requires plan { IsPlan searcher.old.asked.plan.plan }
         requires tree { IsTree searcher.old.asked.plan.plan searcher.old.asked.request (shape_of self.old) }
         requires waiting { CarriesSome self.old.nodes.items }
         requires room { IsRoomy self.old }
 
-        // The route is given by this step.
-        ensures ok { IfOk result (IsNextGiven (best_for searcher.old.asked bound) (shape_of self.old) (shape_of self.new) given.old.items given.new.items) }
-        ensures called { IfOk result (λ step. searcher.new.calls.count ≡ searcher.old.calls.count + step.searches) }
+        // The route is given.
+        ensures ok { IfOk result (IsNextGiven (best_for searcher.old.asked bound) (shape_of self.old) (shape_of self.new)) }
+        ensures called { IfOk result (λ given. searcher.new.calls.count ≡ searcher.old.calls.count + given.searches) }
 
         // If an allocation failed, it took no more searches, and the tree is as it was.
         ensures no_fewer { OnErr result (searcher.old.calls.count ≤ searcher.new.calls.count) }
@@ -80,26 +83,34 @@ impl<A: Allocator + Copy> Tree<A> {
         ensures same { searcher.new.asked ≡ searcher.old.asked }
         ensures room { IsRoomy self.new }
     {
-        let Some(node) = self.least() else {
+        let Some(node) = self.best_node() else {
             unreachable!()
         };
-        let route = self.copy_carried(searcher.alloc(), node)?;
-        given.reserve(1)?;
-        self.reserve(numbers(&route).len())?;
+        let hops = hops_carried(self.nodes.as_slice(), node);
+        self.reserve(hops)?;
+        let Some(route) = carry(&mut self.nodes, node, None) else {
+            unreachable!()
+        };
         let first = self.nodes.len();
-        let given_leaf = Given {
+        let given = Given {
             leaf: self.leaves.len(),
             floor: self.floor_of(&route),
             bound,
         };
-        let found = divide(searcher, &mut self.nodes, node, numbers(&route), given_leaf)?;
-        let searches = (self.nodes.len() - first) as u64 + 1;
-        given.push_reserved(route);
-        self.change(node, found);
-        Ok(Step {
-            node,
-            first,
-            searches,
-        })
+        match divide(searcher, &mut self.nodes, node, numbers(&route), given) {
+            Ok(division) => {
+                self.change(node, division.route, route);
+                Ok(GivenRoute {
+                    node,
+                    first,
+                    searches: division.searches,
+                })
+            }
+            Err(refused) => {
+                self.nodes.truncate(first);
+                give_back(&mut self.nodes, node, route);
+                Err(refused)
+            }
+        }
     }
 }

@@ -12,21 +12,91 @@ ghost use Rattle.sabr_frontier.specs.tree.Shape.{shape_of, shown};
 ghost use Rattle.sabr_frontier.specs.tree.Giving.{OfNode};
 ghost use Rattle.sabr_frontier.specs.tree.Undo.{IsRoomy};
 
-use crate::giving::give_next::Step;
+use crate::giving::give_next::GivenRoute;
 use crate::giving::searcher::Searcher;
 use crate::giving::smallest_keys::SmallestKeys;
 use crate::tree::Tree;
-use sabr_model::{NoMemory, Route};
+use sabr_model::{NoMemory, Numbers, Route};
 use sabr_search::BestOf;
 use std::alloc::Allocator;
 
+/// The routes of a page.
+#[derive(Drop)]
+pub struct Page<A: Allocator + Copy> {
+    /// The routes.
+    pub routes: Vec<Route<A>, A>,
+    /// The searches that they took.
+    pub searches: u64,
+}
+
+/// Copies a route.
+fn copied<A: Allocator + Copy>(alloc: A, route: &Route<A>) -> Result<Route<A>, NoMemory>
+    ensures { IfOk result (λ x. x ≡ route.now) }
+{
+    let contacts = Vec::from_slice(alloc, route.contacts.as_slice())?;
+    Ok(Route {
+        contacts: Numbers::new(contacts),
+        delivery: route.delivery,
+        until: route.until,
+        entry: route.entry,
+    })
+}
+
+/// Copies routes.
+fn copies<A: Allocator + Copy>(alloc: A, routes: &[Route<A>]) -> Result<Vec<Route<A>, A>, NoMemory>
+    ensures { IfOk result (λ v. v.items ≡ routes.now) }
+{
+    let mut copies = Vec::with_capacity(alloc, routes.len())?;
+    for place in 0..routes.len() {
+        let route = copied(alloc, &routes[place])?;
+        copies.push_reserved(route);
+    }
+    Ok(copies)
+}
+
 impl<A: Allocator + Copy> Tree<A> {
-    /// Gives the next `count` routes, or all that are left if they are fewer, and returns how many searches that took.
+    /// Gives the next `count` routes, or all that are left if they are fewer, and returns copies of them.
     pub fn give_page<B: BestOf<A>>(
         &mut self,
         searcher: &mut Searcher<'_, B, A>,
         count: u32,
-        given: &mut Vec<Route<A>, A>,
+    ) -> Result<Page<A>, NoMemory>
+        requires plan { IsPlan searcher.old.asked.plan.plan }
+        requires hops { searcher.old.asked.request.max_hops ≤ most_hops }
+        requires count { count ≤ most_routes }
+        requires sound { IsSound searcher.old.asked.plan.plan searcher.old.asked.request (shape_of self.old) }
+        requires room { IsRoomy self.old }
+
+        // The routes are given, and the state is the one after their steps.
+        ensures routes { IfOk result (λ page. page.routes.items ≡ records_for searcher.old.asked (steps_for searcher.old.asked count (shown (shape_of self.old))).0) }
+        ensures state { OnOk result (shown (shape_of self.new) ≡ (steps_for searcher.old.asked count (shown (shape_of self.old))).1) }
+        ensures entries { OnOk result (length self.new.journal.items ≡ length self.old.journal.items + length (steps_for searcher.old.asked count (shown (shape_of self.old))).0) }
+
+        // It takes this number of searches, and no more if an allocation failed.
+        ensures searches { IfOk result (λ page. page.searches ≡ searches_in searcher.old.asked.plan.plan searcher.old.asked.request count (shown (shape_of self.old))) }
+        ensures called { IfOk result (λ page. searcher.new.calls.count ≡ searcher.old.calls.count + page.searches) }
+        ensures no_fewer { OnErr result (searcher.old.calls.count ≤ searcher.new.calls.count) }
+        ensures at_most { OnErr result (searcher.new.calls.count ≤ searcher.old.calls.count + searches_in searcher.old.asked.plan.plan searcher.old.asked.request count (shown (shape_of self.old))) }
+
+        // In any case the tree is sound, and what was given can be taken back. The index and the question stay.
+        ensures sound { IsSound searcher.old.asked.plan.plan searcher.old.asked.request (shape_of self.new) }
+        ensures longer { length self.old.journal.items ≤ length self.new.journal.items }
+        ensures back { tree_before (length self.old.journal.items) (shape_of self.new) ≡ shape_of self.old }
+        ensures index { self.new.index.items ≡ self.old.index.items }
+        ensures room { IsRoomy self.new }
+        ensures same { searcher.new.asked ≡ searcher.old.asked }
+    {
+        let first = self.leaves.len();
+        let searches = self.give_routes(searcher, count)?;
+        let routes = copies(searcher.alloc(), &self.leaves[first..])?;
+        Ok(Page { routes, searches })
+    }
+
+    /// Gives the next `count` routes, or all that are left if they are fewer, and returns how many searches that took.
+    fn give_routes<B: BestOf<A>>(
+        &mut self,
+        searcher: &mut Searcher<'_, B, A>,
+        count: u32,
     ) -> Result<u64, NoMemory>
         requires plan { IsPlan searcher.old.asked.plan.plan }
         requires hops { searcher.old.asked.request.max_hops ≤ most_hops }
@@ -35,7 +105,7 @@ impl<A: Allocator + Copy> Tree<A> {
         requires room { IsRoomy self.old }
 
         // The routes are given, and the state is the one after their steps.
-        ensures routes { OnOk result (given.new.items ≡ given.old.items ++ records_for searcher.old.asked (steps_for searcher.old.asked count (shown (shape_of self.old))).0) }
+        ensures routes { OnOk result (self.new.leaves.items ≡ self.old.leaves.items ++ records_for searcher.old.asked (steps_for searcher.old.asked count (shown (shape_of self.old))).0) }
         ensures state { OnOk result (shown (shape_of self.new) ≡ (steps_for searcher.old.asked count (shown (shape_of self.old))).1) }
         ensures entries { OnOk result (length self.new.journal.items ≡ length self.old.journal.items + length (steps_for searcher.old.asked count (shown (shape_of self.old))).0) }
 
@@ -58,8 +128,8 @@ impl<A: Allocator + Copy> Tree<A> {
             if self.is_empty() {
                 return Ok(searches);
             }
-            let step = self.give_next(searcher, given, None)?;
-            searches += step.searches;
+            let given = self.give_next(searcher, None)?;
+            searches += given.searches;
         }
         Ok(searches)
     }
@@ -70,7 +140,6 @@ impl<A: Allocator + Copy> Tree<A> {
         &mut self,
         searcher: &mut Searcher<'_, B, A>,
         count: u32,
-        routes: &mut Vec<Route<A>, A>,
     ) -> Result<(), NoMemory>
         requires plan { IsPlan searcher.old.asked.plan.plan }
         requires limits { IsRequest searcher.old.asked.request }
@@ -80,7 +149,7 @@ impl<A: Allocator + Copy> Tree<A> {
 
         // The routes are those of the steps. The tree shows the state after them, but for routes that its nodes don't
         // carry, each after two others at least.
-        ensures routes { OnOk result (routes.new.items ≡ routes.old.items ++ records_for searcher.old.asked (steps_for searcher.old.asked count (shown (shape_of self.old))).0) }
+        ensures routes { OnOk result (self.new.leaves.items ≡ self.old.leaves.items ++ records_for searcher.old.asked (steps_for searcher.old.asked count (shown (shape_of self.old))).0) }
         ensures state { OnOk result (ShowsCut searcher.old.asked 2 (steps_for searcher.old.asked count (shown (shape_of self.old))).1 (shape_of self.new)) }
         ensures room { OnOk result (IsRoomy self.new) }
 
@@ -94,20 +163,20 @@ impl<A: Allocator + Copy> Tree<A> {
             if self.is_empty() {
                 return Ok(());
             }
-            let step = self.give_next(searcher, routes, keys.bound())?;
-            self.note_new(step, &mut keys)?;
+            let given = self.give_next(searcher, keys.bound())?;
+            self.note_new(given, &mut keys)?;
         }
         Ok(())
     }
 
-    /// Notes the keys of what a step found: what its node carries now, and what its new nodes do.
-    fn note_new(&self, step: Step, keys: &mut SmallestKeys<A>) -> Result<(), NoMemory>
-        requires in_range { step.node.0 < length self.now.nodes.items }
-        requires within { step.first ≤ length self.now.nodes.items }
+    /// Notes the keys of what was found once a route was given: what its node carries now, and what its new nodes do.
+    fn note_new(&self, given: GivenRoute, keys: &mut SmallestKeys<A>) -> Result<(), NoMemory>
+        requires in_range { given.node.0 < length self.now.nodes.items }
+        requires within { given.first ≤ length self.now.nodes.items }
         requires fit { CarryKeys self.now.nodes.items }
-        ensures { OnOk result (OfNode self.now.nodes.items step.node (λ n. AreNoted keys.old (keys_of n.route ++ carried_keys (drop step.first self.now.nodes.items)) keys.new)) }
+        ensures { OnOk result (OfNode self.now.nodes.items given.node (λ n. AreNoted keys.old (keys_of n.route ++ carried_keys (drop given.first self.now.nodes.items)) keys.new)) }
     {
-        keys.note_carried(&self.nodes[step.node.0])?;
-        keys.note_all(&self.nodes[step.first..])
+        keys.note_carried(&self.nodes[given.node.0])?;
+        keys.note_all(&self.nodes[given.first..])
     }
 }

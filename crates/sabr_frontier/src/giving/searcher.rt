@@ -51,8 +51,8 @@ pub struct Searcher<'p, B: BestOf<A>, A: Allocator + Copy = Global> {
     rest: PausedSearcher<B, A>,
     /// The looks of the calls that are summed, `u64::MAX` if they are more.
     looks: u64,
-    /// The calls that are summed, for proofs alone.
-    summed: GhostCalls,
+    /// The calls whose looks are summed, for proofs alone.
+    counted_calls: GhostCalls,
 }
 
 /// A searcher without the index of its plan, which it doesn't borrow.
@@ -74,9 +74,9 @@ impl<'p, B: BestOf<A>, A: Allocator + Copy> Model for Searcher<'p, B, A> {
 
     ghost Value = { Searching };
 
-    ghost view = { λ a. searching_over B.calls_of a.index a.rest a.summed.calls };
+    ghost view = { λ a. searching_over B.calls_of a.index a.rest a.counted_calls.calls };
 
-    ghost invariant = { λ a. IsSearchCache a.index a.rest.request a.rest.cache × IsSumOf a.index.plan (B.calls_of a.rest.finder) a.summed.calls a.looks };
+    ghost invariant = { λ a. IsSearchCache a.index a.rest.request a.rest.cache × IsSumOf a.index.plan (B.calls_of a.rest.finder) a.counted_calls.calls a.looks };
 }
 
 impl<'p, B: BestOf<A>, A: Allocator + Copy> Searcher<'p, B, A> {
@@ -113,7 +113,7 @@ impl<'p, B: BestOf<A>, A: Allocator + Copy> Searcher<'p, B, A> {
     }
 
     /// Returns the sum of the looks that the finder's calls took, `u64::MAX` if they are more, and begins it anew.
-    pub fn take_sum(&mut self) -> u64
+    pub fn take_looks(&mut self) -> u64
         ensures sum { result ≡ looks_since self.old.asked.before self.old.calls }
         ensures go_on { GoOn self.old.asked.plan.plan self.old.asked.before self.old.calls }
         ensures begun { self.new.asked ≡ record self.old.asked { before = self.old.calls } }
@@ -122,7 +122,7 @@ impl<'p, B: BestOf<A>, A: Allocator + Copy> Searcher<'p, B, A> {
     {
         let sum = self.looks;
         self.looks = 0;
-        self.summed = GhostCalls::new();
+        self.counted_calls = GhostCalls::new();
         sum
     }
 
@@ -188,7 +188,7 @@ impl<'p, B: BestOf<A>, A: Allocator + Copy> Searcher<'p, B, A> {
             .best_up_to(&mut rest.cache, &self.index, &rest.request, part);
         let looks = rest.finder.looks();
         self.looks = self.looks.saturating_add(looks);
-        self.summed.add(looks);
+        self.counted_calls.add(looks);
         let sought = found?;
         Ok(up_to(sought, bound))
     }
@@ -204,7 +204,7 @@ impl<B: BestOf<A>, A: Allocator + Copy> PausedSearcher<B, A> {
             index,
             rest: self,
             looks: 0,
-            summed: GhostCalls::new(),
+            counted_calls: GhostCalls::new(),
         }
     }
 

@@ -56,7 +56,7 @@ impl<A: Allocator + Copy> SmallestKeys<A> {
     }
 
     /// States that no more keys are held than may be, for contracts. It does nothing.
-    fn tell_few(&self)
+    fn few_hold(&self)
         ensures { length self.now.keys ≤ self.now.most }
     {
         self.keys.len();
@@ -81,7 +81,7 @@ impl<A: Allocator + Copy> SmallestKeys<A> {
         match &node.route {
             Some(route) => self.note(key_of(route)),
             None => {
-                self.tell_few();
+                self.few_hold();
                 Ok(())
             }
         }
@@ -92,7 +92,7 @@ impl<A: Allocator + Copy> SmallestKeys<A> {
         requires { CarryKeys nodes.now }
         ensures { OnOk result (AreNoted self.old (carried_keys nodes.now) self.new) }
     {
-        self.tell_few();
+        self.few_hold();
         for place in 0..nodes.len() {
             self.note_carried(&nodes[place])?;
         }

@@ -7,6 +7,7 @@ ghost use Rattle.sabr_model.specs.routes.Fault.{fault_of};
 ghost use Rattle.sabr_model.specs.routes.Parts.{goes_on};
 ghost use Rattle.sabr_model.specs.routes.Record.{record_of};
 ghost use Rattle.sabr_model.specs.routes.Route.{is_route};
+ghost use Rattle.sabr_model.specs.routes.Telling.{summary_of};
 ghost use Rattle.sabr_frontier.specs.loading.Leading.{IsLead};
 ghost use Rattle.sabr_frontier.specs.loading.Loading.{IsCarryFault, may_carry};
 ghost use Rattle.sabr_frontier.specs.listing.State.{part_with};
@@ -31,26 +32,40 @@ fn goes_on(prefix: &[u32], excluded: &[u32], numbers: &[u32]) -> bool
     !holds(excluded, *next)
 }
 
-/// Returns when a route delivers. It is followed from where its first numbers lead, or from the source if that isn't
-/// known.
-fn delivery<A: Allocator + Copy>(
+/// When a route delivers, and its summary.
+#[derive(Clone, Copy)]
+struct Followed {
+    delivery: u64,
+    summary: RouteSummary,
+}
+
+/// Follows a route from where its first numbers lead, or from the source if that isn't known.
+fn follow_from<A: Allocator + Copy>(
     plan: &Plan<A>,
     request: &Request,
     prefix: &[u32],
     lead: Option<Lead>,
     route: &[u32],
-) -> Result<u64, HopFault>
+) -> Result<Followed, HopFault>
     requires longer { length prefix.now < length route.now }
     requires front { take (length prefix.now) route.now ≡ prefix.now }
     requires lead { IfSome lead (IsLead plan.now.plan request.now prefix.now) }
     ensures route { IfOk result (λ _. IsTrue (is_route plan.now.plan request.now route.now)) }
-    ensures delivery { IfOk result (λ d. arrival_after plan.now.plan request.now request.now.at route.now ≡ Some d) }
+    ensures delivery { IfOk result (λ f. arrival_after plan.now.plan request.now request.now.at route.now ≡ Some f.delivery) }
+    ensures summary { IfOk result (λ f. f.summary ≡ summary_of plan.now.plan route.now) }
     ensures fault { IfErr result (λ f. fault_of plan.now.plan request.now route.now ≡ Some f) }
 {
-    match lead {
-        Some(lead) => follow_behind(plan, request, route, prefix.len(), lead.here),
-        None => follow(plan, request, route),
-    }
+    let Some(lead) = lead else {
+        return Ok(Followed {
+            delivery: follow(plan, request, route)?,
+            summary: RouteSummary::of(plan, route),
+        });
+    };
+    let delivery = follow_behind(plan, request, route, prefix.len(), lead.here)?;
+    Ok(Followed {
+        delivery,
+        summary: lead.summary_of(plan, route, prefix.len()),
+    })
 }
 
 /// Returns the record of the route that a part has to carry. If its prefix is known to lead to `lead`, the route is
@@ -73,11 +88,11 @@ pub fn carried<A: Allocator + Copy>(
     if !goes_on(prefix, excluded, route) {
         return Err(LoadFault::BadRoute);
     }
-    let Ok(delivery) = delivery(question.plan, &question.request, prefix, lead, route) else {
+    let Ok(followed) = follow_from(question.plan, &question.request, prefix, lead, route) else {
         return Err(LoadFault::BadRoute);
     };
     let Ok(numbers) = Vec::from_slice(question.alloc, route) else {
         return Err(LoadFault::NoMemory);
     };
-    Ok(Some(RouteSummary::of(question.plan, route).route(numbers, delivery)))
+    Ok(Some(followed.summary.route(numbers, followed.delivery)))
 }

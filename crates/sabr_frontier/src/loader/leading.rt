@@ -1,7 +1,8 @@
 //! Where the prefixes of parts lead.
 
-ghost use Rattle.std.specs.Prelude.{◌≡◌, ◌≤◌, ◌∷◌, ◌++◌, [], length, IfSome, IfNone, IsTrue, IsFalse};
+ghost use Rattle.std.specs.Prelude.{◌≡◌, ◌≤◌, ◌∷◌, ◌++◌, [], length, take, IfSome, IfNone, IsTrue, IsFalse};
 ghost use Rattle.sabr_model.specs.routes.Route.{is_path};
+ghost use Rattle.sabr_model.specs.routes.Telling.{summary_of};
 ghost use Rattle.sabr_frontier.specs.loading.Leading.{IsLead, expected_prefix};
 
 use sabr_model::{Plan, Reached, Request, RouteSummary, follow_hop};
@@ -72,5 +73,22 @@ impl Lead {
             here,
             summary: self.summary.extended(plan, prefix, number),
         })
+    }
+    /// Returns the summary of a list whose first `first` numbers lead here. It reads only the contacts after them.
+    pub fn summary_of<A: Allocator + Copy>(
+        self,
+        plan: &Plan<A>,
+        numbers: &[u32],
+        first: usize,
+    ) -> RouteSummary
+        requires within { first ≤ length numbers.now }
+        requires front { self.summary ≡ summary_of plan.now.plan (take first numbers.now) }
+        ensures { result ≡ summary_of plan.now.plan numbers.now }
+    {
+        let mut summary = self.summary;
+        for place in first..numbers.len() {
+            summary = summary.extended(plan, &numbers[..place], numbers[place]);
+        }
+        summary
     }
 }

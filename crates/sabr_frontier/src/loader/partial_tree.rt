@@ -13,7 +13,7 @@ use crate::loader::check::{Checked, check};
 use crate::loader::ghost_lists::GhostLists;
 use crate::loader::leading::{ExpectedPrefix, Lead};
 use crate::plan_request::PlanRequest;
-use crate::tree::excluded_numbers::{ExcludedNumbers, rise};
+use crate::tree::excluded_numbers::{ExcludedNumbers, is_increasing};
 use crate::tree::index::push_block;
 use crate::tree::winners::rebuild;
 use crate::tree::{Node, Tree};
@@ -95,7 +95,7 @@ impl<A: Allocator + Copy> PartialTree<A> {
         requires last { last_item self.now.prefixes.items ≡ last_prefix (partial_shape_of self.now) }
         ensures { result ≡ (rise_strictly excluded.now && comes_after (parts_in (partial_shape_of self.now)) prefix.now) }
     {
-        if !rise(excluded) {
+        if !is_increasing(excluded) {
             return false;
         }
         self.comes_after(prefix)

@@ -29,8 +29,10 @@ use std::marker::Model;
 pub struct LastPage<'p, B: BestOf<A>, A: Allocator + Copy = Global> {
     /// What found the routes.
     searcher: Searcher<'p, B, A>,
-    /// The routes.
-    routes: Vec<Route<A>, A>,
+    /// The routes given, those of earlier pages first.
+    leaves: Vec<Route<A>, A>,
+    /// How many earlier pages gave.
+    first: usize,
     /// Whether a route is left after them.
     more: bool,
     /// The looks that the searches took.
@@ -40,11 +42,14 @@ pub struct LastPage<'p, B: BestOf<A>, A: Allocator + Copy = Global> {
 }
 
 impl<'p, B: BestOf<A>, A: Allocator + Copy> Model for LastPage<'p, B, A> {
+    ghost use Rattle.std.specs.Prelude.{◌≤◌, drop, length};
     ghost use Rattle.sabr_frontier.specs.session.LastPage.{LastSeen};
 
     ghost Value = { LastSeen };
 
-    ghost view = { λ l. record { plan = l.searcher.asked.plan; routes = l.routes.items; more = l.more; calls = l.searcher.calls; looks = l.looks; detour_looks = l.detour_looks } };
+    ghost view = { λ l. record { plan = l.searcher.asked.plan; routes = drop l.first l.leaves.items; more = l.more; calls = l.searcher.calls; looks = l.looks; detour_looks = l.detour_looks } };
+
+    ghost invariant = { λ l. l.first ≤ length l.leaves.items };
 }
 
 impl<'p, B: BestOf<A>, A: Allocator + Copy> Session<'p, B, A> {
@@ -61,13 +66,14 @@ impl<'p, B: BestOf<A>, A: Allocator + Copy> Session<'p, B, A> {
     {
         let mut searcher = self.searcher;
         let mut tree = self.tree;
-        let mut routes = Vec::new(searcher.alloc());
+        let first = tree.leaves.len();
         let mut detours = Looks::many();
-        let more = tree.give_last_page(&mut searcher, count, &mut routes, &mut detours)?;
-        let looks = searcher.take_sum();
+        let more = tree.give_last_page(&mut searcher, count, &mut detours)?;
+        let looks = searcher.take_looks();
         Ok(LastPage {
             searcher,
-            routes,
+            leaves: tree.leaves,
+            first,
             more,
             looks,
             detour_looks: detours.taken(),
@@ -76,13 +82,12 @@ impl<'p, B: BestOf<A>, A: Allocator + Copy> Session<'p, B, A> {
 }
 
 impl<A: Allocator + Copy> Tree<A> {
-    /// Puts the next `count` routes after others, or all that are left if they are fewer, and returns whether a route
-    /// is left after them. It borrows what [`last_page`](Session::last_page) owns.
+    /// Gives the next `count` routes, or all that are left if they are fewer, and returns whether a route is left after
+    /// them. It borrows what [`last_page`](Session::last_page) owns.
     fn give_last_page<B: BestOf<A>>(
         &mut self,
         searcher: &mut Searcher<'_, B, A>,
         count: u32,
-        routes: &mut Vec<Route<A>, A>,
         looks: &mut Looks,
     ) -> Result<bool, NoMemory>
         requires plan { IsPlan searcher.old.asked.plan.plan }
@@ -93,7 +98,7 @@ impl<A: Allocator + Copy> Tree<A> {
         requires room { IsRoomy self.old }
 
         // The routes are those of the steps, and the answer is whether one is left after these.
-        ensures routes { OnOk result (routes.new.items ≡ routes.old.items ++ records_for searcher.old.asked (steps_for searcher.old.asked count (shown (shape_of self.old))).0) }
+        ensures routes { OnOk result (self.new.leaves.items ≡ self.old.leaves.items ++ records_for searcher.old.asked (steps_for searcher.old.asked count (shown (shape_of self.old))).0) }
         ensures more { IfOk result (λ more. more ≡ is_some (next_route searcher.old.asked.plan.plan searcher.old.asked.request (steps_for searcher.old.asked count (shown (shape_of self.old))).1)) }
 
         // It takes no more searches than the steps would. The question stays.
@@ -108,8 +113,8 @@ impl<A: Allocator + Copy> Tree<A> {
         if count == 0 {
             return Ok(!self.is_empty());
         }
-        self.give_page_up_to(searcher, count - 1, routes)?;
-        self.show_next(searcher, routes, looks)
+        self.give_page_up_to(searcher, count - 1)?;
+        self.give_last(searcher, looks)
     }
 }
 
@@ -118,7 +123,7 @@ impl<'p, B: BestOf<A>, A: Allocator + Copy> LastPage<'p, B, A> {
     pub fn routes(&self) -> &[Route<A>]
         ensures { result.now ≡ self.now.routes }
     {
-        self.routes.as_slice()
+        &self.leaves[self.first..]
     }
 
     /// Returns true if a route is left after them.

@@ -1,10 +1,10 @@
 //! Changing the tree when a route is given, without memory.
 
-ghost use Rattle.std.specs.Prelude.{◌≡◌, ◌<◌, ◌≤◌, take, length, vec_len, vec_capacity, Some, IfSome, IfNone, IsSome, IsTrue, IsFalse, OnOk};
+ghost use Rattle.std.specs.Prelude.{◌≡◌, ◌+◌, ◌<◌, ◌≤◌, length, vec_len, vec_capacity, IfSome, IfNone, IsTrue, IsFalse, OnOk};
 ghost use Rattle.sabr_model.specs.routes.Record.{RouteRecord};
 ghost use Rattle.sabr_frontier.specs.tree.Shape.{shape_of, route_at};
 ghost use Rattle.sabr_frontier.specs.tree.Undo.{IsRoomy, IsSpacious, modify, HasRoom};
-ghost use Rattle.sabr_frontier.specs.tree.Winners.{AreWinners, CarriesNone, CarriesSome, IsFirst};
+ghost use Rattle.sabr_frontier.specs.tree.Winners.{AreOthersWinners, CarriesNone, CarriesSome, IsFirst};
 ghost use Rattle.sabr_frontier.specs.tree.Prepared.{carrying, given_by};
 
 use crate::tree::places::carried;
@@ -15,7 +15,7 @@ use std::alloc::Allocator;
 use std::mem;
 
 /// Sets what the node carries, and returns what it carried.
-fn carry<A: Allocator + Copy>(
+pub fn carry<A: Allocator + Copy>(
     nodes: &mut Vec<Node<A>, A>,
     node: NodeId,
     found: Option<Route<A>>,
@@ -24,6 +24,7 @@ fn carry<A: Allocator + Copy>(
     ensures nodes { nodes.new.items ≡ modify (carrying found) nodes.old.items node.0 }
     ensures route { result ≡ route_at nodes.old.items node }
     ensures len { vec_len nodes.new ≡ vec_len nodes.old }
+    ensures capacity { vec_capacity nodes.new ≡ vec_capacity nodes.old }
 {
     let part = &mut nodes[node.0];
     mem::replace(&mut part.route, found)
@@ -31,7 +32,7 @@ fn carry<A: Allocator + Copy>(
 
 impl<A: Allocator + Copy> Tree<A> {
     /// The node that carries the best route, if some node carries one.
-    pub fn least(&self) -> Option<NodeId>
+    pub fn best_node(&self) -> Option<NodeId>
         requires { IsRoomy self.now }
         ensures some { IfSome result (λ id. (x : RouteRecord) × IsFirst self.now.nodes.items id x) }
         ensures none { IfNone result (CarriesNone self.now.nodes.items) }
@@ -53,7 +54,7 @@ impl<A: Allocator + Copy> Tree<A> {
         ensures none { IsTrue result → CarriesNone self.now.nodes.items }
         ensures some { IsFalse result → CarriesSome self.now.nodes.items }
     {
-        self.least().is_none()
+        self.best_node().is_none()
     }
 
     /// Reserves room for one route given and `count` new nodes.
@@ -76,13 +77,12 @@ impl<A: Allocator + Copy> Tree<A> {
         Ok(())
     }
 
-    /// Gives the route of a node: the node carries another or none. Its new nodes stand after the others already, and
-    /// have no winners yet. There is room for all of it.
-    pub fn change(&mut self, node: NodeId, found: Option<Route<A>>)
+    /// Gives the route of a node, which was taken out of it: the node carries another or none. Its new nodes stand
+    /// after the others already, and have no winners yet. There is room for all of it.
+    pub fn change(&mut self, node: NodeId, found: Option<Route<A>>, route: Route<A>)
         requires in_range { node.0 < vec_len self.old.winners }
         requires within { vec_len self.old.winners ≤ vec_len self.old.nodes }
-        requires carries { IsSome (route_at self.old.nodes.items node) }
-        requires won { AreWinners (take (length self.old.winners.items) self.old.nodes.items) self.old.winners.items }
+        requires won { AreOthersWinners (modify (carrying found) self.old.nodes.items node.0) self.old.winners.items node.0 (node.0 + 1) }
 
         // There is room for all that is added.
         requires space { IsSpacious self.old }
@@ -90,14 +90,12 @@ impl<A: Allocator + Copy> Tree<A> {
         requires entry { vec_len self.old.journal < vec_capacity self.old.journal }
 
         // The route is given, the index stays, and there is room for what comes.
-        ensures shape { (x : RouteRecord) → route_at self.old.nodes.items node ≡ Some x → shape_of self.new ≡ given_by (shape_of self.old) node x found (length self.old.winners.items) }
+        ensures shape { shape_of self.new ≡ given_by (shape_of self.old) node route found (length self.old.winners.items) }
         ensures index { self.new.index.items ≡ self.old.index.items }
         ensures room { IsRoomy self.new }
     {
         let first = self.winners.len();
-        let Some(route) = carry(&mut self.nodes, node, found) else {
-            unreachable!()
-        };
+        carry(&mut self.nodes, node, found);
         renew(self.nodes.as_slice(), &mut self.winners, node);
         fill(self.nodes.as_slice(), &mut self.winners);
         self.journal.push_reserved(Entry {

@@ -11,7 +11,7 @@ use sabr_model::Route;
 use std::alloc::Allocator;
 
 /// Puts the route back into its node.
-fn give_back<A: Allocator + Copy>(nodes: &mut Vec<Node<A>, A>, node: NodeId, route: Route<A>)
+pub fn give_back<A: Allocator + Copy>(nodes: &mut Vec<Node<A>, A>, node: NodeId, route: Route<A>)
     requires in_range { node.0 < vec_len nodes.old }
     requires longer { IsLonger nodes.old.items node.0 route }
     ensures { nodes.new.items ≡ modify (given_back route) nodes.old.items node.0 }

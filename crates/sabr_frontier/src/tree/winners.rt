@@ -1,5 +1,12 @@
 //! The node with the best route, found as in a tournament: slot `k` names the winner among node `k` and the winners of
 //! slots `2k + 1` and `2k + 2`.
+//!
+//! **Order.** Of two routes the lesser one wins: by delivery, then by number of hops, then by contact numbers. A node
+//! that carries a route wins over one that carries none.
+//!
+//! **Cost**, for n nodes: the best node is in slot 0. A new node takes at most log2 n comparisons, a changed one at most
+//! two for each level above it, and all of them n log2 n. Nothing allocates. In a binary heap, nodes change their places;
+//! here they keep them, so that a route can be taken back.
 
 ghost use Rattle.std.specs.Prelude.{◌≡◌, ◌+◌, ◌<◌, ◌≤◌, length, vec_len, vec_capacity};
 ghost use Rattle.sabr_frontier.specs.tree.Shape.{route_at};
@@ -48,8 +55,8 @@ fn winner<A: Allocator + Copy>(nodes: &[Node<A>], ids: &[NodeId], slot: usize) -
     lesser(nodes, left, ids[slot * 2 + 2])
 }
 
-/// Settles a slot, and those over it.
-fn settle_up<A: Allocator + Copy>(nodes: &[Node<A>], ids: &mut [NodeId], slot: usize)
+/// Finds the winners of a slot and of those above it.
+fn replay_up<A: Allocator + Copy>(nodes: &[Node<A>], ids: &mut [NodeId], slot: usize)
     requires within { slot < length ids.old }
     requires others { AreOthersWinners nodes.now ids.old slot (slot + 1) }
     ensures won { AreWinners nodes.now ids.new }
@@ -62,8 +69,8 @@ fn settle_up<A: Allocator + Copy>(nodes: &[Node<A>], ids: &mut [NodeId], slot: u
     }
 }
 
-/// Lets a node win the slots over its own, as far as it carries a lesser route than their winners.
-fn rise<A: Allocator + Copy>(nodes: &[Node<A>], ids: &mut [NodeId], id: NodeId)
+/// Moves a node up from its own slot: it wins each slot above, up to the first whose winner carries no greater route.
+fn sift_up<A: Allocator + Copy>(nodes: &[Node<A>], ids: &mut [NodeId], id: NodeId)
     requires { IsRising nodes.now ids.old id.0 id }
     ensures won { AreWinners nodes.now ids.new }
     ensures len { length ids.new ≡ length ids.old }
@@ -90,7 +97,7 @@ pub fn fill<A: Allocator + Copy>(nodes: &[Node<A>], winners: &mut Vec<NodeId, A>
 {
     for place in winners.len()..nodes.len() {
         winners.push_reserved(NodeId(place));
-        rise(nodes, winners.as_mut_slice(), NodeId(place));
+        sift_up(nodes, winners.as_mut_slice(), NodeId(place));
     }
 }
 
@@ -102,7 +109,7 @@ pub fn renew<A: Allocator + Copy>(nodes: &[Node<A>], winners: &mut Vec<NodeId, A
     ensures len { vec_len winners.new ≡ vec_len winners.old }
     ensures capacity { vec_capacity winners.new ≡ vec_capacity winners.old }
 {
-    settle_up(nodes, winners.as_mut_slice(), node.0);
+    replay_up(nodes, winners.as_mut_slice(), node.0);
 }
 
 /// Finds the winners of all nodes, for which there is room.

@@ -1,69 +1,178 @@
-use Rattle.std.proofs.Common.{[], ◌≡◌, ◌+◌, ◌<◌, slice_index, length, take, arith, sym, ap, subst, ◌∙◌, ℕ, List, Some}
+use Rattle.std.proofs.Common.{[], ◌≡◌, ◌+◌, ◌<◌, ◌++◌, slice_index, length, length-take-le, take, drop, arith, sym, ap, subst, ◌∙◌, ℕ, List, Some}
 use Rattle.std.specs.Cmp.{nat_cmp_total}
 use Rattle.std.specs.Ordering.{nat_cmp}
 use Rattle.std.specs.Prelude.{slice_get}
+use Rattle.std.specs.List.Sorted.{IsStrictlyIncreasing}
+use Rattle.std.proofs.lemmas.List.{take_all}
 use Rattle.sabr_model.proofs.ListLemmas.Answered.{on_err}
 use Rattle.sabr_frontier.specs.declared.tree.Node.{Node}
 use Rattle.sabr_frontier.specs.listing.Rising.{Rises}
-use Rattle.sabr_frontier.specs.tree.Undo.{modify}
+use Rattle.sabr_frontier.specs.tree.Undo.{including, modify}
 use Rattle.sabr_frontier.specs.tree.Prepared.{excluding}
+use Rattle.sabr_frontier.specs.tree.Giving.{fresh_nodes}
+use Rattle.sabr_frontier.specs.tree.Searching.{Asked, best_for}
 use Rattle.sabr_model.specs.plan.Plan.{ContactPlan}
 use Rattle.sabr_model.specs.routes.Arrival.{RouteRequest}
 use Rattle.sabr_frontier.proofs.TreeLemmas.Floors.{floor_after, floor_wide}
-use Rattle.sabr_frontier.proofs.TreeLemmas.ModifiedPlaces.{within_get}
+use Rattle.sabr_frontier.proofs.TreeLemmas.ModifiedPlaces.{get_there, length-modify, within_get}
+use Rattle.sabr_frontier.proofs.TreeLemmas.TestBoundaries.{increasing}
+use Rattle.sabr_frontier.proofs.ListingLemmas.Paths.{beginning_fits}
 use Rattle.sabr_frontier.proofs.ListingLemmas.Rising.{Rises-put_in}
-use Rattle.sabr_frontier.proofs.TreeLemmas.Excluding.{excluded_there, included}
+use Rattle.sabr_frontier.proofs.TreeLemmas.Excluding.{excluded_there, included, including_none}
 use Rattle.sabr_frontier.proofs.giving.divide.divide.Goals as goal
 use Rattle.sabr_frontier.specs.tree.Sound.{CanExclude}
 use Rattle.sabr_search.specs.questions.Bounded.{IsFloor}
 
--- what the node is once it excludes the route's number
-node_then : {A : Type 0} (nodes then : List (Node A)) (i : ℕ) (s : List ℕ) → i < length nodes → then ≡ modify (excluding s) nodes i → ((n : Node A) → slice_get nodes i ≡ Some n → CanExclude n s) → (k : Node A) → slice_get then i ≡ Some k → (k.length < length s) × Rises nat_cmp k.excluded
-node_then {A} nodes then i s l e can k stands =
-    let w = within_get nodes i l in
-    let c = can w.0 w.1 in
-    subst (λ (k : Node A). (k.length < length s) × Rises nat_cmp k.excluded) (sym (excluded_there nodes then i s w.0 w.1 e k stands)) (c.longer, Rises-put_in nat_cmp_total (slice_index s w.0.length) w.0.excluded c.rises)
-
--- no route of the parts that it makes delivers before a second that none of its own does
-module _ {A : Type 0} (p : ContactPlan) (r : RouteRequest) (d : ℕ) (nodes then : List (Node A)) (i : ℕ) (s : List ℕ) (l : i < length nodes) (e : then ≡ modify (excluding s) nodes i)
-    (can : (n : Node A) → slice_get nodes i ≡ Some n → CanExclude n s) (floor : (n : Node A) → slice_get nodes i ≡ Some n → IsFloor p r (take n.length s) n.excluded d) (k : Node A) (stands : slice_get then i ≡ Some k) where
-  wide_then : IsFloor p r (take k.length s) k.excluded d
-  wide_then =
+module _ {A : Type 0} (nodes : List (Node A)) (i : ℕ) (s : List ℕ) (l : i < length nodes) (can : (n : Node A) → slice_get nodes i ≡ Some n → CanExclude n s) where
+  -- if the number isn't excluded yet, the nodes stay
+  none_excluded : (now : List (Node A)) → now ≡ nodes → modify (including s) (take (length nodes) now) i ≡ nodes
+  none_excluded now e =
       let w = within_get nodes i l in
-      subst (λ (k : Node A). IsFloor p r (take k.length s) k.excluded d) (sym (excluded_there nodes then i s w.0 w.1 e k stands)) (floor_wide p r d (take w.0.length s) w.0.excluded (slice_index s w.0.length) (floor w.0 w.1))
+      ap (λ z. modify (including s) (take (length nodes) z) i) e ∙ ap (λ z. modify (including s) z i) (take_all (length nodes) nodes (omega arith)) ∙ including_none nodes i s w.0 w.1 (can w.0 w.1)
 
-  after_then : IsFloor p r (take (k.length + 1) s) [] d
-  after_then =
-      let w = within_get nodes i l in
-      let c = can w.0 w.1 in
-      subst (λ (k : Node A). IsFloor p r (take (k.length + 1) s) [] d) (sym (excluded_there nodes then i s w.0 w.1 e k stands)) (floor_after p r d s w.0.length w.0.excluded c.longer c.absent (floor w.0 w.1))
+  module _ (then : List (Node A)) (e : then ≡ modify (excluding s) nodes i) where
+    -- else it is taken out again, and new nodes are cut off
+    cut_off : (now : List (Node A)) → take (length then) now ≡ then → modify (including s) (take (length nodes) now) i ≡ nodes
+    cut_off now front =
+        let w = within_get nodes i l in
+        let long : length nodes ≡ length then = sym (ap (length {A = Node A}) e ∙ length-modify (excluding s) nodes i) in
+        ap (λ z. modify (including s) (take z now) i) long ∙ ap (λ z. modify (including s) z i) front ∙ included nodes then i s w.0 w.1 e (can w.0 w.1)
 
--- what is cut off again
-cut_again : {X : Type 0} (then made now xs : List X) (n : ℕ) → now ≡ take n made → n ≡ length then → take (length then) made ≡ then → then ≡ xs → now ≡ xs
-cut_again then made now xs n cut count front ok = cut ∙ ap (λ n. take n made) count ∙ front ∙ ok
+    -- what stands at the place then
+    module _ (k : Node A) (stands : slice_get then i ≡ Some k) where
+      there : (n : Node A) → slice_get nodes i ≡ Some n → k ≡ excluding s n
+      there n is = excluded_there nodes then i s n is e k stands
 
-pub search-requires-clause-longer : goal.search-requires-clause-longer
-search-requires-clause-longer g c k stands = (node_then _ _ _ _ (omega arith) c.in_ok-exclude_next.ensures.ok c.requires.next k stands).0
+      longer_then : k.length < length s
+      longer_then = let w = within_get nodes i l in subst (λ (k : Node A). k.length < length s) (sym (there w.0 w.1)) (can w.0 w.1).longer
 
-pub search-requires-clause-floor : goal.search-requires-clause-floor
-search-requires-clause-floor g c k stands = wide_then _ _ _ _ _ _ _ (omega arith) c.in_ok-exclude_next.ensures.ok c.requires.next c.requires.floor k stands
+      rises_then : IsStrictlyIncreasing k.excluded
+      rises_then =
+          let w = within_get nodes i l in
+          let c = can w.0 w.1 in
+          increasing k.excluded (subst (λ (k : Node A). Rises nat_cmp k.excluded) (sym (there w.0 w.1)) (Rises-put_in nat_cmp_total (slice_index s w.0.length) w.0.excluded c.rises))
 
-pub search-requires-clause-after : goal.search-requires-clause-after
-search-requires-clause-after g c k stands = after_then _ _ _ _ _ _ _ (omega arith) c.in_ok-exclude_next.ensures.ok c.requires.next c.requires.floor k stands
+      -- no route of the parts that it makes delivers before a second that none of its own does
+      module _ (p : ContactPlan) (r : RouteRequest) (d : ℕ) (floor : (n : Node A) → slice_get nodes i ≡ Some n → IsFloor p r (take n.length s) n.excluded d) where
+        wide_then : IsFloor p r (take k.length s) k.excluded d
+        wide_then = let w = within_get nodes i l in subst (λ (k : Node A). IsFloor p r (take k.length s) k.excluded d) (sym (there w.0 w.1)) (floor_wide p r d (take w.0.length s) w.0.excluded (slice_index s w.0.length) (floor w.0 w.1))
 
-pub search-requires-clause-rising : goal.search-requires-clause-rising
-search-requires-clause-rising g c k stands = (node_then _ _ _ _ (omega arith) c.in_ok-exclude_next.ensures.ok c.requires.next k stands).1
+        after_then : IsFloor p r (take (k.length + 1) s) [] d
+        after_then =
+            let w = within_get nodes i l in
+            let c = can w.0 w.1 in
+            subst (λ (k : Node A). IsFloor p r (take (k.length + 1) s) [] d) (sym (there w.0 w.1)) (floor_after p r d s w.0.length w.0.excluded c.longer c.absent (floor w.0 w.1))
 
-pub include_next-requires-clause-longer : goal.include_next-requires-clause-longer
-include_next-requires-clause-longer g c k stands =
-    let cut = cut_again _ _ _ _ c.len-count.result c.truncate.ensures.items (omega (arith, c.len-count.ensures)) c.in-Err.ensures.front c.in_ok-exclude_next.ensures.ok in
-    (node_then _ _ _ _ (omega arith) cut c.requires.next k stands).0
+pub slice_bounds-find_best-end : goal.slice_bounds-find_best-end
+slice_bounds-find_best-end g c =
+    let then = c.exclude_next.new.nodes.items in
+    let k = c.index-part.result.now in
+    let stands = get_there then c.args.node.0 k (omega arith) c.index-part.ensures in
+    let long = longer_then c.args.nodes.now.items c.args.node.0 c.args.route.now (omega arith) c.requires.next then c.in_ok-exclude_next.ensures.ok k stands in
+    sym (length-take-le k.length c.args.route.now (omega (arith, long)))
 
-pub returns-in-Err-clause-err : goal.returns-in-Err-clause-err
-returns-in-Err-clause-err g c =
-    let w = within_get c.args.nodes.now.items c.args.node.0 (omega arith) in
-    let cut = cut_again _ _ _ _ c.len-count.result c.truncate.ensures.items (omega (arith, c.len-count.ensures)) c.in-Err.ensures.front c.in_ok-exclude_next.ensures.ok in
-    c.include_next.ensures ∙ included c.args.nodes.now.items c.truncate.new.self.items c.args.node.0 c.args.route.now w.0 w.1 cut (c.requires.next w.0 w.1)
+pub overflow_add-count : goal.overflow_add-count
+overflow_add-count g c =
+    let then = c.exclude_next.new.nodes.items in
+    let k = c.index-part.result.now in
+    let stands = get_there then c.args.node.0 k (omega arith) c.index-part.ensures in
+    let long = longer_then c.args.nodes.now.items c.args.node.0 c.args.route.now (omega arith) c.requires.next then c.in_ok-exclude_next.ensures.ok k stands in
+    omega (arith, long)
+
+pub fresh_nodes-requires-clause-within : goal.fresh_nodes-requires-clause-within
+fresh_nodes-requires-clause-within g c =
+    let then = c.exclude_next.new.nodes.items in
+    let k = c.index-part.result.now in
+    let stands = get_there then c.args.node.0 k (omega arith) c.index-part.ensures in
+    let long = longer_then c.args.nodes.now.items c.args.node.0 c.args.route.now (omega arith) c.requires.next then c.in_ok-exclude_next.ensures.ok k stands in
+    omega (arith, long)
+
+pub find_best-requires-clause-fits : goal.find_best-requires-clause-fits
+find_best-requires-clause-fits g c =
+    let then = c.exclude_next.new.nodes.items in
+    let k = c.index-part.result.now in
+    let stands = get_there then c.args.node.0 k (omega arith) c.index-part.ensures in
+    let a = c.args.searcher.now.asked in
+    let long = longer_then c.args.nodes.now.items c.args.node.0 c.args.route.now (omega arith) c.requires.next then c.in_ok-exclude_next.ensures.ok k stands in
+    beginning_fits a.plan.plan a.request c.args.route.now k.length c.requires.route long
+
+pub find_best-requires-clause-rising : goal.find_best-requires-clause-rising
+find_best-requires-clause-rising g c =
+    let then = c.exclude_next.new.nodes.items in
+    let k = c.index-part.result.now in
+    let stands = get_there then c.args.node.0 k (omega arith) c.index-part.ensures in
+    subst IsStrictlyIncreasing (sym c.as_slice.ensures) (rises_then c.args.nodes.now.items c.args.node.0 c.args.route.now (omega arith) c.requires.next then c.in_ok-exclude_next.ensures.ok k stands)
+
+pub find_best-requires-clause-floor : goal.find_best-requires-clause-floor
+find_best-requires-clause-floor g c =
+    let then = c.exclude_next.new.nodes.items in
+    let k = c.index-part.result.now in
+    let stands = get_there then c.args.node.0 k (omega arith) c.index-part.ensures in
+    let a = c.args.searcher.now.asked in
+    subst (λ X. IsFloor a.plan.plan a.request (take k.length c.args.route.now) X c.args.given.floor) (sym c.as_slice.ensures)
+    (wide_then c.args.nodes.now.items c.args.node.0 c.args.route.now (omega arith) c.requires.next then c.in_ok-exclude_next.ensures.ok k stands a.plan.plan a.request c.args.given.floor c.requires.floor)
+
+pub fresh_nodes-requires-clause-floor : goal.fresh_nodes-requires-clause-floor
+fresh_nodes-requires-clause-floor g c =
+    let then = c.exclude_next.new.nodes.items in
+    let k = c.index-part.result.now in
+    let stands = get_there then c.args.node.0 k (omega arith) c.index-part.ensures in
+    let a = c.args.searcher.now.asked in
+    subst (λ (b : Asked). IsFloor b.plan.plan b.request (take (k.length + 1) c.args.route.now) [] c.args.given.floor) (sym c.find_best.ensures.same)
+    (after_then c.args.nodes.now.items c.args.node.0 c.args.route.now (omega arith) c.requires.next then c.in_ok-exclude_next.ensures.ok k stands a.plan.plan a.request c.args.given.floor c.requires.floor)
+
+pub returns-clause-found : goal.returns-clause-found
+returns-clause-found g c n is =
+    let then = c.exclude_next.new.nodes.items in
+    let k = c.index-part.result.now in
+    let stands = get_there then c.args.node.0 k (omega arith) c.index-part.ensures in
+    let same = there c.args.nodes.now.items c.args.node.0 c.args.route.now (omega arith) c.requires.next then c.in_ok-exclude_next.ensures.ok k stands n is in
+    c.in_ok-found.ensures.best ∙ ap (best_for c.args.searcher.now.asked c.args.given.bound (take k.length c.args.route.now)) c.as_slice.ensures
+    ∙ ap (λ (k : Node _). best_for c.args.searcher.now.asked c.args.given.bound (take k.length c.args.route.now) k.excluded) same
+
+pub returns-clause-ok : goal.returns-clause-ok
+returns-clause-ok g c n is =
+    let then = c.exclude_next.new.nodes.items in
+    let s = c.args.route.now in
+    let k = c.index-part.result.now in
+    let stands = get_there then c.args.node.0 k (omega arith) c.index-part.ensures in
+    let same = there c.args.nodes.now.items c.args.node.0 s (omega arith) c.requires.next then c.in_ok-exclude_next.ensures.ok k stands n is in
+    c.in_ok-searches.ensures.nodes
+    ∙ (λ i. c.in_ok-exclude_next.ensures.ok i ++ fresh_nodes (best_for (c.find_best.ensures.same i) c.args.given.bound) c.args.given.leaf (take ((same i).length + 1) s) (drop ((same i).length + 1) s))
+
+pub returns-clause-searches : goal.returns-clause-searches
+returns-clause-searches g c n is =
+    let then = c.exclude_next.new.nodes.items in
+    let k = c.index-part.result.now in
+    let stands = get_there then c.args.node.0 k (omega arith) c.index-part.ensures in
+    let same = there c.args.nodes.now.items c.args.node.0 c.args.route.now (omega arith) c.requires.next then c.in_ok-exclude_next.ensures.ok k stands n is in
+    omega (arith, c.in_ok-searches.ensures.searches, ap (λ (m : Node _). m.length) same)
 
 pub returns-in_err-exclude_next-clause-at_most : goal.returns-in_err-exclude_next-clause-at_most
 returns-in_err-exclude_next-clause-at_most g c = on_err c.from_residual.result (λ n stands. omega (arith, (c.requires.next n stands).longer))
+
+pub returns-in_err-found-clause-at_most : goal.returns-in_err-found-clause-at_most
+returns-in_err-found-clause-at_most g c = on_err c.from_residual-in_err-found.result (λ n stands. omega (arith, (c.requires.next n stands).longer, c.find_best.ensures.called))
+
+pub returns-in_err-searches-clause-at_most : goal.returns-in_err-searches-clause-at_most
+returns-in_err-searches-clause-at_most g c =
+    on_err c.from_residual-in_err-searches.result (λ n is.
+    let then = c.exclude_next.new.nodes.items in
+    let k = c.index-part.result.now in
+    let stands = get_there then c.args.node.0 k (omega arith) c.index-part.ensures in
+    let same = there c.args.nodes.now.items c.args.node.0 c.args.route.now (omega arith) c.requires.next then c.in_ok-exclude_next.ensures.ok k stands n is in
+    omega (arith, c.in_err-searches.ensures.at_most, c.find_best.ensures.called, ap (λ (m : Node _). m.length) same))
+
+pub returns-in_err-exclude_next-clause-err : goal.returns-in_err-exclude_next-clause-err
+returns-in_err-exclude_next-clause-err g c =
+    on_err c.from_residual.result (none_excluded c.args.nodes.now.items c.args.node.0 c.args.route.now (omega arith) c.requires.next c.exclude_next.new.nodes.items c.in_err-exclude_next.ensures.err)
+
+pub returns-in_err-found-clause-err : goal.returns-in_err-found-clause-err
+returns-in_err-found-clause-err g c =
+    let then = c.exclude_next.new.nodes.items in
+    on_err c.from_residual-in_err-found.result (cut_off c.args.nodes.now.items c.args.node.0 c.args.route.now (omega arith) c.requires.next then c.in_ok-exclude_next.ensures.ok then (take_all (length then) then (omega arith)))
+
+pub returns-in_err-searches-clause-err : goal.returns-in_err-searches-clause-err
+returns-in_err-searches-clause-err g c =
+    let then = c.exclude_next.new.nodes.items in
+    on_err c.from_residual-in_err-searches.result (cut_off c.args.nodes.now.items c.args.node.0 c.args.route.now (omega arith) c.requires.next then c.in_ok-exclude_next.ensures.ok c.fresh_nodes.new.nodes.items c.fresh_nodes.ensures.front)

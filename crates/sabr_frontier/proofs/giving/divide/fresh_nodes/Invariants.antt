@@ -6,8 +6,8 @@ use Rattle.sabr_frontier.proofs.giving.divide.fresh_nodes.Given as goal
 abbrev pub invariant-loop-count : goal.invariant-loop-count
 invariant-loop-count g l = record {
   whole : l.nodes.items ++ fresh_nodes (best_for l.fn.searcher.asked l.given.bound) l.given.leaf (take l.count l.route) (drop l.count l.route) ≡ l.fn.nodes.items ++ fresh_nodes (best_for l.fn.searcher.asked l.given.bound) l.given.leaf (take l.first l.route) (drop l.first l.route);
-  called : l.searcher.calls.count + vec_len l.fn.nodes ≡ l.fn.searcher.calls.count + vec_len l.nodes;
-  counted : l.searcher.calls.count + l.first ≡ l.fn.searcher.calls.count + l.count;
+  called : l.searcher.calls.count ≡ l.fn.searcher.calls.count + l.searches;
+  counted : l.searches + l.first ≡ l.count;
   room : vec_len l.nodes + length l.route ≤ vec_capacity l.nodes + l.count;
   same : l.searcher.asked ≡ l.fn.searcher.asked;
   long : length l.fn.nodes.items ≤ length l.nodes.items;

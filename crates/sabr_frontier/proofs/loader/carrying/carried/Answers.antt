@@ -21,14 +21,14 @@ module _ (q X s : List ℕ) (goes : goes_on q X s ≡ true) where
   front_of_going : take (length q) s ≡ q
   front_of_going = ap (take (length q)) split.2 ∙ take_at q (split.0 ∷ split.1) (length q) refl
 
-pub delivery-requires : goal.delivery-requires
-delivery-requires g c =
+pub follow_from-requires : goal.follow_from-requires
+follow_from-requires g c =
     let goes = sym c.goes_on.ensures ∙ c.if-not-goes_on.false in
     record { longer = longer_of_going c.args.prefix.now c.args.excluded.now c.in-Some.route.now goes; front = front_of_going c.args.prefix.now c.args.excluded.now c.in-Some.route.now goes; lead = c.requires }
 
-pub returns-in_default-delivery-clause-err : goal.returns-in_default-delivery-clause-err
-returns-in_default-delivery-clause-err g c =
+pub returns-in_default-follow_from-clause-err : goal.returns-in_default-follow_from-clause-err
+returns-in_default-follow_from-clause-err g c =
     let p = c.args.question.now.plan.now.plan in
     let r = c.args.question.now.request in
     ap (λ o. option_map_or (in_part p r c.args.prefix.now c.args.excluded.now) (option_copied o) true) c.in-Some.is
-    ∙ ap (λ b. b && goes_on c.args.prefix.now c.args.excluded.now c.in-Some.route.now) (fault_is_no_route p r c.in-Some.route.now c.in_default-delivery.field-0 c.in_default-delivery.ensures.fault)
+    ∙ ap (λ b. b && goes_on c.args.prefix.now c.args.excluded.now c.in-Some.route.now) (fault_is_no_route p r c.in-Some.route.now c.in_default-follow_from.field-0 c.in_default-follow_from.ensures.fault)

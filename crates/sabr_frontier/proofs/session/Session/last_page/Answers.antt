@@ -1,10 +1,11 @@
-use Rattle.std.proofs.Common.{◌-◌, ◌++◌, ap, sym, subst, ◌∙◌, arith}
+use Rattle.std.proofs.Common.{◌≡◌, ◌-◌, length, drop, ap, sym, subst, ◌∙◌, arith}
 use Rattle.sabr_search.specs.questions.Calls.{Calls}
 use Rattle.sabr_frontier.specs.giving.Detours.{HasLooks}
 use Rattle.sabr_frontier.specs.session.LastPage.{IsLastPage, LastSeen}
 use Rattle.sabr_frontier.specs.session.Session.{Seen}
 use Rattle.sabr_frontier.specs.tree.Searching.{Asked, records_for, steps_for}
 use Rattle.sabr_frontier.specs.tree.Shape.{shape_of, shown}
+use Rattle.sabr_frontier.proofs.GivingLemmas.CutWays.{drop_at}
 use Rattle.sabr_frontier.proofs.GivingLemmas.Sums.{calls_go_on, looks_go_on}
 use Rattle.sabr_frontier.proofs.session.Session.last_page.Goals as goal
 
@@ -13,16 +14,16 @@ returns g c =
     let s = c.self.inside in
     let a = s.searcher.asked in
     let given = c.in_ok-more.ensures in
-    let page : LastSeen = record { plan = c.take_sum-looks.new.self.asked.plan; routes = c.give_last_page.new.routes.items; more = c.in_ok-more.more; calls = c.take_sum-looks.new.self.calls; looks = c.take_sum-looks.result; detour_looks = c.taken.result } in
+    let page : LastSeen = record { plan = c.take_looks-looks.new.self.asked.plan; routes = drop c.len-first.result c.give_last_page.new.self.leaves.items; more = c.in_ok-more.more; calls = c.take_looks-looks.new.self.calls; looks = c.take_looks-looks.result; detour_looks = c.taken.result } in
     subst (λ (v : Seen). IsLastPage v c.args.count page) c.self.view_is (record {
-      plan = ap (λ (z : Asked). z.plan) c.take_sum-looks.ensures.begun ∙ ap (λ (z : Asked). z.plan) c.give_last_page.ensures.same;
-      routes = given.routes ∙ ap (λ z. z ++ records_for a (steps_for a c.args.count (shown (shape_of s.tree))).0) c.new-routes.ensures.items;
+      plan = ap (λ (z : Asked). z.plan) c.take_looks-looks.ensures.begun ∙ ap (λ (z : Asked). z.plan) c.give_last_page.ensures.same;
+      routes = (let first : c.len-first.result ≡ length s.tree.leaves.items = omega (arith, c.len-first.ensures) in (λ i. drop (first i) (given.routes i)) ∙ drop_at s.tree.leaves.items (records_for a (steps_for a c.args.count (shown (shape_of s.tree))).0));
       more = given.more;
-      go_on = calls_go_on s.searcher c.give_last_page.new.searcher c.self.invariant.1 c.give_last_page.ensures.same _ c.take_sum-looks.ensures.calls c.take_sum-looks.ensures.go_on;
-      at_most = omega (arith, given.at_most, ap (λ (z : Calls). z.count) c.take_sum-looks.ensures.calls);
-      looks = looks_go_on s.searcher c.give_last_page.new.searcher c.self.invariant.1 c.give_last_page.ensures.same _ c.take_sum-looks.ensures.calls _ c.take_sum-looks.ensures.sum;
+      go_on = calls_go_on s.searcher c.give_last_page.new.searcher c.self.invariant.1 c.give_last_page.ensures.same _ c.take_looks-looks.ensures.calls c.take_looks-looks.ensures.go_on;
+      at_most = omega (arith, given.at_most, ap (λ (z : Calls). z.count) c.take_looks-looks.ensures.calls);
+      looks = looks_go_on s.searcher c.give_last_page.new.searcher c.self.invariant.1 c.give_last_page.ensures.same _ c.take_looks-looks.ensures.calls _ c.take_looks-looks.ensures.sum;
       detours = omega (arith, given.looks, c.many-detours.ensures, c.taken.ensures);
-      detour = λ so some called. subst (λ n. HasLooks n a.plan.plan a.request (steps_for a (c.args.count - 1) (shown (shape_of s.tree))).1) (sym c.taken.ensures) (given.least so some (omega (arith, called, ap (λ (z : Calls). z.count) c.take_sum-looks.ensures.calls)));
+      detour = λ so some called. subst (λ n. HasLooks n a.plan.plan a.request (steps_for a (c.args.count - 1) (shown (shape_of s.tree))).1) (sym c.taken.ensures) (given.least so some (omega (arith, called, ap (λ (z : Calls). z.count) c.take_looks-looks.ensures.calls)));
     })
 
 pub give_last_page-requires-clause-few : goal.give_last_page-requires-clause-few

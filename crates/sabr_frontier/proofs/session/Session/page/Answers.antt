@@ -52,7 +52,7 @@ returns-then-count-eq0 g c =
     let page = sym (nothing s.searcher c.self.invariant.0 c.self.view_is k none) in
     let no_more = no_search s.searcher c.self.invariant.0 c.self.view_is k none in
     record {
-      routes = c.new-given.ensures.items ∙ ap (λ (z : List (List ℕ) × State). map (record_of v.plan.plan v.request) z.0) page;
+      routes = c.new.ensures.items ∙ ap (λ (z : List (List ℕ) × State). map (record_of v.plan.plan v.request) z.0) page;
       state = ap (λ (v : Seen). v.state) c.self.view_is ∙ ap (λ (z : List (List ℕ) × State). z.1) page;
       former = ap (λ (v : Seen). v.former) c.self.view_is ∙ ap (λ (z : List (List ℕ) × State). former_then z.0 v.state v.former) page;
       searches = sym no_more;
@@ -70,8 +70,8 @@ returns-then-count-eq0 g c =
 pub returns-in_err-reserve-clause-free : goal.returns-in_err-reserve-clause-free
 returns-in_err-reserve-clause-free g c h = absurd (something c.self.inside.searcher c.self.invariant.0 c.self.view_is c.args.count (omega arith) (c.is_empty.ensures.some c.if-is_empty.false) h)
 
-pub settle-requires : goal.settle-requires
-settle-requires g c =
+pub merge_new-requires : goal.merge_new-requires
+merge_new-requires g c =
     let s = c.self.inside in
     let p = s.searcher.asked.plan.plan in
     let r = s.searcher.asked.request in
@@ -98,17 +98,17 @@ invariant_of-self-in-Ok g c =
     let start : c.len-start.result ≡ length t.journal = omega (arith, c.len-start.ensures) in
     let more : c.len-start.result < length c.give_page.new.self.journal.items = omega (arith, start, c.in-Ok.ensures.entries, ap (length {A = List ℕ}) given.2) in
     let pages : reverse c.push_reserved.new.self.items ≡ c.len-start.result ∷ reverse s.pages.items = ap reverse (c.push_reserved.ensures.items ∙ ap (λ z. z ++ c.len-start.result ∷ []) c.reserve.ensures.items) ∙ last_first s.pages.items c.len-start.result in
-    let journal = ap (λ (z : Shape g.row.A.Denot). length z.journal) c.settle.ensures.same in
-    let asked = c.take_sum-self-inside.ensures.begun ∙ ap (λ (a : Asked). record a { before = c.give_page.new.searcher.calls }) c.give_page.ensures.same in (
-      subst (λ (a : Asked). IsSession a.plan a.request c.settle.new.self c.push_reserved.new.self.items) (sym asked) (record {
+    let journal = ap (λ (z : Shape g.row.A.Denot). length z.journal) c.merge_new.ensures.same in
+    let asked = c.take_looks-self-inside.ensures.begun ∙ ap (λ (a : Asked). record a { before = c.give_page.new.searcher.calls }) c.give_page.ensures.same in (
+      subst (λ (a : Asked). IsSession a.plan a.request c.merge_new.new.self c.push_reserved.new.self.items) (sym asked) (record {
         rules = c.self.invariant.0.rules;
         limits = c.self.invariant.0.limits;
-        sound = subst (IsSound p r) (sym c.settle.ensures.same) c.in-Ok.ensures.sound;
-        starts = subst (λ z. AreStarts z (length c.settle.new.self.journal.items)) (sym pages) (omega (arith, more, journal), subst (AreStarts (reverse s.pages.items)) (sym start) c.self.invariant.0.starts);
-        index = c.settle.ensures.index ∙ sym (ap (λ (z : Shape g.row.A.Denot). z.index) c.settle.ensures.same);
-        room = c.settle.ensures.room;
+        sound = subst (IsSound p r) (sym c.merge_new.ensures.same) c.in-Ok.ensures.sound;
+        starts = subst (λ z. AreStarts z (length c.merge_new.new.self.journal.items)) (sym pages) (omega (arith, more, journal), subst (AreStarts (reverse s.pages.items)) (sym start) c.self.invariant.0.starts);
+        index = c.merge_new.ensures.index ∙ sym (ap (λ (z : Shape g.row.A.Denot). z.index) c.merge_new.ensures.same);
+        room = c.merge_new.ensures.room;
       }),
-      c.take_sum-self-inside.ensures.rest,
+      c.take_looks-self-inside.ensures.rest,
     )
 
 pub undo_to-requires : goal.undo_to-requires
@@ -127,15 +127,15 @@ undo_to-requires g c =
       room = c.in-Err.ensures.room;
     }
 
-pub invariant_of-self-in-Err-1 : goal.invariant_of-self-in-Err-1
-invariant_of-self-in-Err-1 g c =
+pub invariant_of-self-in-Err : goal.invariant_of-self-in-Err
+invariant_of-self-in-Err g c =
     let s = c.self.inside in
     let p = s.searcher.asked.plan.plan in
     let r = s.searcher.asked.request in
     let t = shape_of s.tree in
     let start : c.len-start.result ≡ length t.journal = omega (arith, c.len-start.ensures) in
     let same : shape_of c.undo_to.new.self ≡ t = c.undo_to.ensures.former ∙ ap (λ n. tree_before n (shape_of c.give_page.new.self)) start ∙ c.in-Err.ensures.back in
-    let asked = c.take_sum.ensures.begun ∙ ap (λ (a : Asked). record a { before = c.give_page.new.searcher.calls }) c.give_page.ensures.same in (
+    let asked = c.take_looks.ensures.begun ∙ ap (λ (a : Asked). record a { before = c.give_page.new.searcher.calls }) c.give_page.ensures.same in (
       subst (λ (a : Asked). IsSession a.plan a.request c.undo_to.new.self c.reserve.new.self.items) (sym asked) (record {
         rules = c.self.invariant.0.rules;
         limits = c.self.invariant.0.limits;
@@ -144,7 +144,7 @@ invariant_of-self-in-Err-1 g c =
         index = c.undo_to.ensures.index;
         room = c.undo_to.ensures.room;
       }),
-      c.take_sum.ensures.rest,
+      c.take_looks.ensures.rest,
     )
 
 pub returns-in-Ok-clause-former : goal.returns-in-Ok-clause-former
@@ -155,9 +155,9 @@ returns-in-Ok-clause-former g c =
     let given = busy s.searcher.asked.plan.plan s.searcher.asked.request c.self.invariant.0.rules t c.self.invariant.0.sound c.args.count (omega arith) some in
     let start : c.len-start.result ≡ length t.journal = omega (arith, c.len-start.ensures) in
     let pages : reverse c.push_reserved.new.self.items ≡ c.len-start.result ∷ reverse s.pages.items = ap reverse (c.push_reserved.ensures.items ∙ ap (λ z. z ++ c.len-start.result ∷ []) c.reserve.ensures.items) ∙ last_first s.pages.items c.len-start.result in
-    let before = before_page c.settle.ensures.same start c.in-Ok.ensures.back in
+    let before = before_page c.merge_new.ensures.same start c.in-Ok.ensures.back in
     let former = former_of (reverse s.pages.items) t in
-    ap (λ z. former_of z (shape_of c.settle.new.self)) pages
+    ap (λ z. former_of z (shape_of c.merge_new.new.self)) pages
     ∙ ap (λ (z : Shape g.row.A.Denot). shown z ∷ former_of (reverse s.pages.items) z) before
     ∙ sym (ap (λ z. former_then z (shown t) former) given.2)
     ∙ ap (λ (v : Seen). former_then (next_page v c.args.count).0 v.state v.former) c.self.view_is
@@ -176,21 +176,21 @@ returns-in-Err-clause-new_routes g c = no_route_twice c.self.inside.searcher c.s
 
 pub returns-in-Err-clause-at_most : goal.returns-in-Err-clause-at_most
 returns-in-Err-clause-at_most g c =
-    subst (λ (v : Seen). c.take_sum.new.self.calls.count ≤ v.calls.count + page_searches v c.args.count) c.self.view_is (omega (arith, c.in-Err.ensures.at_most, ap (λ (z : Calls). z.count) c.take_sum.ensures.calls))
+    subst (λ (v : Seen). c.take_looks.new.self.calls.count ≤ v.calls.count + page_searches v c.args.count) c.self.view_is (omega (arith, c.in-Err.ensures.at_most, ap (λ (z : Calls). z.count) c.take_looks.ensures.calls))
 
 pub returns-in-Ok-clause-looks : goal.returns-in-Ok-clause-looks
 returns-in-Ok-clause-looks g c =
-    subst (λ (v : Seen). c.take_sum-self-inside.result ≡ looks_since v.calls c.take_sum-self-inside.new.self.calls) c.self.view_is
-    (looks_go_on c.self.inside.searcher c.give_page.new.searcher c.self.invariant.1 c.give_page.ensures.same _ c.take_sum-self-inside.ensures.calls _ c.take_sum-self-inside.ensures.sum)
+    subst (λ (v : Seen). c.take_looks-self-inside.result ≡ looks_since v.calls c.take_looks-self-inside.new.self.calls) c.self.view_is
+    (looks_go_on c.self.inside.searcher c.give_page.new.searcher c.self.invariant.1 c.give_page.ensures.same _ c.take_looks-self-inside.ensures.calls _ c.take_looks-self-inside.ensures.sum)
 
 pub returns-in-Ok-clause-go_on : goal.returns-in-Ok-clause-go_on
 returns-in-Ok-clause-go_on g c =
-    subst (λ (v : Seen). GoOn v.plan.plan v.calls c.take_sum-self-inside.new.self.calls) c.self.view_is
-    (calls_go_on c.self.inside.searcher c.give_page.new.searcher c.self.invariant.1 c.give_page.ensures.same _ c.take_sum-self-inside.ensures.calls c.take_sum-self-inside.ensures.go_on)
+    subst (λ (v : Seen). GoOn v.plan.plan v.calls c.take_looks-self-inside.new.self.calls) c.self.view_is
+    (calls_go_on c.self.inside.searcher c.give_page.new.searcher c.self.invariant.1 c.give_page.ensures.same _ c.take_looks-self-inside.ensures.calls c.take_looks-self-inside.ensures.go_on)
 
 pub returns-in-Err-clause-go_on : goal.returns-in-Err-clause-go_on
 returns-in-Err-clause-go_on g c =
-    subst (λ (v : Seen). GoOn v.plan.plan v.calls c.take_sum.new.self.calls) c.self.view_is (calls_go_on c.self.inside.searcher c.give_page.new.searcher c.self.invariant.1 c.give_page.ensures.same _ c.take_sum.ensures.calls c.take_sum.ensures.go_on)
+    subst (λ (v : Seen). GoOn v.plan.plan v.calls c.take_looks.new.self.calls) c.self.view_is (calls_go_on c.self.inside.searcher c.give_page.new.searcher c.self.invariant.1 c.give_page.ensures.same _ c.take_looks.ensures.calls c.take_looks.ensures.go_on)
 
 pub returns-in_err-reserve-clause-go_on : goal.returns-in_err-reserve-clause-go_on
 returns-in_err-reserve-clause-go_on g c = unchanged c.self.inside.searcher c.self.invariant.0 c.self.view_is c.args.count

@@ -19,7 +19,7 @@ pub invariant_of-result : goal.invariant_of-result
 invariant_of-result g c =
     let p = c.over-searcher.result.asked.plan.plan in
     let r = c.over-searcher.result.asked.request in
-    let asked = c.take_sum.ensures.begun ∙ ap (λ (a : Asked). record a { before = c.find_best.new.self.calls }) c.find_best.ensures.same in
+    let asked = c.take_looks.ensures.begun ∙ ap (λ (a : Asked). record a { before = c.find_best.new.self.calls }) c.find_best.ensures.same in
     let same : shape_of c.in_ok-tree.tree ≡ root (best_of p r [] []) = c.in_ok-tree.ensures.shape ∙ ap root c.in_ok-found.ensures.best in
     let rules : IsPlan p = subst (λ (a : Searching). IsPlan a.asked.plan.plan) (sym c.over-searcher.ensures) (subst (λ (q : TabledPlan). IsPlan q.plan) c.plan.ensures c.rules_hold.ensures) in (
       subst (λ (a : Asked). IsSession a.plan a.request c.in_ok-tree.tree c.new.result.items) (sym asked) (record {
@@ -30,24 +30,24 @@ invariant_of-result g c =
         index = c.in_ok-tree.ensures.index;
         room = c.in_ok-tree.ensures.room;
       }),
-      c.take_sum.ensures.rest,
+      c.take_looks.ensures.rest,
     )
 
 pub returns : goal.returns
 returns g c =
     let p = c.over-searcher.result.asked.plan.plan in
     let r = c.over-searcher.result.asked.request in
-    let asked = c.take_sum.ensures.begun ∙ ap (λ (a : Asked). record a { before = c.find_best.new.self.calls }) c.find_best.ensures.same in
+    let asked = c.take_looks.ensures.begun ∙ ap (λ (a : Asked). record a { before = c.find_best.new.self.calls }) c.find_best.ensures.same in
     let same : shape_of c.in_ok-tree.tree ≡ root (best_of p r [] []) = c.in_ok-tree.ensures.shape ∙ ap root c.in_ok-found.ensures.best in
     let state = ap shown same ∙ shown_root g.row.A.Denot p r in
     let former = ap (λ z. former_of (reverse z) (shape_of c.in_ok-tree.tree)) c.new.ensures.items in
-    let calls = c.take_sum.new.self.calls in
+    let calls = c.take_looks.new.self.calls in
     let first = c.over-searcher.ensures in
-    let taken = ap (λ (z : Calls). z.count) c.take_sum.ensures.calls in
+    let taken = ap (λ (z : Calls). z.count) c.take_looks.ensures.calls in
     let before = ap (λ (a : Searching). a.calls.count) first in
     record {
       shows = (λ i. record { plan = (asked i).plan; request = (asked i).request; state = state i; former = former i; searches = 1; calls = calls; looks = 0 })
           ∙ ap (λ (a : Searching). started a.asked.plan a.asked.request calls) first;
       called = omega (arith, taken, c.find_best.ensures.called, before);
-      go_on = subst (λ (a : Searching). GoOn a.asked.plan.plan a.calls calls) first (calls_go_on c.over-searcher.result c.find_best.new.self (subst IsAtRest (sym first) refl) c.find_best.ensures.same _ c.take_sum.ensures.calls c.take_sum.ensures.go_on);
+      go_on = subst (λ (a : Searching). GoOn a.asked.plan.plan a.calls calls) first (calls_go_on c.over-searcher.result c.find_best.new.self (subst IsAtRest (sym first) refl) c.find_best.ensures.same _ c.take_looks.ensures.calls c.take_looks.ensures.go_on);
     }

@@ -87,7 +87,7 @@ module _ {A : Type 0} (a : Asked) (s : State) (k count : ℕ) (less : k + 1 ≡ 
 pub returns-then-count-eq0-clause-routes : goal.returns-then-count-eq0-clause-routes
 returns-then-count-eq0-clause-routes g c =
     let a = c.args.searcher.now.asked in
-    let xs = c.args.routes.now.items in
+    let xs = c.args.self.now.leaves.items in
     let none = idle a.plan.plan a.request c.requires.plan (shape_of c.args.self.now) c.requires.sound c.args.count (inl (omega arith)) in
     sym (ap (λ (z : List (List ℕ) × State). xs ++ records_for a z.0) none ∙ append-nil xs)
 
@@ -100,15 +100,15 @@ returns-then-count-eq0-clause-more g c =
     more_is p r c.requires.plan t c.requires.sound c.is_empty.result c.is_empty.ensures.none c.is_empty.ensures.some
     ∙ ap (λ (z : List (List ℕ) × State). is_some (next_route p r z.1)) none
 
-pub show_next-requires-clause-tree : goal.show_next-requires-clause-tree
-show_next-requires-clause-tree g c =
+pub give_last-requires-clause-tree : goal.give_last-requires-clause-tree
+give_last-requires-clause-tree g c =
     let a = c.args.searcher.now.asked in
     let t = shape_of c.give_page_up_to.new.self in
     let same = c.give_page_up_to.ensures.same in
     subst (λ (b : Asked). IsTree b.plan.plan b.request t) (sym same) (cut_tree a 2 (steps_for a (c.args.count - 1) (shown (shape_of c.args.self.now))).1 t (c.in_ok-give_page_up_to.ensures {u = tt}).state)
 
-pub show_next-requires-clause-plan : goal.show_next-requires-clause-plan
-show_next-requires-clause-plan g c =
+pub give_last-requires-clause-plan : goal.give_last-requires-clause-plan
+give_last-requires-clause-plan g c =
     let same = c.give_page_up_to.ensures.same in
     subst (λ (b : Asked). IsPlan b.plan.plan) (sym same) c.requires.plan
 
@@ -122,23 +122,23 @@ returns g c =
     let first = shown (shape_of c.args.self.now) in
     let t = shape_of c.give_page_up_to.new.self in
     let same = c.give_page_up_to.ensures.same in
-    let told = c.show_next.ensures in
+    let told = c.give_last.ensures in
     let step = cut_next a (steps_for a k first).1 t c.requires.plan given.state in
     let all = all_searches a first k c.args.count less b t same step in
     record {
-      routes = then_ok c.show_next.result told.routes (λ _. all_given a first k c.args.count less b t same step c.args.routes.now.items c.give_page_up_to.new.routes.items c.show_next.new.routes.items given.routes);
-      more = then_ok c.show_next.result told.more (λ more h. h ∙ left_after_last a first k c.args.count less b t same step);
-      no_fewer = always_ok c.show_next.result (omega (arith, given.called, told.no_fewer));
-      at_most = always_ok c.show_next.result (omega (arith, given.called, told.at_most, all));
-      looks = always_ok c.show_next.result (subst (λ (z : Asked). c.args.looks.now.left ≤ c.show_next.new.looks.left + detour_looks z.request.max_hops) same told.looks);
-      least = then_ok c.show_next.result told.least (λ more h so _ called.
-          cut_looks a (steps_for a k first).1 t c.requires.plan given.state (looks_taken c.show_next.new.looks)
-          (subst (λ (z : Asked). HasLooks (looks_taken c.show_next.new.looks) z.plan.plan z.request (shown t)) same (h so (omega (arith, called, given.called)))));
+      routes = then_ok c.give_last.result told.routes (λ _. all_given a first k c.args.count less b t same step c.args.self.now.leaves.items c.give_page_up_to.new.self.leaves.items c.give_last.new.self.leaves.items given.routes);
+      more = then_ok c.give_last.result told.more (λ more h. h ∙ left_after_last a first k c.args.count less b t same step);
+      no_fewer = always_ok c.give_last.result (omega (arith, given.called, told.no_fewer));
+      at_most = always_ok c.give_last.result (omega (arith, given.called, told.at_most, all));
+      looks = always_ok c.give_last.result (subst (λ (z : Asked). c.args.looks.now.left ≤ c.give_last.new.looks.left + detour_looks z.request.max_hops) same told.looks);
+      least = then_ok c.give_last.result told.least (λ more h so _ called.
+          cut_looks a (steps_for a k first).1 t c.requires.plan given.state (looks_taken c.give_last.new.looks)
+          (subst (λ (z : Asked). HasLooks (looks_taken c.give_last.new.looks) z.plan.plan z.request (shown t)) same (h so (omega (arith, called, given.called)))));
       same = told.same ∙ same;
     }
 
-pub show_next-requires-clause-few : goal.show_next-requires-clause-few
-show_next-requires-clause-few g c =
+pub give_last-requires-clause-few : goal.give_last-requires-clause-few
+give_last-requires-clause-few g c =
     let same = c.give_page_up_to.ensures.same in
     subst (λ (z : Asked). detour_looks z.request.max_hops ≤ c.args.looks.now.left) (sym same) c.requires.few
 

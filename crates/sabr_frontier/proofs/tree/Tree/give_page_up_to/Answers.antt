@@ -23,7 +23,7 @@ loop-init g c =
     let tree = sound_tree a.plan.plan a.request (length t.journal) t c.requires.sound in
     let noted = subst (λ z. AreNoted c.new-keys.result (carried_keys z) c.note_all.new.self) c.as_slice.ensures.value c.in_ok-note_all.ensures in
     record {
-      way = way_first a c.args.count (c.args.count - 0) t c.args.routes.now.items c.args.searcher.now.calls.count c.new-keys.result c.note_all.new.self (omega arith) tree c.new-keys.ensures noted;
+      way = way_first a c.args.count (c.args.count - 0) t c.args.searcher.now.calls.count c.new-keys.result c.note_all.new.self (omega arith) tree c.new-keys.ensures noted;
       room = c.requires.room;
       same = refl;
     }
@@ -50,10 +50,10 @@ pub give_next-requires-clause-waiting : goal.give_next-requires-clause-waiting
 give_next-requires-clause-waiting g c = c.is_empty.ensures.some c.if-is_empty.false
 
 pub note_new-requires-clause-in_range : goal.note_new-requires-clause-in_range
-note_new-requires-clause-in_range g c = (step_within c.in_ok-step.ensures.ok).0
+note_new-requires-clause-in_range g c = (step_within c.in_ok-given.ensures.ok).0
 
 pub note_new-requires-clause-within : goal.note_new-requires-clause-within
-note_new-requires-clause-within g c = (step_within c.in_ok-step.ensures.ok).1
+note_new-requires-clause-within g c = (step_within c.in_ok-given.ensures.ok).1
 
 pub note_new-requires-clause-fit : goal.note_new-requires-clause-fit
 note_new-requires-clause-fit g c =
@@ -61,8 +61,8 @@ note_new-requires-clause-fit g c =
     let u = shape_of c.give_next.new.self in
     let k = c.args.count - (c.loop.counter + 1) in
     let left : c.args.count - c.loop.counter ≡ suc k = omega (arith, c.loop-test.true) in
-    let way = subst (λ n. IsCutWay a (shown (shape_of c.args.self.now)) c.args.count c.args.routes.now.items c.args.searcher.now.calls.count n (shape_of c.loop.self) c.loop.routes.items c.loop.searcher.calls.count c.loop.keys) left c.loop.invariant.way in
-    let turn = turn_is c.requires.plan k way c.bound.result c.bound.ensures (given_same c.bound.result c.loop.invariant.same c.in_ok-step.ensures.ok) in
+    let way = subst (λ n. IsCutWay a (shown (shape_of c.args.self.now)) c.args.count c.args.self.now.leaves.items c.args.searcher.now.calls.count n (shape_of c.loop.self) c.loop.searcher.calls.count c.loop.keys) left c.loop.invariant.way in
+    let turn = turn_is c.requires.plan k way c.bound.result c.bound.ensures (given_same c.bound.result c.loop.invariant.same c.in_ok-given.ensures.ok) in
     carry_keys a.plan.plan a.request u c.requires.plan c.requires.limits (cut_tree a (suc (suc k)) turn.next.1 u turn.then)
 
 pub loop-preserved : goal.loop-preserved
@@ -70,10 +70,10 @@ loop-preserved g c =
     let a = c.args.searcher.now.asked in
     let k = c.args.count - (c.loop.counter + 1) in
     let left : c.args.count - c.loop.counter ≡ suc k = omega (arith, c.loop-test.true) in
-    let way = subst (λ n. IsCutWay a (shown (shape_of c.args.self.now)) c.args.count c.args.routes.now.items c.args.searcher.now.calls.count n (shape_of c.loop.self) c.loop.routes.items c.loop.searcher.calls.count c.loop.keys) left c.loop.invariant.way in
-    let taken = given_same c.bound.result c.loop.invariant.same c.in_ok-step.ensures.ok in
+    let way = subst (λ n. IsCutWay a (shown (shape_of c.args.self.now)) c.args.count c.args.self.now.leaves.items c.args.searcher.now.calls.count n (shape_of c.loop.self) c.loop.searcher.calls.count c.loop.keys) left c.loop.invariant.way in
+    let taken = given_same c.bound.result c.loop.invariant.same c.in_ok-given.ensures.ok in
     record {
-      way = way_on c.requires.plan k way c.bound.result c.bound.ensures taken c.give_next.new.searcher.calls.count c.in_ok-step.ensures.called c.note_new.new.keys c.in_ok-note_new.ensures;
+      way = way_on c.requires.plan k way c.bound.result c.bound.ensures taken c.give_next.new.searcher.calls.count c.in_ok-given.ensures.called c.note_new.new.keys c.in_ok-note_new.ensures;
       room = c.give_next.ensures.room;
       same = c.give_next.ensures.same ∙ c.loop.invariant.same;
     }

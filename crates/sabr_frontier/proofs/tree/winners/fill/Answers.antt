@@ -4,14 +4,14 @@ use Rattle.sabr_frontier.specs.tree.Winners.{AreWinners}
 use Rattle.sabr_frontier.proofs.TreeLemmas.SlotWinners.{rising_first}
 use Rattle.sabr_frontier.proofs.tree.winners.fill.Goals as goal
 
-pub rise-requires : goal.rise-requires
-rise-requires g c =
+pub sift_up-requires : goal.sift_up-requires
+sift_up-requires g c =
     let l = c.loop-place in
     rising_first c.args.nodes.now l.winners.items c.as_mut_slice.result.now l.place (omega (arith, l.invariant.long)) (c.as_mut_slice.ensures.value ∙ c.push_reserved.ensures.items) l.invariant.won
 
 pub loop-place-preserved : goal.loop-place-preserved
 loop-place-preserved g c = record {
-  won = subst (AreWinners c.args.nodes.now) (sym (take_at c.rise.new.ids _ c.push_reserved.new.self.len (omega (arith, c.rise.ensures.len, c.as_mut_slice.ensures.len)))) c.rise.ensures.won;
+  won = subst (AreWinners c.args.nodes.now) (sym (take_at c.sift_up.new.ids _ c.push_reserved.new.self.len (omega (arith, c.sift_up.ensures.len, c.as_mut_slice.ensures.len)))) c.sift_up.ensures.won;
   long = omega (arith, c.push_reserved.ensures.len, c.loop-place.invariant.long);
   few = omega (arith, c.loop-place-test.true);
   room = omega (arith, c.push_reserved.ensures.capacity, c.loop-place.invariant.room);

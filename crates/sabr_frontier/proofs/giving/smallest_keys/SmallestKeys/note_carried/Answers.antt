@@ -10,5 +10,5 @@ key_of-requires g c = c.requires c.in-Some.route c.in-Some.is
 pub returns-in-None : goal.returns-in-None
 returns-in-None g c = subst (λ (o : Option RouteRecord). AreNoted c.args.self.now (keys_of o) c.args.self.now) (sym c.in-None.is) (record {
   most = refl;
-  least = kept_all c.args.self.now.most c.args.self.now.keys c.tell_few.ensures;
+  least = kept_all c.args.self.now.most c.args.self.now.keys c.few_hold.ensures;
 })

@@ -1,0 +1,6 @@
+use Rattle.std.proofs.Common.{arith}
+use Rattle.sabr_frontier.proofs.TreeLemmas.Floors.{floor_on}
+use Rattle.sabr_frontier.proofs.giving.give_last.longer_go_on.Goals as goal
+
+pub find_best_after-requires-clause-floor : goal.find_best_after-requires-clause-floor
+find_best_after-requires-clause-floor g c = floor_on c.loop-count.invariant.same c.args.route.now c.args.first c.loop-count.count c.args.floor (omega arith) (omega (arith, c.loop-count-test.true)) c.requires.floor

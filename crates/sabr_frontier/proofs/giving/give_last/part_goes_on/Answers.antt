@@ -1,0 +1,111 @@
+use Rattle.std.proofs.Common.{◌≡◌, ℕ, List, ◌+◌, ◌≤◌, ◌||◌, None, Ok, Err, Result, false, arith, length, slice_index, take, drop, subst, sym, ap, ◌∙◌}
+use Rattle.std.specs.Prelude.{IfOk, IsTrue, is_some}
+use Rattle.std.specs.Cmp.{nat_cmp_total}
+use Rattle.std.specs.List.Sorted.{IsStrictlyIncreasing}
+use Rattle.sabr_model.specs.plan.Plan.{ContactPlan, IsPlan, TabledPlan}
+use Rattle.sabr_model.specs.routes.Arrival.{RouteRequest}
+use Rattle.sabr_model.specs.routes.Route.{is_route}
+use Rattle.sabr_model.proofs.RouteLemmas.Paths.{path_facts, route_is_path}
+use Rattle.sabr_search.specs.questions.Bounded.{IsFloor}
+use Rattle.sabr_frontier.specs.giving.Detours.{detour_looks}
+use Rattle.sabr_frontier.specs.tree.Searching.{best_for}
+use Rattle.sabr_frontier.specs.tree.Left.{GoesOtherwise, longer_go_on, part_goes_on}
+use Rattle.sabr_frontier.specs.tree.Giving.{wide_of}
+use Rattle.sabr_frontier.proofs.ListingLemmas.Rising.{Rises-put_in}
+use Rattle.sabr_frontier.proofs.TreeLemmas.Floors.{floor_after, floor_on, floor_wide}
+use Rattle.sabr_frontier.proofs.TreeLemmas.TestBoundaries.{increasing}
+use Rattle.sabr_frontier.proofs.TreeLemmas.OtherWays.{goes_on_otherwise}
+use Rattle.sabr_frontier.proofs.giving.give_last.part_goes_on.Goals as goal
+
+pub goes_otherwise-requires-clause-route : goal.goes_otherwise-requires-clause-route
+goes_otherwise-requires-clause-route g c =
+    let p = c.args.searcher.now.asked.plan in
+    let s = c.args.route.now in
+    subst (λ (t : TabledPlan). IsTrue (is_route t.plan c.request-request.result.now s)) (sym (c.counted.ensures ∙ c.index.ensures))
+    (subst (λ q. IsTrue (is_route p.plan q s)) (sym c.request-request.ensures) c.requires.route)
+
+pub goes_otherwise-requires-clause-few : goal.goes_otherwise-requires-clause-few
+goes_otherwise-requires-clause-few g c =
+    let p = c.args.searcher.now.asked.plan.plan in
+    let r = c.args.searcher.now.asked.request in
+    let s = c.args.route.now in
+    let within : length s ≤ r.max_hops = (path_facts p r s (route_is_path p r s c.requires.route)).within in
+    omega (arith, within, c.requires.few)
+
+-- what holds of each value
+all_ok : {T E : Type 0} {P : T → Type 0} (r : Result T E) → ((x : T) → P x) → IfOk r P
+all_ok (Ok x) h = h x
+all_ok (Err e) h = tt
+
+-- a route takes no more looks than one of as many hops as the request allows
+few_looks : (p : ContactPlan) (r : RouteRequest) (s : List ℕ) → IsTrue (is_route p r s) → (old new : ℕ) → old ≤ new + detour_looks (length s) → old ≤ new + detour_looks r.max_hops
+few_looks p r s route old new most = let within = (path_facts p r s (route_is_path p r s route)).within in omega (arith, within, most)
+
+pub returns-in_err-goes_otherwise-clause-looks : goal.returns-in_err-goes_otherwise-clause-looks
+returns-in_err-goes_otherwise-clause-looks g c = few_looks _ _ c.args.route.now c.requires.route _ _ c.goes_otherwise.ensures.most
+
+pub returns-then-branch-clause-looks : goal.returns-then-branch-clause-looks
+returns-then-branch-clause-looks g c = few_looks _ _ c.args.route.now c.requires.route _ _ c.goes_otherwise.ensures.most
+
+pub returns-in_err-excluded-clause-looks : goal.returns-in_err-excluded-clause-looks
+returns-in_err-excluded-clause-looks g c = few_looks _ _ c.args.route.now c.requires.route _ _ c.goes_otherwise.ensures.most
+
+pub returns-in_err-found-clause-looks : goal.returns-in_err-found-clause-looks
+returns-in_err-found-clause-looks g c = few_looks _ _ c.args.route.now c.requires.route _ _ c.goes_otherwise.ensures.most
+
+pub returns-then-is_some-clause-looks : goal.returns-then-is_some-clause-looks
+returns-then-is_some-clause-looks g c = few_looks _ _ c.args.route.now c.requires.route _ _ c.goes_otherwise.ensures.most
+
+pub returns-clause-looks : goal.returns-clause-looks
+returns-clause-looks g c = few_looks _ _ c.args.route.now c.requires.route _ _ c.goes_otherwise.ensures.most
+
+pub returns-then-branch-clause-ok : goal.returns-then-branch-clause-ok
+returns-then-branch-clause-ok g c =
+    let p = c.args.searcher.now.asked.plan in
+    let r = c.args.searcher.now.asked.request in
+    let s = c.args.route.now in
+    let good : IsPlan p.plan = subst (λ (t : TabledPlan). IsPlan t.plan) c.plan.ensures c.rules_hold.ensures in
+    let over : GoesOtherwise p.plan c.request-request.result.now s c.as_slice-excluded.result.now =
+    subst (λ (t : TabledPlan). GoesOtherwise t.plan c.request-request.result.now s c.as_slice-excluded.result.now) (c.counted.ensures ∙ c.index.ensures) (c.in_ok-goes_otherwise.ensures.yes c.if-branch.true) in
+    let of : GoesOtherwise p.plan r s c.as_slice-excluded.result.now = subst (λ q. GoesOtherwise p.plan q s c.as_slice-excluded.result.now) c.request-request.ensures over in
+    let otherwise : GoesOtherwise p.plan r s c.args.part.now.excluded = subst (GoesOtherwise p.plan r s) c.as_slice-excluded.ensures of in
+    sym (goes_on_otherwise p.plan r good c.args.part.now s c.requires.next otherwise)
+
+pub find_best-requires-clause-floor : goal.find_best-requires-clause-floor
+find_best-requires-clause-floor g c =
+    let p = c.args.searcher.now.asked.plan.plan in
+    let r = c.args.searcher.now.asked.request in
+    let n = c.args.part.now in
+    let s = c.args.route.now in
+    subst (λ X. IsFloor p r (take n.length s) X c.args.floor) (sym (c.as_slice.ensures ∙ c.in_ok-excluded.ensures)) (floor_wide p r c.args.floor (take n.length s) n.excluded (slice_index s n.length) c.requires.floor)
+
+pub longer_go_on-requires-clause-floor : goal.longer_go_on-requires-clause-floor
+longer_go_on-requires-clause-floor g c =
+    let a = c.args.searcher.now.asked in
+    let n = c.args.part.now in
+    let s = c.args.route.now in
+    floor_on c.find_best.ensures.same s (n.length + 1) (n.length + 1) c.args.floor (omega arith) (omega (arith, c.requires.next.longer)) (floor_after a.plan.plan a.request c.args.floor s n.length n.excluded c.requires.next.longer c.requires.next.absent c.requires.floor)
+
+pub find_best-requires-clause-rising : goal.find_best-requires-clause-rising
+find_best-requires-clause-rising g c =
+    let n = c.args.part.now in
+    let s = c.args.route.now in
+    subst IsStrictlyIncreasing (sym (c.as_slice.ensures ∙ c.in_ok-excluded.ensures)) (increasing (wide_of n s) (Rises-put_in nat_cmp_total (slice_index s n.length) n.excluded c.requires.next.rises))
+
+pub returns-clause-ok : goal.returns-clause-ok
+returns-clause-ok g c =
+    let a = c.args.searcher.now.asked in
+    let n = c.args.part.now in
+    let s = c.args.route.now in
+    let none : is_some (best_for a None (take n.length s) (wide_of n s)) ≡ false =
+    ap (λ X. is_some (best_for a None (take n.length s) X)) (sym (c.as_slice.ensures ∙ c.in_ok-excluded.ensures)) ∙ ap is_some (sym c.in_ok-found.ensures.best) ∙ sym c.is_some.ensures ∙ c.if-is_some.false in
+    let rest : longer_go_on (best_for c.find_best.new.self.asked None) (take (n.length + 1) s) (drop (n.length + 1) s) ≡ part_goes_on (best_for a None) n s =
+    ap (λ b. longer_go_on (best_for b None) (take (n.length + 1) s) (drop (n.length + 1) s)) c.find_best.ensures.same
+    ∙ ap (λ b. b || longer_go_on (best_for a None) (take (n.length + 1) s) (drop (n.length + 1) s)) (sym none) in
+    subst (λ b. IfOk c.longer_go_on.result (λ more. more ≡ b)) rest c.longer_go_on.ensures.ok
+
+pub returns-clause-least : goal.returns-clause-least
+returns-clause-least g c = all_ok c.longer_go_on.result (λ _ _ same. absurd (omega (arith, same, c.longer_go_on.ensures.no_fewer, c.find_best.ensures.called)))
+
+pub returns-then-branch-clause-least : goal.returns-then-branch-clause-least
+returns-then-branch-clause-least g c _ _ = omega (arith, c.in_ok-goes_otherwise.ensures.least c.if-branch.true)

@@ -1,0 +1,19 @@
+use Rattle.std.proofs.Common.{◌≡◌, ◌+◌, ◌++◌, ◌∷◌, [], take, arith, sym, ap, ◌∙◌}
+use Rattle.std.proofs.lemmas.List.{take_all, take_more}
+use Rattle.sabr_model.specs.routes.Record.{RouteRecord}
+use Rattle.sabr_frontier.proofs.giving.give_page.copies.Goals as goal
+
+pub loop-place-preserved : goal.loop-place-preserved
+loop-place-preserved g c =
+    let s = c.args.routes.now in
+    let i = c.loop-place.place in
+    let x = c.index-routes-place.result in
+    let more : take (i + 1) s ≡ take i s ++ x ∷ [] = take_more s i x c.loop-place-test.true ∙ ap (λ (z : RouteRecord). take i s ++ z ∷ []) (sym c.index-routes-place.is) in
+    record {
+      items = c.push_reserved.ensures.items ∙ (λ j. c.loop-place.invariant.items j ++ c.in_ok-route.ensures j ∷ []) ∙ sym more;
+      count = omega (arith, c.push_reserved.ensures.len, c.loop-place.invariant.count);
+      room = omega (arith, c.push_reserved.ensures.capacity, c.loop-place.invariant.room);
+    }
+
+pub returns : goal.returns
+returns g c = c.loop-place.invariant.items ∙ take_all c.loop-place.place c.args.routes.now c.loop-place-test.false
