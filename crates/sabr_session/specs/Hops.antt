@@ -1,11 +1,22 @@
 -- The hops of a list of contacts, up to the first fault.
-use Rattle.std.specs.Prelude.{ℕ, ◌++◌, List, [], ◌∷◌, max, is_none, if◌then◌else◌}
+use Rattle.std.specs.Prelude.{ℕ, ◌≡◌, ◌+◌, ◌++◌, ◌||◌, ◌==◌, ◌≤◌, Bool, IfSome, IsTrue, List, [], ◌∷◌, drop, length, max, is_none, slice_get, take, if◌then◌else◌}
 use Rattle.std.specs.Option.{option_map_or}
+use Rattle.std.specs.declared.option.Option.{Option}
+use Rattle.std.specs.declared.option.Option.TheVariants.{Some}
 use Rattle.sabr_model.specs.declared.contact.Contact.{Contact}
-use Rattle.sabr_model.specs.plan.Plan.{ContactPlan, contact_named}
+use Rattle.sabr_model.specs.declared.fault.HopFault.{HopFault}
+use Rattle.sabr_model.specs.declared.following.Reached.{Reached}
+use Rattle.sabr_model.specs.declared.route_summary.RouteSummary.{RouteSummary}
+use Rattle.sabr_model.specs.plan.Plan.{ContactPlan, TabledPlan, IsPlan, contact_named, has}
+use Rattle.sabr_model.specs.plan.Tabled.{IsTabled}
 use Rattle.sabr_model.specs.routes.Arrival.{RouteRequest}
-use Rattle.sabr_model.specs.routes.Route.{delivery_of}
-use Rattle.sabr_model.specs.routes.Fault.{fault_at}
+use Rattle.sabr_model.specs.routes.Following.{IsReachedBy}
+use Rattle.sabr_model.specs.routes.Route.{delivery_of, is_path, receivers}
+use Rattle.sabr_model.specs.routes.Fault.{fault_at, fault_of}
+use Rattle.sabr_model.specs.routes.Telling.{summary_of}
+use Rattle.sabr_session.specs.declared.hops.FollowedHop.{FollowedHop}
+use Rattle.sabr_session.specs.declared.hops.node_set.NodeSet.{NodeSet}
+use Rattle.sabr_session.specs.NodeSets.{has_index, most_nodes}
 
 -- a hop: its contact, and when the bundle is sent and arrives, in seconds since 1970-01-01T00:00:00Z
 pub record Hop : Type 0 where
@@ -27,3 +38,50 @@ abbrev pub told_of : {X : Type 0} → (List ℕ → Hop → List X) → ContactP
 told_of tell p r front [] = []
 told_of tell p r front (n ∷ s) =
     if is_none (fault_at p r front n) then told_after tell p r front n ++ told_of tell p r (front ++ n ∷ []) s else []
+
+-- a hop and its place in the list, from 1
+pub record PlacedHop : Type 0 where
+  pub place : ℕ
+  pub hop : Hop
+
+-- the hop that follows `front`, with its place
+abbrev pub placed_after : List ℕ → Hop → List PlacedHop
+placed_after front h = record { place = length front + 1; hop = h } ∷ []
+
+-- the same, as the code has it
+abbrev pub seen_hop : FollowedHop → PlacedHop
+seen_hop h = record { place = h.place; hop = record { contact = h.contact.now; sent = h.sent; arrival = h.arrived } }
+
+-- a list of contacts over a plan, for a request
+pub record ListQuestion : Type 0 where
+  pub plan : TabledPlan
+  pub request : RouteRequest
+  pub contacts : List ℕ
+
+-- such a list, how many of its contacts were followed, and whether no other has a hop before the first fault
+pub record Followed : Type 0 where
+  pub question : ListQuestion
+  pub count : ℕ
+  pub over : Bool
+
+-- the contacts that were followed
+abbrev pub followed_of : Followed → List ℕ
+followed_of f = take f.count f.question.contacts
+
+-- the hops that are left, up to the first fault
+abbrev pub hops_left : Followed → List PlacedHop
+hops_left f = told_of placed_after f.question.plan.plan f.question.request (followed_of f) (drop f.count f.question.contacts)
+
+-- what is known of that many numbers that were followed: they are a path that leads there, with this summary; the set
+-- has the nodes that they met; and a fault that was found is that of the whole list, and of the number that comes next
+pub record IsFollowed (p : TabledPlan) (r : RouteRequest) (s : List ℕ) (count : ℕ) (here : Reached) (summary : RouteSummary) (met : NodeSet) (fault : Option HopFault) : Type 0 where
+  pub rules : IsPlan p.plan
+  pub tabled : IsTabled p
+  pub few : length p.table ≤ most_nodes
+  pub within : count ≤ length s
+  pub path : IsTrue (is_path p.plan r (take count s))
+  pub reached : IsReachedBy p.plan r (take count s) here
+  pub summed : summary ≡ summary_of p.plan (take count s)
+  pub nodes : (k node : ℕ) → slice_get p.table k ≡ Some node → has_index met k ≡ has node (receivers p.plan (take count s))
+  pub stops : IfSome fault (λ f. told_of placed_after p.plan r (take count s) (drop count s) ≡ [])
+  pub faulty : IfSome fault (λ f. fault_of p.plan r s ≡ Some f)

@@ -16,4 +16,5 @@ pub mod SessionLeaving
 pub mod TextLaws
 pub mod Verifying
 pub mod SessionPlaces
+pub mod NodeSets
 pub mod Hops

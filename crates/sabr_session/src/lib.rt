@@ -3,7 +3,8 @@
 //! A [`Session`](sabr_frontier::Session) lists the routes of a request page by page, best first. [`write_session`]
 //! saves one, and [`read_session`] or, chunk by chunk, [`SessionFeed`] reads it again, so that a later run goes on
 //! where an earlier one ended. [`verify`] tests by searches that a saved session is the text after some number of the
-//! best routes. [`write_report`] writes the lines of a page, and [`write_route`] that of one route.
+//! best routes. [`write_report`] writes the lines of a page, and [`write_route`] that of one route. [`Hops`] follows a list
+//! of contacts hop by hop.
 //!
 //! **Format.** A saved session has the digest of its plan, the request, the number of emitted routes, the last of them,
 //! and the parts of the listing that are left, each with its prefix, its excluded contacts and its best route. Version
@@ -32,6 +33,7 @@
 #![tactic(auto)]
 
 mod hex_digest;
+mod hops;
 mod place_laws;
 mod reading;
 mod rows;
@@ -41,6 +43,7 @@ mod verifying;
 mod writing;
 
 pub use hex_digest::digest_text;
+pub use hops::{FollowedHop, Hops};
 pub use place_laws::{pages_stand, texts_are_placed};
 pub use reading::{SessionFeed, read_session};
 pub use rows::texts_of_plan_a;
