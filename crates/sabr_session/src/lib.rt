@@ -3,8 +3,7 @@
 //! A [`Session`](sabr_frontier::Session) lists the routes of a request page by page, best first. [`write_session`]
 //! saves one, and [`read_session`] or, chunk by chunk, [`SessionFeed`] reads it again, so that a later run goes on
 //! where an earlier one ended. [`verify`] tests by searches that a saved session is the text after some number of the
-//! best routes. [`write_report`] writes the lines of a page, and [`write_route`] that of one route. [`Hops`] follows a list
-//! of contacts hop by hop.
+//! best routes. [`write_report`] writes the lines of a page. [`Hops`] follows a list of contacts hop by hop.
 //!
 //! **Format.** A saved session has the digest of its plan, the request, the number of emitted routes, the last of them,
 //! and the parts of the listing that are left, each with its prefix, its excluded contacts and its best route. Version
@@ -51,5 +50,5 @@ pub use session_fault::SessionFault;
 pub use text_laws::{law7, one_answer, pieces_are_one_text};
 pub use verifying::verify;
 pub use writing::{
-    TextBuffer, put_pieces, put_report, put_route_line, write_report, write_route, write_session,
+    TextBuffer, put_pieces, put_report, put_route_line, write_report, write_session,
 };

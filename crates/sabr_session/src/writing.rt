@@ -7,6 +7,6 @@ mod session_text;
 mod text_buffer;
 
 pub use put_lists::put_pieces;
-pub use report::{put_report, put_route_line, write_report, write_route};
+pub use report::{put_report, put_route_line, write_report};
 pub use session_text::write_session;
 pub use text_buffer::TextBuffer;

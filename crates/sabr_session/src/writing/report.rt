@@ -12,8 +12,34 @@ use crate::writing::put_numbers::{put_digits, put_numbers};
 use crate::writing::text_buffer::TextBuffer;
 use itoa::Buffer;
 use sabr_model::{Route, Write, WriteFault};
-use sabr_plan::time_text;
+use sabr_plan::DayText;
 use std::alloc::Allocator;
+
+/// The days of the last delivery and of the last end that were put.
+#[derive(Clone, Copy)]
+struct LastDays {
+    delivery: DayText,
+    until: DayText,
+}
+
+impl LastDays {
+    fn new() -> LastDays {
+        LastDays {
+            delivery: DayText::new(),
+            until: DayText::new(),
+        }
+    }
+}
+
+/// What the line of a route says: the numbers of its contacts, its best-case delivery time, its termination time and its
+/// entry node.
+#[derive(Clone, Copy)]
+struct Figures<'r> {
+    contacts: &'r [u32],
+    delivery: u64,
+    until: u64,
+    entry: u64,
+}
 
 /// Writes a line for each route, with ranks counting up from the first one, and then `more` if another route follows,
 /// or `end`.
@@ -57,25 +83,6 @@ pub fn put_report<W: Write, A: Allocator + Copy>(
     put_last_line(text, more)
 }
 
-/// Writes the line of one route, without a rank.
-///
-/// It doesn't allocate or flush.
-///
-/// # Errors
-///
-/// [`WriteFault`] if the writer failed. Then a prefix of the line was written.
-pub fn write_route<W: Write, A: Allocator + Copy>(
-    route: &Route<A>,
-    writer: &mut W,
-) -> Result<(), WriteFault>
-    requires { HasSpelledTimes route.now }
-    ensures { WritesText (W.output writer.old) (route_line route.now) result (W.output writer.new) }
-{
-    let mut text = TextBuffer::new(writer);
-    put_route(&mut text, route)?;
-    text.send()
-}
-
 /// Puts a line for each route.
 fn put_lines<W: Write, A: Allocator + Copy>(
     text: &mut TextBuffer<'_, W>,
@@ -86,9 +93,10 @@ fn put_lines<W: Write, A: Allocator + Copy>(
     requires times { All HasSpelledTimes routes.now }
     ensures { Puts W.output text.old (report_lines first_rank routes.now) result text.new }
 {
+    let mut days = LastDays::new();
     let mut rank = first_rank;
     for route in routes {
-        put_line(text, rank, route)?;
+        put_line(text, &mut days, rank, route)?;
         rank += 1;
     }
     Ok(())
@@ -97,6 +105,7 @@ fn put_lines<W: Write, A: Allocator + Copy>(
 /// Puts the rank and the line of the route.
 fn put_line<W: Write, A: Allocator + Copy>(
     text: &mut TextBuffer<'_, W>,
+    days: &mut LastDays,
     rank: u128,
     route: &Route<A>,
 ) -> Result<(), WriteFault>
@@ -105,19 +114,26 @@ fn put_line<W: Write, A: Allocator + Copy>(
 {
     put_digits(text, rank)?;
     text.put(b" ")?;
-    put_route(text, route)
+    put_route(text, days, route)
 }
 
 /// Puts the line of the route.
 fn put_route<W: Write, A: Allocator + Copy>(
     text: &mut TextBuffer<'_, W>,
+    days: &mut LastDays,
     route: &Route<A>,
 ) -> Result<(), WriteFault>
     requires { HasSpelledTimes route.now }
     ensures { Puts W.output text.old (route_line route.now) result text.new }
 {
     let contacts = route.contacts.as_slice();
-    put_route_line(text, contacts, route.delivery, route.until, route.entry)
+    let figures = Figures {
+        contacts,
+        delivery: route.delivery,
+        until: route.until,
+        entry: route.entry,
+    };
+    put_route_figures(text, days, figures)
 }
 
 /// Puts the line of a route, given by the numbers of its contacts, its best-case delivery time, its termination time
@@ -136,33 +152,49 @@ pub fn put_route_line<W: Write>(
     requires { (delivery ≤ last_spelled) × (until ≤ last_spelled) }
     ensures { Puts W.output text.old (route_line (record { contacts = contacts.now; delivery = delivery; until = until; entry = entry })) result text.new }
 {
-    put_figures(text, contacts, delivery, until, entry)?;
-    put_numbers(text, contacts)?;
+    let figures = Figures {
+        contacts,
+        delivery,
+        until,
+        entry,
+    };
+    put_route_figures(text, &mut LastDays::new(), figures)
+}
+
+/// Puts the line of a route.
+fn put_route_figures<W: Write>(
+    text: &mut TextBuffer<'_, W>,
+    days: &mut LastDays,
+    figures: Figures<'_>,
+) -> Result<(), WriteFault>
+    requires { (figures.delivery ≤ last_spelled) × (figures.until ≤ last_spelled) }
+    ensures { Puts W.output text.old (route_line (record { contacts = figures.entry.contacts.now; delivery = figures.entry.delivery; until = figures.entry.until; entry = figures.entry.entry })) result text.new }
+{
+    put_figures(text, days, figures)?;
+    put_numbers(text, figures.contacts)?;
     text.put(b"\n")
 }
 
 /// Puts the line of a route up to the numbers of its contacts.
 fn put_figures<W: Write>(
     text: &mut TextBuffer<'_, W>,
-    contacts: &[u32],
-    delivery: u64,
-    until: u64,
-    entry: u64,
+    days: &mut LastDays,
+    figures: Figures<'_>,
 ) -> Result<(), WriteFault>
-    requires { (delivery ≤ last_spelled) × (until ≤ last_spelled) }
-    ensures { Puts W.output text.old (concat (figure_pieces (record { contacts = contacts.now; delivery = delivery; until = until; entry = entry }))) result text.new }
+    requires { (figures.delivery ≤ last_spelled) × (figures.until ≤ last_spelled) }
+    ensures { Puts W.output text.old (concat (figure_pieces (record { contacts = figures.entry.contacts.now; delivery = figures.entry.delivery; until = figures.entry.until; entry = figures.entry.entry }))) result text.new }
 {
     let mut hops = Buffer::new();
     let mut node = Buffer::new();
-    let delivery = time_text(delivery);
-    let until = time_text(until);
+    let delivery = days.delivery.time_text(figures.delivery);
+    let until = days.until.time_text(figures.until);
     let pieces: [&[u8]; 9] = [
         b"delivery ",
         &delivery,
         b" hops ",
-        hops.format(contacts.len()).as_bytes(),
+        hops.format(figures.contacts.len()).as_bytes(),
         b" entry ",
-        node.format(entry).as_bytes(),
+        node.format(figures.entry).as_bytes(),
         b" until ",
         &until,
         b" contacts",
