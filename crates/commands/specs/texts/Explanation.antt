@@ -1,19 +1,20 @@
 -- The explanation of a list of contacts: its hops up to the first fault, and how it ends; and what following answers.
-use Rattle.std.specs.Prelude.{◌≡◌, ℕ, ◌+◌, ◌-◌, Bool, IsTrue, Some, List, [], ◌∷◌, ◌++◌, length, decimal, codes, Result, Ok, Err}
+use Rattle.std.specs.Prelude.{◌≡◌, ℕ, ◌+◌, Bool, List, [], ◌∷◌, ◌++◌, length, decimal, codes, Result, Ok, Err}
 use Rattle.std.specs.List.{concat}
 use Rattle.std.specs.Option.{option_map_or}
 use Rattle.sabr_model.specs.declared.contact.Contact.{Contact}
 use Rattle.sabr_model.specs.declared.fault.HopFault.{HopFault}
 use Rattle.sabr_model.specs.declared.fault.HopFault.TheVariants.{Empty, NoSuchContact, NotChained, NodeAgain, NoLight, TooLate, WrongEnd, AvoidedNode, TooManyHops}
+use Rattle.sabr_model.specs.declared.route_summary.RouteSummary.{RouteSummary}
 use Rattle.sabr_model.specs.plan.Plan.{ContactPlan, TabledPlan}
-use Rattle.sabr_model.specs.routes.Arrival.{RouteRequest, arrival_after}
+use Rattle.sabr_model.specs.routes.Arrival.{RouteRequest}
 use Rattle.sabr_model.specs.routes.Route.{is_route}
 use Rattle.sabr_model.specs.routes.Record.{record_of}
 use Rattle.sabr_model.specs.routes.Fault.{fault_of}
 use Rattle.sabr_model.specs.Devices.{Output, WrittenAndFlushed, WrittenInPart}
 use Rattle.sabr_plan.specs.Times.{time_text_of}
 use Rattle.sabr_plan.specs.declared.fault.PlanFault.{PlanFault}
-use Rattle.sabr_session.specs.Hops.{Hop, told_after, told_of}
+use Rattle.sabr_session.specs.Hops.{Hop, PlacedHop, told_of}
 use Rattle.sabr_session.specs.ReportText.{route_line}
 use Rattle.commands.specs.declared.failure.Failure.{Failure}
 use Rattle.commands.specs.declared.failure.Failure.TheVariants as failure
@@ -34,9 +35,9 @@ hop_line place c sent arrived = concat (
 abbrev pub line_of : List ℕ → Hop → List ℕ
 line_of front h = hop_line (length front + 1) h.contact h.sent h.arrival
 
--- the line of a number that follows `front`
-abbrev pub line_after : ContactPlan → RouteRequest → List ℕ → ℕ → List ℕ
-line_after p r front n = told_after line_of p r front n
+-- the same, of a hop with its place
+abbrev pub placed_line : PlacedHop → List ℕ
+placed_line h = hop_line h.place h.hop.contact h.hop.sent h.hop.arrival
 
 -- the lines of the numbers after `front`, up to the first fault
 abbrev pub hop_lines : ContactPlan → RouteRequest → List ℕ → List ℕ → List ℕ
@@ -58,6 +59,11 @@ fault_line WrongEnd = codes "refused: WrongEnd\n"
 fault_line (AvoidedNode place) = refused_at place (codes "AvoidedNode")
 fault_line (TooManyHops place) = refused_at place (codes "TooManyHops")
 
+-- how a list ends, with the delivery and the summary of the route that it is, or its fault
+abbrev pub ending_text : List ℕ → Result (ℕ × RouteSummary) HopFault → List ℕ
+ending_text s (Ok e) = route_line (record { contacts = s; delivery = e.0; until = e.1.until; entry = e.1.entry })
+ending_text s (Err f) = fault_line f
+
 -- how a list ends: the line of the route that it is, or that of its fault
 abbrev pub ending_line : ContactPlan → RouteRequest → List ℕ → List ℕ
 ending_line p r s = option_map_or fault_line (fault_of p r s) (route_line (record_of p r s))
@@ -74,20 +80,3 @@ WritesExplanation (Err fault) r s end old new = (end ≡ Err (failure_of_plan fa
 WritesExplanation (Ok p) r s (Ok answer) old new = (answer ≡ is_route p.plan r s) × WrittenAndFlushed old (explanation_text p.plan r s) new
 WritesExplanation (Ok p) r s (Err failure.Write) old new = WrittenInPart old (explanation_text p.plan r s) new
 WritesExplanation (Ok p) r s (Err _) old new = ⊥
-
--- the delivery of a route, or the fault of another list
-abbrev pub Follows : ContactPlan → RouteRequest → List ℕ → Result ℕ HopFault → Type 0
-Follows p r s (Ok d) = IsTrue (is_route p r s) × (arrival_after p r r.at s ≡ Some d)
-Follows p r s (Err f) = fault_of p r s ≡ Some f
-
--- how many of that many hops come before a fault: all of them if it is no hop's
-abbrev pub hops_before : HopFault → ℕ → ℕ
-hops_before Empty hops = hops
-hops_before (NoSuchContact place) hops = place - 1
-hops_before (NotChained place) hops = place - 1
-hops_before (NodeAgain place) hops = place - 1
-hops_before (NoLight place) hops = place - 1
-hops_before (TooLate place) hops = place - 1
-hops_before WrongEnd hops = hops
-hops_before (AvoidedNode place) hops = place - 1
-hops_before (TooManyHops place) hops = place - 1

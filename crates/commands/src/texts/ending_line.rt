@@ -1,14 +1,13 @@
 //! The last line of an explanation: the route that the contacts make, or their fault.
 
-ghost use Rattle.sabr_model.specs.plan.Plan.{IsPlan};
-ghost use Rattle.sabr_model.specs.routes.Asking.{IsRequest};
+ghost use Rattle.std.specs.Prelude.{◌≤◌, IfOk};
+ghost use Rattle.sabr_plan.specs.Times.{last_spelled};
 ghost use Rattle.sabr_session.specs.Gathering.{Puts};
-ghost use Rattle.commands.specs.texts.Explanation.{refused_at, fault_line, ending_line, Follows};
+ghost use Rattle.commands.specs.texts.Explanation.{ending_text, fault_line, refused_at};
 
 use itoa::Buffer;
-use sabr_model::{HopFault, Plan, Request, RouteSummary, Write, WriteFault};
+use sabr_model::{HopFault, RouteSummary, Write, WriteFault};
 use sabr_session::{TextBuffer, put_pieces, put_route_line};
-use std::alloc::Allocator;
 
 /// Puts the line of a fault at a place.
 fn put_refusal<W: Write>(
@@ -46,27 +45,22 @@ fn put_fault<W: Write>(text: &mut TextBuffer<'_, W>, fault: HopFault) -> Result<
     }
 }
 
-/// Puts how the contacts end, after they were followed: as a route with this delivery, in seconds since
-/// 1970-01-01T00:00:00Z, or in this fault.
+/// Puts how the contacts of these numbers end: as a route with this delivery, in seconds since 1970-01-01T00:00:00Z, and
+/// this summary, or in this fault.
 ///
 /// # Errors
 ///
 /// [`WriteFault`] if the writer failed. Then a beginning of the texts put so far was written.
-pub fn put_ending<W: Write, A: Allocator + Copy>(
+pub fn put_ending<W: Write>(
     text: &mut TextBuffer<'_, W>,
-    plan: &Plan<A>,
-    request: &Request,
     contacts: &[u32],
-    outcome: Result<u64, HopFault>,
+    ending: Result<(u64, RouteSummary), HopFault>,
 ) -> Result<(), WriteFault>
-    requires rules { IsPlan plan.now.plan }
-    requires limits { IsRequest request.now }
-    requires outcome { Follows plan.now.plan request.now contacts.now outcome }
-    ensures { Puts W.output text.old (ending_line plan.now.plan request.now contacts.now) result text.new }
+    requires { IfOk ending (λ e. (e.0 ≤ last_spelled) × (e.1.until ≤ last_spelled)) }
+    ensures { Puts W.output text.old (ending_text contacts.now ending) result text.new }
 {
-    match outcome {
-        Ok(delivery) => {
-            let summary = RouteSummary::of(plan, contacts);
+    match ending {
+        Ok((delivery, summary)) => {
             put_route_line(text, contacts, delivery, summary.until, summary.entry)
         }
         Err(fault) => put_fault(text, fault),

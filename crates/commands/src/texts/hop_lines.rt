@@ -1,60 +1,16 @@
 //! The lines of hops without a fault.
 
-ghost use Rattle.std.specs.Prelude.{◌≡◌, ◌≤◌, ◌<◌, ◌^◌, ◌+◌, ◌++◌, [], ◌∷◌, Some, IsTrue, length};
-ghost use Rattle.sabr_model.specs.plan.Plan.{IsPlan};
-ghost use Rattle.sabr_model.specs.routes.Asking.{IsRequest};
-ghost use Rattle.sabr_model.specs.routes.Arrival.{arrival_after};
-ghost use Rattle.sabr_model.specs.routes.Route.{is_path};
+ghost use Rattle.std.specs.Prelude.{◌≡◌, ◌≤◌, IfOk, IsTrue, flat_map};
 ghost use Rattle.sabr_plan.specs.Times.{last_spelled};
 ghost use Rattle.sabr_session.specs.Gathering.{Puts};
-ghost use Rattle.commands.specs.texts.Explanation.{hop_line, line_after, hop_lines};
+ghost use Rattle.sabr_session.specs.Hops.{hops_left};
+ghost use Rattle.commands.specs.texts.Explanation.{hop_line, placed_line};
 
 use itoa::Buffer;
-use sabr_model::{Contact, Plan, Request, Write, WriteFault, arrive};
+use sabr_model::{Write, WriteFault};
 use sabr_plan::time_text;
-use sabr_session::{TextBuffer, put_pieces};
+use sabr_session::{FollowedHop, Hops, TextBuffer, put_pieces};
 use std::alloc::Allocator;
-
-/// A hop without a fault. Its times are seconds since 1970-01-01T00:00:00Z.
-#[derive(Drop)]
-struct FollowedHop<'p> {
-    /// Its place in the list, from 1.
-    place: usize,
-    contact: &'p Contact,
-    sent: u64,
-    arrived: u64,
-}
-
-/// Returns the hop over the contact of this number, which follows `front`, by which the bundle arrives at `at`.
-fn hop_after<'p, A: Allocator + Copy>(
-    plan: &'p Plan<A>,
-    request: &Request,
-    front: &[u32],
-    at: u64,
-    number: u32,
-) -> FollowedHop<'p>
-    requires rules { IsPlan plan.now.plan }
-    requires limits { IsRequest request.now }
-    requires place { length front.now + 1 < 2 ^ 64 }
-    requires path { IsTrue (is_path plan.now.plan request.now (front.now ++ number ∷ [])) }
-    requires at { arrival_after plan.now.plan request.now request.now.at front.now ≡ Some at }
-    ensures line { line_after plan.now.plan request.now front.now number ≡ hop_line result.place result.contact.now result.sent result.arrived }
-    ensures times { (result.sent ≤ last_spelled) × (result.arrived ≤ last_spelled) }
-    ensures arrived { arrival_after plan.now.plan request.now request.now.at (front.now ++ number ∷ []) ≡ Some result.arrived }
-{
-    let Some(contact) = plan.contact(number) else {
-        unreachable!()
-    };
-    let Some(arrived) = arrive(plan, request, at, contact) else {
-        unreachable!()
-    };
-    FollowedHop {
-        place: front.len() + 1,
-        contact,
-        sent: at.max(contact.start),
-        arrived,
-    }
-}
 
 /// Puts the line of a hop.
 fn put_hop<W: Write>(text: &mut TextBuffer<'_, W>, hop: &FollowedHop<'_>) -> Result<(), WriteFault>
@@ -86,27 +42,21 @@ fn put_hop<W: Write>(text: &mut TextBuffer<'_, W>, hop: &FollowedHop<'_>) -> Res
     put_pieces(text, &pieces)
 }
 
-/// Puts a line for each of these hops, which have no fault.
+/// Puts a line for each hop that is left, up to the first fault.
 ///
 /// # Errors
 ///
 /// [`WriteFault`] if the writer failed. Then a beginning of the texts put so far was written.
 pub fn put_hops<W: Write, A: Allocator + Copy>(
     text: &mut TextBuffer<'_, W>,
-    plan: &Plan<A>,
-    request: &Request,
-    hops: &[u32],
+    hops: &mut Hops<'_, A>,
 ) -> Result<(), WriteFault>
-    requires rules { IsPlan plan.now.plan }
-    requires limits { IsRequest request.now }
-    requires path { IsTrue (is_path plan.now.plan request.now hops.now) }
-    ensures { Puts W.output text.old (hop_lines plan.now.plan request.now [] hops.now) result text.new }
+    ensures lines { Puts W.output text.old (flat_map placed_line (hops_left hops.old)) result text.new }
+    ensures over { IfOk result (λ _. IsTrue hops.new.over) }
+    ensures question { hops.new.question ≡ hops.old.question }
 {
-    let mut at = request.at();
-    for (i, number) in hops.iter().enumerate() {
-        let hop = hop_after(plan, request, &hops[..i], at, *number);
+    while let Some(hop) = hops.next() {
         put_hop(text, &hop)?;
-        at = hop.arrived;
     }
     Ok(())
 }

@@ -216,6 +216,8 @@ pub fn read_values<A: Allocator + Copy>(
     ensures count { IfSome (command_named command.now) (λ name. IfOk result (λ v. is_some v.count ≡ has_count name)) }
     ensures count_range { IfOk result (λ v. IfSome v.count IsCount) }
 {
-    let command = command_named(command).unwrap();
+    let Some(command) = command_named(command) else {
+        unreachable!();
+    };
     values_in(alloc, command, &values_under(matches))
 }

@@ -1,12 +1,13 @@
-use Rattle.std.proofs.Common.{◌≡◌, [], take}
-use Rattle.std.specs.declared.option.Option.TheVariants.{Some}
-use Rattle.sabr_model.specs.routes.Arrival.{arrival_after}
-use Rattle.sabr_session.specs.Gathering.{HasPut}
-use Rattle.commands.specs.texts.Explanation.{hop_lines}
+use Rattle.std.proofs.Common.{◌≡◌, length}
+use Rattle.sabr_session.specs.Hops.{hops_left}
+use Rattle.commands.proofs.TextLemmas.Explained.{PutBefore}
 use Rattle.commands.proofs.texts.hop_lines.put_hops.Given as goal
 
-abbrev pub invariant-loop-i : goal.invariant-loop-i
-invariant-loop-i g l = record {
-  arrived : arrival_after l.plan.plan l.request l.request.at (take l.i l.hops) ≡ Some l.at;
-  gathered : HasPut g.W.Write.output l.fn.text (hop_lines l.plan.plan l.request [] (take l.i l.hops)) l.text;
+abbrev pub invariant-loop-hop : goal.invariant-loop-hop
+invariant-loop-hop g l = record {
+  put : PutBefore g.W.Write.output l.initial.text (hops_left l.initial.hops) (hops_left l.hops) l.text;
+  question : l.hops.question ≡ l.initial.hops.question;
 }
+
+abbrev pub decreases-loop-hop : goal.decreases-loop-hop
+decreases-loop-hop g l = length (hops_left l.hops)
