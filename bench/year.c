@@ -20,7 +20,8 @@ typedef struct timing { const char *name; unsigned long count; double sum, longe
 
 static timing add = {"add_contact", 0, 0, 0}, take = {"delete_contact", 0, 0, 0}, best = {"best", 0, 0, 0},
               open = {"listing_open", 0, 0, 0}, next = {"listing_next", 0, 0, 0}, text = {"plan_text", 0, 0, 0},
-              counted = {"plan_counts", 0, 0, 0}, copied = {"plan_copy", 0, 0, 0};
+              counted = {"plan_counts", 0, 0, 0}, copied = {"plan_copy", 0, 0, 0},
+              renewal = {"plan_renumber", 0, 0, 0};
 
 static double now(void) {
     struct timespec it;
@@ -82,13 +83,7 @@ static cgrlist_plan *first_plan(void) {
 /* A plan of what stands, with contact numbers from 1. */
 static cgrlist_plan *renewed(cgrlist_plan *old) {
     cgrlist_plan *plan;
-    cgrlist_contact it;
-    cgrlist_range range;
-    if (cgrlist_plan_new(&plan)) exit(1);
-    for (size_t i = 0; cgrlist_plan_range_at(old, i, &range) == CGRLIST_OK; i++)
-        if (cgrlist_plan_add_range(plan, range.one, range.other, range.start, range.end, range.light)) exit(1);
-    for (size_t i = 0; cgrlist_plan_contact_at(old, i, &it) == CGRLIST_OK; i++)
-        TIMED(add, cgrlist_plan_add_contact(plan, it.from, it.to, it.start, it.end, it.rate, NULL));
+    TIMED(renewal, cgrlist_plan_renumber(old, 0, &plan, NULL, 0));
     cgrlist_plan_close(old);
     return plan;
 }
@@ -164,7 +159,7 @@ static void ask(cgrlist_plan *plan, uint64_t minute, const char *program, const 
 
 int main(int argc, char **argv) {
     if (argc != 4) return 2;
-    const timing *all[] = {&add, &take, &best, &open, &next, &text, &counted, &copied};
+    const timing *all[] = {&add, &take, &best, &open, &next, &text, &counted, &copied, &renewal};
     cgrlist_plan *plan = first_plan();
     long first = 0;
     for (uint64_t minute = 0, minutes = strtoull(argv[1], NULL, 10) * 24 * 60; minute < minutes; minute++) {

@@ -68,26 +68,15 @@ static uint32_t ask(cgrlist_plan *plan, const cgrlist_request *request) {
     return first;
 }
 
-/* Takes a contact out of the plan: it is named by its nodes and its start. */
 static void lose(cgrlist_plan *plan, uint32_t number) {
-    cgrlist_contact it;
-    must(cgrlist_plan_contact(plan, number, &it), "contact");
-    must(cgrlist_plan_delete_contact(plan, it.from, it.to, it.start, NULL), "delete");
+    must(cgrlist_plan_delete_number(plan, number), "delete");
     printf("contact %" PRIu32 " is lost\n", number);
 }
 
-/* Makes a plan of what doesn't end before a second, with contact numbers from 1, in place of another one. */
+/* Makes a plan of what isn't over at a second, with contact numbers from 1, in place of another one. */
 static cgrlist_plan *renewed(cgrlist_plan *old, uint64_t second) {
     cgrlist_plan *plan;
-    cgrlist_contact contact;
-    cgrlist_range range;
-    must(cgrlist_plan_new(&plan), "new");
-    for (size_t i = 0; cgrlist_plan_contact_at(old, i, &contact) == CGRLIST_OK; i++)
-        if (contact.end >= second)
-            must(cgrlist_plan_add_contact(plan, contact.from, contact.to, contact.start, contact.end, contact.rate, NULL), "contact");
-    for (size_t i = 0; cgrlist_plan_range_at(old, i, &range) == CGRLIST_OK; i++)
-        if (range.end >= second)
-            must(cgrlist_plan_add_range(plan, range.one, range.other, range.start, range.end, range.light), "range");
+    must(cgrlist_plan_renumber(old, second, &plan, NULL, 0), "renumber");
     cgrlist_plan_close(old);
     return plan;
 }

@@ -2,7 +2,8 @@
  *
  * A plan and a listing are opaque. What makes one writes its place, or NULL if it refuses; the caller closes it. The
  * library has no global state: threads may use different plans and listings at the same time, each by one call at a
- * time. A listing has its own copy of its plan.
+ * time. After cgrlist_plan_prepare, and until the next call that takes the plan without const, any number of calls with a
+ * const plan may run at the same time. A listing has its own copy of its plan.
  *
  * No call prints, blocks, or calls back, and none aborts as long as the stack suffices. With any status but CGRLIST_OK,
  * plans and listings are as they were. With any but CGRLIST_OK and CGRLIST_ROOM, so are records and buffers, unless the
@@ -141,6 +142,12 @@ typedef struct cgrlist_contact {
 /* A range: one-way light time in seconds between two nodes, over a window. */
 typedef struct cgrlist_range { uint64_t one, other, start, end; uint32_t light; } cgrlist_range;
 
+/* A contact to add. */
+typedef struct cgrlist_new_contact { uint64_t from, to, start, end, rate; } cgrlist_new_contact;
+
+/* The best route to a destination, without its contact numbers, and the status that cgrlist_best has for it. */
+typedef struct cgrlist_reach { uint64_t delivery, until, entry; size_t hops; uint32_t status; } cgrlist_reach;
+
 /* Where a listing stands: how many routes were given, whether the list goes on, whether a page can be taken back. */
 typedef struct cgrlist_place { uint64_t given; bool more, can_back; } cgrlist_place;
 
@@ -149,7 +156,11 @@ cgrlist_status cgrlist_plan_new(cgrlist_plan **plan);
 /* *line is the text's bad line, or 0. */
 cgrlist_status cgrlist_plan_read(cgrlist_plan **plan, const char *text, size_t bytes, uint64_t *line);
 /* A copy of a plan, with the numbers of its contacts. */
-cgrlist_status cgrlist_plan_copy(cgrlist_plan *plan, cgrlist_plan **copy);
+cgrlist_status cgrlist_plan_copy(const cgrlist_plan *plan, cgrlist_plan **copy);
+/* A copy of what ends after a second, all for 0, with the contacts numbered from 1 on in their order. numbers[k - 1] is
+ * the number that the copy's contact k has in the plan; as many are written as there is room for. */
+cgrlist_status cgrlist_plan_renumber(const cgrlist_plan *plan, uint64_t second, cgrlist_plan **copy, uint32_t *numbers,
+                                     size_t room);
 void cgrlist_plan_close(cgrlist_plan *plan);
 cgrlist_status cgrlist_plan_add_contact(cgrlist_plan *plan, uint64_t from, uint64_t to, uint64_t start, uint64_t end,
                                         uint64_t rate, uint32_t *number);
@@ -157,20 +168,31 @@ cgrlist_status cgrlist_plan_add_range(cgrlist_plan *plan, uint64_t one, uint64_t
                                       uint32_t light);
 cgrlist_status cgrlist_plan_delete_contact(cgrlist_plan *plan, uint64_t from, uint64_t to, uint64_t start,
                                            uint32_t *number);
+cgrlist_status cgrlist_plan_delete_number(cgrlist_plan *plan, uint32_t number);
 cgrlist_status cgrlist_plan_delete_range(cgrlist_plan *plan, uint64_t one, uint64_t other, uint64_t start);
+/* Records in their order, all or none. If one is refused, *place is the first such record's place from 0, and the status
+ * its reason. The contacts have the numbers after the largest one given. */
+cgrlist_status cgrlist_plan_add_contacts(cgrlist_plan *plan, const cgrlist_new_contact *contacts, size_t count,
+                                         size_t *place);
+cgrlist_status cgrlist_plan_add_ranges(cgrlist_plan *plan, const cgrlist_range *ranges, size_t count, size_t *place);
+/* Makes what is kept of a plan until it changes: the index of searches, the digest, and the counts. */
+cgrlist_status cgrlist_plan_prepare(cgrlist_plan *plan);
 /* The plan as a text from which cgrlist_plan_read makes it again, with the numbers of its contacts and the largest one
  * given: *bytes is its length; ROOM if it doesn't fit (nothing is written then). */
-cgrlist_status cgrlist_plan_text(cgrlist_plan *plan, char *text, size_t room, size_t *bytes);
-cgrlist_status cgrlist_plan_counts(cgrlist_plan *plan, cgrlist_counts *counts);
+cgrlist_status cgrlist_plan_text(const cgrlist_plan *plan, char *text, size_t room, size_t *bytes);
+cgrlist_status cgrlist_plan_counts(const cgrlist_plan *plan, cgrlist_counts *counts);
 /* The largest contact number given, 0 at first. */
-cgrlist_status cgrlist_plan_greatest(cgrlist_plan *plan, uint32_t *number);
-cgrlist_status cgrlist_plan_digest(cgrlist_plan *plan, uint8_t digest[32]);
+cgrlist_status cgrlist_plan_greatest(const cgrlist_plan *plan, uint32_t *number);
+cgrlist_status cgrlist_plan_digest(const cgrlist_plan *plan, uint8_t digest[32]);
 /* NO: no such contact stands */
-cgrlist_status cgrlist_plan_contact(cgrlist_plan *plan, uint32_t number, cgrlist_contact *contact);
+cgrlist_status cgrlist_plan_contact(const cgrlist_plan *plan, uint32_t number, cgrlist_contact *contact);
 /* The contact, or the range, at a place from 0: contacts are in the order of their numbers, and ranges in that of their
  * nodes and starts. NO: there are no more */
-cgrlist_status cgrlist_plan_contact_at(cgrlist_plan *plan, size_t place, cgrlist_contact *contact);
-cgrlist_status cgrlist_plan_range_at(cgrlist_plan *plan, size_t place, cgrlist_range *range);
+cgrlist_status cgrlist_plan_contact_at(const cgrlist_plan *plan, size_t place, cgrlist_contact *contact);
+cgrlist_status cgrlist_plan_range_at(const cgrlist_plan *plan, size_t place, cgrlist_range *range);
+/* The nodes that send or receive a contact, ascending: *count of them; ROOM if there is no room for all (none is written
+ * then). */
+cgrlist_status cgrlist_plan_nodes(const cgrlist_plan *plan, uint64_t *nodes, size_t room, size_t *count);
 
 /* ---- Routes ---- */
 /* The best route. OK, NO if there is none, ROOM if `contacts` is too small (route->hops is how many it needs). */
@@ -179,18 +201,21 @@ cgrlist_status cgrlist_best(cgrlist_plan *plan, const cgrlist_request *request, 
 /* The first `count` routes, at most 10000, or all if they are fewer. */
 cgrlist_status cgrlist_first(cgrlist_plan *plan, const cgrlist_request *request, uint32_t count, cgrlist_route *routes,
                              size_t routes_room, uint32_t *contacts, size_t contacts_room, cgrlist_page *page);
+/* The best route to each of `count` destinations, in place of the request's. OK also if some have none. */
+cgrlist_status cgrlist_best_each(cgrlist_plan *plan, const cgrlist_request *request, const uint64_t *to, size_t count,
+                                 cgrlist_reach *reaches);
 /* OK: the contacts make a route, whose record is in `outcome`. NO: its first fault is. */
-cgrlist_status cgrlist_follow(cgrlist_plan *plan, const cgrlist_request *request, const uint32_t *contacts,
+cgrlist_status cgrlist_follow(const cgrlist_plan *plan, const cgrlist_request *request, const uint32_t *contacts,
                               size_t count, cgrlist_outcome *outcome);
 /* The hops before the first fault: *hops_count of them; ROOM if they are more than there is room for. OK or NO as
  * cgrlist_follow otherwise. With any other status *hops_count is 0. */
-cgrlist_status cgrlist_hops(cgrlist_plan *plan, const cgrlist_request *request, const uint32_t *contacts, size_t count,
+cgrlist_status cgrlist_hops(const cgrlist_plan *plan, const cgrlist_request *request, const uint32_t *contacts, size_t count,
                             cgrlist_hop *hops, size_t hops_room, size_t *hops_count);
 
 /* ---- A listing: page after page, over a copy of the plan as it stood when the listing was opened. ---- */
-cgrlist_status cgrlist_listing_open(cgrlist_plan *plan, const cgrlist_request *request, cgrlist_listing **listing);
+cgrlist_status cgrlist_listing_open(const cgrlist_plan *plan, const cgrlist_request *request, cgrlist_listing **listing);
 /* Opens the listing of a session text, at its place; no search is made. *line is the text's bad line, or 0. */
-cgrlist_status cgrlist_listing_load(cgrlist_plan *plan, const char *text, size_t bytes, cgrlist_listing **listing,
+cgrlist_status cgrlist_listing_load(const cgrlist_plan *plan, const char *text, size_t bytes, cgrlist_listing **listing,
                                     uint64_t *line);
 /* The next page. With ROOM (what fits is written, page->routes and page->contacts are needed) the listing stays where
  * it was. */

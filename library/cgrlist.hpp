@@ -4,7 +4,7 @@
 //     if (auto route = plan.best({31, 1, 1893458700})) std::cout << route->delivery << '\n';
 //
 // A call that is refused throws a cgrlist::error with the status. cgrlist(3) says what the calls do, and cgrlist.h has the
-// records without vectors. One plan, and one listing, is used by one call at a time.
+// records without vectors. One plan, and one listing, is used by one call at a time, but for const calls after prepare().
 #ifndef CGRLIST_HPP
 #define CGRLIST_HPP
 
@@ -20,7 +20,7 @@
 
 namespace cgrlist {
 
-// A call was refused. `line` is that of a bad text, or 0.
+// A call was refused. `line` is that of a bad text, or the place from 0 of a record among those to add, or 0.
 class error : public std::runtime_error {
 public:
     explicit error(cgrlist_status why, std::uint64_t bad_line = 0)
@@ -45,6 +45,11 @@ struct page {
     std::vector<route> routes;
     bool more;
 };
+
+class plan;
+
+// A copy of a plan, and the number in the plan of each of its contacts.
+struct renumbered;
 
 namespace detail {
 
@@ -161,6 +166,27 @@ public:
         return number;
     }
 
+    void delete_number(std::uint32_t number) { detail::checked(cgrlist_plan_delete_number(get(), number)); }
+
+    // Adds contacts, all or none.
+    void add_contacts(const std::vector<cgrlist_new_contact> &all) {
+        std::size_t place = 0;
+        const cgrlist_status status = cgrlist_plan_add_contacts(get(), all.data(), all.size(), &place);
+        detail::checked(status, place);
+    }
+
+    // Adds ranges, all or none.
+    void add_ranges(const std::vector<cgrlist_range> &all) {
+        std::size_t place = 0;
+        const cgrlist_status status = cgrlist_plan_add_ranges(get(), all.data(), all.size(), &place);
+        detail::checked(status, place);
+    }
+
+    // Makes what is kept until the next change. Until then, threads may make const calls at the same time.
+    void prepare() { detail::checked(cgrlist_plan_prepare(get())); }
+
+    inline renumbered renumber(std::uint64_t second) const;
+
     void delete_range(std::uint64_t one, std::uint64_t other, std::uint64_t start) {
         detail::checked(cgrlist_plan_delete_range(get(), one, other, start));
     }
@@ -207,7 +233,23 @@ public:
         return out;
     }
 
-    std::optional<route> best(const request &it) const {
+    // The nodes that send or receive a contact, ascending.
+    std::vector<std::uint64_t> nodes() const {
+        std::vector<std::uint64_t> out;
+        std::size_t count = 0;
+        while (detail::checked(cgrlist_plan_nodes(get(), out.data(), out.size(), &count)) == CGRLIST_ROOM) out.resize(count);
+        return out;
+    }
+
+    // The best route to each destination, in place of the request's.
+    std::vector<cgrlist_reach> best_each(const request &it, const std::vector<std::uint64_t> &to) {
+        const cgrlist_request asked = detail::asked(it);
+        std::vector<cgrlist_reach> out(to.size());
+        detail::checked(cgrlist_best_each(get(), &asked, to.data(), to.size(), out.data()));
+        return out;
+    }
+
+    std::optional<route> best(const request &it) {
         const cgrlist_request asked = detail::asked(it);
         std::vector<std::uint32_t> contacts(64);
         cgrlist_route row = {};
@@ -218,7 +260,7 @@ public:
         return detail::route_of(row, contacts);
     }
 
-    page first(const request &it, std::uint32_t count) const {
+    page first(const request &it, std::uint32_t count) {
         const cgrlist_request asked = detail::asked(it);
         return detail::page_of([&](auto... given) { return cgrlist_first(get(), &asked, count, given...); });
     }
@@ -258,13 +300,28 @@ public:
     }
 
     // Whether a text is the session text of a place in the list of its request.
-    bool verify(std::string_view text) const { return detail::checked(cgrlist_verify(get(), text.data(), text.size())) == CGRLIST_OK; }
+    bool verify(std::string_view text) { return detail::checked(cgrlist_verify(get(), text.data(), text.size())) == CGRLIST_OK; }
 
     cgrlist_plan *get() const noexcept { return opened.get(); }
 
 private:
     std::unique_ptr<cgrlist_plan, detail::closing> opened;
 };
+
+struct renumbered {
+    plan copy;
+    std::vector<std::uint32_t> numbers;
+};
+
+// A copy of what ends after a second, with the contacts numbered from 1 on.
+inline renumbered plan::renumber(std::uint64_t second) const {
+    std::vector<std::uint32_t> numbers(greatest());
+    cgrlist_plan *made;
+    detail::checked(cgrlist_plan_renumber(get(), second, &made, numbers.data(), numbers.size()));
+    renumbered out{plan(made), std::move(numbers)};
+    out.numbers.resize(out.copy.greatest());
+    return out;
+}
 
 } // namespace cgrlist
 

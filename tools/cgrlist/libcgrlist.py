@@ -20,7 +20,7 @@ OK, NO, ROOM, MEMORY = 0, 1, 2, 3  # statuses, as cgrlist.h has them
 
 
 class Refusal(Exception):
-    """A call was refused: the status, its name, and the bad line of a text, or 0."""
+    """A call was refused: the status, its name, and the bad line of a text, the place of a record to add, or 0."""
 
     def __init__(self, status, name, line=0):
         super().__init__(f"line {line}: {name}" if line else name)
@@ -81,6 +81,16 @@ class Counts(NamedTuple):
     greatest: int
 
 
+class Reach(NamedTuple):
+    """The best route to a destination, without its contact numbers; or why there is none, by a status."""
+
+    delivery: int
+    until: int
+    entry: int
+    hops: int
+    status: int
+
+
 class Place(NamedTuple):
     given: int
     more: bool
@@ -102,9 +112,11 @@ _Hop = _struct("_Hop", source=c_uint64, to=c_uint64, sent=c_uint64, arrival=c_ui
 _Counts = _struct("_Counts", **dict.fromkeys(Counts._fields, c_uint64))
 _Contact = _struct("_Contact", source=c_uint64, to=c_uint64, start=c_uint64, end=c_uint64, rate=c_uint64, number=c_uint32, light=c_uint32, has_light=c_bool)
 _Range = _struct("_Range", one=c_uint64, other=c_uint64, start=c_uint64, end=c_uint64, light=c_uint32)
+_New = _struct("_New", **dict.fromkeys(Contact._fields[:5], c_uint64))
+_Reach = _struct("_Reach", delivery=c_uint64, until=c_uint64, entry=c_uint64, hops=c_size_t, status=c_uint32)
 _Place = _struct("_Place", given=c_uint64, more=c_bool, can_back=c_bool)
 
-_PLACE, _NUMBERS, _BYTES = POINTER(c_void_p), POINTER(c_uint32), POINTER(c_size_t)
+_PLACE, _NUMBERS, _BYTES, _NODES = POINTER(c_void_p), POINTER(c_uint32), POINTER(c_size_t), POINTER(c_uint64)
 _ASKED, _TEXT = [c_void_p, POINTER(_Request)], [c_char_p, c_size_t]
 _GIVEN = [c_uint32, POINTER(_Route), c_size_t, _NUMBERS, c_size_t, POINTER(_Page)]
 _CALLS = {  # the types of the arguments of each call that returns a status
@@ -115,6 +127,13 @@ _CALLS = {  # the types of the arguments of each call that returns a status
     "plan_add_range": [c_void_p, *[c_uint64] * 4, c_uint32],
     "plan_delete_contact": [c_void_p, *[c_uint64] * 3, _NUMBERS],
     "plan_delete_range": [c_void_p, *[c_uint64] * 3],
+    "plan_delete_number": [c_void_p, c_uint32],
+    "plan_add_contacts": [c_void_p, POINTER(_New), c_size_t, _BYTES],
+    "plan_add_ranges": [c_void_p, POINTER(_Range), c_size_t, _BYTES],
+    "plan_prepare": [c_void_p],
+    "plan_renumber": [c_void_p, c_uint64, _PLACE, _NUMBERS, c_size_t],
+    "plan_greatest": [c_void_p, _NUMBERS],
+    "plan_nodes": [c_void_p, _NODES, c_size_t, _BYTES],
     "plan_text": [c_void_p, *_TEXT, _BYTES],
     "plan_counts": [c_void_p, POINTER(_Counts)],
     "plan_digest": [c_void_p, POINTER(c_uint8)],
@@ -122,6 +141,7 @@ _CALLS = {  # the types of the arguments of each call that returns a status
     "plan_contact_at": [c_void_p, c_size_t, POINTER(_Contact)],
     "plan_range_at": [c_void_p, c_size_t, POINTER(_Range)],
     "best": [*_ASKED, POINTER(_Route), _NUMBERS, c_size_t],
+    "best_each": [*_ASKED, _NODES, c_size_t, POINTER(_Reach)],
     "first": [*_ASKED, *_GIVEN],
     "follow": [*_ASKED, _NUMBERS, c_size_t, POINTER(_Outcome)],
     "hops": [*_ASKED, _NUMBERS, c_size_t, POINTER(_Hop), c_size_t, _BYTES],
@@ -275,6 +295,47 @@ class Plan(_Opened):
     def delete_range(self, one, other, start):
         self._call("plan_delete_range", *map(_number, (one, other, start)))
 
+    def delete_number(self, number):
+        """Deletes the contact with a number."""
+        self._call("plan_delete_number", _number(number, 32))
+
+    def add_contacts(self, contacts):
+        """Adds contacts, five values each, all or none."""
+        self._add("plan_add_contacts", _New, contacts)
+
+    def add_ranges(self, ranges):
+        """Adds ranges, five values each, all or none."""
+        self._add("plan_add_ranges", _Range, ranges)
+
+    def _add(self, name, kind, records):
+        rows, place = (kind * len(records))(*(kind(*map(_number, it)) for it in records)), c_size_t()
+        self._call(name, rows, len(rows), byref(place), line=place)
+
+    def renumber(self, second=0):
+        """A copy of what ends after a second, with the contacts numbered from 1 on, and the number here of each of them."""
+        place, numbers = c_void_p(), (c_uint32 * self.greatest())()
+        self._call("plan_renumber", _number(second), byref(place), numbers, len(numbers))
+        copy = Plan(self._library, place)
+        return copy, tuple(numbers[: copy.greatest()])
+
+    def prepare(self):
+        """Makes what is kept until the next change."""
+        self._call("plan_prepare")
+
+    def greatest(self):
+        """The largest contact number given."""
+        number = c_uint32()
+        self._call("plan_greatest", byref(number))
+        return number.value
+
+    def nodes(self):
+        """The nodes that send or receive a contact, ascending."""
+        count = c_size_t()
+        self._call("plan_nodes", None, 0, byref(count))
+        nodes = (c_uint64 * count.value)()
+        self._call("plan_nodes", nodes, len(nodes), byref(count))
+        return tuple(nodes)
+
     def text(self):
         """The plan as a text, as bytes, from which `Library.read` makes it again."""
         return self._text("plan_text")
@@ -317,6 +378,12 @@ class Plan(_Opened):
             if status != ROOM:
                 return _route(row, self._numbers) if status == OK else None
             self._numbers = (c_uint32 * row.hops)()
+
+    def best_each(self, asked, to):
+        """The best route to each destination, in place of the request's."""
+        nodes, found = (c_uint64 * len(to))(*map(_number, to)), (_Reach * len(to))()
+        self._call("best_each", byref(asked), nodes, len(nodes), found)
+        return tuple(Reach(*(getattr(row, it) for it in Reach._fields)) for row in found)
 
     def first(self, asked, count):
         """The first routes of a request, at most 10000."""

@@ -1,5 +1,5 @@
 -- The first routes of a listing, and the best one.
-use Rattle.std.proofs.Common.{◌≡◌, ℕ, ◌+◌, ◌≤◌, List, [], ◌∷◌, Result, Ok, Err, length, take, sym, ap, subst, ◌∙◌, zero-add, arith}
+use Rattle.std.proofs.Common.{◌≡◌, ℕ, ◌+◌, ◌≤◌, List, Result, Ok, Err, length, take, sym, ap, subst, ◌∙◌, zero-add, arith}
 use Rattle.std.specs.Prelude.{IfOk, is_some, map, nat_lt}
 use Rattle.std.specs.List.{All}
 use Rattle.std.proofs.lemmas.Bool.Decides.{nat_tests}
@@ -18,9 +18,7 @@ use Rattle.sabr_frontier.specs.listing.Laws.{StepsFollow}
 use Rattle.sabr_frontier.specs.listing.Listing.{next_route}
 use Rattle.sabr_frontier.specs.listing.State.{State}
 use Rattle.sabr_frontier.specs.session.LastPage.{LastSeen}
-use Rattle.libcgrlist.specs.Answers.{WritesBest}
 use Rattle.libcgrlist.specs.First.{IsFirst, IsLastOf}
-use Rattle.libcgrlist.specs.declared.rows.RouteRow.{RouteRow}
 
 -- a list goes on after its first k members exactly if it has more
 after : {X : Type 0} (k : ℕ) (xs : List X) → nat_lt (length (take k xs)) (length xs) ≡ nat_lt k (length xs)
@@ -55,11 +53,6 @@ first_of p r k (Ok l) rules limits follow listed last =
       short = subst (λ (xs : List RouteRecord). All (λ (a : RouteRecord). length a.contacts ≤ 20000) xs) (sym given)
           (All-map (λ (a : RouteRecord). length a.contacts ≤ 20000) (record_of p.plan r) (take k R) (All-take (λ (s : List ℕ). length s ≤ 20000) k R (all_short p.plan r rules limits listed)));
     }
-
--- the first of at most one route is the best
-pub best_of : (f : List ℕ → RouteRecord) (L : List (List ℕ)) (xs : List RouteRecord) (status : ℕ) (row : RouteRow) (old new : List ℕ) → xs ≡ map f (take 1 L) → WritesBest xs status row old new → WritesBest (map f L) status row old new
-best_of f [] xs status row old new is w = subst (λ (ys : List RouteRecord). WritesBest ys status row old new) is w
-best_of f (s ∷ L) xs status row old new is w = subst (λ (ys : List RouteRecord). WritesBest ys status row old new) is w
 
 -- the routes of a last page are short, and so is a list that equals them
 pub short_of : (p : TabledPlan) (r : RouteRequest) (k : ℕ) (l : LastSeen) (xs : List RouteRecord) → xs ≡ l.routes → IsFirst p r k l → All (λ (a : RouteRecord). length a.contacts ≤ 20000) xs

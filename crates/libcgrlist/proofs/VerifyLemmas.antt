@@ -1,5 +1,5 @@
 -- Whether a text that lies in memory is verified.
-use Rattle.std.proofs.Common.{◌≡◌, ℕ, ◌+◌, ◌⊎◌, inl, inr, Bool, true, false, List, [], ◌++◌, append-nil, sym, ap, subst, ◌∙◌, refl, arith, Result, Ok, Err, Some}
+use Rattle.std.proofs.Common.{◌≡◌, ℕ, ◌⊎◌, inl, inr, Bool, true, false, List, [], ◌++◌, append-nil, sym, ap, subst, ◌∙◌, refl, arith, Result, Ok, Err, Some}
 use Rattle.std.specs.Prelude.{IsTrue}
 use Rattle.sabr_model.specs.Devices.{Input}
 use Rattle.sabr_model.specs.plan.Plan.{ContactPlan}

@@ -27,6 +27,11 @@ abbrev pub WritesBest : List RouteRecord → ℕ → RouteRow → List ℕ → L
 WritesBest [] status row old new = status ≡ no
 WritesBest (a ∷ _) status row old new = (row ≡ row_of 0 a) × PutsWhole a.contacts status old new
 
+-- a route, if there is one
+abbrev pub none_or_one : Option RouteRecord → List RouteRecord
+none_or_one None = []
+none_or_one (Some a) = a ∷ []
+
 -- the request is refused; or its best route over a plan is written, or memory is refused
 abbrev pub AnswersBest : ContactPlan → Result RouteRequest RequestError → ℕ → RouteRow → List ℕ → List ℕ → Type 0
 AnswersBest p (Err e) status row old new = status ≡ request_status e

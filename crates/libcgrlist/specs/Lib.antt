@@ -1,3 +1,4 @@
+pub mod Additions
 pub mod Answers
 pub mod Changes
 pub mod First
@@ -5,13 +6,16 @@ pub mod Following
 pub mod ListingTexts
 pub mod Listings
 pub mod Loading
+pub mod Nodes
 pub mod Open
 pub mod Opened
 pub mod Owned
 pub mod Pages
 pub mod Paused
 pub mod PlanTexts
+pub mod Reaching
 pub mod Reading
+pub mod Renumbered
 pub mod Request
 pub mod Standing
 pub mod Status

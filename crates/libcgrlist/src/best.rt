@@ -3,27 +3,43 @@
 ghost use Rattle.std.specs.Prelude.{◌≡◌, IfOk, OnErr, map};
 ghost use Rattle.sabr_model.specs.routes.Listing.{routes};
 ghost use Rattle.sabr_model.specs.routes.Record.{record_of};
-ghost use Rattle.libcgrlist.specs.Answers.{AnswersBest, UnlessWritten, WritesBest};
+ghost use Rattle.libcgrlist.specs.Answers.{AnswersBest, UnlessWritten, WritesBest, none_or_one};
+ghost use Rattle.libcgrlist.specs.First.{first_routes};
 ghost use Rattle.libcgrlist.specs.Open.{Calls, IsWhole};
 ghost use Rattle.libcgrlist.specs.Request.{asked_request};
 
 use crate::handle::PlanHandle;
-use crate::listed::listed;
 use crate::opened::Opened;
 use crate::request::Asked;
 use crate::rows::RouteRow;
 use crate::status::{CLOSED, MEMORY, NO, of_request};
 use crate::whole::put_whole;
 use sabr_index::Index;
-use sabr_model::{NoMemory, Request, Route};
+use sabr_model::{NoMemory, Request, Route, law3};
+use sabr_search::{BestOf, Excluded, SearchCache, Settled};
 use std::alloc::Global;
 
-/// Writes the first of some routes, if there is one, and returns the status.
-fn write_first(routes: &[Route<Global>], row: &mut RouteRow, contacts: &mut [u32]) -> u32
-    ensures best { WritesBest routes.now result row.new contacts.old contacts.new }
+/// Finds the best route of a request.
+pub fn best_route(
+    alloc: Global,
+    finder: &mut Settled<Global>,
+    index: &Index<'_, Global>,
+    request: &Request,
+) -> Result<Option<Route<Global>>, NoMemory>
+    ensures { IfOk result (λ best. none_or_one best ≡ first_routes index.now.plan request.now 1) }
+{
+    law3();
+    index.plan().rules_hold();
+    let mut cache = SearchCache::new(alloc);
+    finder.best_beside(&mut cache, index, request, &[], Excluded::of(&[]))
+}
+
+/// Writes a route, if there is one, and returns the status.
+fn write_best(best: Option<Route<Global>>, row: &mut RouteRow, contacts: &mut [u32]) -> u32
+    ensures best { WritesBest (none_or_one best) result row.new contacts.old contacts.new }
     ensures kept { UnlessWritten result ((row.new ≡ row.old) × (contacts.new ≡ contacts.old)) }
 {
-    let Some(route) = routes.first() else {
+    let Some(route) = best else {
         return NO;
     };
     let numbers = route.contacts.as_slice();
@@ -51,15 +67,14 @@ fn find_best(
     ensures err { OnErr result ((row.new ≡ row.old) × (contacts.new ≡ contacts.old)) }
 {
     let links = opened.take_links(alloc)?;
-    let finder = opened.take_finder(alloc);
+    let mut finder = opened.take_finder(alloc);
     let index = Index::from_links(opened.plan(), links);
-    let last = listed(alloc, index, finder, request, 1)?;
-    let status = write_first(last.routes(), row, contacts);
-    let (index, finder) = last.into_index_and_finder();
+    let found = best_route(alloc, &mut finder, &index, &request);
     let links = index.into_links();
     opened.keep_links(links);
     opened.keep_finder(finder);
-    Ok(status)
+    let best = found?;
+    Ok(write_best(best, row, contacts))
 }
 
 /// Gives the best route of a request.

@@ -1,28 +1,25 @@
 //! Changing plans.
 
-ghost use Rattle.std.specs.Prelude.{◌≡◌, ◌≢◌, ◌+◌, ◌<◌, ◌≤◌, IfNone, IsFalse, Some, is_some};
+ghost use Rattle.std.specs.Prelude.{◌≡◌, ◌≢◌, ◌+◌, ◌<◌, ◌≤◌, IfNone, Some};
 ghost use Rattle.sabr_model.specs.plan.Plan.{last_time};
 ghost use Rattle.sabr_model.specs.plan.Adding.{new_range, number_of_opening};
-ghost use Rattle.libcgrlist.specs.Changes.{Changes, ChangesInMemory, contact_added, contact_deleted, range_added, range_deleted, value_refusal};
+ghost use Rattle.libcgrlist.specs.Changes.{Changes, ChangesInMemory, contact_added, contact_deleted, number_deleted, range_added, range_deleted, value_refusal};
 ghost use Rattle.libcgrlist.specs.Open.{Calls, IsWhole};
 
 use crate::handle::PlanHandle;
 use crate::opened::{NewContact, Opened};
-use crate::status::{CLOSED, DONE, LISTING, VALUE_LIGHT, VALUE_NODE, VALUE_TIME, of_change};
+use crate::status::{
+    CLOSED, DONE, LISTING, NOTHING_TO_DELETE, VALUE_LIGHT, VALUE_NODE, VALUE_TIME, of_change,
+};
 use sabr_model::{LAST_TIME, MAX_LIGHT, Range};
 use std::alloc::Global;
 
-/// Returns the status of the first reason to refuse any change: a listing is open, a node is 0, or a time is above the
-/// largest.
-fn value_refusal(opened: &Opened, one: u64, other: u64, start: u64, end: u64) -> Option<u32>
-    ensures value { result ≡ value_refusal opened.now one other start end }
-    ensures listing { IfNone result (IsFalse (is_some opened.now.listing)) }
+/// Returns the status of the first value outside its limits: a node is 0, or a time is above the largest.
+pub fn value_refusal(one: u64, other: u64, start: u64, end: u64) -> Option<u32>
+    ensures value { result ≡ value_refusal one other start end }
     ensures nodes { IfNone result ((0 < one) × (0 < other)) }
     ensures end { IfNone result (end ≤ last_time) }
 {
-    if opened.has_listing() {
-        return Some(LISTING);
-    }
     if one == 0 || other == 0 {
         return Some(VALUE_NODE);
     }
@@ -38,7 +35,10 @@ fn add_contact(opened: &mut Opened, new: &NewContact, number: &mut u32) -> u32
     ensures given { result ≡ 0 → number.new ≡ opened.old.plan.plan.largest + 1 }
     ensures kept { result ≢ 0 → number.new ≡ number.old }
 {
-    if let Some(status) = value_refusal(opened, new.from, new.to, new.start, new.end) {
+    if opened.has_listing() {
+        return LISTING;
+    }
+    if let Some(status) = value_refusal(new.from, new.to, new.start, new.end) {
         return status;
     }
     match opened.add_contact(new) {
@@ -54,7 +54,10 @@ fn add_contact(opened: &mut Opened, new: &NewContact, number: &mut u32) -> u32
 fn add_range(opened: &mut Opened, new: &Range) -> u32
     ensures { ChangesInMemory opened.old (range_added opened.old new.now) result opened.new }
 {
-    if let Some(status) = value_refusal(opened, new.one, new.other, new.start, new.end) {
+    if opened.has_listing() {
+        return LISTING;
+    }
+    if let Some(status) = value_refusal(new.one, new.other, new.start, new.end) {
         return status;
     }
     if new.light > MAX_LIGHT {
@@ -72,7 +75,10 @@ fn delete_contact(opened: &mut Opened, from: u64, to: u64, start: u64, number: &
     ensures given { result ≡ 0 → number_of_opening opened.old.plan.plan from to start ≡ Some number.new }
     ensures kept { result ≢ 0 → number.new ≡ number.old }
 {
-    if let Some(status) = value_refusal(opened, from, to, start, start) {
+    if opened.has_listing() {
+        return LISTING;
+    }
+    if let Some(status) = value_refusal(from, to, start, start) {
         return status;
     }
     match opened.delete_contact(from, to, start) {
@@ -84,11 +90,32 @@ fn delete_contact(opened: &mut Opened, from: u64, to: u64, start: u64, number: &
     }
 }
 
+/// Deletes the contact with a number.
+fn delete_number(opened: &mut Opened, number: u32) -> u32
+    ensures { Changes opened.old (number_deleted opened.old number) result opened.new }
+{
+    if opened.has_listing() {
+        return LISTING;
+    }
+    opened.plan().rules_hold();
+    let Some(contact) = opened.plan().contact(number) else {
+        return NOTHING_TO_DELETE;
+    };
+    let contact = *contact;
+    match opened.delete_contact(contact.from, contact.to, contact.start) {
+        Ok(_number) => DONE,
+        Err(fault) => of_change(fault),
+    }
+}
+
 /// Deletes a range.
 fn delete_range(opened: &mut Opened, one: u64, other: u64, start: u64) -> u32
     ensures { Changes opened.old (range_deleted opened.old one other start) result opened.new }
 {
-    if let Some(status) = value_refusal(opened, one, other, start, start) {
+    if opened.has_listing() {
+        return LISTING;
+    }
+    if let Some(status) = value_refusal(one, other, start, start) {
         return status;
     }
     match opened.delete_range(one, other, start) {
@@ -186,6 +213,27 @@ pub extern "C" fn cgrlist_plan_delete_contact(
     }
     let mut opened = handle.take(alloc);
     let status = delete_contact(&mut opened, from, to, start, number);
+    handle.give(opened);
+    status
+}
+
+/// Deletes the contact with a number.
+#[unsafe(no_mangle)]
+pub extern "C" fn cgrlist_plan_delete_number(
+    alloc: Global,
+    handle: &mut PlanHandle,
+    number: u32,
+) -> u32
+    requires { IsWhole handle.old.is_open handle.old.place.held }
+    ensures open { handle.new.is_open ≡ handle.old.is_open }
+    ensures whole { IsWhole handle.new.is_open handle.new.place.held }
+    ensures change { Calls handle.old.is_open handle.old.place.held result handle.new.place.held (λ o n. Changes o (number_deleted o number) result n) }
+{
+    if !handle.is_open {
+        return CLOSED;
+    }
+    let mut opened = handle.take(alloc);
+    let status = delete_number(&mut opened, number);
     handle.give(opened);
     status
 }

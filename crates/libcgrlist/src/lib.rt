@@ -2,6 +2,7 @@
 //! declares them, and `library/shims.c` calls them.
 #![tactic(auto)]
 
+mod additions;
 mod best;
 mod changes;
 mod first;
@@ -14,9 +15,13 @@ mod listed;
 mod listing;
 mod listing_load;
 mod listing_text;
+mod nodes;
 mod opened;
 mod plan_text;
 mod plans;
+mod prepare;
+mod reach;
+mod renumber;
 mod request;
 mod rows;
 mod status;
@@ -24,10 +29,11 @@ mod verify;
 mod views;
 mod whole;
 
+pub use additions::{RefusedRecord, cgrlist_plan_add_contacts, cgrlist_plan_add_ranges};
 pub use best::cgrlist_best;
 pub use changes::{
     cgrlist_plan_add_contact, cgrlist_plan_add_range, cgrlist_plan_delete_contact,
-    cgrlist_plan_delete_range,
+    cgrlist_plan_delete_number, cgrlist_plan_delete_range,
 };
 pub use first::cgrlist_first;
 pub use follow::cgrlist_follow;
@@ -40,9 +46,13 @@ pub use listing::{
 };
 pub use listing_load::cgrlist_listing_load;
 pub use listing_text::cgrlist_listing_text;
+pub use nodes::cgrlist_plan_nodes;
 pub use opened::Opened;
 pub use plan_text::cgrlist_plan_text;
 pub use plans::{cgrlist_plan_close, cgrlist_plan_copy, cgrlist_plan_new, cgrlist_plan_read};
+pub use prepare::cgrlist_plan_prepare;
+pub use reach::{Reach, cgrlist_best_each};
+pub use renumber::cgrlist_plan_renumber;
 pub use rows::{Page, RouteRow};
 pub use verify::cgrlist_verify;
 pub use views::{

@@ -161,6 +161,21 @@ impl Opened {
         self.without_light = Some(counted);
         counted
     }
+
+    /// Makes what is kept for the plan until it changes: its links, its digest and its counts.
+    ///
+    /// # Errors
+    ///
+    /// [`NoMemory`] if an allocation failed.
+    pub fn prepare(&mut self, alloc: Global) -> Result<(), NoMemory>
+        ensures { self.new ≡ self.old }
+    {
+        self.digest();
+        self.without_light();
+        let links = self.take_links(alloc)?;
+        self.keep_links(links);
+        Ok(())
+    }
 }
 
 /// Counts the contacts that have no light time at their start.
@@ -175,6 +190,7 @@ fn count_without_light(plan: &Plan<Global>) -> usize
 
 /// A contact to add: its sender and receiver, its window in seconds since 1970-01-01T00:00:00Z, and its rate in bytes a
 /// second.
+#[repr(C)]
 #[derive(Clone, Copy)]
 pub struct NewContact {
     pub from: u64,
@@ -285,5 +301,16 @@ impl Opened {
         self.digest = None;
         self.without_light = None;
         Ok(())
+    }
+
+    /// Puts another plan in place of this one.
+    pub fn replace_plan(&mut self, plan: Plan<Global>)
+        requires { IsFalse (is_some self.old.listing) }
+        ensures { Becomes self.old plan.plan self.new }
+    {
+        self.plan = plan;
+        self.links = None;
+        self.digest = None;
+        self.without_light = None;
     }
 }

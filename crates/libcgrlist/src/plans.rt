@@ -13,7 +13,7 @@ use sabr_plan::{PlanKind, parse_plan};
 use std::alloc::Global;
 
 /// Puts a plan behind a closed handle.
-fn open(alloc: Global, handle: &mut PlanHandle, plan: Plan<Global>) -> u32
+pub fn open(alloc: Global, handle: &mut PlanHandle, plan: Plan<Global>) -> u32
     requires { handle.old.is_open ≡ false }
     ensures { Makes plan.plan result handle.new.is_open handle.new.place.held }
 {
@@ -67,7 +67,7 @@ pub extern "C" fn cgrlist_plan_read(
 }
 
 /// Returns a copy of a plan.
-fn copy_of(alloc: Global, plan: &Plan<Global>) -> Result<Plan<Global>, NoMemory>
+pub fn copy_of(alloc: Global, plan: &Plan<Global>) -> Result<Plan<Global>, NoMemory>
     ensures { IfOk result (λ copy. copy.plan ≡ plan.now.plan) }
 {
     let contacts = Vec::from_slice(alloc, plan.contacts())?;

@@ -20,7 +20,7 @@ mod rows;
 pub use error::{Error, Fault};
 pub use listing::Listing;
 pub use plan::Plan;
-pub use rows::{Contact, Counts, Hop, Page, Place, Range, Request, Route};
+pub use rows::{Contact, Counts, Hop, NewContact, Page, Place, Range, Reach, Request, Route};
 
 /// The version of the interface that this crate calls; that of the library is [`library_abi`].
 pub const ABI: u32 = 2;

@@ -2,7 +2,7 @@
 
 use crate::c;
 use crate::error::{Answer, Error, answer};
-use crate::rows::{Page, Place, page_of, text_of};
+use crate::rows::{Page, Place, list_of, page_of};
 
 /// All routes of a request, page after page, over a copy of the plan as it stood when the listing was opened.
 #[derive(Debug)]
@@ -42,7 +42,7 @@ impl Listing {
     /// The session text.
     pub fn text(&self) -> Result<Vec<u8>, Error> {
         // SAFETY: the listing is open, and the length is that of the buffer.
-        text_of(|text, bytes| unsafe { c::cgrlist_listing_text(self.0, text.as_mut_ptr(), text.len(), bytes) })
+        list_of(|text, bytes| unsafe { c::cgrlist_listing_text(self.0, text.as_mut_ptr(), text.len(), bytes) })
     }
 }
 

@@ -3,7 +3,7 @@
 use crate::c;
 use crate::error::{Answer, Error, Fault, answer, answer_at};
 use crate::listing::Listing;
-use crate::rows::{Contact, Counts, Hop, Page, Range, Request, Route, page_of, text_of};
+use crate::rows::{Contact, Counts, Hop, NewContact, Page, Range, Reach, Request, Route, list_of, page_of};
 use std::ptr::null_mut;
 
 /// A contact plan.
@@ -57,6 +57,34 @@ impl Plan {
         Ok(number)
     }
 
+    /// Deletes the contact with a number.
+    pub fn delete_number(&mut self, number: u32) -> Result<(), Error> {
+        answer(unsafe { c::cgrlist_plan_delete_number(self.0, number) }).map(drop)
+    }
+
+    /// Adds contacts, all or none. The line of an error is the place from 0 of the first that is refused.
+    pub fn add_contacts(&mut self, contacts: &[NewContact]) -> Result<(), Error> {
+        let mut place = 0;
+        let status = unsafe { c::cgrlist_plan_add_contacts(self.0, contacts.as_ptr(), contacts.len(), &mut place) };
+        answer_at(status, place as u64).map(drop)
+    }
+
+    /// Adds ranges, all or none. The line of an error is the place from 0 of the first that is refused.
+    pub fn add_ranges(&mut self, ranges: &[Range]) -> Result<(), Error> {
+        let mut place = 0;
+        let status = unsafe { c::cgrlist_plan_add_ranges(self.0, ranges.as_ptr(), ranges.len(), &mut place) };
+        answer_at(status, place as u64).map(drop)
+    }
+
+    /// A copy of what ends after a second, with the contacts numbered from 1 on, and the number here of each of them.
+    pub fn renumber(&self, second: u64) -> Result<(Plan, Vec<u32>), Error> {
+        let (mut copy, mut numbers) = (null_mut(), vec![0; self.greatest()? as usize]);
+        answer(unsafe { c::cgrlist_plan_renumber(self.0, second, &mut copy, numbers.as_mut_ptr(), numbers.len()) })?;
+        let copy = Plan(copy);
+        numbers.truncate(copy.greatest()? as usize);
+        Ok((copy, numbers))
+    }
+
     /// Deletes a range.
     pub fn delete_range(&mut self, one: u64, other: u64, start: u64) -> Result<(), Error> {
         answer(unsafe { c::cgrlist_plan_delete_range(self.0, one, other, start) }).map(drop)
@@ -64,7 +92,7 @@ impl Plan {
 
     /// The plan as a text, from which [`Plan::read`] makes it again.
     pub fn text(&self) -> Result<Vec<u8>, Error> {
-        text_of(|text, bytes| unsafe { c::cgrlist_plan_text(self.0, text.as_mut_ptr(), text.len(), bytes) })
+        list_of(|text, bytes| unsafe { c::cgrlist_plan_text(self.0, text.as_mut_ptr(), text.len(), bytes) })
     }
 
     /// What the plan has.
@@ -72,6 +100,18 @@ impl Plan {
         let mut counts = Counts::default();
         answer(unsafe { c::cgrlist_plan_counts(self.0, &mut counts) })?;
         Ok(counts)
+    }
+
+    /// The largest contact number given.
+    pub fn greatest(&self) -> Result<u32, Error> {
+        let mut number = 0;
+        answer(unsafe { c::cgrlist_plan_greatest(self.0, &mut number) })?;
+        Ok(number)
+    }
+
+    /// The nodes that send or receive a contact, ascending.
+    pub fn nodes(&self) -> Result<Vec<u64>, Error> {
+        list_of(|nodes, count| unsafe { c::cgrlist_plan_nodes(self.0, nodes.as_mut_ptr(), nodes.len(), count) })
     }
 
     /// The SHA-256 that session texts name.
@@ -116,6 +156,13 @@ impl Plan {
                 Answer::Room => contacts.resize(row.hops, 0),
             }
         }
+    }
+
+    /// The best route to each destination, in place of the request's.
+    pub fn best_each(&self, request: &Request, to: &[u64]) -> Result<Vec<Reach>, Error> {
+        let (asked, mut reaches) = (request.asked(), vec![Reach::default(); to.len()]);
+        answer(unsafe { c::cgrlist_best_each(self.0, &asked, to.as_ptr(), to.len(), reaches.as_mut_ptr()) })?;
+        Ok(reaches)
     }
 
     /// The first routes of a request, at most 10000.

@@ -95,6 +95,29 @@ impl From<c::Contact> for Contact {
     }
 }
 
+/// A contact to add.
+#[repr(C)]
+#[derive(Clone, Copy, Debug, Default, PartialEq, Eq)]
+pub struct NewContact {
+    pub from: u64,
+    pub to: u64,
+    pub start: u64,
+    pub end: u64,
+    pub rate: u64,
+}
+
+/// The best route to a destination, without its contact numbers.
+#[repr(C)]
+#[derive(Clone, Copy, Debug, Default, PartialEq, Eq)]
+pub struct Reach {
+    pub delivery: u64,
+    pub until: u64,
+    pub entry: u64,
+    pub hops: usize,
+    /// The status of asking for it alone, by its number in cgrlist.h: 0 if there is a route, and 1 if there is none.
+    pub status: u32,
+}
+
 /// A one-way light time in seconds between two nodes, over a window.
 #[repr(C)]
 #[derive(Clone, Copy, Debug, Default, PartialEq, Eq)]
@@ -137,11 +160,11 @@ pub(crate) fn page_of(mut call: impl FnMut(&mut [c::Route], &mut [u32], &mut c::
     Ok(Page { routes, more: page.more })
 }
 
-/// The text of a call that takes a buffer for it.
-pub(crate) fn text_of(mut call: impl FnMut(&mut [u8], &mut usize) -> u32) -> Result<Vec<u8>, Error> {
-    let (mut text, mut bytes) = (Vec::new(), 0);
-    while answer(call(&mut text, &mut bytes))? == Answer::Room {
-        text.resize(bytes, 0);
+/// The list of a call that takes a buffer for it, such as a text.
+pub(crate) fn list_of<T: Clone + Default>(mut call: impl FnMut(&mut [T], &mut usize) -> u32) -> Result<Vec<T>, Error> {
+    let (mut list, mut count) = (Vec::new(), 0);
+    while answer(call(&mut list, &mut count))? == Answer::Room {
+        list.resize(count, T::default());
     }
-    Ok(text)
+    Ok(list)
 }

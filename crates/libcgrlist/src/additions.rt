@@ -1,0 +1,217 @@
+//! Adding contacts and ranges, many at once: all or none.
+
+ghost use Rattle.std.specs.Prelude.{◌≡◌, IfOk, IsFalse, is_some};
+ghost use Rattle.libcgrlist.specs.Additions.{AddsAll, Makes, Puts, PutsAll, TakesOver, all_put, all_refused, contacts_added, ranges_added, row_put};
+ghost use Rattle.libcgrlist.specs.Changes.{contact_put};
+ghost use Rattle.libcgrlist.specs.Open.{Calls, IsWhole};
+
+use crate::changes::value_refusal;
+use crate::handle::PlanHandle;
+use crate::opened::{NewContact, Opened};
+use crate::plans::copy_of;
+use crate::status::{CLOSED, DONE, LISTING, MEMORY, VALUE_LIGHT, of_change};
+use crate::views::RangeRow;
+use sabr_model::{MAX_LIGHT, Plan};
+use std::alloc::Global;
+
+/// A record that is refused: its place among those to add, from 0, and the status.
+#[derive(Clone, Copy)]
+pub struct RefusedRecord {
+    pub place: usize,
+    pub status: u32,
+}
+
+impl RefusedRecord {
+    /// The refusal of all records.
+    fn all(status: u32) -> RefusedRecord
+        ensures { result ≡ all_refused status }
+    {
+        RefusedRecord { place: 0, status }
+    }
+}
+
+/// Adds a contact, or returns the status of its refusal.
+fn put_contact(plan: &mut Plan<Global>, new: &NewContact) -> Result<(), u32>
+    ensures { Puts (contact_put plan.old.plan new.now) result plan.new.plan }
+{
+    if let Some(status) = value_refusal(new.from, new.to, new.start, new.end) {
+        return Err(status);
+    }
+    match plan.add_contact(new.from, new.to, new.start, new.end, new.rate) {
+        Ok(_number) => Ok(()),
+        Err(fault) => Err(of_change(fault)),
+    }
+}
+
+/// Adds a range, or returns the status of its refusal.
+fn put_range(plan: &mut Plan<Global>, new: &RangeRow) -> Result<(), u32>
+    ensures { Puts (row_put plan.old.plan new.now) result plan.new.plan }
+{
+    if let Some(status) = value_refusal(new.one, new.other, new.start, new.end) {
+        return Err(status);
+    }
+    if new.light > MAX_LIGHT {
+        return Err(VALUE_LIGHT);
+    }
+    match plan.add_range(new.one, new.other, new.start, new.end, new.light) {
+        Ok(()) => Ok(()),
+        Err(fault) => Err(of_change(fault)),
+    }
+}
+
+/// Adds contacts one after another, up to the first that is refused.
+fn put_contacts(plan: &mut Plan<Global>, contacts: &[NewContact]) -> Result<(), RefusedRecord>
+    ensures { PutsAll (all_put contact_put 0 plan.old.plan contacts.now) result plan.new.plan }
+{
+    for place in 0..contacts.len() {
+        if let Err(status) = put_contact(plan, &contacts[place]) {
+            return Err(RefusedRecord { place, status });
+        }
+    }
+    Ok(())
+}
+
+/// Adds ranges one after another, up to the first that is refused.
+fn put_ranges(plan: &mut Plan<Global>, ranges: &[RangeRow]) -> Result<(), RefusedRecord>
+    ensures { PutsAll (all_put row_put 0 plan.old.plan ranges.now) result plan.new.plan }
+{
+    for place in 0..ranges.len() {
+        if let Err(status) = put_range(plan, &ranges[place]) {
+            return Err(RefusedRecord { place, status });
+        }
+    }
+    Ok(())
+}
+
+/// Returns a copy of the plan with more contacts.
+fn with_contacts(
+    alloc: Global,
+    opened: &Opened,
+    contacts: &[NewContact],
+) -> Result<Plan<Global>, RefusedRecord>
+    ensures made { Makes (contacts_added opened.now contacts.now) result }
+    ensures closed { IfOk result (λ p. IsFalse (is_some opened.now.listing)) }
+{
+    if opened.has_listing() {
+        return Err(RefusedRecord::all(LISTING));
+    }
+    let Ok(mut plan) = copy_of(alloc, opened.plan()) else {
+        return Err(RefusedRecord::all(MEMORY));
+    };
+    match put_contacts(&mut plan, contacts) {
+        Ok(()) => Ok(plan),
+        Err(refused) => Err(refused),
+    }
+}
+
+/// Returns a copy of the plan with more ranges.
+fn with_ranges(
+    alloc: Global,
+    opened: &Opened,
+    ranges: &[RangeRow],
+) -> Result<Plan<Global>, RefusedRecord>
+    ensures made { Makes (ranges_added opened.now ranges.now) result }
+    ensures closed { IfOk result (λ p. IsFalse (is_some opened.now.listing)) }
+{
+    if opened.has_listing() {
+        return Err(RefusedRecord::all(LISTING));
+    }
+    let Ok(mut plan) = copy_of(alloc, opened.plan()) else {
+        return Err(RefusedRecord::all(MEMORY));
+    };
+    match put_ranges(&mut plan, ranges) {
+        Ok(()) => Ok(plan),
+        Err(refused) => Err(refused),
+    }
+}
+
+/// Puts a plan in place of the one that is open, or gives the place of the record that is refused, and returns the
+/// status.
+fn take_over(
+    opened: &mut Opened,
+    made: Result<Plan<Global>, RefusedRecord>,
+    place: &mut usize,
+) -> u32
+    requires { IfOk made (λ p. IsFalse (is_some opened.old.listing)) }
+    ensures { TakesOver opened.old made result place.old place.new opened.new }
+{
+    match made {
+        Ok(plan) => {
+            opened.replace_plan(plan);
+            DONE
+        }
+        Err(refused) => {
+            if refused.status != MEMORY {
+                *place = refused.place;
+            }
+            refused.status
+        }
+    }
+}
+
+/// Adds contacts, all or none.
+fn add_contacts(
+    alloc: Global,
+    opened: &mut Opened,
+    contacts: &[NewContact],
+    place: &mut usize,
+) -> u32
+    ensures { AddsAll opened.old (contacts_added opened.old contacts.now) result place.old place.new opened.new }
+{
+    let made = with_contacts(alloc, opened, contacts);
+    take_over(opened, made, place)
+}
+
+/// Adds ranges, all or none.
+fn add_ranges(alloc: Global, opened: &mut Opened, ranges: &[RangeRow], place: &mut usize) -> u32
+    ensures { AddsAll opened.old (ranges_added opened.old ranges.now) result place.old place.new opened.new }
+{
+    let made = with_ranges(alloc, opened, ranges);
+    take_over(opened, made, place)
+}
+
+/// Adds contacts in their order, or none of them, and gives the place of the first that is refused.
+#[unsafe(no_mangle)]
+pub extern "C" fn cgrlist_plan_add_contacts(
+    alloc: Global,
+    handle: &mut PlanHandle,
+    contacts: &[NewContact],
+    place: &mut usize,
+) -> u32
+    requires { IsWhole handle.old.is_open handle.old.place.held }
+    ensures open { handle.new.is_open ≡ handle.old.is_open }
+    ensures whole { IsWhole handle.new.is_open handle.new.place.held }
+    ensures change { Calls handle.old.is_open handle.old.place.held result handle.new.place.held (λ o n. AddsAll o (contacts_added o contacts.now) result place.old place.new n) }
+    ensures closed { IsFalse handle.old.is_open → place.new ≡ place.old }
+{
+    if !handle.is_open {
+        return CLOSED;
+    }
+    let mut opened = handle.take(alloc);
+    let status = add_contacts(alloc, &mut opened, contacts, place);
+    handle.give(opened);
+    status
+}
+
+/// Adds ranges in their order, or none of them, and gives the place of the first that is refused.
+#[unsafe(no_mangle)]
+pub extern "C" fn cgrlist_plan_add_ranges(
+    alloc: Global,
+    handle: &mut PlanHandle,
+    ranges: &[RangeRow],
+    place: &mut usize,
+) -> u32
+    requires { IsWhole handle.old.is_open handle.old.place.held }
+    ensures open { handle.new.is_open ≡ handle.old.is_open }
+    ensures whole { IsWhole handle.new.is_open handle.new.place.held }
+    ensures change { Calls handle.old.is_open handle.old.place.held result handle.new.place.held (λ o n. AddsAll o (ranges_added o ranges.now) result place.old place.new n) }
+    ensures closed { IsFalse handle.old.is_open → place.new ≡ place.old }
+{
+    if !handle.is_open {
+        return CLOSED;
+    }
+    let mut opened = handle.take(alloc);
+    let status = add_ranges(alloc, &mut opened, ranges, place);
+    handle.give(opened);
+    status
+}
