@@ -5,6 +5,8 @@
     answers     what the program prints, and what follows from the listing of all routes: tests/library_answers.py
     refusals    each status, and that nothing has changed after it: tests/library_refusals.py
     nulls       NULL in place of plans, listings, buffers and outputs
+    threads     calls that only read a plan in several threads, also under helgrind
+    closed      the use of what was closed, which the library for debugging notices
     memory      each allocation refused in turn
     fuzzed      drawn calls with drawn plans and texts, by seeds; under valgrind, and under the compiler's sanitizers
     examples    the programs of examples/, in C and in Rust
@@ -51,10 +53,10 @@ class Calling(Room):
             raise Broken(f"there is no library: {ran.err}")
         return f"{TOP}/library/out"
 
-    def compiled(self, name, source, further="", compiler="cc"):
+    def compiled(self, name, source, further="", compiler="cc", library="libcgrlist.a"):
         """The path of a program that is compiled of a source of tests/library, with the static library."""
         words = f"{compiler} -std=c11 -D_GNU_SOURCE -g -O1 -Wall -Wextra -Wpedantic -Ilibrary {further} -o"
-        archive = [f"{self.folder}/libcgrlist.a"]
+        archive = [f"{self.folder}/{library}"]
         ran = self.run(words, [f"{self.path}/{name}", f"tests/library/{source}"], archive)
         assert not ran.all(), ran.all()
         return f"{self.path}/{name}"
@@ -142,13 +144,14 @@ def refused_memory(room):
     relay = f"{TOP}/examples/relay.txt 31 1 1893458700"
     wrapped = "-Wl,--wrap=malloc,--wrap=realloc"
     refuse = room.compiled("refuse", "refuse.c", wrapped)
-    calls = ("read", "new", "best", "first", "open", "load", "next", "text", "plan text", "copy", "verify", "add contact", "add range", "delete contact", "delete range")
+    calls = ("read", "new", "best", "first", "open", "load", "next", "text", "plan text", "copy", "verify", "add contact", "add range", "delete contact", "delete range",
+             "renumber", "add contacts", "add ranges", "nodes", "prepare", "best each", "delete number")
     ran = room.run([refuse], relay)
     yield "nothing is lost", "", lambda: ran.err
     for call in calls:
         yield f"each allocation of {call} refused", f"{call}: good", lambda: re.sub(
             "[0-9]+ refused", "good", "".join(re.findall(f"^{call}: .*$", ran.out, re.M)))
-    for call in ("read", "first", "open", "load", "next", "plan text", "copy"):
+    for call in ("read", "first", "open", "load", "next", "plan text", "copy", "renumber", "add contacts", "nodes", "prepare"):
         yield f"{call} takes memory", "", lambda: unlike(r"[1-9]\d*", "".join(re.findall(rf"^{call}: (\d+) refused$", ran.out, re.M)))
     if has("valgrind"):
         yield "no memory leaks", "", lambda: room.run("valgrind -q --leak-check=full --error-exitcode=7", [refuse], relay).err
@@ -160,6 +163,25 @@ def nulls(room):
     if has("valgrind"):
         yield "no memory leaks where nothing is wanted", "", lambda: room.run(
             "valgrind -q --leak-check=full --error-exitcode=7", [program, relay]).err
+
+
+def threads(room):
+    program, relay = room.compiled("threads", "threads.c", "-pthread"), f"{TOP}/examples/relay.txt"
+    yield "calls in several threads", "200 of 200", lambda: room.run([program, relay]).all()
+    if has("valgrind"):
+        yield "no two of them race", "", lambda: room.run("valgrind -q --tool=helgrind --error-exitcode=7", [program, relay]).err
+
+
+def closed(room):
+    if not os.path.exists(f"{room.folder}/libcgrlist-debug.a"):
+        print("note: this library has none for debugging")
+        return
+    program = room.compiled("closed", "closed.c", library="libcgrlist-debug.a")
+    yield "nothing is used after it was closed", "done", lambda: room.run([program]).all()
+    for what, wanted in (("plan", "cgrlist_plan_counts: it was closed before\n"), ("twice", "cgrlist_plan_close: it was closed before\n"),
+                         ("listing", "cgrlist_listing_back: it was closed before\n"),
+                         ("copied", "cgrlist_plan_counts: it is a copy, or none of the library's\n")):
+        yield f"use after it was closed: {what}", wanted, lambda: room.run([program, what]).err
 
 
 def fuzzed(room):
@@ -232,7 +254,8 @@ Libs: -L{room.folder} -lcgrlist
 
 # What wrapped.cpp, wrapped.rs and wrapped.py ask over relay.txt: the best route and the first two; the hops and the fault of a part
 # of it; its first contact is lost; the best route then, and the third of a listing that was open before, with a page back; the
-# plan's text and copy; two session texts; an empty plan; a session text of the plan before, and a bad line.
+# plan's text and copy; a renumbered copy, its nodes, and the best routes to three destinations; records added to the copy; two session
+# texts; an empty plan; a session text of the plan before, an array with a bad record, and a bad line.
 WRAPPED = """\
 1893466042 1893464400 22 4 11 2
 1893466042 1893464400 22 4 11 2
@@ -243,9 +266,12 @@ WRAPPED = """\
 1893479242 1893474720 21 6 12 2
 12
 1 21 19 14 6
+15 1 6 1893479242 21 3 16 17
+16 15
 10
 1 0
 CGRLIST_SESSION_OTHER_PLAN 0
+CGRLIST_EMPTY_WINDOW 1
 CGRLIST_LINE_UNKNOWN_COMMAND 1"""
 
 
@@ -276,4 +302,4 @@ def checks(asked):
         print("note: library is left out, since a trial compiles no library; --library names the folder of one")
         return ()
     return checks_of("library", Calling(asked), [
-        the_header, the_libraries, refusals, texts, names, nulls, drawn_plans, refused_memory, fuzzed, examples, wrapped, larger_plans])
+        the_header, the_libraries, refusals, texts, names, nulls, threads, closed, drawn_plans, refused_memory, fuzzed, examples, wrapped, larger_plans])

@@ -4,6 +4,8 @@ from drawn import Draws, draw_pair, drawn_case, with_another_digit
 from oracle import NO_LIMIT, Listing, time_text
 
 DRAWN = 120
+NEVER = time_text(0)
+UNREACHED = f"status 1 delivery {NEVER} hops 0 entry 0 until {NEVER}"
 
 
 class Script:
@@ -55,6 +57,15 @@ def say_counts(script, plan):
                f"without light {len(dark)}", f"digest {plan.digest()}", f"greatest {plan.greatest}")
 
 
+def say_renumbered(script, plan, second):
+    """A copy of what ends after a second, with the numbers from 1 on."""
+    kept = [number for number, it in sorted(plan.contacts.items()) if it.end > second]
+    script.say(f"plan_renumber 3 {second}", "OK", " ".join(map(str, ["numbers", *kept])))
+    script.say("use 3")
+    script.say("plan_greatest", "OK", f"greatest {len(kept)}")
+    script.say("use 0")
+
+
 def say_contact(script, plan, number):
     it = plan.contacts.get(number)
     if it is None:
@@ -69,6 +80,8 @@ def say_routes(script, draws, listing):
     """The best route, the first ones, and what their contacts do."""
     asked, routes = words_of(listing.request), listing.routes
     script.say(f"best {asked}", *(["OK", routes[0].line()] if routes else ["NO"]))
+    reach = f"status 0 {routes[0].line().partition(' contacts')[0]}" if routes else UNREACHED
+    script.say(f"best_each {listing.request.target},0 {asked}", "OK", f"to {listing.request.target} {reach}", f"to 0 {UNREACHED.replace('1', '17', 1)}")
     for count in (1, draws.below(5), 10000):
         script.say(f"first {count} {asked}", *page_told(listing, 0, count))
     for route in routes[:3]:
@@ -124,6 +137,8 @@ def script_of(room, case, from_text):
     for turn in range(2):
         say_counts(script, plan)
         say_contact(script, plan, draws.below(18))
+        say_renumbered(script, plan, draws.one_of([0, *(it.end for it in plan.contacts.values())]) if turn else 0)
+        script.say("plan_nodes", "OK", " ".join(map(str, ["nodes", *sorted(plan.nodes())])))
         listings = [Listing(plan, it) for it in (case.listing.request, draw_pair(draws, nodes))]
         for listing in listings:
             say_routes(script, draws, listing)

@@ -59,6 +59,16 @@ plan_add_range 1 2 0 10 1000001 | VALUE_LIGHT
 plan_add_range 1 2 10 10 1 | EMPTY_WINDOW
 plan_add_range 2 2 0 10 1 | SELF_PAIR
 plan_add_range 1 2 1893456999 {LATEST} 1 | RANGE_OVERLAP
+plan_add_contacts 1 9 0 10 1 2 9 0 10 1 9 9 0 10 1 1 0 0 10 1 | SELF_PAIR | place 2
+plan_add_contacts 1 9 0 10 1 1 9 0 20 1 | DUPLICATE_CONTACT | place 1
+plan_add_contacts 0 9 0 10 1 1 9 0 20 1 | VALUE_NODE | place 0
+plan_add_ranges 1 9 0 10 1 1 9 9 20 1 | RANGE_OVERLAP | place 1
+plan_add_ranges 1 9 0 10 1 1 8 0 10 1000001 | VALUE_LIGHT | place 1
+plan_add_contacts | OK
+plan_nodes | OK | nodes 1 2 3
+plan_prepare | OK
+plan_delete_number 0 | NOTHING_TO_DELETE
+plan_delete_number 5 | NOTHING_TO_DELETE
 plan_delete_contact 1 2 1893456001 | NOTHING_TO_DELETE
 plan_delete_contact 0 2 1893456000 | VALUE_NODE
 plan_delete_range 1 2 1893456001 | NOTHING_TO_DELETE
@@ -102,6 +112,8 @@ CRAMPED = f"""
 0 | hops 1,9 1 3 1893456000 | ROOM | needs 1 hops
 1 | hops 1,9 1 3 1893456000 | NO | {HOP_1}
 0 | hops 9 1 3 1893456000 | NO
+2 | plan_nodes | ROOM | needs 3 nodes
+3 | plan_nodes | OK | nodes 1 2 3
 0 | plan_text | ROOM | needs 400 bytes
 399 | plan_text | ROOM | needs 400 bytes
 0 | listing_open 1 3 1893456000 | OK
@@ -157,7 +169,7 @@ listing_open 1 3 1893456000 | NO_PLAN
 
 # What there is without a plan and without a listing.
 NOTHING_OPEN = f"""plan_add_contact 1 2 0 1 1;plan_add_range 1 2 0 1 1;plan_delete_contact 1 2 0;plan_delete_range 1 2 0;plan_counts;plan_digest
-plan_copy 1;plan_text;plan_greatest;plan_contact_at 0;plan_range_at 0;plan_contact 1;best 1 3 {AT};first 1 1 3 {AT};follow 1 1 3 {AT};hops 1 1 3 {AT}
+plan_copy 1;plan_renumber 1 0;plan_delete_number 1;plan_add_contacts;plan_add_ranges;plan_prepare;plan_nodes;best_each 1 1 3 {AT};plan_text;plan_greatest;plan_contact_at 0;plan_range_at 0;plan_contact 1;best 1 3 {AT};first 1 1 3 {AT};follow 1 1 3 {AT};hops 1 1 3 {AT}
 listing_open 1 3 {AT};listing_load a.txt;verify a.txt;best 0 0 {AT};first 10001 0 0 {AT};listing_next 1;listing_next 10001;listing_back;listing_place;listing_text"""
 
 # A refused line of a plan's text, and its status.

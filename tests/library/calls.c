@@ -15,7 +15,7 @@
 #include <string.h>
 #include <time.h>
 
-#define MOST_WORDS 16
+#define MOST_WORDS 32
 #define UNSET SIZE_MAX
 
 /* A plan and a listing. */
@@ -169,6 +169,25 @@ static void best(void) {
     drop(&request);
 }
 
+/* The first word is the destinations. */
+static void best_each(void) {
+    cgrlist_request request = asked_from(2);
+    uint64_t *to;
+    size_t count = numbers(word(1), &to);
+    cgrlist_reach *reaches = block(count, sizeof *reaches);
+    uint32_t status = print_status(cgrlist_best_each(here->plan, &request, to, count, reaches));
+    for (size_t i = 0; status == CGRLIST_OK && i < count; i++) {
+        printf("to %" PRIu64 " status %" PRIu32, to[i], reaches[i].status);
+        print_time(" delivery ", reaches[i].delivery);
+        printf(" hops %zu entry %" PRIu64, reaches[i].hops, reaches[i].entry);
+        print_time(" until ", reaches[i].until);
+        puts("");
+    }
+    free(reaches);
+    free(to);
+    drop(&request);
+}
+
 /* Makes a call for a page, of a request or of the listing. */
 static uint32_t page_of(const cgrlist_request *request, uint32_t count, cgrlist_route *routes, size_t routes_room, uint32_t *contacts,
                         size_t contacts_room, cgrlist_page *page) {
@@ -299,8 +318,58 @@ static void delete_contact(void) {
         printf("number %" PRIu32 "\n", had);
 }
 
+static void delete_number(void) { print_status(cgrlist_plan_delete_number(here->plan, (uint32_t)number(1))); }
+
 static void delete_range(void) {
     print_status(cgrlist_plan_delete_range(here->plan, number(1), number(2), second_of(word(3))));
+}
+
+/* Prints the status of a call for many records, and which of them is refused. */
+static void print_added(uint32_t status, size_t place) {
+    print_status(status);
+    if (place != UNSET) printf("place %zu\n", place);
+}
+
+/* The words are five values of each contact. */
+static void add_contacts(void) {
+    size_t count = word_count / 5, place = UNSET;
+    cgrlist_new_contact *all = block(count, sizeof *all);
+    for (size_t i = 0; i < count; i++)
+        all[i] = (cgrlist_new_contact){number(5 * i + 1), number(5 * i + 2), second_of(word(5 * i + 3)), second_of(word(5 * i + 4)), number(5 * i + 5)};
+    uint32_t status = cgrlist_plan_add_contacts(here->plan, all, count, &place);
+    print_added(status, place);
+    free(all);
+}
+
+/* The words are five values of each range. */
+static void add_ranges(void) {
+    size_t count = word_count / 5, place = UNSET;
+    cgrlist_range *all = block(count, sizeof *all);
+    for (size_t i = 0; i < count; i++)
+        all[i] = (cgrlist_range){number(5 * i + 1), number(5 * i + 2), second_of(word(5 * i + 3)), second_of(word(5 * i + 4)), (uint32_t)number(5 * i + 5)};
+    uint32_t status = cgrlist_plan_add_ranges(here->plan, all, count, &place);
+    print_added(status, place);
+    free(all);
+}
+
+static void prepare(void) { print_status(cgrlist_plan_prepare(here->plan)); }
+
+static void nodes(void) {
+    size_t count = 0;
+    uint64_t *all = NULL;
+    uint32_t status = CGRLIST_ROOM;
+    if (!is_room_set()) status = cgrlist_plan_nodes(here->plan, NULL, 0, &count);
+    if (status == CGRLIST_ROOM) {
+        size_t room = room_of(0, count);
+        all = block(room, sizeof *all);
+        status = cgrlist_plan_nodes(here->plan, all, room, &count);
+    }
+    print_status(status);
+    if (status == CGRLIST_ROOM) printf("needs %zu nodes\n", count);
+    if (status == CGRLIST_OK) printf("nodes");
+    for (size_t i = 0; status == CGRLIST_OK && i < count; i++) printf(" %" PRIu64, all[i]);
+    if (status == CGRLIST_OK) puts("");
+    free(all);
 }
 
 static void counts(void) {
@@ -419,6 +488,22 @@ static void plan_copy(void) {
     put_plan(&slots[number(1) & 3], status, copy);
 }
 
+/* Copies the plan to another slot: what ends after a second, with the contacts numbered from 1 on. */
+static void renumber(void) {
+    cgrlist_plan *copy;
+    size_t room = room_of(0, 64);
+    uint32_t *had = block(room, sizeof *had), greatest = 0;
+    uint32_t status = cgrlist_plan_renumber(here->plan, second_of(word(2)), &copy, had, room);
+    put_plan(&slots[number(1) & 3], status, copy);
+    if (!status) {
+        cgrlist_plan_greatest(copy, &greatest);
+        printf("numbers");
+        for (size_t i = 0; i < greatest && i < room; i++) printf(" %" PRIu32, had[i]);
+        puts("");
+    }
+    free(had);
+}
+
 static void listing_close(void) {
     cgrlist_listing_close(here->listing);
     here->listing = NULL;
@@ -441,6 +526,8 @@ static void use(void) { here = &slots[number(1) & 3]; }
 static const struct { const char *name; void (*call)(void); } CALLS[] = {
     {"plan_new", plan_new}, {"plan_read", plan_read}, {"plan_close", plan_close}, {"plan_add_contact", add_contact},
     {"plan_add_range", add_range}, {"plan_delete_contact", delete_contact}, {"plan_delete_range", delete_range},
+    {"plan_delete_number", delete_number}, {"plan_add_contacts", add_contacts}, {"plan_add_ranges", add_ranges},
+    {"plan_prepare", prepare}, {"plan_nodes", nodes}, {"plan_renumber", renumber}, {"best_each", best_each},
     {"plan_copy", plan_copy}, {"plan_text", plan_text}, {"plan_counts", counts}, {"plan_greatest", greatest},
     {"plan_digest", digest}, {"plan_contact", contact}, {"plan_contact_at", contact_at},
     {"plan_range_at", range_at}, {"best", best}, {"first", first},

@@ -21,6 +21,12 @@ static void no_plan(const cgrlist_request *asked) {
     WANT(CGRLIST_NO_PLAN, cgrlist_plan_add_range(NULL, 1, 2, 3, 4, 5));
     WANT(CGRLIST_NO_PLAN, cgrlist_plan_delete_contact(NULL, 1, 2, 3, NULL));
     WANT(CGRLIST_NO_PLAN, cgrlist_plan_delete_range(NULL, 1, 2, 3));
+    WANT(CGRLIST_NO_PLAN, cgrlist_plan_delete_number(NULL, 1));
+    WANT(CGRLIST_NO_PLAN, cgrlist_plan_add_contacts(NULL, NULL, 0, NULL));
+    WANT(CGRLIST_NO_PLAN, cgrlist_plan_add_ranges(NULL, NULL, 0, NULL));
+    WANT(CGRLIST_NO_PLAN, cgrlist_plan_prepare(NULL));
+    WANT(CGRLIST_NO_PLAN, cgrlist_plan_renumber(NULL, 0, NULL, NULL, 0));
+    WANT(CGRLIST_NO_PLAN, cgrlist_plan_nodes(NULL, NULL, 0, NULL));
     WANT(CGRLIST_NO_PLAN, cgrlist_plan_text(NULL, NULL, 0, NULL));
     WANT(CGRLIST_NO_PLAN, cgrlist_plan_counts(NULL, NULL));
     WANT(CGRLIST_NO_PLAN, cgrlist_plan_greatest(NULL, NULL));
@@ -29,6 +35,7 @@ static void no_plan(const cgrlist_request *asked) {
     WANT(CGRLIST_NO_PLAN, cgrlist_plan_contact_at(NULL, 0, NULL));
     WANT(CGRLIST_NO_PLAN, cgrlist_plan_range_at(NULL, 0, NULL));
     WANT(CGRLIST_NO_PLAN, cgrlist_best(NULL, asked, NULL, NULL, 0));
+    WANT(CGRLIST_NO_PLAN, cgrlist_best_each(NULL, asked, NULL, 0, NULL));
     WANT(CGRLIST_NO_PLAN, cgrlist_first(NULL, asked, 1, NULL, 0, NULL, 0, NULL));
     WANT(CGRLIST_NO_PLAN, cgrlist_follow(NULL, asked, NULL, 0, NULL));
     WANT(CGRLIST_NO_PLAN, cgrlist_hops(NULL, asked, NULL, 0, NULL, 0, NULL));
@@ -46,9 +53,17 @@ static void no_plan(const cgrlist_request *asked) {
 static void no_output(cgrlist_plan *plan, const cgrlist_request *asked) {
     uint32_t contacts[64];
     cgrlist_route routes[4];
+    const cgrlist_new_contact none = {0, 0, 0, 0, 0};
     WANT(CGRLIST_OK, cgrlist_plan_copy(plan, NULL));
     WANT(CGRLIST_OK, cgrlist_plan_add_contact(plan, 1, 2, 3, 4, 5, NULL));
     WANT(CGRLIST_OK, cgrlist_plan_delete_contact(plan, 1, 2, 3, NULL));
+    WANT(CGRLIST_OK, cgrlist_plan_add_contacts(plan, NULL, 3, NULL));
+    WANT(CGRLIST_VALUE_NODE, cgrlist_plan_add_contacts(plan, &none, 1, NULL));
+    WANT(CGRLIST_OK, cgrlist_plan_add_ranges(plan, NULL, 3, NULL));
+    WANT(CGRLIST_OK, cgrlist_plan_renumber(plan, 0, NULL, NULL, 9));
+    WANT(CGRLIST_ROOM, cgrlist_plan_nodes(plan, NULL, 999, NULL));
+    WANT(CGRLIST_OK, cgrlist_best_each(plan, asked, NULL, 9, NULL));
+    WANT(CGRLIST_OK, cgrlist_best_each(plan, asked, &asked->to, 9, NULL));
     WANT(CGRLIST_ROOM, cgrlist_plan_text(plan, NULL, sizeof spelled, NULL));
     WANT(CGRLIST_OK, cgrlist_plan_text(plan, spelled, sizeof spelled, NULL));
     WANT(CGRLIST_OK, cgrlist_plan_counts(plan, NULL));

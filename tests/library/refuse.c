@@ -79,6 +79,29 @@ static void call_copy(answer *a) {
     cgrlist_plan_digest(copy, (uint8_t *)a->text);
     cgrlist_plan_close(copy);
 }
+static void call_renumber(answer *a) {
+    cgrlist_plan *copy;
+    a->status = cgrlist_plan_renumber(plan, 1893470000, &copy, a->contacts, CONTACTS);
+    cgrlist_plan_digest(copy, (uint8_t *)a->text);
+    cgrlist_plan_close(copy);
+}
+static void call_add_contacts(answer *a) {
+    static const cgrlist_new_contact all[] = {{7001, 7002, 5, 9, 1}, {7001, 7002, 9, 12, 1}};
+    a->status = cgrlist_plan_add_contacts(plan, all, 2, NULL);
+}
+static void call_add_ranges(answer *a) {
+    static const cgrlist_range all[] = {{7001, 7002, 5, 9, 1}, {7001, 7002, 9, 12, 1}};
+    a->status = cgrlist_plan_add_ranges(plan, all, 2, NULL);
+}
+static void call_nodes(answer *a) { a->status = cgrlist_plan_nodes(plan, (uint64_t *)a->text, BYTES / 8, &a->bytes); }
+static void call_prepare(answer *a) { a->status = cgrlist_plan_prepare(plan); }
+static void call_best_each(answer *a) {
+    cgrlist_reach reach;
+    a->status = cgrlist_best_each(plan, &request, &request.to, 1, &reach);
+    if (a->status == CGRLIST_OK) a->status = reach.status;
+    if (a->status == CGRLIST_OK) a->bytes = reach.delivery;
+}
+static void call_delete_number(answer *a) { a->status = cgrlist_plan_delete_number(plan, 1); }
 static void call_verify(answer *a) { a->status = cgrlist_verify(plan, session_text, session_bytes); }
 static void call_add_contact(answer *a) { a->status = cgrlist_plan_add_contact(plan, 7001, 7002, 5, 9, 1, &a->number); }
 static void call_add_range(answer *a) { a->status = cgrlist_plan_add_range(plan, 7001, 7002, 5, 9, 1); }
@@ -120,7 +143,10 @@ static const struct { const char *name; bool (*before)(void); void (*call)(answe
     {"plan text", an_asked_plan, call_plan_text}, {"copy", a_listing, call_copy},
     {"verify", a_plan, call_verify}, {"add contact", an_asked_plan, call_add_contact},
     {"add range", an_asked_plan, call_add_range}, {"delete contact", an_asked_plan, call_delete_contact},
-    {"delete range", an_asked_plan, call_delete_range},
+    {"delete range", an_asked_plan, call_delete_range}, {"renumber", an_asked_plan, call_renumber},
+    {"add contacts", an_asked_plan, call_add_contacts}, {"add ranges", an_asked_plan, call_add_ranges},
+    {"nodes", a_plan, call_nodes}, {"prepare", a_plan, call_prepare}, {"best each", a_plan, call_best_each},
+    {"delete number", an_asked_plan, call_delete_number},
 };
 
 /* ---- Comparing: member by member, since what lies between members may be anything ---- */

@@ -27,11 +27,25 @@ int main(int, char **argv) {
     auto copy = cgrlist::plan::read(plan.text());
     std::cout << (copy.digest() == plan.copy().digest()) << " " << copy.greatest() << " " << copy.contacts().size() << " "
               << copy.ranges().size() << " " << copy.counts().nodes << "\n";
+    auto renewed = plan.renumber(1893480000);
+    auto reach = plan.best_each(asked, {1, 31, 0});
+    plan.prepare();
+    std::cout << renewed.copy.greatest() << " " << renewed.numbers.at(0) << " " << renewed.copy.nodes().size() << " " << reach[0].delivery << " "
+              << reach[0].entry << " " << reach[0].hops << " " << reach[1].status << " " << reach[2].status << "\n";
+    renewed.copy.add_contacts({{1, 2, 3, 4, 5}, {1, 2, 4, 5, 5}});
+    renewed.copy.add_ranges({{1, 7001, 3, 4, 5}});
+    renewed.copy.delete_number(1);
+    std::cout << renewed.copy.counts().contacts << " " << renewed.copy.counts().ranges << "\n";
     std::cout << plan.verify(plan.list(asked).text()) << plan.verify(listing.text()) << "\n";
     cgrlist::plan empty;
     std::cout << empty.add_contact(1, 2, 3, 4, 5) << " " << empty.best({1, 2, 3}).has_value() << "\n";
     try {
         plan.load(listing.text());
+    } catch (const cgrlist::error &error) {
+        std::cout << error.what() << " " << error.line << "\n";
+    }
+    try {
+        plan.add_contacts({{7001, 7002, 3, 4, 5}, {7001, 7002, 4, 4, 5}});
     } catch (const cgrlist::error &error) {
         std::cout << error.what() << " " << error.line << "\n";
     }

@@ -26,10 +26,18 @@ print(f"{listing.back():d}{listing.place().given}")
 copy = library.read(plan.text())
 counts = copy.counts()
 print(f"{copy.digest() == plan.copy().digest():d}", counts.greatest, len(list(copy.contacts())), len(list(copy.ranges())), counts.nodes)
+renewed, numbers = plan.renumber(1893480000)
+reach = plan.best_each(asked, (1, 31, 0))
+plan.prepare()
+print(renewed.greatest(), numbers[0], len(renewed.nodes()), reach[0].delivery, reach[0].entry, reach[0].hops, reach[1].status, reach[2].status)
+renewed.add_contacts([(1, 2, 3, 4, 5), (1, 2, 4, 5, 5)])
+renewed.add_ranges([(1, 7001, 3, 4, 5)])
+renewed.delete_number(1)
+print(renewed.counts().contacts, renewed.counts().ranges)
 print(f"{plan.verify(plan.listing(asked).text()):d}{plan.verify(listing.text()):d}")
 empty = library.new()
 print(empty.add_contact(1, 2, 3, 4, 5), f"{empty.best(request(1, 2, 3)) is not None:d}")
-for call, text in ((plan.load, listing.text()), (library.read, b"a\n")):
+for call, text in ((plan.load, listing.text()), (plan.add_contacts, [(7001, 7002, 3, 4, 5), (7001, 7002, 4, 4, 5)]), (library.read, b"a\n")):
     try:
         call(text)
     except Refusal as refusal:

@@ -1,0 +1,75 @@
+/* Makes the calls that only read a plan in four threads at the same time, after cgrlist_plan_prepare, and prints how many of
+ * them returned what the first one did. Its word: a plan's text, over which 31 1 1893458700 has a route. */
+#include "cgrlist.h"
+#include <pthread.h>
+#include <stdio.h>
+#include <string.h>
+
+enum { THREADS = 4, TURNS = 50, CONTACTS = 64, BYTES = 1 << 14 };
+
+/* What the calls return and write. */
+typedef struct seen {
+    uint32_t statuses[10], greatest, last;
+    cgrlist_counts counts;
+    uint8_t digest[32];
+    cgrlist_outcome outcome;
+    size_t bytes, nodes, hops;
+    uint64_t all[CONTACTS];
+} seen;
+
+static char text[1 << 16];
+static cgrlist_plan *plan;
+static cgrlist_request request = {31, 1, 1893458700, 0, 0, NULL, 0};
+static uint32_t contacts[CONTACTS];
+static cgrlist_route route;
+
+static void look(seen *out) {
+    const cgrlist_plan *it = plan;
+    char spelled[BYTES];
+    cgrlist_contact contact;
+    cgrlist_hop hops[CONTACTS];
+    cgrlist_plan *copy;
+    memset(out, 0, sizeof *out);
+    out->statuses[0] = cgrlist_plan_counts(it, &out->counts);
+    out->statuses[1] = cgrlist_plan_digest(it, out->digest);
+    out->statuses[2] = cgrlist_plan_greatest(it, &out->greatest);
+    out->statuses[3] = cgrlist_plan_contact_at(it, 3, &contact);
+    out->statuses[4] = cgrlist_plan_nodes(it, out->all, CONTACTS, &out->nodes);
+    out->statuses[5] = cgrlist_follow(it, &request, contacts, route.hops, &out->outcome);
+    out->statuses[6] = cgrlist_hops(it, &request, contacts, route.hops, hops, CONTACTS, &out->hops);
+    out->statuses[7] = cgrlist_plan_text(it, spelled, sizeof spelled, &out->bytes);
+    out->statuses[8] = cgrlist_plan_copy(it, &copy);
+    out->statuses[9] = cgrlist_plan_greatest(copy, &out->last);
+    cgrlist_plan_close(copy);
+}
+
+static seen first;
+static int same[THREADS];
+
+static void *run(void *place) {
+    int *count = place;
+    seen now;
+    for (int i = 0; i < TURNS; i++) {
+        look(&now);
+        *count += !memcmp(&now, &first, sizeof now);
+    }
+    return NULL;
+}
+
+int main(int argc, char **argv) {
+    pthread_t threads[THREADS];
+    int all = 0;
+    FILE *file = argc > 1 ? fopen(argv[1], "rb") : NULL;
+    if (!file) return 2;
+    size_t bytes = fread(text, 1, sizeof text, file);
+    fclose(file);
+    if (cgrlist_plan_read(&plan, text, bytes, NULL) || cgrlist_best(plan, &request, &route, contacts, CONTACTS)) return 2;
+    if (cgrlist_plan_prepare(plan)) return 2;
+    look(&first);
+    for (int i = 0; i < THREADS; i++)
+        if (pthread_create(&threads[i], NULL, run, &same[i])) return 2;
+    for (int i = 0; i < THREADS; i++) pthread_join(threads[i], NULL), all += same[i];
+    cgrlist_plan_close(plan);
+    printf("%d of %d\n", all, THREADS * TURNS);
+    return 0;
+}
