@@ -209,6 +209,11 @@ def parts_of(pattern, text):
     return "\n".join(re.findall(pattern, text, re.M))
 
 
+def shown(part, text):
+    """A part, if a text contains it; or else the text."""
+    return part if part in text else text
+
+
 def differing(found, wanted):
     """What differs of two sequences, a line for each place; empty if nothing does."""
     pairs = enumerate(zip_longest(found, wanted, fillvalue="nothing"), 1)

@@ -1,6 +1,6 @@
 """Tries `./install` into an empty folder, what it installs, and the completions against the help of the program and of the tools."""
 
-import filecmp
+import hashlib
 import os
 import re
 import shutil
@@ -167,6 +167,12 @@ def installed_files():
     return by_place([*lines, *LIBRARY] if has_library() else lines)
 
 
+def sum_of(path):
+    """The checksum of a file."""
+    with open(path, "rb") as file:
+        return hashlib.sha256(file.read()).hexdigest()
+
+
 def run_by_the_script():
     """The program that the last proof left, statically linked if it could be."""
     with open(f"{TOP}/crates/cgrlist/out/proved", encoding="ascii") as file:
@@ -187,7 +193,7 @@ def the_installation(room):
         yield f"each has its place and mode, {turn}", files, room.installed
     yield ("folders are open to all", {0o755}, lambda: {
         stat.S_IMODE(os.stat(folder).st_mode) for folder, _, _ in os.walk(f"{room.path}/at")})
-    yield "the program is the one that ./cgrlist runs", True, filecmp.cmp, f"{room.path}/at/usr/bin/cgrlist", run_by_the_script(), False
+    yield "the program is the one that ./cgrlist runs", sum_of(run_by_the_script()), sum_of, f"{room.path}/at/usr/bin/cgrlist"
     yield "each link leads to a file", [], lambda: [it for it in places if not os.path.exists(f"{room.path}/at/{it}")]
 
     shutil.copy(f"{TOP}/examples/a.txt", room.path)

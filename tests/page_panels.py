@@ -179,7 +179,8 @@ def used_text(it, room):
     yield "a plan without the question's nodes isn't asked it", [None, "", "2030/01/01-00:00:00"], it.run, """
         return [request, byId("from").value, byId("at").value]"""
     yield "the words beside the timetable aren't squeezed", True, it.run, """
-        paper.font = SMALL; return paper.measureText("best delivery,").width <= size.left - 16"""
+        paper.font = SMALL; const width = paper.measureText("best delivery,").width;
+        return width <= size.left - 16 || [width, size.left]"""
 
 
 def other_texts(it, room):
@@ -416,7 +417,7 @@ def narrow(room):
                 press(it, "judge", "Judge")
                 state(it, "judge")
             it.settle()
-            yield f"{name} isn't wider than its window", True, it.run, "return document.documentElement.scrollWidth <= innerWidth"
+            yield f"{name} isn't wider than its window", True, it.run, "const wide = document.documentElement.scrollWidth; return wide <= innerWidth || [wide, innerWidth]"
             found = it.run(SQUEEZED)
             yield f"no name of {name} is squeezed", [], lambda found=found: found
             small = "[...document.querySelectorAll(`#panel-${arguments[0]} button`)].filter((it) => it.offsetParent && it.offsetHeight < 32).length"

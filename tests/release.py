@@ -100,7 +100,7 @@ def what_an_installation_has(room, home):
             room.alone("sh -c", [made], **further).all().partition("\n")[0])
     if shutil.which("man"):
         for page in ("1 cgrlist", "1 cgrlist-report", "3 cgrlist"):
-            yield f"man {page}", True, lambda page=page: room.alone("man -w", page, MANPATH=f"{home}/share/man").status == 0
+            yield f"man {page}", 0, lambda page=page: room.alone("man -w", page, MANPATH=f"{home}/share/man").status
     complete = f'source "{home}/share/bash-completion/completions/cgrlist"; {COMPLETED}'
     yield "a completion", "verify\n", lambda: room.alone("bash -c", [complete]).out
 

@@ -149,10 +149,10 @@ def the_packages(root):
     first = root.run(f"cd /release/before && {words}")
     yield "the packages are installed", (0, f"{BEFORE}-1"), lambda: (
         first.status, root.run("dpkg-query -f '${Version}' -W cgrlist").out or first.all())
-    yield "the version before has files that are no more", True, lambda: any("no-more" in it for it in root.files())
+    yield "the version before has files that are no more", True, lambda: any("no-more" in it for it in root.files()) or root.files()
     ran = root.run(f"cd /release && {words}")
     yield "they are upgraded", (0, 3), lambda: (ran.status, ran.out.count("\nUnpacking ") or ran.all())
-    yield "then these files are gone", False, lambda: any("no-more" in it for it in root.files())
+    yield "then these files are gone", [], lambda: [it for it in root.files() if "no-more" in it]
     root.by_user("cd /usr/share/doc/cgrlist/examples && cp relay.txt a.txt router.c ~")
     yield from each_tool(root, "of the packages")
     yield "man cgrlist", "", lambda: answered(root.by_user("man cgrlist && man 3 cgrlist && man cgrlist-report"), "EXIT STATUS")
