@@ -866,8 +866,8 @@ def ends_of_line(it):
     it.keys(Keys.END)
     it.keys(Keys.ESCAPE)
     it.settle()
-    yield "the routes are in view again", True, it.run,
-           "return view.first <= routes[0].hops[0].send && routes[0].delivery <= view.last || [view.first, view.last]"
+    in_view = "view.first <= routes[0].hops[0].send && routes[0].delivery <= view.last"
+    yield "the routes are in view again", True, it.run, f"return {in_view} || [view.first, view.last]"
 
 
 def answers_at(it, room):

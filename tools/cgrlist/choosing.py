@@ -8,7 +8,7 @@ from typing import Optional, Tuple, Union
 
 from .errors import NO_STATUS, WORDS_STATUS, Refused
 from .listing import LOOK, number_word
-from .program import MOST
+from .limits import ROUTES
 from .requests import FIELDS, request_of, requests_of
 from .routes import Fault, Request, Route
 from .tables import (CSV, JSON, LIMITS, NUMBER, NUMBERS, REQUEST, TIME, WORD, Kind, Table, about, json_of, object_text,
@@ -182,7 +182,7 @@ def _is_refused(program, request):
 
 def _ranks(program, wanted, look):
     """Each of some requests, with the ranks of the wanted ones of its first routes, and the best delivery."""
-    if len(wanted) < 2 or look > MOST:
+    if len(wanted) < 2 or look > ROUTES:
         for request, deliveries in wanted.items():
             yield request, ranks_of(program.pages(request), deliveries, look)
         return

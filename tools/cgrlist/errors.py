@@ -2,6 +2,8 @@
 
 import re
 
+from .limits import AVOIDED, GREATEST, HOPS, MARGIN, ROUTES
+
 # As the program and its script use them. INPUT_STATUS is for a text besides the plan that can't be used: names, requests,
 # choices, a report.
 NO_STATUS, WORDS_STATUS, PLAN_STATUS, INPUT_STATUS, FILE_STATUS, MEMORY_STATUS, START_STATUS = 1, 2, 3, 4, 5, 6, 125
@@ -9,14 +11,14 @@ REQUESTS_STATUS = INPUT_STATUS  # of a line of requests or of lists, as the prog
 
 
 # What the program's messages mean that refuse a value, which they don't say.
-NODE = "a node is a number from 1 to 18446744073709551615"
+NODE = f"a node is a number from 1 to {GREATEST}"
 MEANINGS = {
     "bad --from": NODE,
     "bad --to": NODE,
-    "bad --avoid": f"{NODE}, and --avoid has at most 16",
-    "bad --count": "--count is a number from 1 to 10000",
-    "bad --margin-ppm": "--margin-ppm is a number from 0 to 1000000",
-    "bad --max-hops": "--max-hops is a number from 1 to 20000",
+    "bad --avoid": f"{NODE}, and --avoid has at most {AVOIDED}",
+    "bad --count": f"--count is a number from 1 to {ROUTES}",
+    "bad --margin-ppm": f"--margin-ppm is a number from 0 to {MARGIN}",
+    "bad --max-hops": f"--max-hops is a number from 1 to {HOPS}",
     "request: SameNode": "the source and the destination are the same node",
     "request: BadAvoid": "--avoid names each node once, and neither the source nor the destination",
 }

@@ -5,6 +5,7 @@ import re
 import shlex
 
 from .errors import FILE_STATUS, Refused
+from .limits import CONTACTS
 from .reading import Bad, Reader, lines_in, plan_bytes
 from .tool import printable, tell
 
@@ -24,7 +25,7 @@ REPAIRS = {  # of each reason for which the program refuses a line of a plan, th
     "SelfPair": "a loopback, as in ION's examples: take it out",
     "DuplicateContact": "a contact with that start, sender and receiver stands above: take one out",
     "RangeOverlap": "a range of these nodes shares a second with it: let one end where the next starts",
-    "TooMany": "over 20000 contacts or ranges: leave out contacts that have ended",
+    "TooMany": f"over {CONTACTS} contacts or ranges: leave out contacts that have ended",
     "NothingToDelete": "write start and nodes as in the line that added it, and below that",
 }
 

@@ -13,9 +13,11 @@ import threading
 from . import clone, hints, libcgrlist
 from .errors import PLAN_STATUS, REQUESTS_STATUS, START_STATUS, WORDS_STATUS, Refused
 from .libcgrlist import ABI, MEMORY
-from .program import MOST, Counts, Program
+from .limits import AVOIDED, GREATEST, HOPS, ROUTES
+from .limits import MARGIN as MOST_MARGIN
+from .program import Counts, Program
 from .router import Router
-from .routes import HOPS, MARGIN, Answer, Fault, Hop, Route
+from .routes import MARGIN, Answer, Fault, Hop, Route
 from .times import LAST
 from .tool import scratch_with
 
@@ -24,8 +26,7 @@ NAME = f"libcgrlist.so.{ABI}"
 PLACES = (NAME, f"../lib/{NAME}", f"../lib/{os.uname().machine}-linux-gnu/{NAME}", f"../../../library/out/{NAME}")
 REQUEST, LINE, CHANGE, SESSION = 16, 32, 48, 80  # the first status of each kind
 MEMORY_STATUS = 6  # the program's
-LAST_NUMBER, LAST_NODE = 2**32 - 1, 2**64 - 1
-MOST_MARGIN, MOST_AVOIDED = 1000000, 16
+LAST_NUMBER = 2**32 - 1
 FIRST_PAGE = 100  # routes of a list that are asked for at first, as the program is
 
 
@@ -184,13 +185,13 @@ class InProcess(Router):
 
     def first(self, request, count):
         """The answer with the first routes of a request, at most 10000."""
-        asked, count = _asked(request), _number(count, 1, MOST, "--count")
+        asked, count = _asked(request), _number(count, 1, ROUTES, "--count")
         with self._opened() as plan:
             return _answer(plan.first(asked, count), 1, request)
 
     def many(self, requests, count):
         """The answers with the first routes of requests; None if one of them is refused."""
-        count = _number(count, 1, MOST, "--count")
+        count = _number(count, 1, ROUTES, "--count")
         try:
             return [self.first(request, count) for request in requests]
         except Refused as refused:
@@ -219,7 +220,7 @@ class InProcess(Router):
                 with _refusing():
                     answer = _answer(listing.next(count), rank, request)
                 yield answer
-                is_whole, rank, count = answer.is_whole, rank + len(answer.routes), min(count * 4, MOST)
+                is_whole, rank, count = answer.is_whole, rank + len(answer.routes), min(count * 4, ROUTES)
 
     @contextlib.contextmanager
     def over(self, text):
@@ -233,12 +234,12 @@ class InProcess(Router):
 
 def _asked(request):
     """A request as the library takes it. What isn't within its limits is refused as the program does."""
-    source, to = _number(request.source, 1, LAST_NODE, "--from"), _number(request.destination, 1, LAST_NODE, "--to")
+    source, to = _number(request.source, 1, GREATEST, "--from"), _number(request.destination, 1, GREATEST, "--to")
     margin = _number(MARGIN if request.margin_ppm is None else request.margin_ppm, 0, MOST_MARGIN, "--margin-ppm")
-    hops = _number(HOPS if request.max_hops is None else request.max_hops, 1, int(HOPS), "--max-hops")
+    hops = _number(HOPS if request.max_hops is None else request.max_hops, 1, HOPS, "--max-hops")
     at = _number(request.at, 0, LAST, "--at")
-    nodes = [_number(node, 1, LAST_NODE, "--avoid") for node in request.avoid]
-    if len(nodes) > MOST_AVOIDED:
+    nodes = [_number(node, 1, GREATEST, "--avoid") for node in request.avoid]
+    if len(nodes) > AVOIDED:
         _refuse("--avoid", request.avoided_text)
     return libcgrlist.request(source, to, at, margin, hops, nodes)
 

@@ -7,6 +7,7 @@ from dataclasses import dataclass, replace
 from typing import Optional
 
 from .errors import Refused
+from .limits import ROUTES
 from .routes import Answer
 from .times import time_text
 from .tool import Progress, tell
@@ -165,7 +166,7 @@ def number_word(text):
 def add_choice_words(parser):
     """Adds the group of options that choose routes, which it returns."""
     group = parser.add_argument_group("Which routes")
-    count = "the first K routes, 1 to 10000, of which --via and --fits keep some; with --by or --distinct, at most K routes are shown"
+    count = f"the first K routes, 1 to {ROUTES}, of which --via and --fits keep some; with --by or --distinct, at most K routes are shown"
     group.add_argument("--count", metavar="K", help=count)
     group.add_argument("--by", type=time_word, metavar="T", help="all routes that deliver by T")
     group.add_argument("--via", metavar="N", help="only routes through node N")

@@ -14,10 +14,10 @@ from . import clone, hints
 from .errors import NO_STATUS, PLAN_STATUS, REQUESTS_STATUS, START_STATUS, Refused
 from .router import Router
 from .routes import followed, parts_of, whole_report_of
+from .limits import ROUTES
 from .reading import plan_bytes
 from .tool import Tool, beginning, in_order, processors, say, scratch, scratch_with
 
-MOST = 10000  # routes that the program gives at a time
 LISTS = 2500  # of contacts that a run follows, so that several processors share many
 
 _PROCESSES = threading.BoundedSemaphore(processors())  # no more of them run at a time
@@ -203,4 +203,4 @@ class Pages:
             yield page
             if page.is_whole:
                 return
-            asked, count = ["next", "--session", session], min(count * 4, MOST)
+            asked, count = ["next", "--session", session], min(count * 4, ROUTES)

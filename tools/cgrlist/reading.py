@@ -5,15 +5,11 @@ import re
 from bisect import bisect_left
 from typing import NamedTuple
 
+from .limits import CONTACTS, GREATEST, LIGHT, LINE, LINES
 from .times import LAST, kept, seconds_of
 from .tool import beginning_of, scratch_with
 
-MOST = 20000  # contacts that a plan can give, and ranges that can stand in it at a time
 MOST_BAD = 10000  # bad lines that are looked for
-LINES = 1000000  # of a plan
-LINE = 255  # bytes of a line
-GREATEST = 2**64 - 1  # node, and rate in bytes in a second
-LIGHT = 1000000  # the greatest light time in seconds
 
 _PLAIN = re.compile(r"[\t -~]*")
 _RELATIVE = re.compile(r"\+\d{1,12}", re.ASCII)
@@ -41,7 +37,7 @@ class _Counted:
         text, self._last = self._last + piece, piece[-1:]
         self._bad += len(_NO_COMMAND.findall(text))
         self._contacts += len(_CONTACT.findall(text))
-        return max(self._bad, self._contacts - MOST) > MOST_BAD
+        return max(self._bad, self._contacts - CONTACTS) > MOST_BAD
 
 
 def lines_in(data):
@@ -111,7 +107,7 @@ class Ranges:
         at = bisect_left(standing, (window.end,))
         if at and standing[at - 1].end > window.start:
             raise Fault("RangeOverlap", standing[at - 1].place)
-        if self.count == MOST:
+        if self.count == CONTACTS:
             raise Fault("TooMany")
         self.count += 1
         standing.insert(at, window)
@@ -219,7 +215,7 @@ class Reader:
         key = start, *pair
         if key in self.contacts:
             raise Fault("DuplicateContact", self.contacts[key].place)
-        if self._given == MOST:
+        if self._given == CONTACTS:
             raise Fault("TooMany")
         self._given += 1
         self.contacts[key] = Given(self._given, end, rate, self._place)

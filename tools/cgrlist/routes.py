@@ -10,10 +10,11 @@ from numbers import Integral
 from typing import Dict, Iterator, List, NamedTuple, Optional, Tuple, Union
 
 from .errors import Refused
+from .limits import HOPS
 from .plans import Plan
 from .times import date_of, kept, seconds_of, time_text
 
-MARGIN, HOPS = "0", "20000"  # of a request without limits
+MARGIN = "0"  # of a request without limits
 REPORT_LINES = 10000000  # the most of a report or of explanations
 
 
@@ -52,7 +53,7 @@ class Request:
     def line(self):
         """The request as a line of many; None if a limit isn't one word."""
         limits = [MARGIN if self.margin_ppm is None else str(self.margin_ppm)]
-        limits.append(HOPS if self.max_hops is None else str(self.max_hops))
+        limits.append(str(HOPS) if self.max_hops is None else str(self.max_hops))
         words = [str(self.source), str(self.destination), time_text(self.at), *limits, *filter(None, [self.avoided_text])]
         return " ".join(words) if all(len(word.split()) == 1 for word in words) else None
 

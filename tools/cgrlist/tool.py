@@ -13,6 +13,7 @@ import time
 from concurrent.futures import ThreadPoolExecutor
 
 from .errors import FILE_STATUS, MEMORY_STATUS, Refused
+from .limits import LINES
 
 
 class Tool:
@@ -81,7 +82,7 @@ def beginning_of(path, most_lines, most=None, is_bad=lambda piece: False):
     return b"".join(pieces), True
 
 
-def lines_of(path, most=1000000):
+def lines_of(path, most=LINES):
     """The lines of a text, without their line feeds; refused if there are more than so many, or one has more than a MB."""
     data, is_whole = beginning_of(path, most)
     if not is_whole:

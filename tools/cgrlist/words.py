@@ -21,6 +21,7 @@ from .errors import START_STATUS, WORDS_STATUS, Refused
 from .inprocess import answering
 from .names import Names
 from .plans import Plan
+from .limits import AVOIDED, HOPS, MARGIN
 from .program import Program, program_path
 from .reading import kept_file, plan_bytes
 from .routes import Request
@@ -126,10 +127,10 @@ def add_request_words(parser, required=(), without=()):
     if "at" not in without:
         meaning = "the time from which the bundle is at the source"
         group.add_argument("--at", type=time_word, metavar="T", help=meaning, required="at" in required)
-    margin = "a margin on each light time, in parts in a million of it, rounded up to seconds: 0 to 1000000; 0 if not given"
+    margin = f"a margin on each light time, in parts in a million of it, rounded up to seconds: 0 to {MARGIN}; 0 if not given"
     group.add_argument("--margin-ppm", metavar="P", help=margin)
-    group.add_argument("--max-hops", metavar="H", help="only routes of at most H contacts: 1 to 20000")
-    group.add_argument("--avoid", metavar="LIST", help="only routes that pass none of these nodes: at most 16, joined by commas")
+    group.add_argument("--max-hops", metavar="H", help=f"only routes of at most H contacts: 1 to {HOPS}")
+    group.add_argument("--avoid", metavar="LIST", help=f"only routes that pass none of these nodes: at most {AVOIDED}, joined by commas")
     return group
 
 

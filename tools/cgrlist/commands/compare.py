@@ -55,6 +55,7 @@ from ..comparing import Change, contact_changes, route_changes, same_contacts
 from ..errors import NO_STATUS, PLAN_STATUS, Refused
 from ..listing import LOOK
 from ..plans import Plan
+from ..limits import ROUTES
 from ..reading import kept_file
 from ..requests import requests_in
 from ..routes import Fault, Request, Route
@@ -80,7 +81,7 @@ def parser_of_words():
     add_names_word(group)
     group = add_request_words(parser)
     group.add_argument("--requests", metavar="G", help="requests of a file, in place of --from, --to and --at: a line FROM TO AT for each")
-    group.add_argument("--count", metavar="K", help="the first K routes of each request: 1 to 10000")
+    group.add_argument("--count", metavar="K", help=f"the first K routes of each request: 1 to {ROUTES}")
     group, form = add_form_words(parser, json=", in which `old` is what was otherwise")
     form.add_argument("--svg", dest="form", action="store_const", const=SVG, help="a picture of both plans, with the routes over each")
     group.add_argument("--exit-code", action="store_true", help="status 1 if a contact differs, or with requests a route")

@@ -48,7 +48,7 @@ from itertools import groupby
 
 from ..errors import NO_STATUS, Refused
 from ..hdtn import lines_of_hdtn
-from ..reading import GREATEST, LIGHT, LINE, LINES, MOST
+from ..limits import CONTACTS, GREATEST, LIGHT, LINE, LINES
 from ..times import LAST, seconds_of, time_text
 from ..tool import bytes_of, run_tool, tell
 from ..words import Words, add_other_words, time_word
@@ -265,8 +265,8 @@ class Plan:
         standing = self.contacts[pair]
         if window.start in standing:
             raise why_again(window, rate, *standing[window.start])
-        if self.contacts_given == MOST:
-            raise Unclear(f"a plan has at most {MOST} contacts")
+        if self.contacts_given == CONTACTS:
+            raise Unclear(f"a plan has at most {CONTACTS} contacts")
         standing[window.start] = window.end, rate
         self.contacts_given += 1
         self._add("contact", pair, window, rate)
@@ -276,8 +276,8 @@ class Plan:
         pieces = self.ranges[pair].missing(window)
         if not pieces:
             raise Repeated("other ranges of this pair have its seconds already")
-        if self.ranges_standing + len(pieces) > MOST:
-            raise Unclear(f"a plan has at most {MOST} ranges at a time")
+        if self.ranges_standing + len(pieces) > CONTACTS:
+            raise Unclear(f"a plan has at most {CONTACTS} ranges at a time")
         self.ranges[pair].add(window.start, pieces)
         self.ranges_standing += len(pieces)
         if pieces != [window]:

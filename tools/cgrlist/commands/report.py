@@ -76,6 +76,7 @@ import tempfile
 from ..choosing import JUDGING, add_judging_words, choices_text
 from ..errors import INPUT_STATUS, WORDS_STATUS, Refused
 from ..forms import Form
+from ..limits import ROUTES
 from ..listing import add_choice_words, added, check_choice_words, is_counted, listing_of, pages_of, tell_looked
 from ..lost import losses
 from ..requests import parts_of, requests_in
@@ -113,7 +114,7 @@ def tell_how_to_go_on(words, pages):
         kept, path = tempfile.mkstemp(prefix="cgrlist-", suffix=".session")
         os.close(kept)
         shutil.copyfile(session, path)
-        command = f"cgrlist next --plan {shlex.quote(words.plan)} --session {path} --count 10000"
+        command = f"cgrlist next --plan {shlex.quote(words.plan)} --session {path} --count {ROUTES}"
         tell(f"this command goes on after the routes that were looked at: {command}")
 
 

@@ -245,7 +245,10 @@ function numberOf(contact, kind, { left, right, next, y }) {
 
 function paintNumbers(numbers) {
   useFont(SMALL);
-  for (const [text, x, y, colour, rim] of numbers) writeOver(text, x, y, ink[colour], ink[rim]);
+  for (const [text, x, y, colour, rim] of numbers) {
+    if (rim === "calm") fillBox(ink.calm, x - 2, y - BAR / 2 + 2, paper.measureText(text).width + 4, BAR - 5);
+    writeOver(text, x, y, ink[colour], ink[rim]);
+  }
 }
 
 // If no contact of a link is in view: when the last one ended, and when the next one starts.

@@ -251,7 +251,7 @@ const linkOfLost = () => (chosen.lost.size === 1 && !chosen.gone.size ? ` ${link
 function next(best) {
   if (best === undefined) return [element("div", { class: "told" }, then.told)];
   if (best === null) return [element("div", { class: "told big" }, "No route is left")];
-  const rank = isShownRoute(best) ? `, route ${best.rank}` : "";
+  const rank = isShownRoute(best) ? `, route\u00a0${best.rank}` : "";
   return [
     element("div", { class: "told big" }, lossText(best)),
     element("div", { class: "told" }, `Next is: ${timeText(best.delivery)}`),
