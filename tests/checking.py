@@ -209,7 +209,7 @@ def parts_of(pattern, text):
     return "\n".join(re.findall(pattern, text, re.M))
 
 
-def shown(part, text):
+def found_in(part, text):
     """A part, if a text contains it; or else the text."""
     return part if part in text else text
 

@@ -20,7 +20,7 @@ from functools import cache, cached_property, partial
 
 from browsers import SECONDS, Chromium
 from browsers import lack_of_chromium as lack
-from checking import TOP, Broken, Room, checks_of, shown
+from checking import TOP, Broken, Room, checks_of, found_in
 from picture_faults import LEAST_CONTRAST, contrast
 
 try:
@@ -451,7 +451,7 @@ def losses(it, room):
         yield f"contact {number} lost", wanted, lambda: lines[1:4]
         struck = sum(number in contacts for contacts in shown)
         yield f"contact {number} lost, its routes are struck", struck, lambda: len(it.all("li.gone"))
-        yield f"contact {number} lost, the address", f"lost={number}", lambda: shown(f"lost={number}", it.driver.current_url)
+        yield f"contact {number} lost, the address", f"lost={number}", lambda: found_in(f"lost={number}", it.driver.current_url)
         it.click(number)
         yield f"contact {number} is there again", "", lambda: it.says("lost")
     for number, text in ((4, "4"), (5, "4, 5")):
@@ -472,7 +472,7 @@ def losses(it, room):
         it.settle()
         best = room.run([room.program, "first", "--plan", RELAY, *ASKED, "--avoid", str(node), "--count", "1"]).out.split()[2]
         yield f"node {node} lost", [f"Node {node} {NAMES[node]} lost", f"Next is: {best}"], lambda: it.says("lost").split("\n")[:3:2]
-        yield f"node {node} lost, the address", f"avoid={node}", lambda: shown(f"avoid={node}", it.driver.current_url)
+        yield f"node {node} lost, the address", f"avoid={node}", lambda: found_in(f"avoid={node}", it.driver.current_url)
     it.run("startOver()")
 
 
@@ -651,7 +651,7 @@ def touch(it, _):
     it.settle()
     where = [tuple(it.place(12))]
     it.touch(where)
-    yield "a tap tells", ["Contact 12", "Tap again"], lambda: [shown(part, it.says("tip")) for part in ("Contact 12", "Tap again")]
+    yield "a tap tells", ["Contact 12", "Tap again"], lambda: [found_in(part, it.says("tip")) for part in ("Contact 12", "Tap again")]
     yield "a tap loses nothing", "", it.says, "lost"
     it.touch(where)
     yield "a second tap loses", "Contact 12 lost low relay → south station", lambda: it.says("lost").split("\n")[0]
@@ -837,7 +837,7 @@ def starts(it, room):
     it.run("table.focus()")
     for key, second in ((Keys.PAGE_UP, "02:20:00"), (Keys.PAGE_UP, "03:19:00"), (Keys.ARROW_RIGHT, None), (Keys.PAGE_DOWN, "03:19:00")):
         it.keys(key)
-        yield f"a key leads to {second or 'a further second'}", second or "", lambda: shown(second or "", it.run("return timeText(chosen.start)"))
+        yield f"a key leads to {second or 'a further second'}", second or "", lambda: found_in(second or "", it.run("return timeText(chosen.start)"))
         yield from answers_at(it, room)
     yield from ends_of_line(it)
     it.open(room.relay, "#at=2030/01/01-04:01:00")
@@ -998,7 +998,7 @@ def without_engine(it, room):
     yield "what it doesn't know", "This browser can't answer that", lambda: it.says("lost").split("\n")[1][:30]
     it.ask("at", "2030/01/01-05:00:00")
     yield "another question", ["This browser can't answer that", "Firefox"], lambda: [
-        shown(part, it.says("refused")) for part in ("This browser can't answer that", "Firefox")]
+        found_in(part, it.says("refused")) for part in ("This browser can't answer that", "Firefox")]
     it.all(".rest button")[0].click()
     it.settle()
     yield "a further page", "This browser can't answer that", lambda: it.says("refused")[:30]
@@ -1098,7 +1098,7 @@ def questions(it, room):
         it.deliveries(), it.part("avoid").get_property("value"))
     it.ask("marginPpm", "1000000")
     yield "a margin", wanted(at="2030/01/01-04:00:00", avoid="12", margin_ppm="1000000"), it.deliveries
-    yield "limits are marked", "set", lambda: shown("set", it.part("limits").get_attribute("class"))
+    yield "limits are marked", "set", lambda: found_in("set", it.part("limits").get_attribute("class"))
     it.part("marginPpm").send_keys(Keys.ESCAPE)
     yield "Escape closes the limits", (None, "SUMMARY"), lambda: (
         it.part("limits").get_attribute("open"), it.run("return document.activeElement.tagName"))
@@ -1184,7 +1184,7 @@ def stopping(it, room):
     it.run("""const requests = Array.from({ length: 2000 }, (_, place) => `1 30 ${programTime(earliest + 60 * place)}\\n`).join("");
         askHere("many", { requests, count: "100" }).then((it) => (globalThis.ended = it))""")
     it.wait_for("const look = () => (byId('stop').hidden ? setTimeout(look, 20) : done()); look()")
-    yield "it shows that it runs", "busy", lambda: shown("busy", it.all("body")[0].get_attribute("class"))
+    yield "it shows that it runs", "busy", lambda: found_in("busy", it.all("body")[0].get_attribute("class"))
     it.part("stop").click()
     it.settle()
     yield "it is stopped", [None, "Stopped."], it.run, "return [ended.status, ended.message]"
@@ -1294,6 +1294,13 @@ def sizes(it, room):
         yield f"{name}, the best route is the program's", True, lambda: len(set(measured()[4])) == 1 or measured()[4]
 
 
+# How many pixels of the hops of an open route don't fit into its card, or its buttons.
+BESIDE_THE_CARD = """
+const card = document.querySelector('.hops').parentElement, edge = card.getBoundingClientRect().right;
+const over = [...card.querySelectorAll('button, td')].map((it) => it.getBoundingClientRect().right - edge);
+return Math.max(0, card.scrollWidth - card.clientWidth, ...over.map(Math.ceil))"""
+
+
 def narrow(room):
     it = Browser(500, 800)
     try:
@@ -1306,10 +1313,16 @@ def narrow(room):
         it.click(11)
         yield "the answer is in view", True, lambda: it.run(
             "const { top, bottom } = byId('lost').getBoundingClientRect(); return 0 <= top && bottom <= innerHeight || [top, bottom, innerHeight]")
-        yield "hops are no wider than their card", 0, it.run, "const card = document.querySelector('.hops').parentElement; return card.scrollWidth - card.clientWidth"
+        yield "hops are no wider than their card", 0, it.run, BESIDE_THE_CARD
         it.run("scroller.style.width = '3px'")
         it.settle()
         yield "no complaint, though the picture is narrower than a name", [], it.faults
+        for wide in (1100, 1280, 1920):
+            it.command("Emulation.setDeviceMetricsOverride", width=wide, height=800, deviceScaleFactor=1, mobile=False)
+            it.open(room.relay)
+            it.run("single(0)")
+            it.settle()
+            yield f"nor are they in a window of {wide} px", 0, it.run, BESIDE_THE_CARD
     finally:
         it.driver.quit()
 
