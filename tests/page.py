@@ -705,6 +705,8 @@ def prints(it, room):
     asked = it.run("return [byId('asks').getClientRects().length, byId('asks').clientHeight, byId('size').clientHeight]")
     legend = it.run("return byId('legend').getBoundingClientRect().bottom <= document.querySelector('#sheets').getBoundingClientRect().top")
     alone = it.run("return getComputedStyle(byId('told-routes')).breakAfter")
+    beside = it.run("showPanel('save'); return ['routes', 'save'].map((it) => getComputedStyle(byId(`panel-${it}`)).display)")
+    it.run("showPanel('routes')")
     it.run("dispatchEvent(new Event('afterprint'))")
     it.command("Emulation.clearDeviceMetricsOverride")
     it.command("Emulation.setEmulatedMedia", media="")
@@ -714,6 +716,7 @@ def prints(it, room):
     yield "the legend stands above the first sheet", True, lambda: legend
     yield "the question has one line", True, lambda: asked[0] == 1 and asked[1] < 1.5 * 20 or asked
     yield "the heading of the routes doesn't end a page", "avoid", lambda: alone
+    yield "the routes are printed whichever panel is open", ["block", "none"], lambda: beside
     yield "no sheet is higher than its paper", [], lambda: [high for _, high in told if high > PAPER[1]]
     it.part("some").click()
     it.run("dispatchEvent(new Event('beforeprint'))")
