@@ -4,6 +4,7 @@
 // ---- What is asked ----------------------------------------------------------------------------------------------
 
 const LAST = 253402300799; // 9999/12/31-23:59:59
+export const ANY_HOPS = "20000"; // the limit of a request without one
 
 /** A time as the program writes it. */
 export function programTime(seconds) {
@@ -35,7 +36,7 @@ export function linesOf(requests) {
   }
   const lines = requests.map((request) => {
     const { from, to, at, marginPpm, maxHops, avoid } = textsOf(request);
-    const words = [word(request.contacts), from, to, at, marginPpm || "0", maxHops || "20000", avoid];
+    const words = [word(request.contacts), from, to, at, marginPpm || "0", maxHops || ANY_HOPS, avoid];
     return `${words.filter((it) => it).join(" ")}\n`;
   });
   return lines.join("");

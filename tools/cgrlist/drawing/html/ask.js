@@ -162,7 +162,7 @@ async function goOn(session) {
 function requestIn(session) {
   const [, from, to, at, marginPpm, maxHops, nodes] = /^request (\S+) (\S+) (\S+) (\S+)(?: (\S+) \/ (.+))?$/m.exec(session) ?? [];
   const avoid = (nodes ?? "-").replace(/^-$/, "").replaceAll(" ", ",");
-  return { from, to, at, marginPpm: marginPpm === "0" ? "" : marginPpm, maxHops: maxHops === "20000" ? "" : maxHops, avoid };
+  return { from, to, at, marginPpm: marginPpm === "0" ? "" : marginPpm, maxHops: maxHops === ANY_HOPS ? "" : maxHops, avoid };
 }
 
 // ---- What is lost ----

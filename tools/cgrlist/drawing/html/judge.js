@@ -91,7 +91,7 @@ function judgedCsv(told) {
   const ofRequest = ["from", "to", "at", "margin_ppm", "max_hops", "avoid"];
   const named = (node) => names.get(node) ?? node, time = (second) => second && timeOfCsv(second);
   const rows = told.map((it) => {
-    const [from, to, at = "", margin, hops, avoid = ""] = it.asked?.split(" ") ?? [], most = hops === "20000" ? "" : hops;
+    const [from, to, at = "", margin, hops, avoid = ""] = it.asked?.split(" ") ?? [], most = hops === ANY_HOPS ? "" : hops;
     const asked = [named(from), named(to), time(secondOf(at)), margin, most, avoid.split(",").map(named).join(",")];
     return [it.place, ...asked, it.rank, time(it.delivery), it.later, contactsText(it), it.fault];
   });
