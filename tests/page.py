@@ -862,7 +862,7 @@ def ends_of_line(it):
     it.run("startAt(starts[0].last); [starts[1].first, starts[2].first] = [starts[1].last, starts[2].last]")
     for key, second in ((Keys.ARROW_RIGHT, "starts[1].first"), (Keys.ARROW_RIGHT, "starts[2].first"), (Keys.ARROW_LEFT, "starts[1].last")):
         it.keys(key)
-        yield f"over unknown seconds to {second}", second, it.run, "return chosen.start"
+        yield f"over unknown seconds to {second}", True, it.run, f"return chosen.start === {second} || [chosen.start, {second}]"
     it.run("document.querySelector('#lost .back').focus()")
     it.keys(Keys.ENTER)
     yield "after that is taken back", ["starts", None], it.run, "return [document.activeElement.id, chosen.start]"
