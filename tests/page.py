@@ -703,7 +703,8 @@ def prints(it, room):
                   "[...sheet.querySelectorAll('text')].map((it) => it.textContent), sheet.getBoundingClientRect().height])")
     first = it.run("return document.querySelector('#sheets svg').getBoundingClientRect().bottom")
     asked = it.run("return [byId('asks').getClientRects().length, byId('asks').clientHeight, byId('size').clientHeight]")
-    legend = it.run("return byId('legend').getBoundingClientRect().bottom <= document.querySelector('#sheets').getBoundingClientRect().top")
+    places = "const [{ bottom }, { top }] = ['legend', 'sheets'].map((it) => byId(it).getBoundingClientRect());"
+    legend = it.run(f"{places} return bottom <= top || [bottom, top]")
     alone = it.run("return getComputedStyle(byId('told-routes')).breakAfter")
     beside = it.run("showPanel('save'); return ['routes', 'save'].map((it) => getComputedStyle(byId(`panel-${it}`)).display)")
     it.run("showPanel('routes')")
