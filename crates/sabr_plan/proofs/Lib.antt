@@ -1,8 +1,8 @@
 pub mod ChainedPlaces
 pub mod LastRanges
 pub mod SortedRanges
-pub mod PlacedRanges
 pub mod PairedRanges
+pub mod RangeTrees
 pub mod GatheredOpenings
 pub mod TreedOpenings
 pub mod Digits

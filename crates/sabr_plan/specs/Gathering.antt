@@ -1,10 +1,10 @@
 -- Contacts that are gathered with what no two of them share; and ranges that are gathered in any order, and sorted at
 -- the end. Indexes of both are in chains by buckets.
-use Rattle.std.specs.Prelude.{◌≡◌, ◌≢◌, ℕ, ◌+◌, ◌*◌, ◌/◌, ◌%◌, ◌^◌, ◌<◌, ◌≤◌, Bool, false, true, ◌&&◌, nat_lt, List, [], ◌∷◌, length, take, drop, map, slice_get, slice_index, slice_index_or, option_map, IsPermutation}
+use Rattle.std.specs.Prelude.{◌≡◌, ◌≢◌, ℕ, ◌+◌, ◌*◌, ◌/◌, ◌%◌, ◌^◌, ◌<◌, ◌≤◌, Bool, false, true, ◌&&◌, nat_lt, List, [], ◌∷◌, length, map, slice_get, slice_index, slice_index_or, option_map, IsPermutation}
 use Rattle.std.specs.List.{filter, list_any, AllByRecursion}
 use Rattle.std.specs.declared.option.Option.{Option}
 use Rattle.std.specs.declared.option.Option.TheVariants.{Some, None}
-use Rattle.std.specs.BTreeMap.{BTreeMap, get}
+use Rattle.std.specs.BTreeMap.{BTreeMap, get, values}
 use Rattle.std.specs.Ordering.{is_le}
 use Rattle.sabr_model.specs.declared.contact.Contact.{Contact}
 use Rattle.sabr_model.specs.declared.contact.Range.{Range}
@@ -12,7 +12,7 @@ use Rattle.sabr_model.specs.declared.opening.Opening.{Opening}
 use Rattle.sabr_plan.specs.declared.gathering.paired_ranges.Side.{Side}
 use Rattle.sabr_plan.specs.declared.gathering.paired_ranges.Side.TheVariants.{One, Other}
 use Rattle.sabr_model.specs.Order.{by_key, put_in}
-use Rattle.sabr_model.specs.plan.Plan.{ContactPlan, IsPlan, opens}
+use Rattle.sabr_model.specs.plan.Plan.{ContactPlan, IsPlan, opens, range_key}
 use Rattle.sabr_model.specs.plan.Adding.{by_range_key}
 use Rattle.sabr_model.specs.plan.Openings.{opening_of}
 
@@ -92,6 +92,14 @@ put_in_turn (x ∷ xs) ys = put_in_turn xs (put_in by_range_key x ys)
 abbrev pub ObeyInTurn : List Range → Type 0
 ObeyInTurn ranges = IsPlan (plan_of_ranges (put_in_turn ranges [])) × IsPermutation ranges (put_in_turn ranges [])
 
+-- a range at its key
+abbrev pub keyed : Range → (ℕ × ℕ × ℕ) × Range
+keyed r = (range_key r, r)
+
+-- a tree of a plan's ranges, each at its key
+abbrev pub IsRangeTree : BTreeMap (ℕ × ℕ × ℕ) Range → Type 0
+IsRangeTree m = (m.entries ≡ map keyed (values m)) × IsPlan (plan_of_ranges (values m))
+
 -- ranges, each at a digit of 11 bits of one of its nodes
 pub record Digits : Type 0 where
   pub ranges : List Range
@@ -111,11 +119,6 @@ digit_of side shift r = side_node side r / 2 ^ shift % 2048
 abbrev pub range_at : List Range → ℕ → Range
 range_at ranges place = slice_index_or ranges place (record { one = 0; other = 0; start = 0; end = 0; light = 0 })
 
--- the index of a range that passes, or none does
-abbrev pub IsPlaced : (Range → Bool) → List Range → Option ℕ → Type 0
-IsPlaced p ranges (Some k) = (k < length ranges) × ((d : Range) → p (slice_index_or ranges k d) ≡ true)
-IsPlaced p ranges None = list_any p ranges ≡ false
-
 -- the bucket of a range by its ordered pair, one of 2048
 abbrev pub range_bucket : Range → ℕ
 range_bucket r = (r.one % 2048 * 509 + r.other % 2048) % 2048
@@ -124,10 +127,6 @@ range_bucket r = (r.one % 2048 * 509 + r.other % 2048) % 2048
 abbrev pub EndBy : ℕ × ℕ × ℕ → List Range → Type 0
 EndBy key ranges = AllByRecursion (λ r. is_le (by_key (r.one, r.other, r.end) key) ≡ true) ranges
 
--- the first ranges are in order, the next ones are in chains, and if each begins after those before it end, none ends
--- after the last end
-pub record KnowsRanges (befores lasts : List ℕ) (rising : Bool) (last : ℕ × ℕ × ℕ) (placed : ℕ) (ranges : List Range) : Type 0 where
-  pub within : placed ≤ length ranges
-  pub in_order : IsPlan (plan_of_ranges (take placed ranges))
-  pub chained : AreChained (map range_bucket (drop placed ranges)) befores lasts
-  pub rises : rising ≡ true → EndBy last ranges
+-- the first ranges are in chains, and if each begins after those before it end, none ends after the last end
+abbrev pub KnowsRanges : List ℕ → List ℕ → Bool → ℕ × ℕ × ℕ → List Range → Type 0
+KnowsRanges befores lasts rising last ranges = AreChained (map range_bucket ranges) befores lasts × (rising ≡ true → EndBy last ranges)

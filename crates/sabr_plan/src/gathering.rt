@@ -7,7 +7,7 @@
 //! - [`GatheredContacts::add`] is O(1) on average. A hash table finds a second contact with the same sender, receiver
 //!   and start, and isn't used while the contacts come in ascending order of start, sender and receiver.
 //! - [`GatheredRanges::add`] needs no search while the ranges come in ascending order of pair and start. After that it
-//!   uses a hash table of their pairs. All are sorted at the end.
+//!   uses a hash table of their pairs, and from the first deletion on a tree. All are sorted at the end.
 //! - Both have a `delete`, as [`Plan`](sabr_model::Plan) has.
 //!
 //! **Units.** Times are whole seconds since 1970-01-01T00:00:00Z, up to 253370764799. Rates are bytes per second, and
@@ -35,6 +35,7 @@ mod known_ranges;
 mod opening_tree;
 mod paired_ranges;
 mod plan;
+mod range_tree;
 mod sorted_ranges;
 
 pub use gathered_contacts::GatheredContacts;

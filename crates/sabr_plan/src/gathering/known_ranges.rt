@@ -1,7 +1,7 @@
 //! What tells whether a range overlaps one of those that came before it. A range that begins after all others end needs
 //! no search.
 
-ghost use Rattle.std.specs.Prelude.{◌≡◌, ◌<◌, ◌≤◌, [], IsTrue, false, drop, length, map, is_some, not};
+ghost use Rattle.std.specs.Prelude.{◌≡◌, ◌<◌, ◌≤◌, [], IsTrue, length, map, is_some, not};
 ghost use Rattle.std.specs.List.{list_any};
 ghost use Rattle.std.specs.Ordering.{is_le};
 ghost use Rattle.sabr_model.specs.Order.{by_key};
@@ -17,20 +17,16 @@ use std::alloc::Allocator;
 /// cube,relay-moon-20000`.
 const BUCKETS: usize = 2048;
 
-/// The number of steps along chains, for each range, after which the ranges are put in order. With 1 and 2, 20000
-/// ranges of one pair take more instructions.
+/// The number of steps along chains, for each range, after which the ranges are put into a tree.
 const LONG: usize = 4;
 
 /// The last end of ranges, by pair of nodes and second, and a hash table of ranges.
 ///
 /// While each range begins after those before it end, the table is empty. From the first that doesn't, all ranges are
-/// in the table. When the walks along its chains took long, the ranges are put in order, and the table is of those that
-/// come after.
+/// in the table.
 #[derive(Drop)]
 pub struct KnownRanges<A: Allocator + Copy> {
-    /// The number of the first ranges that are in order.
-    pub placed: usize,
-    /// The hash table of the next ranges, by their ordered pairs.
+    /// The hash table of the first ranges, by their ordered pairs.
     pub chains: Chains<A>,
     /// The number of steps along chains so far.
     walked: usize,
@@ -45,10 +41,8 @@ impl<A: Allocator + Copy> KnownRanges<A> {
     pub fn new(alloc: A) -> KnownRanges<A>
         ensures lasts { result.chains.lasts.items ≡ [] }
         ensures befores { result.chains.befores.items ≡ [] }
-        ensures placed { result.placed ≡ 0 }
     {
         KnownRanges {
-            placed: 0,
             chains: Chains::new(alloc),
             walked: 0,
             rising: true,
@@ -58,44 +52,35 @@ impl<A: Allocator + Copy> KnownRanges<A> {
 
     /// Returns true if a range that is to come after these overlaps one of its ordered pair.
     pub fn overlaps(&mut self, ranges: &[Range], range: &Range) -> bool
-        requires { KnowsRanges self.old.chains.befores.items self.old.chains.lasts.items self.old.rising self.old.last self.old.placed ranges.now }
+        requires { KnowsRanges self.old.chains.befores.items self.old.chains.lasts.items self.old.rising self.old.last ranges.now }
         ensures value { result ≡ list_any (overlap range.now) ranges.now }
-        ensures knows { KnowsRanges self.new.chains.befores.items self.new.chains.lasts.items self.new.rising self.new.last self.new.placed ranges.now }
+        ensures knows { KnowsRanges self.new.chains.befores.items self.new.chains.lasts.items self.new.rising self.new.last ranges.now }
         ensures rises { IsTrue self.new.rising → EndBy (range_key range.now) ranges.now }
     {
         if self.rising && comes_by(self.last, range) {
             return false;
         }
         self.rising = false;
-        if range.overlaps_some(&ranges[..self.placed]) {
-            return true;
-        }
-        let next = behind(ranges, self.placed);
-        let Ok(()) = self.chains.add_all(BUCKETS, next, bucket_of) else {
-            return any_overlaps(next, range);
+        let Ok(()) = self.chains.add_all(BUCKETS, ranges, bucket_of) else {
+            return any_overlaps(ranges, range);
         };
         let Chains { lasts, befores } = &self.chains;
-        let walked = walk_chain(next, befores, lasts, range);
+        let walked = walk_chain(ranges, befores, lasts, range);
         self.walked = self.walked.saturating_add(walked.unwrap_or(0));
         walked.is_none()
     }
 
-    /// Returns true if the chains of this number of ranges are so long that the ranges are to be put in order.
-    pub fn is_slow(&self, count: usize) -> bool {
-        self.walked / LONG > count
-    }
-
-    /// Forgets all ranges.
-    pub fn forget(&mut self)
-        ensures lasts { self.new.chains.lasts.items ≡ [] }
-        ensures befores { self.new.chains.befores.items ≡ [] }
-        ensures placed { self.new.placed ≡ 0 }
-        ensures rising { self.new.rising ≡ false }
+    /// Returns true if the walks along the chains of this number of ranges took long since it last returned true.
+    pub fn is_slow(&mut self, count: usize) -> bool
+        ensures chains { self.new.chains ≡ self.old.chains }
+        ensures rising { self.new.rising ≡ self.old.rising }
+        ensures last { self.new.last ≡ self.old.last }
     {
-        self.placed = 0;
-        self.chains.clear();
-        self.walked = 0;
-        self.rising = false;
+        let slow = self.walked / LONG > count;
+        if slow {
+            self.walked = 0;
+        }
+        slow
     }
 }
 
@@ -112,14 +97,6 @@ fn bucket_of(range: &Range) -> usize
     ensures limit { result < 2048 }
 {
     ((range.one % 2048 * 509 + range.other % 2048) % 2048) as usize
-}
-
-/// Returns the ranges after the first `count`.
-fn behind(ranges: &[Range], count: usize) -> &[Range]
-    requires { count ≤ length ranges.now }
-    ensures { result.now ≡ drop count ranges.now }
-{
-    &ranges[count..]
 }
 
 /// Returns the number of steps along a chain if none of the ranges, all of which are in the hash table, is of the same

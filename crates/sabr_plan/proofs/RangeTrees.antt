@@ -1,0 +1,284 @@
+-- A tree of ranges by their keys: what it holds after a change, and which of its ranges a range can overlap.
+use Rattle.std.proofs.Common.{◌≡◌, ℕ, zero, suc, ◌+◌, ◌-◌, ◌<◌, ◌≤◌, Bool, true, false, cond, ◌||◌, ◌&&◌, not, eqb, List, [], ◌∷◌, ◌++◌, length, get_or, drop, map, filter, refl, sym, ap, subst, ◌∙◌, inl, inr, length-drop, drop-cons, arith}
+use Rattle.std.specs.Prelude.{is_some}
+use Rattle.std.specs.List.{list_any, AllByRecursion}
+use Rattle.std.specs.List.Sorted.{IsStrictlySortedBy}
+use Rattle.std.specs.Map.{lookup, remove_entry, values_of}
+use Rattle.std.specs.BTreeMap.{BTreeMap, get, insert_entry, is_at, values}
+use Rattle.std.specs.BTreeMap.Range.{IsRangeOf}
+use Rattle.std.specs.declared.ops.Bound.TheVariants.{Excluded, Unbounded}
+use Rattle.std.specs.Ordering.{nat_cmp, ordering_then, ordering_reverse, match_ordering, is_eq, is_lt, is_le}
+use Rattle.std.specs.Cmp.{both_tied, unsigned_ties}
+use Rattle.std.specs.declared.cmp.Ordering.{Ordering}
+use Rattle.std.specs.declared.cmp.Ordering.TheVariants.{Less, Equal, Greater}
+use Rattle.std.specs.declared.option.Option.{Option}
+use Rattle.std.specs.declared.option.Option.TheVariants.{Some, None}
+use Rattle.std.proofs.lemmas.Bool.{and_parts, cases_Bool, cases_eq, cases_lt, both_ways, eqb-true, false_from_ne_true}
+use Rattle.std.proofs.lemmas.Bool.Decides.{nat_tests}
+use Rattle.std.proofs.lemmas.Cmp.{tied_itself}
+use Rattle.std.proofs.lemmas.Map.Entries.{lookup_head, lookup_tail, length-values_of}
+use Rattle.std.proofs.lemmas.Option.{none-some, same_Some}
+use Rattle.std.proofs.lemmas.List.{get_or-drop, get_or_default}
+use Rattle.std.proofs.lemmas.List.Recursion.{or_from_places}
+use Rattle.sabr_model.specs.declared.contact.Range.{Range}
+use Rattle.sabr_model.specs.Order.{by_key, put_in}
+use Rattle.sabr_model.specs.plan.Plan.{IsPlan, IsNode, last_time, overlap, range_key}
+use Rattle.sabr_model.specs.plan.Adding.{begins, by_range_key, first_refusal, range_refusal}
+use Rattle.sabr_model.specs.declared.fault.AddFault.{AddFault}
+use Rattle.sabr_model.specs.declared.fault.AddFault.TheVariants.{RangeOverlap}
+use Rattle.sabr_model.specs.plan.RangeOrder.{IsRangeList, IsCountUntil}
+use Rattle.sabr_model.proofs.PlanLemmas.KeyOrder.{IsBy, by_key_total, less_is, le_is, is_le_by, by_more}
+use Rattle.sabr_model.proofs.PlanLemmas.RangeOrder.{range_list, key_at, overlap_parts, overlap_told}
+use Rattle.sabr_model.proofs.PlanLemmas.RangeLemmas.{accepted_range, IsPlan-range}
+use Rattle.sabr_model.proofs.PlanLemmas.Deletions.{IsPlan-fewer_ranges}
+use Rattle.sabr_plan.specs.Gathering.{keyed, plan_of_ranges, IsRangeTree}
+use Rattle.sabr_plan.proofs.SortedRanges.{no_tie, all_from_places}
+
+abbrev Key : Type 0
+Key = ℕ × ℕ × ℕ
+
+-- what an index past the end gives
+abbrev pub no_range : Range
+no_range = record { one = 0; other = 0; start = 0; end = 0; light = 0 }
+
+pub keyed_values : (rs : List Range) → values_of (map keyed rs) ≡ rs
+keyed_values [] = refl
+keyed_values (r ∷ rs) = ap (λ xs. r ∷ xs) (keyed_values rs)
+
+-- ---- one more
+
+pub insert_keyed : (r : Range) (rs : List Range) → AllByRecursion (λ s. by_range_key r s ≡ Equal → ⊥) rs → insert_entry by_key (map keyed rs) (range_key r) r ≡ map keyed (put_in by_range_key r rs)
+insert_keyed r [] none = refl
+insert_keyed r (s ∷ rs) none =
+    (elim (by_range_key r s) as (λ o. (o ≡ Equal → ⊥) → match_ordering o (keyed r ∷ keyed s ∷ map keyed rs) ((range_key s, r) ∷ map keyed rs) (keyed s ∷ insert_entry by_key (map keyed rs) (range_key r) r) ≡ map keyed (elim o as (λ _. List Range) [ Less ↦ r ∷ s ∷ rs | Equal ↦ s ∷ rs | Greater ↦ s ∷ put_in by_range_key r rs ])) [
+      | Less ↦ λ n. refl
+      | Equal ↦ λ n. absurd (n refl)
+      | Greater ↦ λ n. ap (λ es. keyed s ∷ es) (insert_keyed r rs none.1)
+    ]) none.0
+
+-- ---- one less
+
+module _ (one other start : ℕ) where
+  abbrev p : Range → Bool
+  p = begins one other start
+
+  abbrev test : Key → Bool
+  test = is_at (by_key (one, other, start))
+
+  -- a range is found by what it begins with
+  tied : (r : Range) → p r ≡ test (range_key r)
+  tied r = both_tied _ _ (ordering_then (nat_cmp one r.one) (nat_cmp other r.other)) (nat_cmp start r.start) (both_tied _ _ (nat_cmp one r.one) (nat_cmp other r.other) (unsigned_ties one r.one) (unsigned_ties other r.other)) (unsigned_ties start r.start)
+
+  parts : (r : Range) → p r ≡ true → (one ≡ r.one) × (other ≡ r.other) × (start ≡ r.start)
+  parts r h =
+      let a = and_parts (eqb one r.one && eqb other r.other) (eqb start r.start) h in
+      let b = and_parts (eqb one r.one) (eqb other r.other) a.0 in
+      (eqb-true one r.one b.0, eqb-true other r.other b.1, eqb-true start r.start a.1)
+
+  -- of two with different keys only one begins so
+  apart : (r s : Range) → p r ≡ true → p s ≡ true → by_range_key r s ≡ Less → ⊥
+  apart r s a b less =
+      let x = parts r a in
+      let y = parts s b in
+      let starts = (less_is (range_key r) (range_key s) less).third (sym x.0 ∙ y.0) (sym x.1 ∙ y.1) in
+      omega (arith, starts, x.2, y.2)
+
+  -- after one that begins so, none does
+  none_after : (r : Range) (rs : List Range) → p r ≡ true → AllByRecursion (λ k. by_key (range_key r) k ≡ Less) (map range_key rs) → filter (λ s. not (p s)) rs ≡ rs
+  none_after r [] here all = refl
+  none_after r (s ∷ rs) here all =
+      ap (λ b. cond (not b) (s ∷ filter (λ t. not (p t)) rs) (filter (λ t. not (p t)) rs)) (false_from_ne_true (p s) (λ yes. apart r s here yes all.0))
+      ∙ ap (λ ts. s ∷ ts) (none_after r rs here all.1)
+
+  -- without the one that begins so none is left
+  pub remove_keyed : (rs : List Range) → IsStrictlySortedBy by_key (map range_key rs) → remove_entry test (map keyed rs) ≡ map keyed (filter (λ s. not (p s)) rs)
+  unfolding IsStrictlySortedBy
+  remove_keyed [] sorted = refl
+  remove_keyed (r ∷ rs) sorted =
+      let rest = filter (λ s. not (p s)) rs in
+      elim (cases_Bool (p r)) [
+        | inl begun ↦
+            ap (λ b. cond b (map keyed rs) (keyed r ∷ remove_entry test (map keyed rs))) (sym (tied r) ∙ begun)
+            ∙ ap (map keyed) (sym (none_after r rs begun sorted.0))
+            ∙ ap (λ b. map keyed (cond (not b) (r ∷ rest) rest)) (sym begun)
+        | inr begins_not ↦
+            ap (λ b. cond b (map keyed rs) (keyed r ∷ remove_entry test (map keyed rs))) (sym (tied r) ∙ begins_not)
+            ∙ ap (λ es. keyed r ∷ es) (remove_keyed rs sorted.1)
+            ∙ ap (λ b. map keyed (cond (not b) (r ∷ rest) rest)) (sym begins_not)
+      ]
+
+  pub any_found : (rs : List Range) → list_any p rs ≡ is_some (lookup test (map keyed rs))
+  any_found [] = refl
+  any_found (r ∷ rs) =
+      elim (cases_Bool (p r)) [
+        | inl begun ↦ ap (λ b. b || list_any p rs) begun ∙ sym (ap is_some (lookup_head test (keyed r) (map keyed rs) (sym (tied r) ∙ begun)))
+        | inr begins_not ↦ ap (λ b. b || list_any p rs) begins_not ∙ any_found rs ∙ sym (ap is_some (lookup_tail test (keyed r) (map keyed rs) (sym (tied r) ∙ begins_not)))
+      ]
+
+-- ---- the last that begins before an end
+
+only_less : (o : Ordering) → is_lt o ≡ true → o ≡ Less
+only_less Less h = refl
+only_less Equal h = absurd cc
+only_less Greater h = absurd cc
+
+is_lt_by : (x y : Key) → IsBy 1 x y → is_lt (by_key x y) ≡ true
+is_lt_by x y h = grind (arith, nat_tests)
+
+less_by : (x y : Key) → IsBy 1 x y → by_key x y ≡ Less
+less_by x y h = only_less (by_key x y) (is_lt_by x y h)
+
+-- each range is found by its key
+found_at : (rs : List Range) (k : ℕ) (d : Range) → IsStrictlySortedBy by_key (map range_key rs) → k < length rs → lookup (is_at (by_key (range_key (get_or rs k d)))) (map keyed rs) ≡ Some (get_or rs k d)
+unfolding IsStrictlySortedBy
+found_at [] k d sorted lt = absurd (omega (arith, lt))
+found_at (r ∷ rs) zero d sorted lt = lookup_head (is_at (by_key (range_key r))) (keyed r) (map keyed rs) (ap is_eq (tied_itself by_key_total (range_key r)))
+found_at (r ∷ rs) (suc k) d sorted lt =
+    let within : k < length rs = omega (arith, lt) in
+    let x = get_or rs k d in
+    lookup_tail (is_at (by_key (range_key x))) (keyed r) (map keyed rs) (ap is_eq (by_key_total.antisymm (range_key x) (range_key r) ∙ ap ordering_reverse (key_at rs k d (λ y. by_key (range_key r) y ≡ Less) sorted.0 within)))
+    ∙ found_at rs k d sorted.1 within
+
+-- what is found is a range with that key
+found_is : (asks : Key → Bool) (rs : List Range) (s : Range) → lookup asks (map keyed rs) ≡ Some s → (i : ℕ) × (i < length rs) × ((d : Range) → get_or rs i d ≡ s) × (asks (range_key s) ≡ true)
+found_is asks [] s is = absurd (none-some s is)
+found_is asks (r ∷ rs) s is =
+    elim (cases_Bool (asks (range_key r))) [
+      | inl begun ↦
+          let same : r ≡ s = same_Some r s (sym (lookup_head asks (keyed r) (map keyed rs) begun) ∙ is) in
+          (zero, omega arith, λ d. same, subst (λ x. asks (range_key x) ≡ true) same begun)
+      | inr begins_not ↦
+          let rest = found_is asks rs s (sym (lookup_tail asks (keyed r) (map keyed rs) begins_not) ∙ is) in
+          let lt = rest.1 in
+          (suc rest.0, omega (arith, lt), rest.2, rest.3)
+    ]
+
+module _ (m : BTreeMap Key Range) (rs : List Range) (holds : m.entries ≡ map keyed rs) (sorted : IsStrictlySortedBy by_key (map range_key rs)) (h : IsRangeList rs) (r : Range) (span : List (Key × Range)) (lies : IsRangeOf by_key Unbounded (Excluded (r.one, r.other, r.end)) m span) where
+  abbrev bound : Key
+  bound = (r.one, r.other, r.end)
+
+  there : (k : ℕ) (d : Range) → k < length rs → get by_key m (range_key (get_or rs k d)) ≡ Some (get_or rs k d)
+  there k d lt = ap (lookup (is_at (by_key (range_key (get_or rs k d))))) holds ∙ found_at rs k d sorted lt
+
+  -- what it overlaps begins before its end
+  before_end : (x : Range) → overlap r x ≡ true → by_key (range_key x) bound ≡ Less
+  before_end x both = let e = overlap_parts r x both in less_by (range_key x) bound (record { first = omega (arith, e.0); second = λ _. omega (arith, e.1); third = λ _ _. omega (arith, e.3) })
+
+  -- where none begins before its end, it overlaps none
+  pub overlaps_no_range : span ≡ [] → list_any (overlap r) rs ≡ false
+  overlaps_no_range is =
+      or_from_places (list_any (overlap r)) (overlap r) refl (λ x ys. refl) rs no_range (λ k lt.
+      false_from_ne_true (overlap r (get_or rs k no_range)) (λ both.
+      let x = get_or rs k no_range in
+      let none = lies.5 is (range_key x) (tt, before_end x both) in
+      let no : None ≡ Some x = sym none ∙ there k no_range lt in
+      none-some x no))
+
+  -- the others overlap only if the last of these does
+  pub overlaps_last : (t : List (Key × Range)) (e : Key × Range) → span ≡ t ++ e ∷ [] → list_any (overlap r) rs ≡ overlap r e.1
+  overlaps_last t e is =
+      let own = lies.3 e t is in
+      let found = found_is (is_at (by_key e.0)) rs e.1 (sym (ap (lookup (is_at (by_key e.0))) holds) ∙ own.1) in
+      let i = found.0 in
+      let lt : i < length rs = found.1 in
+      let at : (d : Range) → get_or rs i d ≡ e.1 = found.2 in
+      let key = parts e.0.0 e.0.1 e.0.2 e.1 (tied e.0.0 e.0.1 e.0.2 e.1 ∙ found.3) in
+      let low = less_is e.0 bound own.0.1 in
+      elim (cases_eq r.end 0) [
+        | inl empty ↦
+            or_from_places (list_any (overlap r)) (overlap r) refl (λ x ys. refl) rs no_range (λ k lt. false_from_ne_true (overlap r (get_or rs k no_range)) (λ both. let late = (overlap_parts r (get_or rs k no_range) both).3 in absurd (omega (arith, late, empty))))
+            ∙ sym (false_from_ne_true (overlap r e.1) (λ both. let late = (overlap_parts r e.1 both).3 in absurd (omega (arith, late, empty))))
+        | inr some ↦
+            let upper : IsBy 0 (range_key e.1) (r.one, r.other, r.end - 1) = record {
+              first = let a = low.first in omega (arith, a, key.0);
+              second = λ x. let b = low.second (key.0 ∙ x) in omega (arith, b, key.1);
+              third = λ x y. let c = low.third (key.0 ∙ x) (key.1 ∙ y) in omega (arith, c, key.2);
+            } in
+            let count : IsCountUntil rs (r.one, r.other, r.end - 1) (i + 1) = record {
+              within = omega (arith, lt);
+              point = (
+                λ k d from less. is_le_by (range_key (get_or rs k d)) (r.one, r.other, r.end - 1) (elim (cases_lt k i) [
+                  | inl before ↦ by_more (less_is (range_key (get_or rs k d)) (range_key (get_or rs i d)) (h.rises k i d before lt)) (subst (λ x. IsBy 0 (range_key x) (r.one, r.other, r.end - 1)) (sym (at d)) upper)
+                  | inr not_before ↦
+                      let here : k ≡ i = omega (arith, less, not_before) in
+                      subst (λ x. IsBy 0 (range_key x) (r.one, r.other, r.end - 1)) (sym (ap (λ j. get_or rs j d) here ∙ at d)) upper
+                ]),
+                λ k d after less. false_from_ne_true (is_le (by_key (range_key (get_or rs k d)) (r.one, r.other, r.end - 1))) (λ low_too.
+                    let x = get_or rs k d in
+                    let le = le_is (range_key x) (r.one, r.other, r.end - 1) low_too in
+                    let early : by_key (range_key x) bound ≡ Less = less_by (range_key x) bound (record { first = le.first; second = le.second; third = λ a b. let c = le.third a b in omega (arith, c, some) }) in
+                    let greatest = lies.4 e t is (range_key x) (tt, early) (ap is_some (there k d less)) in
+                    let rise : by_key (range_key e.1) (range_key x) ≡ Less = subst (λ y. by_key (range_key y) (range_key x) ≡ Less) (at d) (h.rises i k d (omega (arith, after)) less) in
+                    let step = less_is (range_key e.1) (range_key x) rise in
+                    let less_key = less_by e.0 (range_key x) (record {
+                      first = let a = step.first in omega (arith, a, key.0);
+                      second = λ u. let b = step.second (sym key.0 ∙ u) in omega (arith, b, key.1);
+                      third = λ u v. let d = step.third (sym key.0 ∙ u) (sym key.1 ∙ v) in omega (arith, d, key.2);
+                    }) in
+                    both_ways (is_lt (by_key e.0 (range_key x))) greatest (ap is_lt less_key)),
+              );
+            } in
+            overlap_told rs h r (i + 1) e.1 count (λ zero_too. omega (arith, zero_too))
+            ∙ ap (λ j. overlap r (get_or rs j e.1)) (let back : i + 1 - 1 ≡ i = omega arith in back)
+            ∙ ap (overlap r) (at e.1)
+      ]
+
+-- ---- trees
+
+-- a tree of a plan's ranges
+pub tree_of : (m : BTreeMap Key Range) (rs : List Range) → m.entries ≡ map keyed rs → IsPlan (plan_of_ranges rs) → IsRangeTree m × (values m ≡ rs)
+tree_of m rs is plan =
+    let same : values m ≡ rs = ap values_of is ∙ keyed_values rs in
+    ((is ∙ ap (map keyed) (sym same), subst (λ xs. IsPlan (plan_of_ranges xs)) (sym same) plan), same)
+
+-- a range goes before those that come after it
+insert_first : (r : Range) (ys : List Range) → AllByRecursion (λ s. by_range_key r s ≡ Less) ys → insert_entry by_key (map keyed ys) (range_key r) r ≡ map keyed (r ∷ ys)
+insert_first r [] all = refl
+insert_first r (s ∷ ys) all = ap (λ o. match_ordering o (keyed r ∷ keyed s ∷ map keyed ys) ((range_key s, r) ∷ map keyed ys) (keyed s ∷ insert_entry by_key (map keyed ys) (range_key r) r)) all.0
+
+-- the ranges in order go in, the last one first
+pub planted_more : (rs : List Range) (k : ℕ) (d : Range) (es : List (Key × Range)) → IsPlan (plan_of_ranges rs) → k < length rs → es ≡ map keyed (drop (k + 1) rs) → insert_entry by_key es (range_key (get_or rs k d)) (get_or rs k d) ≡ map keyed (drop k rs)
+planted_more rs k d es plan lt is =
+    let r = get_or rs k d in
+    let h = range_list (plan_of_ranges rs) plan in
+    let next : k + 1 ≡ suc k = omega arith in
+    let after = all_from_places (λ s. by_range_key r s ≡ Less) (drop (k + 1) rs) (λ i e less.
+    let within : k + 1 + i < length rs = omega (arith, less, length-drop (k + 1) rs) in
+    subst (λ s. by_range_key r s ≡ Less) (sym (get_or-drop (k + 1) rs i e)) (subst (λ s. by_range_key s (get_or rs (k + 1 + i) e) ≡ Less) (get_or_default rs k e d lt) (h.rises k (k + 1 + i) e (omega arith) within))) in
+    ap (λ xs. insert_entry by_key xs (range_key r) r) is
+    ∙ insert_first r (drop (k + 1) rs) after
+    ∙ ap (map keyed) (sym (drop-cons rs k d lt ∙ ap (λ m. r ∷ drop m rs) (sym next)))
+
+-- what is refused
+pub refused_by : (r : Range) (rs all : List Range) (clash : Bool) (count : ℕ) (o : Option AddFault) → rs ≡ all → clash ≡ list_any (overlap r) all → count ≡ length rs → o ≡ first_refusal r.one r.other r.start r.end clash RangeOverlap count → o ≡ range_refusal (plan_of_ranges rs) r
+refused_by r rs all clash count o same any many is =
+    is ∙ ap (λ b. first_refusal r.one r.other r.start r.end b RangeOverlap count) (any ∙ ap (list_any (overlap r)) (sym same)) ∙ ap (first_refusal r.one r.other r.start r.end (list_any (overlap r) rs) RangeOverlap) many
+
+module _ (m n : BTreeMap Key Range) (h : IsRangeTree m) where
+  abbrev rs : List Range
+  rs = values m
+
+  -- no change
+  pub tree_stays : n.entries ≡ m.entries → IsRangeTree n
+  tree_stays is = (tree_of n rs (is ∙ h.0) h.1).0
+
+  -- one more
+  pub tree_more : (r : Range) → IsNode r.one → IsNode r.other → r.end ≤ last_time → r.light ≤ 1000000 → range_refusal (plan_of_ranges rs) r ≡ None → n.entries ≡ insert_entry by_key m.entries (range_key r) r → IsRangeTree n × (values n ≡ put_in by_range_key r rs)
+  tree_more r one other ends light accept is =
+      let a = accepted_range (plan_of_ranges rs) r accept in
+      tree_of n (put_in by_range_key r rs)
+      (is ∙ ap (λ es. insert_entry by_key es (range_key r) r) h.0 ∙ insert_keyed r rs (no_tie r rs a.window h.1.range_windows a.new))
+      (IsPlan-range (plan_of_ranges rs) r h.1 one other ends light accept)
+
+  -- one less
+  pub tree_less : (one other start : ℕ) → n.entries ≡ remove_entry (is_at (by_key (one, other, start))) m.entries → IsRangeTree n × (values n ≡ filter (λ r. not (begins one other start r)) rs)
+  tree_less one other start is =
+      let stays = λ (r : Range). not (begins one other start r) in
+      tree_of n (filter stays rs)
+      (is ∙ ap (remove_entry (is_at (by_key (one, other, start)))) h.0 ∙ remove_keyed one other start rs h.1.ranges_rise)
+      (IsPlan-fewer_ranges (plan_of_ranges rs) stays h.1)
+
+  -- what is found
+  pub tree_has : (one other start : ℕ) (all : List Range) (o : Option Range) → rs ≡ all → o ≡ lookup (is_at (by_key (one, other, start))) m.entries → list_any (begins one other start) all ≡ is_some o
+  tree_has one other start all o same is =
+      ap (list_any (begins one other start)) (sym same) ∙ any_found one other start rs ∙ sym (ap is_some (is ∙ ap (lookup (is_at (by_key (one, other, start)))) h.0))
