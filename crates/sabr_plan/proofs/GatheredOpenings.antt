@@ -106,15 +106,6 @@ there cs k c lt is = is ∙ get_or_default cs k c no_contact lt
 pub standing_push : (cs : List Contact) (c : Contact) → c.start < c.end → standing (cs ++ c ∷ []) ≡ standing cs ++ c ∷ []
 standing_push cs c lt = filter-append stands cs (c ∷ []) ∙ ap (λ b. standing cs ++ cond b (c ∷ []) []) (lt-ltb c.start c.end lt)
 
--- those that stand all stand
-pub standing_twice : (cs : List Contact) → standing (standing cs) ≡ standing cs
-standing_twice [] = refl
-standing_twice (c ∷ cs) =
-    elim (stands c) as (λ b. stands c ≡ b → standing (cond b (c ∷ standing cs) (standing cs)) ≡ cond b (c ∷ standing cs) (standing cs)) [
-      | true ↦ λ h. ap (λ b. cond b (c ∷ standing (standing cs)) (standing (standing cs))) h ∙ ap (λ ds. c ∷ ds) (standing_twice cs)
-      | false ↦ λ h. standing_twice cs
-    ] refl
-
 -- a contact that is deleted
 abbrev pub ended : Contact → ℕ → Contact
 ended c end = record { number = c.number; from = c.from; to = c.to; start = c.start; end = end; rate = c.rate }

@@ -79,13 +79,4 @@ impl<A: Allocator + Copy> Chains<A> {
         self.lasts[bucket] = self.befores.len();
         Ok(())
     }
-
-    /// Removes all indexes from their chains. It doesn't allocate.
-    pub fn clear(&mut self)
-        ensures lasts { self.new.lasts.items ≡ [] }
-        ensures befores { self.new.befores.items ≡ [] }
-    {
-        self.lasts.clear();
-        self.befores.clear();
-    }
 }

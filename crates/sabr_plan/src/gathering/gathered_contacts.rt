@@ -17,24 +17,24 @@ use std::marker::Model;
 /// A hash table of their senders, receivers and starts finds a duplicate in O(1) on average.
 #[derive(Drop)]
 pub struct GatheredContacts<A: Allocator + Copy = Global> {
-    /// The contacts that were added. A deleted one ends at its start.
+    /// The contacts that were added, at most `MAX_RECORDS`. A deleted one ends at its start.
     contacts: Vec<Contact, A>,
     openings: KnownOpenings<A>,
     largest: u32,
-    /// The number of those that were deleted.
-    deleted: usize,
+    /// Whether one of them was deleted.
+    has_deleted: bool,
 }
 
 impl<A: Allocator + Copy> Model for GatheredContacts<A> {
     ghost use Rattle.sabr_model.specs.plan.Plan.{ContactPlan, IsPlan};
-    ghost use Rattle.std.specs.Prelude.{◌≡◌};
+    ghost use Rattle.std.specs.Prelude.{◌≡◌, false};
     ghost use Rattle.sabr_plan.specs.Gathering.{plan_of_contacts, standing, KnowsSome, IsTreed};
 
     ghost Value = { ContactPlan };
 
     ghost view = { λ g. plan_of_contacts (standing g.contacts.items) g.largest };
 
-    ghost invariant = { λ g. IsPlan (plan_of_contacts (standing g.contacts.items) g.largest) × KnowsSome g.openings.chains.befores.items g.openings.chains.lasts.items g.openings.rising g.openings.last g.contacts.items × IsTreed g.openings.tree.indexes g.openings.tree.treed g.contacts.items × (g.deleted ≡ 0 → standing g.contacts.items ≡ g.contacts.items) };
+    ghost invariant = { λ g. IsPlan (plan_of_contacts (standing g.contacts.items) g.largest) × KnowsSome g.openings.chains.befores.items g.openings.chains.lasts.items g.openings.rising g.openings.last g.contacts.items × IsTreed g.openings.tree.indexes g.openings.tree.treed g.contacts.items × (g.has_deleted ≡ false → standing g.contacts.items ≡ g.contacts.items) };
 }
 
 impl<A: Allocator + Copy> GatheredContacts<A> {
@@ -46,7 +46,7 @@ impl<A: Allocator + Copy> GatheredContacts<A> {
             contacts: Vec::new(alloc),
             openings: KnownOpenings::new(alloc),
             largest: 0,
-            deleted: 0,
+            has_deleted: false,
         }
     }
 
@@ -115,21 +115,6 @@ impl<A: Allocator + Copy> GatheredContacts<A> {
         find_by_pass(&self.contacts, &opening).is_some()
     }
 
-    /// Removes the deleted contacts from the list if they are more than an eighth of it.
-    ///
-    /// It changes the speed of later calls, and not the contacts.
-    fn sweep(&mut self)
-        ensures { self.new ≡ self.old }
-    {
-        if self.deleted <= self.contacts.len() / 8 {
-            return;
-        }
-        self.deleted = 0;
-        self.openings.chains.clear();
-        self.openings.tree.clear();
-        self.contacts.retain(|c| c.start < c.end);
-    }
-
     /// Deletes the contact with this sender, receiver and start, and returns its number, which is never assigned again.
     /// The start is in seconds since 1970-01-01T00:00:00Z.
     ///
@@ -143,7 +128,6 @@ impl<A: Allocator + Copy> GatheredContacts<A> {
         ensures ok { OnOk result (self.new ≡ without_contact self.old from to start) }
         ensures err { OnErr result (self.new ≡ self.old) }
     {
-        self.sweep();
         let opening = Opening { from, to, start };
         let Some(index) = find_standing(
             &mut self.openings.chains,
@@ -155,7 +139,7 @@ impl<A: Allocator + Copy> GatheredContacts<A> {
         };
         let number = self.contacts[index].number;
         self.contacts[index].end = start;
-        self.deleted = self.deleted.saturating_add(1);
+        self.has_deleted = true;
         Ok(number)
     }
 
@@ -170,9 +154,9 @@ impl<A: Allocator + Copy> GatheredContacts<A> {
             mut contacts,
             openings: _,
             largest,
-            deleted,
+            has_deleted,
         } = self;
-        if deleted > 0 {
+        if has_deleted {
             contacts.retain(|c| c.start < c.end);
         }
         (contacts, largest)

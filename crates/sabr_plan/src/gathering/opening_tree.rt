@@ -50,15 +50,6 @@ impl<A: Allocator + Copy> OpeningTree<A> {
         self.walked = self.walked.wrapping_add(walked);
     }
 
-    /// Removes all contacts from the tree.
-    pub fn clear(&mut self)
-        ensures { self.new.treed ≡ 0 }
-    {
-        self.walked = 0;
-        self.treed = 0;
-        self.indexes.clear();
-    }
-
     /// Adds the contacts that stand and aren't in the tree.
     pub fn add_all(&mut self, contacts: &[Contact]) -> Result<(), AllocError>
         requires treed { IsTreed self.old.indexes self.old.treed contacts.now }

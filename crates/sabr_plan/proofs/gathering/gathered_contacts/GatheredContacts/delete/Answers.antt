@@ -1,5 +1,5 @@
 -- The contact ends at its start, and its opening stays in its chain.
-use Rattle.std.proofs.Common.{arith, map, ◌≡◌, ◌∙◌, get_or, set, not, refl, sym, ap, subst}
+use Rattle.std.proofs.Common.{true, false, map, ◌≡◌, ◌∙◌, get_or, set, not, refl, sym, ap, subst}
 use Rattle.std.proofs.Math.Seq.{map-set_same}
 use Rattle.std.specs.Option.{option_map}
 use Rattle.std.specs.Prelude.{Some, None, ok_or}
@@ -21,7 +21,7 @@ returns-in_default-clause-value g c =
     let cs = c.self.inside.contacts.items in
     let found : IsFound o cs None = subst (λ ds. IsFound o ds None) c.deref.ensures.value (c.in_default.ensures {u = tt}).found in
     ap (λ (r : Option Contact). ok_or (option_map (λ (d : Contact). d.number) r) NothingToDelete) (sym (none_found o cs found))
-    ∙ ap (λ (q : ContactPlan). ok_or (number_of_opening q o.from o.to o.start) NothingToDelete) (c.self.view_is ∙ c.sweep.ensures)
+    ∙ ap (λ (q : ContactPlan). ok_or (number_of_opening q o.from o.to o.start) NothingToDelete) c.self.view_is
 
 pub invariant_of-self-2 : goal.invariant_of-self-2
 invariant_of-self-2 g c =
@@ -35,14 +35,14 @@ invariant_of-self-2 g c =
     let left = deletes o cs k found c.self.invariant.0.openings_differ in
     let then = ended (get_or cs k no_contact) c.args.start in
     let chained = subst (λ ds. AreChained (map contact_bucket ds) chains.befores.items chains.lasts.items) c.deref.ensures.value c.find_standing.ensures.chained in
-    subst (λ x. IsPlan (plan_of_contacts (standing (set cs k (ended x c.args.start))) s.largest) × KnowsSome chains.befores.items chains.lasts.items s.openings.rising s.openings.last (set cs k (ended x c.args.start)) × IsTreed tree.indexes tree.treed (set cs k (ended x c.args.start)) × (c.saturating_add-self-inside.result ≡ 0 → standing (set cs k (ended x c.args.start)) ≡ set cs k (ended x c.args.start))) (sym (there cs k c.index_mut.result.now found.0 c.index_mut.ensures.value)) (
+    subst (λ x. IsPlan (plan_of_contacts (standing (set cs k (ended x c.args.start))) s.largest) × KnowsSome chains.befores.items chains.lasts.items s.openings.rising s.openings.last (set cs k (ended x c.args.start)) × IsTreed tree.indexes tree.treed (set cs k (ended x c.args.start)) × (true ≡ false → standing (set cs k (ended x c.args.start)) ≡ set cs k (ended x c.args.start))) (sym (there cs k c.index_mut.result.now found.0 c.index_mut.ensures.value)) (
       subst (λ ds. IsPlan (plan_of_contacts ds s.largest)) (sym left.0) (IsPlan-fewer_contacts (plan_of_contacts (standing cs) s.largest) (λ d. not (opens o.from o.to o.start d)) c.self.invariant.0),
       (
         subst (λ ks. AreChained ks chains.befores.items chains.lasts.items) (sym (map-set_same contact_bucket cs k then no_contact refl)) chained,
         λ up. open_by_set s.openings.last cs k c.args.start (c.self.invariant.1.1 up),
       ),
       treed_set tree.indexes tree.treed cs k then (subst (IsTreed tree.indexes tree.treed) c.deref.ensures.value c.find_standing.ensures.treed) found.0 (gone o cs k found),
-      λ no. absurd (let e = c.saturating_add-self-inside.ensures in omega (arith, e, no)),
+      λ no. absurd cc,
     )
 
 pub returns-clause-value : goal.returns-clause-value
@@ -53,7 +53,7 @@ returns-clause-value g c =
     let found : IsFound o cs (Some k) = subst (λ ds. IsFound o ds (Some k)) c.deref.ensures.value (c.in-Some.ensures {u = tt}).found in
     ap (λ (d : Contact). ok_or (Some d.number) NothingToDelete) (there cs k c.index.result.now found.0 c.index.ensures)
     ∙ ap (λ (r : Option Contact). ok_or (option_map (λ (d : Contact). d.number) r) NothingToDelete) (sym (deletes o cs k found c.self.invariant.0.openings_differ).1)
-    ∙ ap (λ (q : ContactPlan). ok_or (number_of_opening q o.from o.to o.start) NothingToDelete) (c.self.view_is ∙ c.sweep.ensures)
+    ∙ ap (λ (q : ContactPlan). ok_or (number_of_opening q o.from o.to o.start) NothingToDelete) c.self.view_is
 
 pub returns-clause-ok : goal.returns-clause-ok
 returns-clause-ok g c =
@@ -65,4 +65,4 @@ returns-clause-ok g c =
     let left = deletes o cs k found c.self.invariant.0.openings_differ in
     ap (λ x. plan_of_contacts (standing (set cs k (ended x c.args.start))) s.largest) (there cs k c.index_mut.result.now found.0 c.index_mut.ensures.value)
     ∙ ap (λ ds. plan_of_contacts ds s.largest) left.0
-    ∙ ap (λ (q : ContactPlan). without_contact q c.args.from c.args.to c.args.start) (c.self.view_is ∙ c.sweep.ensures)
+    ∙ ap (λ (q : ContactPlan). without_contact q c.args.from c.args.to c.args.start) c.self.view_is
