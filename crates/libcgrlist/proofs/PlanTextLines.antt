@@ -19,11 +19,9 @@ use Rattle.sabr_plan.specs.declared.command.Deletion.{Deletion}
 use Rattle.sabr_plan.specs.declared.command.Target.{Target}
 use Rattle.sabr_plan.specs.declared.command.Target.TheVariants.{Contact, Range}
 use Rattle.sabr_plan.specs.declared.fault.PlanKind.TheVariants.{BadNode, BadNumber}
-use Rattle.sabr_plan.proofs.Digits.{numerals}
-use Rattle.sabr_plan.proofs.FirstWords.{words_of-blank, words_of-nil}
-use Rattle.sabr_plan.proofs.KnownDays.{graphic_time, time_at-text}
-use Rattle.sabr_plan.proofs.PlainWords.{first_of, graphic_number, plain_one}
-use Rattle.sabr_plan.proofs.SpelledNumbers.{number_within-spelled_within, short128}
+use Rattle.sabr_plan.proofs.SpelledNumbers.{numerals, number_within-spelled_within, short128}
+use Rattle.sabr_plan.proofs.PlainWords.{words_of-blank, words_of-nil, first_of, graphic_number, plain_one}
+use Rattle.sabr_plan.proofs.Spelling.{graphic_time, time_at-text}
 use Rattle.libcgrlist.specs.PlanTexts.{spaced_words, addition_line, deletion_line}
 
 -- ---- words after spaces

@@ -1,15 +1,27 @@
--- The bytes of a line that are held, and where a line ends.
-use Rattle.std.proofs.Common.{◌≡◌, ℕ, ◌+◌, ◌*◌, ◌-◌, ◌<◌, ◌≤◌, true, Result, Ok, Err, ◌⊎◌, not, eqb, List, [], ◌++◌, length, take, get_or, refl, sym, ap, ◌∙◌, arith, length-take, get_or-take}
+-- Reading a text piece by piece: the bytes of a line that are held, and where a line ends.
+use Rattle.std.proofs.Common.{◌≡◌, ℕ, ◌+◌, ◌*◌, ◌-◌, ◌<◌, ◌≤◌, true, Result, Ok, Err, ◌⊎◌, not, eqb, List, [], ◌++◌, length, take, get_or, refl, sym, ap, ◌∙◌, arith, length-take, get_or-take, ◌≢◌, inl, inr, Bool, ◌∷◌, append_assoc, OnOk, IfErr, length-append, false, Option, Some, None, is_some, ok_or, subst, append-nil}
 use Rattle.std.proofs.lemmas.Bool.Decides.{nat_tests}
 use Rattle.std.proofs.lemmas.Grind.{get_or_default_zero}
 use Rattle.std.proofs.lemmas.List.Sums.{list_all-from_AllPass}
 use Rattle.std.proofs.lemmas.List.Folds.{list_all-append}
 use borrow.Author.Tests.{le-ltb}
 use Rattle.sabr_plan.specs.declared.fault.PlanKind.{PlanKind}
-use Rattle.sabr_plan.specs.declared.fault.PlanKind.TheVariants as kind
 use Rattle.sabr_plan.specs.Words.{is_one_line}
-use Rattle.sabr_plan.specs.Feeding.{Fed, EndsLine}
-use Rattle.sabr_plan.specs.Reading.{Reading, Leaves, most_line_bytes, most_lines, judged, limited, broken_line}
+use Rattle.sabr_plan.specs.Feeding.{Fed, EndsLine, outcome, IsFed, weight, nothing_fed, Answers}
+use Rattle.sabr_plan.specs.Reading.{Reading, Leaves, most_line_bytes, most_lines, judged, limited, broken_line, read_line, kind_of, changed, unless_named, plan_of}
+use Rattle.sabr_plan.specs.declared.fault.PlanFault.{PlanFault}
+use Rattle.sabr_plan.specs.Steps.{and_then}
+use Rattle.sabr_plan.proofs.Outcomes.{outcome-line, outcome-held, outcome-refused, plan_of-outcome}
+use Rattle.std.specs.Prelude.{IsOk, MatchResult}
+use Rattle.std.specs.Result.{IsOkUnless}
+use Rattle.sabr_model.specs.plan.Plan.{ContactPlan, TabledPlan}
+use Rattle.sabr_model.specs.declared.fault.AddFault.{AddFault}
+use Rattle.sabr_model.specs.Devices.{Input, Gives, HasEnded}
+use Rattle.sabr_plan.specs.PlanRead.{ReadsPlan}
+use Rattle.sabr_model.proofs.ListLemmas.ReadTexts.{Gives-nil, Gives-append}
+use Rattle.sabr_plan.proofs.SpelledPlans.{ended_not_read}
+use Rattle.sabr_plan.specs.declared.fault.PlanKind.TheVariants as kind
+use Rattle.sabr_model.specs.declared.fault.AddFault.TheVariants as add
 
 pub one_line-append : (a b : List ℕ) → is_one_line a ≡ true → is_one_line b ≡ true → is_one_line (a ++ b) ≡ true
 one_line-append a b h k = rw (list_all-append (λ x. not (eqb x 10)) a b, h, k) refl
@@ -54,3 +66,137 @@ module _ (s new : Fed) (line : List ℕ) (none : s.held ≡ []) (few : s.lines <
 
   pub known_read : {U : Type 0} (x : U) → judged s.reading line ≡ Ok new.reading → new.lines ≡ s.lines + 1 → new.held ≡ [] → EndsLine s line (Ok x) new
   known_read x e lines held = record { value = told ∙ e; refused = tt; rest = (lines, held); fits = omega (arith, ap length none, short); one = one }
+
+-- ---- pieces of a text, fed one after the other
+
+-- a line ends in the first of two parts
+pub parted_on : (rest line behind tail : List ℕ) → rest ≡ line ++ 10 ∷ behind → rest ++ tail ≡ line ++ 10 ∷ (behind ++ tail)
+parted_on rest line behind tail parts = ap (λ t. t ++ tail) parts ∙ rw append_assoc refl
+
+module _ (first : Fed) (piece : List ℕ) (s : Fed) (rest : List ℕ) (same : (more : List ℕ) (ended : Bool) → outcome first (piece ++ more) ended ≡ outcome s (rest ++ more) ended) (held : is_one_line s.held ≡ true) where
+  module _ (front back : List ℕ) (one : is_one_line front ≡ true) (parted : rest ≡ front ++ 10 ∷ back) where
+    -- a line ends
+    line_ends : (more : List ℕ) (ended : Bool) → outcome first (piece ++ more) ended ≡ and_then (read_line (s.lines + 1) s.reading (s.held ++ front)) (λ r. outcome (record { lines = s.lines + 1; reading = r; held = [] }) (back ++ more) ended)
+    line_ends more ended = same more ended ∙ ap (λ t. outcome s (t ++ more) ended) parted ∙ outcome-line s front back more ended held one
+
+    -- it is refused
+    pub line_refused : (k : PlanKind) → (k ≡ kind.NoMemory) ⊎ (limited (s.lines + 1) s.reading (s.held ++ front) ≡ Err k) → (k ≡ kind.NoMemory) ⊎ ((more : List ℕ) (ended : Bool) → outcome first (piece ++ more) ended ≡ Err (record { line = s.lines + 1; kind = k }))
+    line_refused k (inl memory) = inl memory
+    line_refused k (inr e) = inr (λ more ended. line_ends more ended ∙ rw e refl)
+
+    -- or read
+    pub line_read : (new : Fed) → limited (s.lines + 1) s.reading (s.held ++ front) ≡ Ok new.reading → new.lines ≡ s.lines + 1 → new.held ≡ [] → (more : List ℕ) (ended : Bool) → outcome first (piece ++ more) ended ≡ outcome new (back ++ more) ended
+    line_read new e lines none more ended =
+        let made : ◌≡◌ {A = Fed} (record { lines = s.lines + 1; reading = new.reading; held = [] }) new = rw (← lines, ← none) refl in
+        line_ends more ended ∙ rw e (ap (λ t. outcome t (back ++ more) ended) made)
+
+    -- which is more than it was
+    pub line_grows : (new : Fed) → new.lines ≡ s.lines + 1 → new.held ≡ [] → length s.held + length front ≤ most_line_bytes → weight first + length piece ≤ weight s + length rest → weight first + length piece ≤ weight new + length back
+    line_grows new lines none short grows =
+        omega (arith, lines, ap length none, ap length parted, length-append front (10 ∷ back))
+
+  -- what comes after the last LF is held, or refused
+  pub rest_held : {U : Type 0} (new : Fed) (r : Result U PlanFault) → is_one_line rest ≡ true → OnOk r (new ≡ record { lines = s.lines; reading = s.reading; held = s.held ++ rest }) → IfErr r (λ f. (f ≡ broken_line (s.lines + 1) (s.held ++ rest)) × (f.kind ≢ kind.Read)) → IsFed first piece r new
+  rest_held new (Ok u) one ok err = λ more ended. same more ended ∙ outcome-held s rest more ended ∙ ap (λ t. outcome t more ended) (sym ok)
+  rest_held new (Err f) one ok err =
+      inr (λ more ended. same more ended ∙ outcome-refused s rest more ended held one (λ e. err.1 (ap (λ (g : PlanFault). g.kind) err.0 ∙ e)) ∙ ap Err (sym err.0))
+
+-- ---- a change of a plan, as its call returns it
+
+-- what a call returns that may be refused in this way, and by memory
+pub record IsAnswered {X : Type 0} (refusal : Option AddFault) (r : Result X AddFault) (p new : ContactPlan) : Type 0 where
+  pub refused : (f : AddFault) → refusal ≡ Some f → (r ≡ Err f) ⊎ (r ≡ Err add.NoMemory)
+  pub accepted : refusal ≡ None → IsOkUnless r add.NoMemory
+  pub ok : OnOk r (new ≡ p)
+
+-- what its line leaves
+pub changed_leaves : {X U : Type 0} (refusal : Option AddFault) (reference : Option ℕ) (r : Result X AddFault) (p new : ContactPlan) (s : Result U PlanKind) → IsAnswered refusal r p new → MatchResult r (λ _. IsOk s) (λ f. s ≡ Err (kind_of f))
+    → Leaves (changed refusal reference p) s (record { plan = new; reference = reference })
+changed_leaves (Some f) reference (Ok x) p new s is told = absurd (elim (is.refused f refl) [ inl e ↦ cc | inr e ↦ cc ])
+changed_leaves (Some f) reference (Err g) p new s is told =
+    rw told (elim (is.refused f refl) [
+      | inl e ↦ let same : f ≡ g = cc in inr (ap (λ h. Err (kind_of h)) same)
+      | inr e ↦ let same : g ≡ add.NoMemory = cc in inl (ap kind_of same)
+    ])
+changed_leaves None reference (Ok x) p new (Ok u) is told = ap (λ q. Ok (record { plan = q; reference = reference })) (sym is.ok)
+changed_leaves None reference (Ok x) p new (Err k) is told = absurd cc
+changed_leaves None reference (Err f) p new s is told = rw told (inl (ap kind_of (is.accepted refl)))
+
+-- a deletion of a contact
+pub contact_deleted : (o : Option ℕ) (r : Result ℕ AddFault) (p new : ContactPlan) → r ≡ ok_or o add.NothingToDelete → OnOk r (new ≡ p) → IsAnswered (unless_named (is_some o)) r p new
+contact_deleted (Some n) r p new e ok = record { refused = λ f is. absurd cc; accepted = λ is. rw e tt; ok = ok }
+contact_deleted None r p new e ok = record { refused = λ f is. let same : add.NothingToDelete ≡ f = cc in inl (e ∙ ap Err same); accepted = λ is. absurd cc; ok = ok }
+
+-- and of a range
+pub range_deleted : {X : Type 0} (named : Bool) (r : Result X AddFault) (p new : ContactPlan) → (named ≡ false → (r ≡ Err add.NothingToDelete) ⊎ (r ≡ Err add.NoMemory)) → (named ≡ true → IsOkUnless r add.NoMemory) → OnOk r (new ≡ p) → IsAnswered (unless_named named) r p new
+range_deleted true r p new refused accepted ok = record { refused = λ f is. absurd cc; accepted = λ _. accepted refl; ok = ok }
+range_deleted false r p new refused accepted ok = record { refused = λ f is. let same : add.NothingToDelete ≡ f = cc in rw (← same) (refused refl); accepted = λ is. absurd cc; ok = ok }
+
+-- ---- what reading leaves, call by call
+
+-- these bytes were read, and whatever follows them, the text comes to the same
+pub record HasRead (old new : Input) (feed : Fed) : Type 0 where
+  pub given : List ℕ
+  pub gives : Gives old given new
+  pub same : (more : List ℕ) (ended : Bool) → plan_of (given ++ more) ended ≡ outcome feed more ended
+
+-- nothing was read at first
+pub nothing_was_read : (old : Input) (feed : Fed) → feed ≡ nothing_fed → HasRead old old feed
+nothing_was_read old feed e = record {
+  given = [];
+  gives = Gives-nil old;
+  same = λ more ended. plan_of-outcome more ended ∙ ap (λ s. outcome s more ended) (sym e);
+}
+
+-- a piece more
+pub piece_was_read : (old mid new : Input) (feed next : Fed) (piece : List ℕ) → HasRead old mid feed → Gives mid piece new → ((more : List ℕ) (ended : Bool) → outcome feed (piece ++ more) ended ≡ outcome next more ended) → HasRead old new next
+piece_was_read old mid new feed next piece was gives same = record {
+  given = was.given ++ piece;
+  gives = Gives-append old mid new was.given piece was.gives gives;
+  same = λ more ended. ap (λ s. plan_of s ended) (append_assoc was.given piece more) ∙ was.same (piece ++ more) ended ∙ same more ended;
+}
+
+-- the reader ended
+pub text_ended : (old mid new : Input) (feed : Fed) (answer : Result TabledPlan PlanFault) → HasRead old mid feed → Gives mid [] new → HasEnded new → new.failures ≡ old.failures → Answers (outcome feed [] true) answer → ReadsPlan old answer new
+text_ended old mid new feed answer was gives end fine answers = record {
+  given = was.given ++ [];
+  gives = Gives-append old mid new was.given [] was.gives gives;
+  told = inl (end, fine, rw (was.same [] true) answers);
+}
+
+refused_so : (old mid : Input) (feed : Fed) (piece : List ℕ) (f : PlanFault) (was : HasRead old mid feed) → (f.kind ≡ kind.NoMemory) ⊎ ((more : List ℕ) (ended : Bool) → outcome feed (piece ++ more) ended ≡ Err f) → (f.kind ≡ kind.NoMemory) ⊎ ((more : List ℕ) (ended : Bool) → plan_of ((was.given ++ piece) ++ more) ended ≡ Err f)
+refused_so old mid feed piece f was (inl memory) = inl memory
+refused_so old mid feed piece f was (inr refused) = inr (λ more ended. ap (λ s. plan_of s ended) (append_assoc was.given piece more) ∙ was.same (piece ++ more) ended ∙ refused more ended)
+
+-- a piece is refused
+pub piece_refused : (old mid new : Input) (feed : Fed) (piece : List ℕ) (f : PlanFault) → HasRead old mid feed → Gives mid piece new → new.failures ≡ old.failures → (f.kind ≡ kind.NoMemory) ⊎ ((more : List ℕ) (ended : Bool) → outcome feed (piece ++ more) ended ≡ Err f) → ReadsPlan old (Err f) new
+piece_refused old mid new feed piece f was gives fine refused = record {
+  given = was.given ++ piece;
+  gives = Gives-append old mid new was.given piece was.gives gives;
+  told = inr (inr (fine, refused_so old mid feed piece f was refused));
+}
+
+-- `Read` comes only if the reader failed
+pub read_failed : (old : Input) (answer : Result TabledPlan PlanFault) (new : Input) → ReadsPlan old answer new → IfErr answer (λ f. f.kind ≡ kind.Read → new.failures ≡ old.failures + 1)
+read_failed old (Ok p) new reads = tt
+read_failed old (Err f) new reads = λ e.
+    elim reads.told [
+      | inl (end, fine, inl memory) ↦ absurd cc
+      | inl (end, fine, inr refused) ↦ absurd (ended_not_read reads.given f refused e)
+      | inr (inl (failed, so, broken)) ↦ failed
+      | inr (inr (fine, inl memory)) ↦ absurd cc
+      | inr (inr (fine, inr refused)) ↦ absurd (ended_not_read (reads.given ++ []) f (refused [] true) e)
+    ]
+
+-- a text that is one piece
+one_piece : (feed : Fed) (text : List ℕ) → feed ≡ nothing_fed → plan_of text true ≡ outcome feed (text ++ []) true
+one_piece feed text e = ap (λ w. plan_of w true) (sym (append-nil text)) ∙ plan_of-outcome (text ++ []) true ∙ ap (λ s. outcome s (text ++ []) true) (sym e)
+
+-- it was read
+pub all_was_read : (feed next : Fed) (text : List ℕ) (answer : Result TabledPlan PlanFault) → feed ≡ nothing_fed → ((more : List ℕ) (ended : Bool) → outcome feed (text ++ more) ended ≡ outcome next more ended) → Answers (outcome next [] true) answer → Answers (plan_of text true) answer
+all_was_read feed next text answer e same h = subst (λ w. Answers w answer) (sym (one_piece feed text e ∙ same [] true)) h
+
+-- it is refused
+pub all_is_refused : (feed : Fed) (text : List ℕ) (f : PlanFault) → feed ≡ nothing_fed → (f.kind ≡ kind.NoMemory) ⊎ ((more : List ℕ) (ended : Bool) → outcome feed (text ++ more) ended ≡ Err f) → Answers (plan_of text true) (Err f)
+all_is_refused feed text f e (inl memory) = inl memory
+all_is_refused feed text f e (inr refused) = inr (one_piece feed text e ∙ refused [] true)

@@ -16,7 +16,7 @@ use Rattle.std.specs.declared.option.Option.TheVariants.{Some, None}
 use Rattle.std.proofs.lemmas.Bool.{and_parts, cases_Bool, cases_eq, cases_lt, both_ways, eqb-true, false_from_ne_true}
 use Rattle.std.proofs.lemmas.Bool.Decides.{nat_tests}
 use Rattle.std.proofs.lemmas.Cmp.{tied_itself}
-use Rattle.std.proofs.lemmas.Map.Entries.{lookup_head, lookup_tail, length-values_of}
+use Rattle.std.proofs.lemmas.Map.Entries.{lookup_head, lookup_tail}
 use Rattle.std.proofs.lemmas.Option.{none-some, same_Some}
 use Rattle.std.proofs.lemmas.List.{get_or-drop, get_or_default}
 use Rattle.std.proofs.lemmas.List.Recursion.{or_from_places}
@@ -32,14 +32,10 @@ use Rattle.sabr_model.proofs.PlanLemmas.RangeOrder.{range_list, key_at, overlap_
 use Rattle.sabr_model.proofs.PlanLemmas.RangeLemmas.{accepted_range, IsPlan-range}
 use Rattle.sabr_model.proofs.PlanLemmas.Deletions.{IsPlan-fewer_ranges}
 use Rattle.sabr_plan.specs.Gathering.{keyed, plan_of_ranges, IsRangeTree}
-use Rattle.sabr_plan.proofs.SortedRanges.{no_tie, all_from_places}
+use Rattle.sabr_plan.proofs.SortedRanges.{no_range, no_tie, all_from_places}
 
 abbrev Key : Type 0
 Key = ℕ × ℕ × ℕ
-
--- what an index past the end gives
-abbrev pub no_range : Range
-no_range = record { one = 0; other = 0; start = 0; end = 0; light = 0 }
 
 pub keyed_values : (rs : List Range) → values_of (map keyed rs) ≡ rs
 keyed_values [] = refl

@@ -1,19 +1,17 @@
 -- The plan that a text spells obeys the rules of a plan. No text whose reader ended is refused as if it had failed.
-use Rattle.std.proofs.Common.{◌≡◌, ◌≢◌, ℕ, ◌+◌, ◌≤◌, Bool, true, false, List, [], ◌∷◌, length, refl, arith, Option, Some, None, Result, Ok, Err, ok_or}
+use Rattle.std.proofs.Common.{◌≡◌, ◌≢◌, ℕ, ◌+◌, ◌≤◌, Bool, true, false, List, [], ◌∷◌, length, refl, arith, Option, Some, None, Result, Ok, Err, ok_or, ◌<◌, ◌++◌, take, drop, get_or, sym, ap, ◌∙◌, append-nil}
 use Rattle.std.specs.Prelude.{nat_lt, nat_le, not, codes, MatchResult, if◌then◌else◌}
-use Rattle.std.specs.List.{list_all}
+use Rattle.std.specs.List.{list_all, flat_map}
 use Rattle.std.specs.Str.{bytes_eq}
 use Rattle.std.proofs.lemmas.Bool.{leb-true}
 use Rattle.sabr_model.specs.plan.Plan.{ContactPlan, IsPlan, IsNode, last_time, opens}
 use Rattle.sabr_model.specs.plan.Adding.{next_contact, contact_refusal, with_contact, without_contact, new_range, range_refusal, with_range, begins, without_range}
 use Rattle.sabr_model.specs.declared.fault.AddFault.{AddFault}
-use Rattle.sabr_model.specs.declared.fault.AddFault.TheVariants as add
 use Rattle.sabr_model.proofs.PlanLemmas.ContactLemmas.{IsPlan-empty, IsPlan-push}
 use Rattle.sabr_model.proofs.PlanLemmas.RangeLemmas.{IsPlan-range}
 use Rattle.sabr_model.proofs.PlanLemmas.Deletions.{IsPlan-fewer_contacts, IsPlan-fewer_ranges}
 use Rattle.sabr_plan.specs.declared.fault.PlanFault.{PlanFault}
 use Rattle.sabr_plan.specs.declared.fault.PlanKind.{PlanKind}
-use Rattle.sabr_plan.specs.declared.fault.PlanKind.TheVariants as kind
 use Rattle.sabr_plan.specs.declared.command.Command.{Command}
 use Rattle.sabr_plan.specs.declared.command.Command.TheVariants.{Nothing, SetReference, Add, Delete}
 use Rattle.sabr_plan.specs.declared.command.Target.{Target}
@@ -25,8 +23,14 @@ use Rattle.sabr_plan.specs.Times.{time_of}
 use Rattle.sabr_plan.specs.Operands.{relative_of, after_reference, absolute_time, time_at, node_of, largest_value, value_of, both_of}
 use Rattle.sabr_plan.specs.Commands.{addition_of, deletion_of, target_of, targeted, reference_of, command_of, line_command, HasBounds}
 use Rattle.sabr_plan.specs.Reading.{Reading, most_line_bytes, most_lines, nothing_read, kind_of, changed, obeyed, at_line, limited, judged, read_line, read_lines, ended_line, last_line, plan_of}
-use Rattle.sabr_plan.proofs.Seconds.{time_of_tells}
+use Rattle.sabr_plan.proofs.Spelling.{time_of_tells}
 use Rattle.sabr_plan.proofs.SpelledNumbers.{number_within-range}
+use Rattle.std.proofs.lemmas.List.{take_more, take-append-drop}
+use Rattle.std.proofs.lemmas.List.Concat.{flat_map-append}
+use Rattle.sabr_model.specs.Devices.{Output, Written, WrittenInPart, WritesText}
+use Rattle.sabr_model.proofs.ListLemmas.WrittenTexts.{Written-append, WrittenInPart-after, WrittenInPart-more, WritesText-after}
+use Rattle.sabr_model.specs.declared.fault.AddFault.TheVariants as add
+use Rattle.sabr_plan.specs.declared.fault.PlanKind.TheVariants as kind
 
 -- ---- what holds of a result of steps, and of its refusal
 
@@ -214,3 +218,35 @@ plan_is bytes ended p e = rw e at (text_gives ended bytes)
 -- a text whose reader ended is never refused for a failed reader
 pub ended_not_read : (bytes : List ℕ) (f : PlanFault) → plan_of bytes true ≡ Err f → f.kind ≢ kind.Read
 ended_not_read bytes f e read = rw read at ((rw e at (text_gives true bytes)) refl)
+
+-- ---- the canonical text of a plan, piece by piece
+
+-- the lines before a record, its own, and those after it
+pub flat_map-parted : {X : Type 0} (line : X → List ℕ) (xs : List X) (i : ℕ) (d : X) → i < length xs → flat_map line xs ≡ (flat_map line (take i xs) ++ line (get_or xs i d)) ++ flat_map line (drop (i + 1) xs)
+flat_map-parted line xs i d h =
+    ap (flat_map line) (sym (take-append-drop (i + 1) xs)) ∙ flat_map-append line (take (i + 1) xs) (drop (i + 1) xs)
+    ∙ ap (λ s. s ++ flat_map line (drop (i + 1) xs)) (ap (flat_map line) (take_more xs i d h) ∙ flat_map-append line (take i xs) (get_or xs i d ∷ []) ∙ ap (λ s. flat_map line (take i xs) ++ s) (append-nil (line (get_or xs i d))))
+
+-- the line of a record was not written, or only in part
+pub stopped_at : {X : Type 0} (line : X → List ℕ) (xs : List X) (i : ℕ) (d : X) → i < length xs → (bytes : List ℕ) → bytes ≡ line (get_or xs i d) → (a b c : Output)
+    → Written a (flat_map line (take i xs)) b → WrittenInPart b bytes c → WrittenInPart a (flat_map line xs) c
+stopped_at line xs i d h bytes is a b c before part =
+    let own : WrittenInPart b (line (get_or xs i d)) c = rw is at part in
+    rw (flat_map-parted line xs i d h)
+    (WrittenInPart-more a c (flat_map line (take i xs) ++ line (get_or xs i d)) (flat_map line (drop (i + 1) xs)) (WrittenInPart-after a b c (flat_map line (take i xs)) (line (get_or xs i d)) before own))
+
+-- a text of four parts, as far as it was written
+module _ (a z : Output) (one two three four : List ℕ) where
+  pub stopped_in_one : WrittenInPart a one z → WrittenInPart a (((one ++ two) ++ three) ++ four) z
+  stopped_in_one p = WrittenInPart-more a z ((one ++ two) ++ three) four (WrittenInPart-more a z (one ++ two) three (WrittenInPart-more a z one two p))
+
+  module _ (b : Output) (first : Written a one b) where
+    pub stopped_in_two : WrittenInPart b two z → WrittenInPart a (((one ++ two) ++ three) ++ four) z
+    stopped_in_two p = WrittenInPart-more a z ((one ++ two) ++ three) four (WrittenInPart-more a z (one ++ two) three (WrittenInPart-after a b z one two first p))
+
+    module _ (c : Output) (second : Written b two c) where
+      pub stopped_in_three : WrittenInPart c three z → WrittenInPart a (((one ++ two) ++ three) ++ four) z
+      stopped_in_three p = WrittenInPart-more a z ((one ++ two) ++ three) four (WrittenInPart-after a c z (one ++ two) three (Written-append a b c one two first second) p)
+
+      pub at_last : {A E : Type 0} (d : Output) (r : Result A E) → Written c three d → WritesText d four r z → WritesText a (((one ++ two) ++ three) ++ four) r z
+      at_last d r third p = WritesText-after a d z ((one ++ two) ++ three) four r (Written-append a c d (one ++ two) three (Written-append a b c one two first second) third) p

@@ -1,13 +1,25 @@
--- The spelling of calendar and clock in 19 bytes, and the fields of a text of that shape.
-use Rattle.std.proofs.Common.{◌≡◌, ℕ, ◌+◌, ◌-◌, ◌*◌, ◌/◌, ◌%◌, ◌<◌, true, ◌&&◌, List, length, get_or, refl, arith}
-use Rattle.std.proofs.lemmas.Bool.{and_parts}
+-- Times as texts: the spelling of calendar and clock in 19 bytes, seconds and their fields, and days that are known.
+use Rattle.std.proofs.Common.{◌≡◌, ℕ, ◌+◌, ◌-◌, ◌*◌, ◌/◌, ◌%◌, ◌<◌, true, ◌&&◌, List, length, get_or, refl, arith, ◌≤◌, sym, ap, ◌∙◌, subst, pos, unsigned_abs, Option, Some, None, IfSome, false, eqb, [], ◌∷◌, ◌++◌, take, drop, append_assoc, Ok, ok_or}
+use Rattle.std.proofs.lemmas.Bool.{and_parts, ne_eqb}
 use Rattle.std.proofs.lemmas.Bool.Decides.{nat_tests}
-use Rattle.std.proofs.lemmas.Slice.Eq.{text_from_reads}
-use borrow.Author.Tests.{eqb-true}
+use Rattle.std.proofs.lemmas.Slice.Eq.{text_from_reads, bytes_eq-Decides}
+use borrow.Author.Tests.{eqb-true, le-leb}
 use Rattle.sabr_plan.specs.declared.time.TimeFields.{TimeFields}
 use Rattle.sabr_plan.specs.Digits.{is_digit}
-use Rattle.sabr_plan.specs.Times.{pair_at, spelled}
-use Rattle.sabr_plan.specs.TimeShape.{is_pair, has_shape, fields_at, HasWidth}
+use Rattle.sabr_plan.specs.Times.{pair_at, spelled, CalendarDay, day_after_epoch, fields_of, last_spelled, time_text_of, second_named, time_of, is_pair, has_shape, fields_at, HasWidth, IsDate}
+use Rattle.std.specs.Str.{bytes_eq}
+use Rattle.jiff_core.specs.Calendar.{days_from_civil}
+use Rattle.jiff_core.proofs.SignedLemmas.{signed_arith}
+use Rattle.jiff_core.proofs.CalendarLemmas.{days_in_month_bounds}
+use Rattle.sabr_model.specs.plan.Plan.{last_time}
+use Rattle.sabr_plan.proofs.Days.{day_after_epoch_is}
+use Rattle.std.proofs.lemmas.List.{take_more}
+use lib.Lanes.{number_l, digits_l}
+use Rattle.core.specs.Dec2flt.Digits.{IsEightBytes}
+use Rattle.sabr_plan.specs.declared.fault.PlanKind.TheVariants.{BadTime}
+use Rattle.sabr_plan.specs.Operands.{relative_of, after_reference, absolute_time, time_at}
+use Rattle.sabr_plan.specs.PlainWords.{is_graphic, is_graphic_word}
+use Rattle.sabr_plan.proofs.SpelledNumbers.{bytes_are}
 
 -- the bytes of two digits, by the number that they stand for
 pair_bytes : (word : List ℕ) (i : ℕ) → is_pair word i ≡ true → (get_or word i 0 ≡ 48 + pair_at word i / 10) × (get_or word (i + 1) 0 ≡ 48 + pair_at word i % 10) × (pair_at word i < 100)
@@ -93,3 +105,179 @@ pub fields_at-spelled : (f : TimeFields) → fields_at (spelled f) ≡ f
 fields_at-spelled f =
     let year : f.year / 100 * 100 + f.year % 100 ≡ f.year = omega arith in
     simp (two_value, year)
+
+-- ---- seconds, their calendar and clock fields, and their text
+
+-- two days that are equal have one number
+pub day_after_epoch_injective : (m n : ℕ) → m ≤ 2932896 → n ≤ 2932896 → day_after_epoch m ≡ day_after_epoch n → m ≡ n
+day_after_epoch_injective m n h k e =
+    let P : CalendarDay → Type 0 = λ d. days_from_civil (pos d.year) d.month d.day ≡ pos m in
+    let is : days_from_civil (pos (day_after_epoch n).year) (day_after_epoch n).month (day_after_epoch n).day ≡ pos m = subst P e (day_after_epoch_is m h).number in
+    let same : pos m ≡ pos n = sym is ∙ (day_after_epoch_is n k).number in
+    omega (arith, signed_arith)
+
+-- the fields of a second up to the year 9999 fit their widths
+pub fields_of_width : (t : ℕ) → t ≤ last_spelled → HasWidth (fields_of t)
+unfolding fields_of
+fields_of_width t h =
+    let is = day_after_epoch_is (t / 86400) (omega arith) in
+    let d = day_after_epoch (t / 86400) in
+    let long = days_in_month_bounds (pos d.year) d.month in
+    record {
+      year = omega (arith, signed_arith, is.civil.0);
+      month = omega (arith, is.civil.1);
+      day = omega (arith, is.civil.2, long);
+      hour = omega arith;
+      minute = omega arith;
+      second = omega arith;
+    }
+
+-- the fields n days and some hours, minutes and seconds after 1970/01/01-00:00:00
+pub fields_of-clock : (n hour minute second : ℕ) → hour ≤ 23 → minute ≤ 59 → second ≤ 59 → fields_of (n * 86400 + (hour * 3600 + minute * 60 + second)) ≡ record { year = (day_after_epoch n).year; month = (day_after_epoch n).month; day = (day_after_epoch n).day; hour = hour; minute = minute; second = second }
+unfolding fields_of
+fields_of-clock n hour minute second h m s =
+    let t = n * 86400 + (hour * 3600 + minute * 60 + second) in
+    let day : t / 86400 ≡ n = omega arith in
+    let clock : t % 86400 ≡ hour * 3600 + minute * 60 + second = omega arith in
+    let a : (hour * 3600 + minute * 60 + second) / 3600 ≡ hour = omega arith in
+    let b : (hour * 3600 + minute * 60 + second) % 3600 / 60 ≡ minute = omega arith in
+    let c : (hour * 3600 + minute * 60 + second) % 60 ≡ second = omega arith in
+    rw (day, clock, a, b, c)
+
+-- the clock's second of the day
+clock_of : TimeFields → ℕ
+clock_of f = f.hour * 3600 + f.minute * 60 + f.second
+
+-- the fields' day
+abbrev pub day_of : TimeFields → CalendarDay
+day_of f = record { year = f.year; month = f.month; day = f.day }
+
+pub day_of-fields_of : (t : ℕ) → day_of (fields_of t) ≡ day_after_epoch (t / 86400)
+unfolding fields_of
+day_of-fields_of t = refl
+
+clock_of-fields_of : (t : ℕ) → clock_of (fields_of t) ≡ t % 86400
+unfolding fields_of clock_of
+clock_of-fields_of t = omega arith
+
+-- the bounds of clock fields
+pub fields_clock : (t : ℕ) (f : TimeFields) → fields_of t ≡ f → (f.hour ≤ 23) × (f.minute ≤ 59) × (f.second ≤ 59)
+unfolding fields_of
+fields_clock t f e =
+    let P : TimeFields → Type 0 = λ f. (f.hour ≤ 23) × (f.minute ≤ 59) × (f.second ≤ 59) in
+    subst P e (omega arith, omega arith, omega arith)
+
+-- two seconds with the same fields are the same
+pub fields_of_injective : (t u : ℕ) → t ≤ last_spelled → u ≤ last_spelled → fields_of t ≡ fields_of u → t ≡ u
+fields_of_injective t u h k e =
+    let day : day_after_epoch (t / 86400) ≡ day_after_epoch (u / 86400) = sym (day_of-fields_of t) ∙ ap day_of e ∙ day_of-fields_of u in
+    let same : t / 86400 ≡ u / 86400 = day_after_epoch_injective _ _ (omega arith) (omega arith) day in
+    let clock : t % 86400 ≡ u % 86400 = sym (clock_of-fields_of t) ∙ ap clock_of e ∙ clock_of-fields_of u in
+    omega arith
+
+-- a time's text has the shape
+pub text_has_shape : (t : ℕ) → t ≤ last_spelled → has_shape (time_text_of t) ≡ true
+unfolding time_text_of
+text_has_shape t h = spelled_has_shape (fields_of t) (fields_of_width t h)
+
+-- and it has the fields of the second
+pub fields_at-text : (t : ℕ) → fields_at (time_text_of t) ≡ fields_of t
+unfolding time_text_of
+fields_at-text t = fields_at-spelled (fields_of t)
+
+-- the second that fields name
+named_by : TimeFields → ℕ
+named_by f = unsigned_abs (days_from_civil (pos f.year) f.month f.day) * 86400 + f.hour * 3600 + f.minute * 60 + f.second
+
+second_named-fields_at : (word : List ℕ) → second_named word ≡ named_by (fields_at word)
+unfolding second_named named_by
+second_named-fields_at word = refl
+
+named_by-fields_of : (t : ℕ) → t ≤ last_spelled → named_by (fields_of t) ≡ t
+unfolding named_by fields_of
+named_by-fields_of t h =
+    let is = (day_after_epoch_is (t / 86400) (omega arith)).number in
+    rw is (omega arith)
+
+-- the digits of a time's text name its second
+pub second_named-text : (t : ℕ) → t ≤ last_spelled → second_named (time_text_of t) ≡ t
+second_named-text t h = second_named-fields_at (time_text_of t) ∙ ap named_by (fields_at-text t) ∙ named_by-fields_of t h
+
+-- the time of a text
+pub time_of-text : (t : ℕ) → t ≤ last_time → time_of (time_text_of t) ≡ Some t
+unfolding time_of
+time_of-text t h =
+    let within : t ≤ last_spelled = omega arith in
+    rw (second_named-text t within, le-leb t last_time h, (bytes_eq-Decides (time_text_of t) (time_text_of t)).1 refl) refl
+
+-- a word that has a time is its text
+pub time_of_tells : (word : List ℕ) (t : ℕ) → time_of word ≡ Some t → (word ≡ time_text_of t) × (t ≤ last_time)
+unfolding time_of
+time_of_tells word t e =
+    let u = second_named word in
+    let found : (bytes_eq word (time_text_of u) ≡ true) × (u ≡ t) × (u ≤ last_time) = grind (arith, nat_tests) in
+    (rw found.1 at ((bytes_eq-Decides word (time_text_of u)).0 found.0), rw found.1 at found.2)
+
+-- a result that is exactly the time of a text is the time of the word
+pub time_of_is : (word : List ℕ) (r : Option ℕ) → IfSome r (λ t. (word ≡ time_text_of t) × (t ≤ last_time)) → ((t : ℕ) → t ≤ last_time → word ≡ time_text_of t → r ≡ Some t) → r ≡ time_of word
+time_of_is word (Some t) some all = sym (ap time_of some.0 ∙ time_of-text t some.1)
+time_of_is word None some all =
+    (elim (time_of word) as (λ o. time_of word ≡ o → None ≡ o) [
+      | None ↦ λ e. refl
+      | Some t ↦ λ e. let tells = time_of_tells word t e in all t tells.1 tells.0
+    ]) refl
+
+-- ---- the text of a time is that of its day and of a second of that day; it is a word of a line
+
+-- a second of a known day
+pub known_text : (date clock : List ℕ) (begin s : ℕ) → IsDate date begin → clock ≡ drop 10 (time_text_of s) → s < 86400 → (date ++ clock ≡ time_text_of (begin + s)) × (begin + s ≤ last_time)
+unfolding time_text_of fields_of
+known_text date clock begin s is e h =
+    let day : (begin + s) / 86400 ≡ begin / 86400 = omega (arith, is.whole) in
+    let rest : (begin + s) % 86400 ≡ s % 86400 = omega (arith, is.whole) in
+    (rw (is.spelled, e, day, rest) refl, omega (arith, is.whole, is.within))
+
+-- the day of a second
+pub date_of : (text : List ℕ) (t : ℕ) → text ≡ time_text_of t → t ≤ last_time → IsDate (take 10 text) (t - t % 86400)
+unfolding time_text_of fields_of
+date_of text t e h =
+    let day : (t - t % 86400) / 86400 ≡ t / 86400 = omega arith in
+    record {
+      spelled = ap (take 10) e ∙ rw day refl;
+      whole = omega arith;
+      within = omega arith;
+    }
+
+-- ten bytes, of which the first eight make a number
+pub date_bytes : (text : List ℕ) → IsEightBytes (take 8 text) → 9 < length text → take 10 text ≡ digits_l 256 8 (number_l 256 (take 8 text)) ++ get_or text 8 0 ∷ get_or text 9 0 ∷ []
+date_bytes text eight long =
+    let front = bytes_are (take 8 text) 8 (number_l 256 (take 8 text)) eight refl in
+    take_more text 9 0 long ∙ ap (λ f. f ++ get_or text 9 0 ∷ []) (take_more text 8 0 (omega arith) ∙ ap (λ f. f ++ get_or text 8 0 ∷ []) front) ∙ two (digits_l 256 8 (number_l 256 (take 8 text)))
+  where
+    two : (xs : List ℕ) → (xs ++ get_or text 8 0 ∷ []) ++ get_or text 9 0 ∷ [] ≡ xs ++ get_or text 8 0 ∷ get_or text 9 0 ∷ []
+    two xs = rw append_assoc refl
+
+high : (n : ℕ) → n < 100 → is_graphic (48 + n / 10) ≡ true
+high n h = rw (le-leb 33 (48 + n / 10) (omega arith), le-leb (48 + n / 10) 126 (omega arith)) refl
+
+low : (n : ℕ) → is_graphic (48 + n % 10) ≡ true
+low n = rw (le-leb 33 (48 + n % 10) (omega arith), le-leb (48 + n % 10) 126 (omega arith)) refl
+
+graphic_spelled : (f : TimeFields) → HasWidth f → is_graphic_word (spelled f) ≡ true
+graphic_spelled f w =
+    let century = high (f.year / 100) (omega (arith, w.year)) in
+    let year = high (f.year % 100) (omega arith) in
+    rw (century, low (f.year / 100), year, low (f.year % 100), high f.month w.month, low f.month, high f.day w.day, low f.day, high f.hour w.hour, low f.hour, high f.minute w.minute, low f.minute, high f.second w.second, low f.second) refl
+
+pub graphic_time : (t : ℕ) → t ≤ last_time → is_graphic_word (time_text_of t) ≡ true
+unfolding time_text_of
+graphic_time t h = graphic_spelled (fields_of t) (fields_of_width t (omega arith))
+
+-- it is an absolute time in any line
+pub time_at-text : (reference : Option ℕ) (t : ℕ) → t ≤ last_time → time_at reference (time_text_of t) ≡ Ok t
+unfolding time_at time_text_of
+time_at-text reference t h =
+    let digit : eqb (48 + (fields_of t).year / 100 / 10) 43 ≡ false = ne_eqb _ 43 (omega arith) in
+    let none : relative_of (time_text_of t) ≡ None = rw digit refl in
+    ap (λ o. elim o [ Some seconds ↦ after_reference reference seconds | None ↦ absolute_time (time_text_of t) ]) none
+    ∙ ap (λ o. ok_or o BadTime) (time_of-text t h)

@@ -9,8 +9,8 @@ use Rattle.std.specs.Ordering.{is_le}
 use Rattle.sabr_model.specs.declared.contact.Contact.{Contact}
 use Rattle.sabr_model.specs.declared.contact.Range.{Range}
 use Rattle.sabr_model.specs.declared.opening.Opening.{Opening}
-use Rattle.sabr_plan.specs.declared.gathering.paired_ranges.Side.{Side}
-use Rattle.sabr_plan.specs.declared.gathering.paired_ranges.Side.TheVariants.{One, Other}
+use Rattle.sabr_plan.specs.declared.gathering.sorted_ranges.Side.{Side}
+use Rattle.sabr_plan.specs.declared.gathering.sorted_ranges.Side.TheVariants.{One, Other}
 use Rattle.sabr_model.specs.Order.{by_key, put_in}
 use Rattle.sabr_model.specs.plan.Plan.{ContactPlan, IsPlan, opens, range_key}
 use Rattle.sabr_model.specs.plan.Adding.{by_range_key}
@@ -51,9 +51,13 @@ stands_at o c = opens o.from o.to o.start c && stands c
 abbrev pub opening_key : Opening → ℕ × ℕ × ℕ
 opening_key o = (o.start, o.from, o.to)
 
--- the bucket of an opening, one of 4096
+-- the number of buckets of openings
+abbrev pub opening_buckets : ℕ
+opening_buckets = 4096
+
+-- the bucket of an opening
 abbrev pub opening_bucket : Opening → ℕ
-opening_bucket o = ((o.from * 11400714819323198485 % 2 ^ 64 + o.to * 14029467366897019727 % 2 ^ 64) % 2 ^ 64 + o.start * 1609587929392839161 % 2 ^ 64) % 2 ^ 64 / 2 ^ 44 % 4096
+opening_bucket o = ((o.from * 11400714819323198485 % 2 ^ 64 + o.to * 14029467366897019727 % 2 ^ 64) % 2 ^ 64 + o.start * 1609587929392839161 % 2 ^ 64) % 2 ^ 64 / 2 ^ 44 % opening_buckets
 
 -- the bucket of a contact
 abbrev pub contact_bucket : Contact → ℕ
@@ -119,9 +123,13 @@ digit_of side shift r = side_node side r / 2 ^ shift % 2048
 abbrev pub range_at : List Range → ℕ → Range
 range_at ranges place = slice_index_or ranges place (record { one = 0; other = 0; start = 0; end = 0; light = 0 })
 
--- the bucket of a range by its ordered pair, one of 2048
+-- the number of buckets of ranges
+abbrev pub range_buckets : ℕ
+range_buckets = 2048
+
+-- the bucket of a range by its ordered pair
 abbrev pub range_bucket : Range → ℕ
-range_bucket r = (r.one % 2048 * 509 + r.other % 2048) % 2048
+range_bucket r = (r.one % range_buckets * 509 + r.other % range_buckets) % range_buckets
 
 -- no range ends after a pair and second, in the order of ranges
 abbrev pub EndBy : ℕ × ℕ × ℕ → List Range → Type 0

@@ -3,7 +3,6 @@ pub mod Steps
 pub mod Digits
 pub mod Numbers
 pub mod Times
-pub mod TimeShape
 pub mod Words
 pub mod PlainWords
 pub mod Operands

@@ -31,7 +31,7 @@ const A_RANGE: u64 = 0x2065_676e_6172_2061;
 
 /// Returns the text after a byte, if a text begins with that byte.
 #[inline(always)]
-fn behind(text: &[u8], byte: u8) -> Option<&[u8]>
+fn after_byte(text: &[u8], byte: u8) -> Option<&[u8]>
     requires ended { IsFalse (is_one_line text.now) }
     requires other { byte ≢ 10 }
     ensures parts { IfSome result (λ r. text.now ≡ byte ∷ r.now) }
@@ -76,6 +76,7 @@ fn after_end(text: &[u8]) -> Option<&[u8]>
 }
 
 /// Returns the text after the blanks at its front, if there is at least one, and if at least `room` bytes follow.
+#[tactic(auto, using(crate::proofs::PlainWords::one_space))]
 #[inline(always)]
 fn after_gap(text: &[u8], room: usize) -> Option<&[u8]>
     requires ended { IsFalse (is_one_line text.now) }
@@ -84,7 +85,7 @@ fn after_gap(text: &[u8], room: usize) -> Option<&[u8]>
     ensures ended { IfSome result (λ r. IsFalse (is_one_line r.now)) }
     ensures room { IfSome result (λ r. room ≤ length r.now) }
 {
-    if let Some(start) = behind(text, b' ') {
+    if let Some(start) = after_byte(text, b' ') {
         if start[0] > b' ' {
             return Some(start);
         }
@@ -121,7 +122,7 @@ fn relative_front<'a>(reference: &Reference, text: &'a [u8]) -> Option<(u64, &'a
     ensures word { IfSome result (λ r. IsFront (λ w. time_at reference.now w ≡ Ok r.0) text.now r.1.now) }
     ensures room { IfSome result (λ r. length text.now ≤ length r.1.now + 19) }
 {
-    let (seconds, digits, rest) = leading_digits(behind(text, b'+')?);
+    let (seconds, digits, rest) = leading_digits(after_byte(text, b'+')?);
     if digits.is_empty() || digits.len() > 12 {
         return None;
     }
@@ -180,7 +181,7 @@ fn any_target_ahead(line: &[u8]) -> Option<(Target, &[u8])>
     ensures adds { IfSome result (λ r. AddsAhead r.0 line.now r.1.now) }
     ensures room { IfSome result (λ r. 100 ≤ length r.1.now) }
 {
-    let letter = behind(after_blanks(line), b'a')?;
+    let letter = after_byte(after_blanks(line), b'a')?;
     if letter.len() < LINE_BYTES {
         return None;
     }
@@ -232,7 +233,7 @@ pub fn fast_addition<'a>(
     let (first, rest) = number_ahead(1, u64::MAX, rest, 2 * SPACED_BYTES)?;
     let (second, rest) = number_ahead(1, u64::MAX, rest, SPACED_BYTES)?;
     let (value, rest) = number_ahead(0, largest_value(target), rest, 0)?;
-    let behind = after_end(rest)?;
+    let next = after_end(rest)?;
     let addition = Addition {
         start,
         end,
@@ -240,5 +241,5 @@ pub fn fast_addition<'a>(
         second,
         value,
     };
-    Some((Command::Add(target, addition), behind))
+    Some((Command::Add(target, addition), next))
 }

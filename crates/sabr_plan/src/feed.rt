@@ -97,11 +97,11 @@ impl<A: Allocator + Copy> PlanFeed<A> {
         let (lines, tail) = ended_lines(piece);
         let mut rest = lines;
         while !rest.is_empty() {
-            let (_, behind, ended) = self.feed_line(rest);
+            let (_, next, ended) = self.feed_line(rest);
             if let Err(kind) = ended {
                 return Err(self.fault(kind));
             }
-            rest = behind;
+            rest = next;
         }
         self.hold(tail)
     }
@@ -193,7 +193,7 @@ impl<A: Allocator + Copy> PlanFeed<A> {
         ensures { EndsLine self.old back.now result self.new }
     {
         let lines = self.lines + 1;
-        match self.judge_line(back) {
+        match self.take_line(back) {
             Ok(()) => {
                 self.lines = lines;
                 self.held.clear();
@@ -214,7 +214,7 @@ impl<A: Allocator + Copy> PlanFeed<A> {
         if self.lines >= MAX_LINES || line.len() > MAX_LINE_BYTES {
             return self.end_line(line);
         }
-        if let Err(kind) = self.reading.judge_known(line, command) {
+        if let Err(kind) = self.reading.execute_known(line, command) {
             return Err(kind);
         }
         self.lines += 1;
@@ -222,7 +222,7 @@ impl<A: Allocator + Copy> PlanFeed<A> {
     }
 
     /// Reads the held line with these bytes at its end, if it is within the limits.
-    fn judge_line(&mut self, back: &[u8]) -> Result<(), PlanKind>
+    fn take_line(&mut self, back: &[u8]) -> Result<(), PlanKind>
         requires { IsTrue (is_one_line back.now) }
         ensures value { Leaves (limited (self.old.lines + 1) self.old.reading (self.old.held ++ back.now)) result self.new.reading }
         ensures lines { self.new.lines ≡ self.old.lines }
@@ -235,7 +235,7 @@ impl<A: Allocator + Copy> PlanFeed<A> {
             return Err(PlanKind::LineTooLong);
         }
         self.append(back);
-        self.reading.judge(self.held.as_slice())
+        self.reading.execute_line(self.held.as_slice())
     }
 
     /// Holds more bytes of a line.

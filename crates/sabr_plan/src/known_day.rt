@@ -5,7 +5,7 @@ ghost use Rattle.std.specs.Prelude.{◌≡◌, ◌<◌, ◌≤◌, ◌∷◌, []
 ghost use lib.Lanes.{digits_l};
 ghost use Rattle.sabr_model.specs.plan.Plan.{last_time};
 ghost use Rattle.sabr_plan.specs.Times.{time_text_of};
-ghost use Rattle.sabr_plan.specs.TimeShape.{IsDate};
+ghost use Rattle.sabr_plan.specs.Times.{IsDate};
 
 use crate::eight_digits::{first_eight, mark_from_ten};
 use crate::time::parse_time;

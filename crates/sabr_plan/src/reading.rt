@@ -121,27 +121,27 @@ impl<A: Allocator + Copy> PlanReading<A> {
     #[cold]
     #[inline(never)]
     #[tactic(auto, using(crate::proofs::SpelledPlans::line_bounds), unfolding(crate::specs::Reading::judged))]
-    pub fn judge(&mut self, line: &[u8]) -> Result<(), PlanKind>
+    pub fn execute_line(&mut self, line: &[u8]) -> Result<(), PlanKind>
         ensures { Leaves (judged self.old line.now) result self.new }
     {
         let command = line_command(&self.reference, line)?;
-        self.obey(command)
+        self.execute(command)
     }
 
     /// Executes the command of a line, which was read.
     #[inline(always)]
     #[tactic(auto, using(crate::proofs::SpelledPlans::line_bounds), unfolding(crate::specs::Reading::judged))]
-    pub fn judge_known(&mut self, line: &[u8], command: Command) -> Result<(), PlanKind>
+    pub fn execute_known(&mut self, line: &[u8], command: Command) -> Result<(), PlanKind>
         requires { line_command self.old.reference line.now ≡ Ok command }
         ensures { Leaves (judged self.old line.now) result self.new }
     {
-        self.obey(command)
+        self.execute(command)
     }
 
     /// Executes the command of a line.
     #[inline(always)]
     #[tactic(auto, unfolding(crate::specs::Reading::obeyed))]
-    fn obey(&mut self, command: Command) -> Result<(), PlanKind>
+    fn execute(&mut self, command: Command) -> Result<(), PlanKind>
         requires { HasBounds command }
         ensures { Leaves (obeyed self.old command) result self.new }
     {

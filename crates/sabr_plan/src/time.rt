@@ -3,7 +3,7 @@
 ghost use Rattle.std.specs.Prelude.{◌≡◌, ℕ, ◌<◌, ◌≤◌, ◌+◌, ◌≢◌, Some, IfSome, IsNone, IsTrue, length, slice_index};
 ghost use Rattle.sabr_model.specs.plan.Plan.{last_time};
 ghost use Rattle.sabr_plan.specs.Times.{day_after_epoch, pair_at, spelled, fields_of, last_spelled, time_text_of, time_of};
-ghost use Rattle.sabr_plan.specs.TimeShape.{is_pair, has_shape, fields_at, HasWidth};
+ghost use Rattle.sabr_plan.specs.Times.{is_pair, has_shape, fields_at, HasWidth};
 
 use jiff::civil::Date;
 use sabr_model::LAST_TIME;
@@ -159,7 +159,7 @@ pub fn digit(value: u8) -> u8
 
 /// Returns the 19 bytes `yyyy/mm/dd-hh:mm:ss` of a second since 1970-01-01T00:00:00Z. The second is at most
 /// 253402300799, the last of the year 9999. It is O(1).
-#[tactic(auto, using(crate::proofs::Seconds::fields_of_width), unfolding(crate::specs::Times::time_text_of))]
+#[tactic(auto, using(crate::proofs::Spelling::fields_of_width), unfolding(crate::specs::Times::time_text_of))]
 pub fn time_text(second: u64) -> [u8; 19]
     requires { second ≤ last_spelled }
     ensures { result ≡ time_text_of second }

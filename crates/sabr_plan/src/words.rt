@@ -87,8 +87,8 @@ pub fn one_word(text: &[u8]) -> Option<&[u8]>
     ensures { MatchOption result (length (words_of text.now) ≢ 1) (λ w. words_of text.now ≡ w.now ∷ []) }
 {
     let (word, rest) = first_word(text);
-    let (behind, _) = first_word(rest);
-    if word.is_empty() || !behind.is_empty() {
+    let (next, _) = first_word(rest);
+    if word.is_empty() || !next.is_empty() {
         None
     } else {
         Some(word)
@@ -102,8 +102,8 @@ pub fn three_words(text: &[u8]) -> Option<(&[u8], &[u8], &[u8])>
     let (a, rest) = first_word(text);
     let (b, rest) = first_word(rest);
     let (c, rest) = first_word(rest);
-    let (behind, _) = first_word(rest);
-    if c.is_empty() || !behind.is_empty() {
+    let (next, _) = first_word(rest);
+    if c.is_empty() || !next.is_empty() {
         None
     } else {
         Some((a, b, c))
@@ -119,8 +119,8 @@ pub fn five_words(text: &[u8]) -> Option<(&[u8], &[u8], &[u8], &[u8], &[u8])>
     let (c, rest) = first_word(rest);
     let (d, rest) = first_word(rest);
     let (e, rest) = first_word(rest);
-    let (behind, _) = first_word(rest);
-    if e.is_empty() || !behind.is_empty() {
+    let (next, _) = first_word(rest);
+    if e.is_empty() || !next.is_empty() {
         None
     } else {
         Some((a, b, c, d, e))

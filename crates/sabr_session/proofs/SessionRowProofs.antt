@@ -8,8 +8,8 @@ use Rattle.jiff_core.specs.declared.civil.date.Date.{Date}
 use Rattle.jiff_core.specs.Calendar.{days_from_civil, day_count, days_of_years, days_of_months, IsCivilDate}
 use Rattle.sabr_model.specs.Rows.{begin, from_1_to_3}
 use Rattle.sabr_plan.specs.Times.{day_after_epoch, spelled, time_text_of}
-use Rattle.sabr_plan.proofs.Dates.{day_is_of}
-use Rattle.sabr_plan.proofs.Seconds.{fields_of-clock}
+use Rattle.sabr_plan.proofs.Days.{day_is_of}
+use Rattle.sabr_plan.proofs.Spelling.{fields_of-clock}
 use Rattle.sabr_frontier.specs.listing.State.{State}
 use Rattle.sabr_frontier.specs.listing.Rows.{start_of_a, a_after_1, a_after_2, a_after_3}
 use Rattle.sabr_session.specs.SessionText.{plan_line, request_line, old_request_line, state_lines, text_of, old_text_of}

@@ -5,7 +5,7 @@ ghost use Rattle.std.specs.Prelude.{◌≡◌, ◌<◌, ◌≤◌, [], IsTrue, l
 ghost use Rattle.std.specs.List.{list_any, position};
 ghost use Rattle.std.specs.Ordering.{is_gt};
 ghost use Rattle.sabr_model.specs.Order.{by_key};
-ghost use Rattle.sabr_plan.specs.Gathering.{AreChained, opening_key, opening_bucket, contact_bucket, stands_at, OpenBy, KnowsSome, IsFound, IsTreed, standing};
+ghost use Rattle.sabr_plan.specs.Gathering.{AreChained, opening_key, opening_bucket, opening_buckets, contact_bucket, stands_at, OpenBy, KnowsSome, IsFound, IsTreed, standing};
 ghost use Rattle.sabr_model.specs.plan.Plan.{same_opening, none_twice};
 
 use crate::gathering::chains::Chains;
@@ -77,6 +77,7 @@ impl<A: Allocator + Copy> KnownOpenings<A> {
 
 /// Returns the index of the contact that stands and has this opening, or `None`. It is O(1) on average with all
 /// contacts in the hash table, O(log n) with all in the tree, and a pass over them if an allocation for these fails.
+#[tactic(auto, using(crate::proofs::GatheredOpenings::by_pass))]
 #[cold]
 #[inline(never)]
 pub fn find_standing<A: Allocator + Copy>(
@@ -106,6 +107,7 @@ pub fn find_standing<A: Allocator + Copy>(
 
 /// Returns the index of the contact that stands and has this opening, or `None`. It is a pass over the contacts if an
 /// allocation for the tree fails.
+#[tactic(auto, using(crate::proofs::GatheredOpenings::by_pass))]
 #[cold]
 #[inline(never)]
 fn find_in_tree<A: Allocator + Copy>(
@@ -141,13 +143,13 @@ fn comes_after(opening: &Opening, other: &Opening) -> bool
 /// The bucket of an opening.
 fn bucket_of(from: u64, to: u64, start: u64) -> usize
     ensures value { result ≡ opening_bucket (record { from = from; to = to; start = start }) }
-    ensures limit { result < 4096 }
+    ensures limit { result < opening_buckets }
 {
     let from = from.wrapping_mul(11_400_714_819_323_198_485);
     let to = to.wrapping_mul(14_029_467_366_897_019_727);
     let start = start.wrapping_mul(1_609_587_929_392_839_161);
     let mixed = from.wrapping_add(to).wrapping_add(start);
-    ((mixed >> 44) % 4096) as usize
+    ((mixed >> 44) % BUCKETS as u64) as usize
 }
 
 /// Returns the index of the contact that stands and has this opening, or `None`, and the number of steps along a chain.
@@ -159,7 +161,7 @@ fn find_in_chain(
     lasts: &[usize],
     opening: &Opening,
 ) -> (Option<usize>, usize)
-    requires sized { 4096 ≤ length lasts.now }
+    requires sized { opening_buckets ≤ length lasts.now }
     requires chained { AreChained (map contact_bucket contacts.now) befores.now lasts.now }
     requires all { length befores.now ≡ length contacts.now }
     ensures { IsFound opening.now contacts.now result.0 }

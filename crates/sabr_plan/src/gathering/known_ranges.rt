@@ -6,7 +6,7 @@ ghost use Rattle.std.specs.List.{list_any};
 ghost use Rattle.std.specs.Ordering.{is_le};
 ghost use Rattle.sabr_model.specs.Order.{by_key};
 ghost use Rattle.sabr_model.specs.plan.Plan.{overlap, range_key};
-ghost use Rattle.sabr_plan.specs.Gathering.{AreChained, EndBy, KnowsRanges, range_bucket};
+ghost use Rattle.sabr_plan.specs.Gathering.{AreChained, EndBy, KnowsRanges, range_bucket, range_buckets};
 
 use crate::gathering::chains::Chains;
 use sabr_model::Range;
@@ -94,15 +94,16 @@ fn comes_by(last: (u64, u64, u64), range: &Range) -> bool
 /// The bucket of a range, by its ordered pair.
 fn bucket_of(range: &Range) -> usize
     ensures value { result ≡ range_bucket range.now }
-    ensures limit { result < 2048 }
+    ensures limit { result < range_buckets }
 {
-    ((range.one % 2048 * 509 + range.other % 2048) % 2048) as usize
+    let buckets = BUCKETS as u64;
+    ((range.one % buckets * 509 + range.other % buckets) % buckets) as usize
 }
 
 /// Returns the number of steps along a chain if none of the ranges, all of which are in the hash table, is of the same
 /// ordered pair as `range` and overlaps it, and `None` otherwise.
 fn walk_chain(ranges: &[Range], befores: &[usize], lasts: &[usize], range: &Range) -> Option<usize>
-    requires sized { 2048 ≤ length lasts.now }
+    requires sized { range_buckets ≤ length lasts.now }
     requires chained { AreChained (map range_bucket ranges.now) befores.now lasts.now }
     requires all { length befores.now ≡ length ranges.now }
     ensures { is_some result ≡ not (list_any (overlap range.now) ranges.now) }

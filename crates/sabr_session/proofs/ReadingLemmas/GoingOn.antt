@@ -4,7 +4,7 @@ use Rattle.sabr_plan.specs.Canonical.{digest_of}
 use Rattle.sabr_plan.specs.Steps.{and_then}
 use Rattle.sabr_plan.specs.Words.{TextLines, is_one_line, has_bytes, lines_of}
 use Rattle.sabr_plan.proofs.Held.{one_line-append}
-use Rattle.sabr_plan.proofs.Lines.{lines_of-one, lines_of-line}
+use Rattle.sabr_plan.proofs.Outcomes.{lines_of-one, lines_of-line}
 use Rattle.sabr_session.specs.declared.session_fault.SessionFault.{SessionFault}
 use Rattle.sabr_session.specs.declared.session_fault.SessionFault.TheVariants as fault
 use Rattle.sabr_session.specs.SessionRead.{Said, misspelled, read_line, is_after, last_line}

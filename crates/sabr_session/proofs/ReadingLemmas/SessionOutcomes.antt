@@ -8,8 +8,7 @@ use Rattle.std.specs.Prelude.{if◌then◌else◌}
 use Rattle.sabr_model.specs.plan.Plan.{ContactPlan}
 use Rattle.sabr_plan.specs.Steps.{and_then}
 use Rattle.sabr_plan.specs.Words.{TextLines, is_one_line, has_bytes, lines_of}
-use Rattle.sabr_plan.proofs.Outcomes.{and_then-and_then, and_then-same}
-use Rattle.sabr_plan.proofs.Lines.{in_front, lines_of-front, lines_of-one, lines_of-line}
+use Rattle.sabr_plan.proofs.Outcomes.{and_then-and_then, and_then-same, in_front, lines_of-front, lines_of-one, lines_of-line}
 use Rattle.sabr_session.specs.declared.session_fault.SessionFault.{SessionFault}
 use Rattle.sabr_session.specs.declared.session_fault.SessionFault.TheVariants as fault
 use Rattle.sabr_session.specs.SessionRead.{Said, nothing_said, misspelled, line_said, read_line, read_lines, is_after, last_line, said_of}

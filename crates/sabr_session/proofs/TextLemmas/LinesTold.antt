@@ -9,7 +9,7 @@ use Rattle.hex.specs.Hex.{encode_lower}
 use Rattle.sabr_model.specs.routes.Arrival.{RouteRequest}
 use Rattle.sabr_model.specs.routes.Asking.{most_hops, request_refusal, limit_refusal, unlimited, with_limits}
 use Rattle.sabr_plan.specs.Times.{time_text_of, time_of}
-use Rattle.sabr_plan.proofs.Seconds.{time_of_tells}
+use Rattle.sabr_plan.proofs.Spelling.{time_of_tells}
 use Rattle.sabr_frontier.specs.listing.State.{PartState}
 use Rattle.sabr_session.specs.SpacedNumbers.{list_text}
 use Rattle.sabr_session.specs.SessionText.{part_line}

@@ -4,7 +4,7 @@ use Rattle.std.specs.List.{concat, flat_map}
 use Rattle.std.proofs.lemmas.List.{take_more, take-append-drop}
 use Rattle.std.specs.Result.{IsErrAnd}
 use Rattle.sabr_model.specs.Devices.{Output}
-use Rattle.sabr_plan.proofs.CanonicalLines.{flat_map-parted}
+use Rattle.sabr_plan.proofs.SpelledPlans.{flat_map-parted}
 use Rattle.sabr_session.specs.Gathering.{HasPut, StopsIn, Puts}
 use Rattle.sabr_session.specs.declared.writing.text_buffer.TextBuffer.{TextBuffer}
 use Rattle.sabr_session.proofs.TextLemmas.Gathering.{HasPut-append, Puts-stopped, Puts-after}

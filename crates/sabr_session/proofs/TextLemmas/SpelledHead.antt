@@ -9,7 +9,7 @@ use Rattle.sabr_model.specs.plan.Plan.{IsNode, last_time, rises_above, has}
 use Rattle.sabr_model.specs.routes.Arrival.{RouteRequest}
 use Rattle.sabr_model.specs.routes.Asking.{most_hops, most_margin, request_refusal, limit_refusal, unlimited, IsRequest}
 use Rattle.sabr_plan.specs.Times.{time_text_of}
-use Rattle.sabr_plan.proofs.Seconds.{time_of-text}
+use Rattle.sabr_plan.proofs.Spelling.{time_of-text}
 use Rattle.sabr_session.specs.SpacedNumbers.{list_text}
 use Rattle.sabr_session.specs.SessionText.{IsUnlimited}
 use Rattle.sabr_session.specs.SessionWords.{words_of, nodes_of, contacts_of, most_number}

@@ -4,7 +4,7 @@ use Rattle.std.specs.List.{concat}
 use Rattle.std.proofs.lemmas.Bool.Decides.{nat_tests}
 use Rattle.std.proofs.lemmas.Fmt.{length-decimal-le_wide}
 use Rattle.sabr_plan.specs.Words.{TextLines, is_one_line, lines_of}
-use Rattle.sabr_plan.proofs.Lines.{lines_of-line}
+use Rattle.sabr_plan.proofs.Outcomes.{lines_of-line}
 use Rattle.sabr_session.specs.SpacedNumbers.{spaced_by, list_text}
 use Rattle.sabr_session.proofs.WordLemmas.SpelledWords.{IsWord, AreWithin, decimal_is_word}
 use Rattle.sabr_plan.proofs.Held.{one_line-append}

@@ -3,7 +3,7 @@ use Rattle.std.proofs.Common.{codes}
 use Rattle.std.specs.List.{flat_map}
 use Rattle.std.proofs.lemmas.Result.{err_from_is_err_and}
 use Rattle.sabr_plan.specs.Canonical.{contact_line, range_line, canonical_text}
-use Rattle.sabr_plan.proofs.CanonicalLines.{stopped_in_one, stopped_in_two, stopped_in_three, at_last}
+use Rattle.sabr_plan.proofs.SpelledPlans.{stopped_in_one, stopped_in_two, stopped_in_three, at_last}
 use Rattle.sabr_plan.proofs.canonical_text.canonical.Goals as goal
 
 pub returns-in_err-write_text : goal.returns-in_err-write_text

@@ -1,7 +1,7 @@
 -- The lines before the one that failed were written.
 use Rattle.std.proofs.lemmas.Result.{err_from_is_err_and}
 use Rattle.sabr_plan.specs.Canonical.{contact_line}
-use Rattle.sabr_plan.proofs.CanonicalLines.{stopped_at}
+use Rattle.sabr_plan.proofs.SpelledPlans.{stopped_at}
 use Rattle.sabr_plan.proofs.canonical_text.write_contacts.Goals as goal
 
 pub returns-in_err-write_text : goal.returns-in_err-write_text

@@ -5,7 +5,7 @@ use Rattle.std.specs.Str.Parse.{digits_value}
 use Rattle.std.specs.List.{list_all}
 use Rattle.core.proofs.dec2flt.Rows.{AllDigits-digits_len}
 use Rattle.sabr_plan.specs.Digits.{is_digit}
-use Rattle.sabr_plan.proofs.Digits.{few_digits, numerals}
+use Rattle.sabr_plan.proofs.SpelledNumbers.{few_digits, numerals}
 use Rattle.sabr_plan.proofs.eight_digits.count_any_digits.Goals as goal
 
 pub returns : goal.returns

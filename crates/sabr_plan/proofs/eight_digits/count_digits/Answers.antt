@@ -8,7 +8,7 @@ use Rattle.core.proofs.dec2flt.Eight.{eight_at, lanes_are, shifted_is, bytes_up}
 use lib.Count.{count_trailing_zeros}
 use Rattle.core.proofs.dec2flt.Rows.{AllDigits-digits_len}
 use Rattle.sabr_plan.specs.Digits.{is_digit}
-use Rattle.sabr_plan.proofs.Digits.{numerals}
+use Rattle.sabr_plan.proofs.SpelledNumbers.{numerals}
 use Rattle.sabr_plan.proofs.eight_digits.count_digits.Goals as goal
 
 pub returns : goal.returns

@@ -23,7 +23,7 @@ returns-clause-word c =
     let some : 0 < length digits = grind (arith, nat_tests) in
     record {
       word = 43 ∷ digits;
-      parts = c.in_ok-behind.ensures.parts ∙ ap (λ s. 43 ∷ s) d.parts;
+      parts = c.in_ok-after_byte.ensures.parts ∙ ap (λ s. 43 ∷ s) d.parts;
       graphic = graphic_behind 43 digits refl (graphic_digits digits d.digits.digits);
       holds = relative digits some d.digits.digits c.args.reference.now c.if-digits-gt12.false ∙ ap (after_reference c.args.reference.now) (sym d.digits.stands) ∙ sym c.after.ensures ∙ c.in-Ok.is;
     }

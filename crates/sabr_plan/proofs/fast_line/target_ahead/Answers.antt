@@ -5,7 +5,7 @@ use Rattle.core.proofs.dec2flt.Eight.{eight_at}
 use Rattle.sabr_plan.specs.PlainWords.{AddsAhead, name_of, is_graphic_word}
 use Rattle.sabr_plan.specs.declared.command.Target.{Target}
 use Rattle.sabr_plan.specs.declared.command.Target.TheVariants.{Contact, Range}
-use Rattle.sabr_plan.proofs.Digits.{bytes_are}
+use Rattle.sabr_plan.proofs.SpelledNumbers.{bytes_are}
 use Rattle.sabr_plan.proofs.fast_line.target_ahead.Goals as goal
 
 graphic_name : (target : Target) → is_graphic_word (name_of target) ≡ true

@@ -1,7 +1,7 @@
 -- The text of a time is a word.
 use Rattle.std.proofs.Common.{ap, ◌∙◌}
 use Rattle.sabr_plan.specs.Operands.{time_at}
-use Rattle.sabr_plan.proofs.KnownDays.{graphic_time, time_at-text}
+use Rattle.sabr_plan.proofs.Spelling.{graphic_time, time_at-text}
 use Rattle.sabr_plan.proofs.fast_line.time_front.Goals as goal
 
 pub returns-clause-word : goal.returns-clause-word

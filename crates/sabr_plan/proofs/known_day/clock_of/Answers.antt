@@ -8,7 +8,7 @@ use Rattle.core.specs.Dec2flt.Digits.{IsEightBytes}
 use Rattle.core.specs.Int.Digits.{AllBelowBase}
 use Rattle.core.proofs.dec2flt.Eight.{eight_at}
 use Rattle.sabr_plan.specs.Times.{fields_of, time_text_of}
-use Rattle.sabr_plan.proofs.Digits.{bytes_are}
+use Rattle.sabr_plan.proofs.SpelledNumbers.{bytes_are}
 use Rattle.sabr_plan.proofs.known_day.clock_of.Goals as goal
 
 -- the bytes that stand for `:`

@@ -1,7 +1,7 @@
 -- Digits are read one after another.
 use Rattle.std.proofs.Common.{◌≤◌, ◌+◌, ◌*◌, ◌-◌, sym, ap, ◌∙◌, take, get_or, arith, rules}
 use Rattle.std.specs.Str.Parse.{digits_value}
-use Rattle.sabr_plan.proofs.Digits.{take_digit, take_digits, small_value_over}
+use Rattle.sabr_plan.proofs.SpelledNumbers.{take_digit, take_digits, small_value_over}
 use Rattle.sabr_plan.proofs.number.digits_value.Goals as goal
 
 pub loop-byte-preserved : goal.loop-byte-preserved

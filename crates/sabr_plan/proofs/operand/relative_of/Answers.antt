@@ -6,7 +6,7 @@ use Rattle.std.proofs.lemmas.List.{take_all}
 use Rattle.std.proofs.lemmas.Bool.Decides.{nat_tests}
 use Rattle.sabr_plan.specs.Digits.{is_digit}
 use Rattle.sabr_plan.specs.Operands.{relative_of}
-use Rattle.sabr_plan.proofs.Digits.{small_value, few_digits}
+use Rattle.sabr_plan.proofs.SpelledNumbers.{small_value, few_digits}
 use Rattle.sabr_plan.proofs.operand.relative_of.Goals as goal
 
 behind : (word : List ℕ) → 0 < length word → get_or word 0 0 ≡ 43 → length word ≤ 13 → small_value (take (length word - 1) (drop 1 word)) ≡ relative_of word

@@ -1,6 +1,6 @@
 -- The text is one piece.
 use Rattle.std.proofs.lemmas.Result.{err_from_is_err_and}
-use Rattle.sabr_plan.proofs.ReadSoFar.{all_was_read, all_is_refused}
+use Rattle.sabr_plan.proofs.Held.{all_was_read, all_is_refused}
 use Rattle.sabr_plan.proofs.read.parse_plan.Goals as goal
 
 pub returns-in_err-feed : goal.returns-in_err-feed

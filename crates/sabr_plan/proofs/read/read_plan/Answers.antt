@@ -2,7 +2,7 @@
 use Rattle.std.proofs.Common.{refl, arith}
 use Rattle.std.proofs.lemmas.Result.{err_from_is_err_and}
 use Rattle.sabr_model.proofs.ListLemmas.ReadTexts.{end_told}
-use Rattle.sabr_plan.proofs.ReadSoFar.{nothing_was_read, piece_was_read, text_ended, piece_refused, read_failed}
+use Rattle.sabr_plan.proofs.Held.{nothing_was_read, piece_was_read, text_ended, piece_refused, read_failed}
 use Rattle.sabr_plan.proofs.read.read_plan.Goals as goal
 
 pub loop-feed-init : goal.loop-feed-init

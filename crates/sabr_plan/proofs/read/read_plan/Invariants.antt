@@ -1,7 +1,7 @@
 use Rattle.std.proofs.Common.{◌≡◌, ◌+◌, ◌-◌, ◌*◌}
 use Rattle.sabr_plan.specs.Reading.{most_lines}
 use Rattle.sabr_plan.specs.Feeding.{weight}
-use Rattle.sabr_plan.proofs.ReadSoFar.{HasRead}
+use Rattle.sabr_plan.proofs.Held.{HasRead}
 use Rattle.sabr_plan.proofs.read.read_plan.Given as goal
 
 abbrev pub invariant-loop-feed : goal.invariant-loop-feed

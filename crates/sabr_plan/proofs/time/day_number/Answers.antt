@@ -2,7 +2,7 @@
 use Rattle.std.proofs.Common.{ap, ◌∙◌, sym}
 use Rattle.std.proofs.lemmas.Bool.{false≢true}
 use Rattle.jiff_core.specs.Date.{epoch_day}
-use Rattle.sabr_plan.proofs.Dates.{is_date, number_is, day_is_of, not_negative, negative}
+use Rattle.sabr_plan.proofs.Days.{is_date, number_is, day_is_of, not_negative, negative}
 use Rattle.sabr_plan.proofs.time.day_number.Goals as goal
 
 pub returns-in_default-clause-none : goal.returns-in_default-clause-none

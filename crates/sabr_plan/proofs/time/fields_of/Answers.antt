@@ -4,8 +4,7 @@ use Rattle.jiff_core.specs.declared.civil.date.Date.{Date}
 use Rattle.jiff_core.specs.Date.{epoch_day}
 use Rattle.jiff_core.proofs.SignedLemmas.{signed_arith}
 use Rattle.sabr_plan.specs.Times.{day_after_epoch, fields_of}
-use Rattle.sabr_plan.proofs.Days.{day_after_epoch_is, same_day}
-use Rattle.sabr_plan.proofs.Dates.{cast_year}
+use Rattle.sabr_plan.proofs.Days.{day_after_epoch_is, same_day, cast_year}
 use Rattle.sabr_plan.proofs.time.fields_of.Goals as goal
 
 -- the date this many days after the calendar's first

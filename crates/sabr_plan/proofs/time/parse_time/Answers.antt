@@ -2,10 +2,8 @@
 use Rattle.std.proofs.Common.{◌≡◌, ◌≢◌, ℕ, ◌≤◌, List, Option, Some, None, IfSome, IsNone, true, false, sym, ap, ◌∙◌, refl, arith}
 use Rattle.std.proofs.lemmas.Bool.{false≢true}
 use Rattle.sabr_model.specs.plan.Plan.{last_time}
-use Rattle.sabr_plan.specs.Times.{fields_of, spelled, time_text_of}
-use Rattle.sabr_plan.specs.TimeShape.{has_shape, fields_at}
-use Rattle.sabr_plan.proofs.Spelling.{fields_at_spelled}
-use Rattle.sabr_plan.proofs.Seconds.{text_has_shape, fields_at-text, fields_of_injective, time_of_is}
+use Rattle.sabr_plan.specs.Times.{fields_of, spelled, time_text_of, has_shape, fields_at}
+use Rattle.sabr_plan.proofs.Spelling.{fields_at_spelled, text_has_shape, fields_at-text, fields_of_injective, time_of_is}
 use Rattle.sabr_plan.proofs.time.parse_time.Goals as goal
 
 -- a text without the shape is no time

@@ -2,7 +2,7 @@
 use Rattle.std.proofs.Common.{◌≡◌, ℕ, ◌+◌, ◌*◌, ◌/◌, ◌≤◌, refl, sym, ap, ◌∙◌, arith}
 use Rattle.sabr_plan.specs.declared.time.TimeFields.{TimeFields}
 use Rattle.sabr_plan.specs.Times.{day_after_epoch, fields_of}
-use Rattle.sabr_plan.proofs.Seconds.{fields_of-clock, fields_of_injective, day_of, day_of-fields_of, fields_clock}
+use Rattle.sabr_plan.proofs.Spelling.{fields_of-clock, fields_of_injective, day_of, day_of-fields_of, fields_clock}
 use Rattle.sabr_plan.proofs.time.second_of.Goals as goal
 
 pub returns-in_err-days-clause-none : goal.returns-in_err-days-clause-none

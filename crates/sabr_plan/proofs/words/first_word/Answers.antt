@@ -5,7 +5,7 @@ use Rattle.std.proofs.lemmas.Bool.{cases_lt, false≢true}
 use Rattle.std.proofs.lemmas.List.{take-append-drop, nil_from_length}
 use borrow.Author.Tests.{lt-ltb}
 use Rattle.sabr_plan.specs.Words.{is_blank, has_bytes, words_of}
-use Rattle.sabr_plan.proofs.FirstWords.{first_is, words_of-nil}
+use Rattle.sabr_plan.proofs.PlainWords.{first_is, words_of-nil}
 use Rattle.sabr_plan.proofs.words.first_word.Goals as goal
 use Rattle.sabr_plan.proofs.words.first_word.Goals.{then-loop-end-test+else-not-is_blank, else-loop-end-test}
 

@@ -1,6 +1,6 @@
 -- A blank before a text changes no word.
 use Rattle.std.proofs.Common.{sym, ◌∙◌, arith}
-use Rattle.sabr_plan.proofs.FirstWords.{words_of-drop}
+use Rattle.sabr_plan.proofs.PlainWords.{words_of-drop}
 use Rattle.sabr_plan.proofs.words.skip_blanks.Goals as goal
 
 pub loop-at-preserved : goal.loop-at-preserved

@@ -3,8 +3,8 @@ use Rattle.std.proofs.Common.{◌≡◌, ℕ, Bool, List, ◌++◌, length, subs
 use Rattle.std.proofs.lemmas.Bool.Decides.{nat_tests}
 use Rattle.std.proofs.lemmas.List.{nil_from_length}
 use Rattle.sabr_plan.specs.Feeding.{Fed, outcome}
-use Rattle.sabr_plan.proofs.Lines.{still_lf_at_end}
-use Rattle.sabr_plan.proofs.Feeds.{parted_on, line_refused, line_read, line_grows, rest_held}
+use Rattle.sabr_plan.proofs.Outcomes.{still_lf_at_end}
+use Rattle.sabr_plan.proofs.Held.{parted_on, line_refused, line_read, line_grows, rest_held}
 use Rattle.sabr_plan.proofs.feed.PlanFeed.feed.Goals as goal
 
 only_tail : (first s : Fed) (piece rest tail : List ℕ) → length rest ≡ 0 → ((more : List ℕ) (ended : Bool) → outcome first (piece ++ more) ended ≡ outcome s ((rest ++ tail) ++ more) ended) → (more : List ℕ) (ended : Bool) → outcome first (piece ++ more) ended ≡ outcome s (tail ++ more) ended

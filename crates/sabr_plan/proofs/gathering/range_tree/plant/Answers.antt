@@ -3,7 +3,8 @@ use Rattle.std.specs.BTreeMap.{insert_entry}
 use Rattle.std.proofs.lemmas.List.{drop_all}
 use Rattle.sabr_model.specs.Order.{by_key}
 use Rattle.sabr_plan.specs.Gathering.{keyed}
-use Rattle.sabr_plan.proofs.RangeTrees.{no_range, tree_of, planted_more}
+use Rattle.sabr_plan.proofs.SortedRanges.{no_range}
+use Rattle.sabr_plan.proofs.RangeTrees.{tree_of, planted_more}
 use Rattle.sabr_plan.proofs.gathering.range_tree.plant.Goals as goal
 
 pub loop-left-init : goal.loop-left-init

@@ -1,7 +1,7 @@
 -- The bytes of a time begin with those of its day.
 use Rattle.std.proofs.Common.{arith}
 use Rattle.core.proofs.dec2flt.Eight.{eight_at}
-use Rattle.sabr_plan.proofs.KnownDays.{date_of, date_bytes}
+use Rattle.sabr_plan.proofs.Spelling.{date_of, date_bytes}
 use Rattle.sabr_plan.proofs.known_day.KnownDay.meet.Goals as goal
 
 pub invariant_of-self : goal.invariant_of-self

@@ -2,7 +2,7 @@
 use Rattle.std.proofs.Common.{◌≡◌, ◌++◌, ◌∷◌, [], take, sym, ap, ◌∙◌, arith}
 use lib.Lanes.{digits_l}
 use Rattle.core.proofs.dec2flt.Eight.{eight_at}
-use Rattle.sabr_plan.proofs.KnownDays.{known_text, date_bytes}
+use Rattle.sabr_plan.proofs.Spelling.{known_text, date_bytes}
 use Rattle.sabr_plan.proofs.known_day.KnownDay.second_of.Goals as goal
 
 pub returns : goal.returns

@@ -5,7 +5,7 @@ use Rattle.sabr_model.specs.plan.Plan.{ContactPlan}
 use Rattle.std.proofs.lemmas.Result.{on_ok_weaker}
 use Rattle.sabr_model.specs.plan.Adding.{range_refusal, new_range, with_range}
 use Rattle.sabr_plan.specs.Reading.{obeyed}
-use Rattle.sabr_plan.proofs.Leaving.{IsAnswered, changed_leaves}
+use Rattle.sabr_plan.proofs.Held.{IsAnswered, changed_leaves}
 use Rattle.sabr_plan.proofs.reading.PlanReading.add_range.Goals as goal
 
 pub returns : goal.returns

@@ -4,7 +4,7 @@ use Rattle.std.proofs.lemmas.Result.{on_ok_weaker}
 use Rattle.sabr_model.specs.plan.Plan.{ContactPlan}
 use Rattle.sabr_model.specs.plan.Adding.{number_of_opening, without_contact}
 use Rattle.sabr_plan.specs.Reading.{obeyed}
-use Rattle.sabr_plan.proofs.Leaving.{changed_leaves, contact_deleted}
+use Rattle.sabr_plan.proofs.Held.{changed_leaves, contact_deleted}
 use Rattle.sabr_plan.proofs.reading.PlanReading.delete_contact.Goals as goal
 
 pub returns : goal.returns

@@ -6,7 +6,7 @@ use Rattle.std.proofs.lemmas.Result.{on_ok_weaker}
 use Rattle.sabr_model.specs.plan.Adding.{begins, without_range}
 use Rattle.std.specs.List.{list_any}
 use Rattle.sabr_plan.specs.Reading.{obeyed}
-use Rattle.sabr_plan.proofs.Leaving.{changed_leaves, range_deleted}
+use Rattle.sabr_plan.proofs.Held.{changed_leaves, range_deleted}
 use Rattle.sabr_plan.proofs.reading.PlanReading.delete_range.Goals as goal
 
 pub returns : goal.returns

@@ -1,6 +1,6 @@
 -- A range that begins after all others end overlaps none. Else it is looked for along a chain.
 use Rattle.std.proofs.Common.{◌∙◌, sym, arith}
-use Rattle.sabr_plan.proofs.LastRanges.{later_end, overlaps_none}
+use Rattle.sabr_plan.proofs.SortedRanges.{later_end, overlaps_none}
 use Rattle.sabr_plan.proofs.gathering.known_ranges.KnownRanges.overlaps.Goals as goal
 
 pub returns-then-comes_by-clause-value : goal.returns-then-comes_by-clause-value

@@ -4,7 +4,6 @@ use Rattle.std.specs.Prelude.{None}
 use Rattle.std.specs.BTreeMap.{values, insert_entry}
 use Rattle.std.proofs.lemmas.Map.Entries.{length-values_of}
 use Rattle.sabr_model.specs.Order.{by_key, put_in}
-use Rattle.sabr_model.specs.plan.Plan.{range_key}
 use Rattle.sabr_model.specs.plan.Adding.{by_range_key, range_refusal}
 use Rattle.sabr_plan.specs.Gathering.{plan_of_ranges}
 use Rattle.sabr_plan.proofs.RangeTrees.{refused_by, tree_stays, tree_more}

@@ -2,7 +2,6 @@
 use Rattle.std.proofs.Common.{◌∙◌, sym, ap, filter, not}
 use Rattle.std.specs.Prelude.{is_some}
 use Rattle.std.proofs.lemmas.Bool.{both_ways}
-use Rattle.std.specs.List.{list_any}
 use Rattle.sabr_model.specs.declared.contact.Range.{Range}
 use Rattle.sabr_model.specs.plan.Adding.{begins}
 use Rattle.sabr_plan.proofs.RangeTrees.{tree_less, tree_has}
