@@ -11,6 +11,7 @@ figures       a run of `first`, for 1, 10, 100 and 1000 routes, as multiples of 
 limits        the instructions of 1000 routes with a limit on hops, likewise
 long          the instructions of 10000 routes, likewise
 spellings     those of a run for one route over a plan in other spellings, as multiples of that with relative times
+hostile       those a line of reading texts that are chosen to be slow, as multiples of those of texts in order
 many          those of `many` over drawn pairs of nodes, as multiples of a run for each pair, of which some, the sample,
               are counted; from the yardstick's runs, its reading is taken off: a run for two nodes that no plan has
 pages         those of `first` for a page and `next` for each further one, 1000 routes in all, as multiples of one `first`
@@ -53,6 +54,7 @@ PARTS = {
     "limits": lists.limits,
     "long": lists.long_lists,
     "spellings": reading.spellings,
+    "hostile": reading.hostile,
     "many": many.many,
     "pages": lists.pages,
     "memory": lists.memory,

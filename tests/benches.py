@@ -32,6 +32,7 @@ COUNTED = [
     ("`many` answers as `first`", "many.py", [*OVER_A, "--requests", "6", "--counts", "1"], [0, 1], ["a 1"]),
     ("pages have the routes of one list", "further.py --parts pages", OVER_A, [0], ["a"]),
     ("a plan in each spelling", "further.py --parts spellings", ["--only", "relay-mars-500"], [0, 1], ["relay-mars-500 1.00"]),
+    ("a text that is chosen to be slow", "measure.py --parts hostile", ["--only", "contacts-in-turn"], [0, 1], ["contacts-in-turn 19991"]),
     ("a limit on hops", "further.py --parts limits", ["--only", "grid-8", "--counts", "1"], [0, 1], ["grid-8 --max-hops 14 1.00"]),
 ]
 OF_THE_LIBRARY = [

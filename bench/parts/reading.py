@@ -1,8 +1,9 @@
 """The parts that measure the reading of plans."""
 import os
+import random
 
 import plans
-from plan import BEGINS, SPELLINGS
+from plan import BEGINS, SPELLINGS, second_of
 from running import Pieces, agree, with_memory
 from tables import heads_of, print_head, print_row, ratio, shown, time_cells
 
@@ -52,3 +53,95 @@ def spellings(bench):
         millions = [bench.count(question._replace(path=path).words(1)) for path in paths]
         bench.rows.append({"plan": question.name, "millions": dict(zip(SPELLINGS, millions))})
         print_row([question.name, *(shown(ratio((it, millions[0]))) for it in millions)])
+
+
+# ---- Texts that are chosen to be slow to read -------------------------------------------------------------------
+
+RECORDS = 19990
+
+
+def ranges_at(places):
+    """Lines that add ranges of one pair of nodes, none of which touches another."""
+    return [f"a range +{2 * it} +{2 * it + 1} 4 5 1" for it in places]
+
+
+def contacts_at(seconds):
+    return [f"a contact +{it} +{it + 1} 1 2 1" for it in seconds]
+
+
+def reversed_bits():
+    places = (int(f"{it:015b}"[::-1], 2) for it in range(1 << 15))
+    return [it for it in places if it < RECORDS]
+
+
+def shuffled():
+    places = list(range(RECORDS))
+    random.Random(1).shuffle(places)
+    return places
+
+
+def ranges_in_one_bucket():
+    """Of the hash table of known_ranges.rt, by pairs of nodes."""
+    return [f"a range +0 +1 {4 + 2048 * (it // 141)} {5 + 2048 * (it % 141)} 1" for it in reversed(range(RECORDS))]
+
+
+def contacts_in_one_bucket():
+    """Of the hash table of known_openings.rt, by senders, receivers and starts. Between two seconds in one bucket there
+    are at most three different steps, which the first ones show."""
+    begin = 11400714819323198485 + 2 * 14029467366897019727 + second_of(BEGINS) * 1609587929392839161
+    is_there = lambda second: ((begin + second * 1609587929392839161) >> 44) % 4096 == 0
+    seconds = [it for it in range(300000) if is_there(it)]
+    steps = sorted({next_one - one for one, next_one in zip(seconds, seconds[1:])})
+    while len(seconds) < RECORDS:
+        seconds.append(next(seconds[-1] + it for it in steps if is_there(seconds[-1] + it)))
+    return contacts_at(reversed(seconds))
+
+
+def deletions(lines):
+    words = map(str.split, lines)
+    return [f"d {kind} {start} {one} {other}" for _, kind, start, _, one, other, _ in words]
+
+
+def in_turn(lines):
+    return [line for pair in zip(lines, deletions(lines)) for line in pair]
+
+
+def added_and_deleted(lines):
+    return lines + deletions(lines)
+
+
+HOSTILE = {
+    "ranges-rising": lambda: ranges_at(range(RECORDS)),
+    "ranges-falling": lambda: ranges_at(reversed(range(RECORDS))),
+    "ranges-reversed": lambda: ranges_at(reversed_bits()),
+    "ranges-shuffled": lambda: ranges_at(shuffled()),
+    "ranges-in-one-bucket": ranges_in_one_bucket,
+    "ranges-deleted": lambda: added_and_deleted(ranges_at(range(RECORDS))),
+    "ranges-in-turn": lambda: in_turn(ranges_at(range(RECORDS // 2))),
+    "ranges-after-a-deletion": lambda: in_turn(ranges_at([RECORDS])) + ranges_at(range(RECORDS)),
+    "contacts-rising": lambda: contacts_at(range(RECORDS)),
+    "contacts-falling": lambda: contacts_at(reversed(range(RECORDS))),
+    "contacts-in-one-bucket": contacts_in_one_bucket,
+    "contacts-deleted": lambda: added_and_deleted(contacts_at(range(RECORDS))),
+    "contacts-in-turn": lambda: in_turn(contacts_at(range(RECORDS // 2))),
+}
+
+
+def counted(bench, name):
+    """The number of lines of a hostile text, and the millions of instructions of reading it."""
+    lines = [f"@ {BEGINS}", *HOSTILE[name]()]
+    path = plans.write_text(bench.given.out, name, "".join(f"{line}\n" for line in lines))
+    return len(lines), bench.count(strangers(path).words(1))
+
+
+def hostile(bench):
+    """The plain text of contacts or ranges has them in ascending order."""
+    print_head("Instructions a line of texts that are chosen to be slow.", ["Text", "lines", "million", "of plain"])
+    plain = {}
+    for name in bench.given.only or HOSTILE:
+        kind = name.partition("-")[0]
+        plain[kind] = plain.get(kind) or counted(bench, f"{kind}-rising")
+        lines, millions = plain[kind] if name == f"{kind}-rising" else counted(bench, name)
+        usual = ratio((plain[kind][1], plain[kind][0]))
+        print_row([name, lines, shown(millions, 1), shown(ratio((ratio((millions, lines)), usual)))])
+        bench.rows.append({"text": name, "lines": lines, "millions": millions})
