@@ -17,7 +17,7 @@ pub enum Failure {
     BadValue(ValueName),
     /// The source is the destination.
     SameNode,
-    /// The avoided nodes don't rise strictly, or hold the source or the destination.
+    /// The avoided nodes aren't strictly ascending, or hold the source or the destination.
     BadAvoid,
     /// The plan's file can't be opened.
     CannotOpenPlan,

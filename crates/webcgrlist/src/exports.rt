@@ -56,8 +56,9 @@ pub extern "C" fn cgrlist_next(
     answer(memory, Call { run, asked }, outputs)
 }
 
-/// Verifies a session: whether it is one of the plan's, by any writer. Reads the plan and the session. The status is 0
-/// for yes and 1 for no.
+/// Checks whether a session text is right: that its routes are the first of the list, and that each of its subproblems
+/// has its best route. Any program may have written it. Reads the plan and the session. The status is 0 for yes and 1
+/// for no.
 #[unsafe(no_mangle)]
 pub extern "C" fn cgrlist_verify(
     memory: &mut Region,

@@ -47,8 +47,8 @@ fn write_first<P: Read, O: Write, S: Write, A: Allocator + Copy>(
 /// there.
 ///
 /// A failure's message goes to `err`; a failure of `err` changes nothing else. The status is [`Status::Plan`] if the
-/// plan is refused, [`Status::Io`] if its reader or a writer failed, and [`Status::Memory`] if an allocation failed. If
-/// `out` or `session` failed, it holds a beginning of its text, and else all of it or nothing. Nothing is written to
+/// plan is refused, [`Status::Io`] if its reader or a writer failed, and [`Status::Memory`] if an allocation failed. A
+/// writer that failed holds a beginning of its text; any other holds all of its text, or nothing. Nothing is written to
 /// `session` before the report was written whole and flushed.
 pub fn run_first<P: Read, O: Write, S: Write, E: Write, A: Allocator + Copy>(
     alloc: A,

@@ -21,7 +21,7 @@ pub enum LineKind {
     BadMargin,
     /// The limit on hops is misspelled or out of its range.
     BadHops,
-    /// The nodes to avoid are misspelled, don't rise strictly, or hold the source or the destination.
+    /// The nodes to avoid are misspelled, aren't strictly ascending, or hold the source or the destination.
     BadAvoid,
     /// The source is the destination.
     SameNode,

@@ -138,7 +138,7 @@ pub fn request_words(texts: &RequestTexts<'_>) -> Result<RequestValues, ValueFau
 /// # Errors
 ///
 /// [`ValueFault::SameNode`] if source and destination are one node. Else [`ValueFault::BadAvoid`] if the avoided nodes
-/// don't rise strictly, or hold the source or the destination.
+/// aren't strictly ascending, or hold the source or the destination.
 #[tactic(auto, unfolding(crate::specs::words::Values::request_of))]
 pub fn request_of(words: &RequestValues) -> Result<Request, ValueFault>
     requires { IsInRange words.now }

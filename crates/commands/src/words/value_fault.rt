@@ -59,7 +59,7 @@ pub enum ValueFault {
     /// An allocation failed.
     #[error("out of memory")]
     NoMemory,
-    /// The avoided nodes don't rise strictly, or hold the source or the destination.
+    /// The avoided nodes aren't strictly ascending, or hold the source or the destination.
     #[error("the avoided nodes do not rise strictly, or hold the source or the destination")]
     BadAvoid,
 }
