@@ -24,7 +24,7 @@ use Rattle.commands.proofs.RunLemmas.RunsInTurn.{never_done, plan_read, taken}
 
 -- of a reader that has the text of lines, these are read
 lines_are : (form : LineForm) (text : List ℕ) (xs ys : List AskedLine) (reader reader₁ : Input) → asked_by form text ≡ Ok xs → IsTextOf reader text reader₁ → ReadsLines form reader (Ok ys) reader₁ → ys ≡ xs
-lines_are form text xs ys reader reader₁ spelled has h = elim h.told [
+lines_are form text xs ys reader reader₁ spelled has h = elim h.answered [
   | inl bad ↦ absurd bad
   | inr (fine, inl (end, answer)) ↦
       let all = (begins_with reader reader₁ text h.given has h.gives).all end in

@@ -9,6 +9,7 @@ use Rattle.std.proofs.lemmas.List.Sums.{AllPass-from_list_all}
 use Rattle.std.proofs.lemmas.List.Splits.{slice_split_none, slice_split_at, slice_split-cons_no}
 use Rattle.std.proofs.Math.Seq.{drop-append-add}
 use Rattle.sabr_plan.specs.Words.{is_one_line}
+use Rattle.sabr_plan.proofs.Held.{one_line-append}
 use Rattle.commands.specs.declared.words.lines.Judged.{Judged}
 use Rattle.commands.specs.declared.words.lines.LineForm.{LineForm}
 use Rattle.commands.specs.declared.words.lines.LineForm.TheVariants.{Requests, Lists}
@@ -16,7 +17,7 @@ use Rattle.commands.specs.declared.words.lines_fault.LineKind.{LineKind}
 use Rattle.commands.specs.declared.words.lines_fault.LineKind.TheVariants.{BadLine}
 use Rattle.commands.specs.declared.words.lines_fault.LinesFault.{LinesFault}
 use Rattle.commands.specs.declared.words.lines_fault.LinesFault.TheVariants.{Line}
-use Rattle.commands.specs.words.Lines.{Asked, IsJudged, IsRefused, after_contacts, asked_at, asked_from, fault_in, fault_of, is_bad_rest, lines_in, list_in, most_bytes, most_line_bytes, most_lines, most_list_bytes, put_first, request_in, without_last_empty}
+use Rattle.commands.specs.words.Lines.{Asked, IsJudged, IsRefused, IsGoodSoFar, after_contacts, asked_at, asked_from, fault_in, fault_of, is_bad_rest, lines_in, list_in, most_bytes, most_line_bytes, most_lines, most_list_bytes, put_first, request_in, without_last_empty}
 use Rattle.commands.proofs.WordLemmas.LinesRead.{bad_first, good_first}
 use Rattle.commands.proofs.WordLemmas.RequestWords.{some_piece}
 use Rattle.commands.proofs.WordLemmas.TextLines.{no_lines, one_line, next_line}
@@ -144,13 +145,14 @@ module _ (form : LineForm) (text : List ℕ) (j : Judged) (is : IsJudged form te
   pub last_good : 0 < length text - j.bytes → fault_of (asked_at form j.number (drop j.bytes text)) ≡ None → fault_in form 1 text ≡ None
   last_good some e = last_line some ∙ good_first j.number (drop j.bytes text) (asked_at form j.number (drop j.bytes text)) _ e ∙ ap (λ (ls : List (List ℕ)). fault_of (asked_from form (j.number + 1) ls)) (no_lines [] refl)
 
--- a text that is refused, whatever follows, is refused if nothing does
-pub refused_here : (form : LineForm) (text : List ℕ) (fault : LinesFault) → IsRefused form text fault → fault_in form 1 text ≡ Some fault
-refused_here form text fault h = ap (λ (b : List ℕ). fault_in form 1 b) (sym (append-nil text)) ∙ h []
+-- no line of an empty text is bad
+pub none_bad_so_far : (form : LineForm) → IsGoodSoFar form [] (record { number = 1; bytes = 0 })
+none_bad_so_far Requests = record { judged = record { few = omega arith; within = omega arith; same = λ more. refl }; rest = refl; fits = refl }
+none_bad_so_far Lists = record { judged = record { few = omega arith; within = omega arith; same = λ more. refl }; rest = refl; fits = refl }
 
--- no line of an empty text is judged
-pub judged_none : (form : LineForm) → IsJudged form [] (record { number = 1; bytes = 0 })
-judged_none form = record { few = omega arith; within = omega arith; same = λ more. refl }
+-- the line that has no LF yet goes on with a piece that has none
+pub one_line_on : (text piece : List ℕ) (j : Judged) → j.bytes ≤ length text → is_one_line (drop j.bytes text) ≡ true → is_one_line piece ≡ true → is_one_line (drop j.bytes (text ++ piece)) ≡ true
+one_line_on text piece j within rest more = ap is_one_line (drop-append-le j.bytes text piece within) ∙ one_line-append (drop j.bytes text) piece rest more
 
 -- what was judged stays so if the text grows
 pub judged_on : (form : LineForm) (text piece : List ℕ) (j : Judged) → IsJudged form text j → IsJudged form (text ++ piece) j

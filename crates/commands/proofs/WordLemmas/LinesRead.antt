@@ -1,11 +1,12 @@
 -- What reading a text of lines leaves.
-use Rattle.std.proofs.Common.{◌≡◌, ℕ, List, ◌++◌, refl, ap, inr, Result, Ok, Err, None, Some}
+use Rattle.std.proofs.Common.{◌≡◌, ℕ, ◌+◌, List, ◌++◌, refl, ap, inl, inr, Result, Ok, Err, None, Some}
 use Rattle.sabr_model.specs.Devices.{Input, Gives}
 use Rattle.commands.specs.declared.words.lines_fault.LinesFault.{LinesFault}
-use Rattle.commands.specs.declared.words.lines_fault.LinesFault.TheVariants.{Line}
+use Rattle.commands.specs.declared.words.lines_fault.LinesFault.TheVariants.{Line, Read}
 use Rattle.commands.specs.declared.words.lines.LineForm.{LineForm}
 use Rattle.commands.specs.declared.words.lines_fault.LineKind.{LineKind}
-use Rattle.commands.specs.words.Lines.{Asked, AskedLine, IsRefused, ReadsLines, asked_by, fault_of, put_first}
+use Rattle.commands.specs.declared.words.lines.Judged.{Judged}
+use Rattle.commands.specs.words.Lines.{Asked, AskedLine, IsGoodSoFar, IsRefused, ReadsLines, asked_by, fault_of, put_first}
 
 -- the answer that has a fault is that fault
 pub fault_requested : (requested : Result (List AskedLine) LinesFault) (f : LinesFault) → fault_of requested ≡ Some f → requested ≡ Err f
@@ -17,8 +18,12 @@ pub line_refused : (form : LineForm) (old new : Input) (text : List ℕ) (f : Li
 line_refused form old new text f gives fine refused = record {
   given = text;
   gives = gives;
-  told = inr (fine, inr (λ more. fault_requested (asked_by form (text ++ more)) f (refused more)));
+  answered = inr (fine, inr (λ more. fault_requested (asked_by form (text ++ more)) f (refused more)));
 }
+
+-- the reader failed, and no line that it gave is bad
+pub reader_failed : (form : LineForm) (old new : Input) (text : List ℕ) (j : Judged) → Gives old text new → new.failures ≡ old.failures + 1 → IsGoodSoFar form text j → ReadsLines form old (Err Read) new
+reader_failed form old new text j gives fails good = record { given = text; gives = gives; answered = inl (fails, (j, good)) }
 
 -- a bad line is the first bad one before all others
 pub bad_first : (n : ℕ) (line : List ℕ) (a : Result Asked LineKind) (rest : Result (List AskedLine) LinesFault) (kind : LineKind) → fault_of a ≡ Some kind → fault_of (put_first n line a rest) ≡ Some (Line n kind)

@@ -1,5 +1,5 @@
 -- What a text of requests or of lists says: one a line, each word read as strictly as the option of its name.
-use Rattle.std.specs.Prelude.{◌≡◌, ℕ, ◌+◌, ◌≤◌, nat_lt, ◌&&◌, ◌||◌, ◌⊎◌, Bool, List, [], ◌∷◌, ◌++◌, length, drop, option_map, Result, Ok, Err, IsErrAnd, if◌then◌else◌}
+use Rattle.std.specs.Prelude.{◌≡◌, ℕ, ◌+◌, ◌-◌, ◌≤◌, nat_lt, true, false, ◌&&◌, ◌||◌, ◌⊎◌, Bool, List, [], ◌∷◌, ◌++◌, length, drop, option_map, Result, Ok, Err, IsErrAnd, if◌then◌else◌}
 use Rattle.sabr_model.specs.Devices.{Input, Gives, HasEnded}
 use Rattle.std.specs.Result.{result_err}
 use Rattle.std.specs.declared.option.Option.{Option}
@@ -16,6 +16,7 @@ use Rattle.commands.specs.declared.words.lines.LineForm.{LineForm}
 use Rattle.commands.specs.declared.words.lines.LineForm.TheVariants.{Requests, Lists}
 use Rattle.commands.specs.declared.words.lines.Judged.{Judged}
 use Rattle.commands.specs.declared.words.request_line.Listed.{Listed}
+use Rattle.sabr_plan.specs.Words.{is_one_line}
 use Rattle.sabr_session.specs.SessionWords.{most_number}
 use Rattle.commands.specs.words.Lists.{numbers_within, pieces_of}
 use Rattle.commands.specs.words.Values.{TextsGiven, and_then, request_words, request_of}
@@ -177,27 +178,33 @@ pub record IsJudged (form : LineForm) (text : List ℕ) (j : Judged) : Type 0 wh
 abbrev pub is_bad_rest : LineForm → ℕ → ℕ → Bool
 is_bad_rest form n bytes = nat_lt (most_bytes form) bytes || (nat_lt 0 bytes && nat_lt most_lines n)
 
+-- no line of a text is bad so far: those that LF ended are good, and the one after them is neither too long nor too many
+pub record IsGoodSoFar (form : LineForm) (text : List ℕ) (j : Judged) : Type 0 where
+  pub judged : IsJudged form text j
+  pub rest : is_one_line (drop j.bytes text) ≡ true
+  pub fits : is_bad_rest form j.number (length text - j.bytes) ≡ false
+
 -- this is the first bad line of a text, with any bytes after it
 abbrev pub IsRefused : LineForm → List ℕ → LinesFault → Type 0
 IsRefused form text fault = (more : List ℕ) → fault_in form 1 (text ++ more) ≡ Some fault
 
--- bytes aren't read to their end: the reader failed, or an allocation did
-abbrev pub StopsReading : Input → LinesFault → Input → Type 0
-StopsReading old Read new = new.failures ≡ old.failures + 1
-StopsReading old NoMemory new = new.failures ≡ old.failures
-StopsReading old (Line n kind) new = ⊥
+-- these bytes aren't read to their end: the reader failed after them, and no line of them is bad; or an allocation failed
+abbrev pub StopsReading : LineForm → Input → List ℕ → LinesFault → Input → Type 0
+StopsReading form old given Read new = (new.failures ≡ old.failures + 1) × ((j : Judged) × IsGoodSoFar form given j)
+StopsReading form old given NoMemory new = new.failures ≡ old.failures
+StopsReading form old given (Line n kind) new = ⊥
 
 -- these bytes decide the answer: the reader ended after them, and they are the text; or each text that begins with them
 -- has it
-abbrev pub TellsLines : LineForm → Input → List ℕ → Result (List AskedLine) LinesFault → Input → Type 0
-TellsLines form old given answer new =
+abbrev pub DecidesLines : LineForm → Input → List ℕ → Result (List AskedLine) LinesFault → Input → Type 0
+DecidesLines form old given answer new =
     (new.failures ≡ old.failures) × ((HasEnded new × (asked_by form given ≡ answer)) ⊎ ((more : List ℕ) → asked_by form (given ++ more) ≡ answer))
 
--- these bytes were read of a text of such lines
+-- these bytes were read of a text of such lines, and decide the answer, unless reading stopped before
 pub record ReadsLines (form : LineForm) (old : Input) (answer : Result (List AskedLine) LinesFault) (new : Input) : Type 0 where
   pub given : List ℕ
   pub gives : Gives old given new
-  pub told : IsErrAnd answer (λ fault. StopsReading old fault new) ⊎ TellsLines form old given answer new
+  pub answered : IsErrAnd answer (λ fault. StopsReading form old given fault new) ⊎ DecidesLines form old given answer new
 
 -- the lines of a text ask this, and none is bad
 abbrev pub HasLines : LineForm → List ℕ → Result (List AskedLine) LinesFault → Type 0

@@ -1,8 +1,8 @@
 //! A text of lines, read to its end or to its first bad line.
 
-ghost use Rattle.std.specs.Prelude.{◌≡◌, ◌≤◌, drop, List, Result, MatchResult, IfErr, IfNone, IfOk, IsTrue, Err};
+ghost use Rattle.std.specs.Prelude.{◌≡◌, ◌≤◌, drop, true, List, Result, MatchResult, IfErr, IfNone, IfOk, Err};
 ghost use Rattle.sabr_plan.specs.Words.{is_one_line};
-ghost use Rattle.commands.specs.words.Lines.{HasLines, IsJudged, IsRefused, ReadsLines, AskedLine, asked_at, fault_in, fault_of, is_bad_rest, most_bytes, most_lines};
+ghost use Rattle.commands.specs.words.Lines.{HasLines, IsGoodSoFar, IsJudged, IsRefused, ReadsLines, AskedLine, asked_at, fault_in, fault_of, is_bad_rest, most_bytes, most_lines};
 ghost use Rattle.commands.specs.declared.words.lines_fault.LinesFault.{LinesFault};
 
 use crate::words::lines_fault::{LineKind, LinesFault};
@@ -77,8 +77,7 @@ fn is_bad_rest(form: LineForm, number: u32, bytes: usize) -> bool
 /// if it is too long or comes after the last line that a text may have.
 fn judge(form: LineForm, text: &[u8], before: Judged) -> Result<Judged, LinesFault>
     requires { IsJudged form text.now before }
-    ensures judged { IfOk result (IsJudged form text.now) }
-    ensures rest { IfOk result (λ j. IsTrue (is_one_line (drop j.bytes text.now))) }
+    ensures good { IfOk result (IsGoodSoFar form text.now) }
     ensures refused { IfErr result (IsRefused form text.now) }
 {
     let mut judged = before;
@@ -104,8 +103,9 @@ fn judge_piece(
     piece: &[u8],
     before: Judged,
 ) -> Result<Judged, LinesFault>
-    requires { IsJudged form text.now before }
-    ensures judged { IfOk result (IsJudged form text.now) }
+    requires judged { IsJudged form text.now before }
+    requires rest { is_one_line piece.now ≡ true → is_one_line (drop before.bytes text.now) ≡ true }
+    ensures good { IfOk result (IsGoodSoFar form text.now) }
     ensures refused { IfErr result (IsRefused form text.now) }
 {
     let rest = text.len() - before.bytes;
@@ -115,15 +115,11 @@ fn judge_piece(
     Ok(before)
 }
 
-/// Finds the first bad line of a text that has ended.
-fn first_fault(form: LineForm, text: &[u8], before: Judged) -> Option<LinesFault>
-    requires { IsJudged form text.now before }
+/// Finds the first bad line of a text that has ended. Its lines that end with LF are judged.
+fn last_fault(form: LineForm, text: &[u8], judged: Judged) -> Option<LinesFault>
+    requires { IsGoodSoFar form text.now judged }
     ensures { result ≡ fault_in form 1 text.now }
 {
-    let judged = match judge(form, text, before) {
-        Ok(judged) => judged,
-        Err(fault) => return Some(fault),
-    };
     let line = &text[judged.bytes..];
     if line.is_empty() {
         return None;
@@ -158,7 +154,7 @@ pub fn read_lines<R: Read, A: Allocator + Copy>(
     while text.len() < usize::MAX {
         match reader.read(&mut buffer) {
             Ok(0) => {
-                return match first_fault(form, text.as_slice(), judged) {
+                return match last_fault(form, text.as_slice(), judged) {
                     Some(fault) => Err(fault),
                     None => Ok(text),
                 };

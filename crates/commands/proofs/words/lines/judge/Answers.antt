@@ -15,6 +15,13 @@ loop-line-preserved c =
     let within = rw c.in_default-fault_at.is at c.fault_at.ensures.limit in
     good_line c.args.form c.args.text.now c.loop-line.judged c.in-Some.line.now c.in-Some._after.now c.loop-line.invariant h.0 h.1 (sym c.fault_at.ensures.value ∙ c.in_default-fault_at.is) within
 
+pub returns-clause-good : goal.returns-clause-good
+returns-clause-good c = record {
+  judged = c.loop-line.invariant;
+  rest = ap is_one_line (sym (take_rest c.args.text.now c.loop-line.judged.bytes)) ∙ c.in_default.ensures {u = tt};
+  fits = sym c.is_bad_rest.ensures ∙ c.if-is_bad_rest.false;
+}
+
 pub returns-then-is_bad_rest-clause-refused : goal.returns-then-is_bad_rest-clause-refused
 returns-then-is_bad_rest-clause-refused c =
     let one = ap is_one_line (sym (take_rest c.args.text.now c.loop-line.judged.bytes)) ∙ c.in_default.ensures {u = tt} in
