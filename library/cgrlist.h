@@ -35,7 +35,7 @@ typedef enum cgrlist_status {
     CGRLIST_ROOM = 2,       /* a buffer is too small, and how much is needed is said; cgrlist_first, cgrlist_hops and
                              * cgrlist_listing_next wrote what fits, cgrlist_best its route without contact numbers,
                              * and the calls for texts nothing */
-    CGRLIST_MEMORY = 3,     /* malloc or realloc refused */
+    CGRLIST_MEMORY = 3,     /* malloc or realloc failed */
     CGRLIST_NO_PLAN = 4,    /* the plan is NULL */
     CGRLIST_NO_LISTING = 7, /* the listing is NULL */
     /* The request is refused. One that is NULL is one of zeros. */
@@ -175,7 +175,7 @@ cgrlist_status cgrlist_plan_delete_range(cgrlist_plan *plan, uint64_t one, uint6
 cgrlist_status cgrlist_plan_add_contacts(cgrlist_plan *plan, const cgrlist_new_contact *contacts, size_t count,
                                          size_t *place);
 cgrlist_status cgrlist_plan_add_ranges(cgrlist_plan *plan, const cgrlist_range *ranges, size_t count, size_t *place);
-/* Makes what is kept of a plan until it changes: the index of searches, the digest, and the counts. */
+/* Makes what serves until a plan changes: the index of searches, the digest, and the counts. */
 cgrlist_status cgrlist_plan_prepare(cgrlist_plan *plan);
 /* The plan as a text from which cgrlist_plan_read makes it again, with the numbers of its contacts and the largest one
  * given: *bytes is its length; ROOM if it doesn't fit (nothing is written then). */

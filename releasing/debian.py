@@ -119,7 +119,7 @@ def make(release, stage, architecture, glibc, into):
     soname = next(os.path.basename(it) for it in names if ".so." in it)
     number = soname.rpartition(".")[2]
     of_shared = {f"lib/{soname}"}
-    of_dev = {it for it in names if it.startswith(("lib/", "include/", "share/man/man3/"))} - of_shared
+    of_dev = {it for it in names if it.startswith(("lib/", "include/", "share/man/man3/", "share/cgrlist/wrappers/"))} - of_shared
     of_program = {it for it in names if it.startswith(("bin/", "share/")) and it != files.LIST} - of_dev
     shared, depends = f"libcgrlist{number}", {"Section": "libs", "Depends": f"libc6 (>= {glibc})", "Multi-Arch": "same"}
     with tempfile.TemporaryDirectory() as room:

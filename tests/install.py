@@ -43,7 +43,9 @@ with open(f"{TOP}/library/cgrlist.h", encoding="ascii") as header:
     SHARED = f"libcgrlist.so.{re.search('^#define CGRLIST_ABI (.*)', header.read(), re.M)[1]}"
 LIBRARY = [
     "f 644 usr/include/cgrlist.h", "f 644 usr/include/cgrlist.hpp", "f 644 usr/lib/libcgrlist.a", f"f 755 usr/lib/{SHARED}", "l 777 usr/lib/libcgrlist.so",
-    "f 644 usr/lib/pkgconfig/cgrlist.pc", "f 644 usr/share/man/man3/cgrlist.3",
+    "f 644 usr/lib/pkgconfig/cgrlist.pc", "f 644 usr/share/man/man3/cgrlist.3", "f 644 usr/share/cgrlist/wrappers/libcgrlist.py",
+    *(f"f 644 usr/share/cgrlist/wrappers/rust/{it}" for it in ("Cargo.toml", "build.rs", *(
+        f"src/{name}" for name in os.listdir(f"{TOP}/library/rust/src")))),
 ]
 
 
