@@ -5,7 +5,7 @@
     answers     what the program prints, and what follows from the listing of all routes: tests/library_answers.py
     refusals    each status, and that nothing has changed after it: tests/library_refusals.py
     nulls       NULL in place of plans, listings, buffers and outputs
-    threads     calls that only read a plan in several threads, also under helgrind
+    threads     calls with a const plan in several threads, also under helgrind and the compiler's sanitizer of threads
     closed      the use of what was closed, which the library for debugging notices
     memory      each allocation refused in turn
     fuzzed      drawn calls with drawn plans and texts, by seeds; under valgrind, and under the compiler's sanitizers
@@ -170,6 +170,13 @@ def threads(room):
     yield "calls in several threads", "200 of 200", lambda: room.run([program, relay]).all()
     if has("valgrind"):
         yield "no two of them race", "", lambda: room.run("valgrind -q --tool=helgrind --error-exitcode=7", [program, relay]).err
+    for compiler in filter(has, ("gcc", "clang")):
+        try:
+            checked = room.compiled(f"threads-{compiler}", "threads.c", "-pthread -fsanitize=thread", compiler)
+        except AssertionError:
+            print(f"note: {compiler} has no sanitizer of threads")
+            continue
+        yield f"no two of them race, by {compiler}", "200 of 200", lambda: room.run([checked, relay]).all()
 
 
 def closed(room):
