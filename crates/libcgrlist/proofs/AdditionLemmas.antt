@@ -1,26 +1,21 @@
 -- Records that are added one after another, and a contact by its number.
-use Rattle.std.proofs.Common.{◌≡◌, ℕ, suc, ◌+◌, ◌<◌, ◌≤◌, Bool, true, false, cond, ◌&&◌, not, eqb, List, [], ◌∷◌, drop, drop-cons, length, get_or, Result, Ok, Err, inl, inr, refl, sym, ap, subst, ◌∙◌, arith}
+use Rattle.std.proofs.Common.{◌≡◌, ℕ, suc, ◌+◌, ◌<◌, ◌≤◌, Bool, true, false, cond, ◌&&◌, not, eqb, List, [], ◌∷◌, drop, drop-cons, length, get_or, Result, Ok, Err, inl, inr, refl, sym, ap, subst, ◌∙◌, arith, ⊎_elim}
 use Rattle.std.specs.Option.{option_map}
 use Rattle.std.specs.List.{find, list_any}
 use Rattle.std.specs.declared.option.Option.TheVariants.{Some, None}
-use Rattle.std.proofs.lemmas.Bool.{and_parts, not-true, eq-eqb}
+use Rattle.std.proofs.lemmas.Bool.{and_parts, not-true, eq-eqb, eqb-true, both_ways}
 use Rattle.std.proofs.lemmas.List.{drop_all}
 use Rattle.sabr_model.specs.declared.contact.Contact.{Contact}
-use Rattle.sabr_model.specs.plan.Plan.{ContactPlan, IsPlan, contact_named, none_twice, opens, same_opening}
+use Rattle.sabr_model.specs.plan.Plan.{ContactPlan, IsPlan, contact_named, none_twice, opens, same_opening, TabledPlan}
 use Rattle.sabr_model.specs.plan.Adding.{number_of_opening, without_contact}
 use Rattle.sabr_model.specs.plan.Table.{without_number}
 use Rattle.sabr_model.proofs.ListLemmas.Has.{eqb_flip}
 use Rattle.sabr_model.proofs.PlanLemmas.Deletions.{all_found, any_none, found_passes, without_opening}
-use Rattle.std.proofs.lemmas.Bool.{eqb-true}
-use Rattle.std.proofs.Common.{⊎_elim}
 use Rattle.std.specs.Prelude.{◌⊎◌, is_some}
-use Rattle.std.proofs.lemmas.Bool.{both_ways}
-use Rattle.sabr_model.specs.plan.Plan.{TabledPlan}
 use Rattle.libcgrlist.specs.Additions.{AddsAll, AddsNone, Makes, TakesOver, all_put, all_refused, open_refused, then_put}
 use Rattle.libcgrlist.specs.Changes.{Becomes, Changes, change_or, deletion_refusal, number_deleted}
-use Rattle.libcgrlist.specs.Request.{refused_or}
+use Rattle.libcgrlist.specs.Status.{refused_or, done, has_listing, no_memory}
 use Rattle.libcgrlist.specs.Opened.{OpenPlan}
-use Rattle.libcgrlist.specs.Status.{done, has_listing, no_memory}
 use Rattle.libcgrlist.specs.declared.additions.RefusedRecord.{RefusedRecord}
 
 module _ {X : Type 0} (put : ContactPlan → X → Result ContactPlan ℕ) where

@@ -15,11 +15,10 @@ use Rattle.sabr_session.specs.Verifying.{IsSessionText}
 use Rattle.sabr_session.proofs.PlaceLemmas.PlacedTexts.{texts_are_placed}
 use Rattle.libcgrlist.specs.Answers.{count_refusal}
 use Rattle.libcgrlist.specs.Listings.{AnswersBackOf, AnswersNext, AnswersPage, IfOpen, listing_after}
-use Rattle.libcgrlist.specs.Opened.{OpenPlan}
-use Rattle.libcgrlist.specs.Pages.{RouteBuffers}
-use Rattle.libcgrlist.specs.Paused.{listing_of}
+use Rattle.libcgrlist.specs.Opened.{OpenPlan, listing_of}
+use Rattle.libcgrlist.specs.Buffers.{RouteBuffers}
 use Rattle.libcgrlist.specs.Standing.{BackActs, Begins, DoesAct, LoadedBegin, NextActs, OpenedBegin}
-use Rattle.libcgrlist.specs.declared.rows.Page.{Page}
+use Rattle.libcgrlist.specs.declared.buffers.Page.{Page}
 
 some_same : {X : Type 0} (x y : X) → Some x ≡ Some y → x ≡ y
 some_same x y e = cc

@@ -4,8 +4,7 @@ use Rattle.sabr_model.specs.declared.contact.Range.{Range}
 use Rattle.sabr_model.specs.plan.Plan.{ContactPlan, TabledPlan}
 use Rattle.libcgrlist.specs.Changes.{Becomes, contact_put, range_put}
 use Rattle.libcgrlist.specs.Opened.{OpenPlan}
-use Rattle.libcgrlist.specs.Request.{refused_or}
-use Rattle.libcgrlist.specs.Status.{done, has_listing, no_memory}
+use Rattle.libcgrlist.specs.Status.{refused_or, done, has_listing, no_memory}
 use Rattle.libcgrlist.specs.declared.additions.RefusedRecord.{RefusedRecord}
 use Rattle.libcgrlist.specs.declared.opened.NewContact.{NewContact}
 use Rattle.libcgrlist.specs.declared.views.RangeRow.{RangeRow}
@@ -28,12 +27,12 @@ unfoldable pub all_put : {X : Type 0} → (ContactPlan → X → Result ContactP
 all_put put place p [] = Ok p
 all_put put place p (x ∷ xs) = then_put place (put p x) (λ q. all_put put (place + 1) q xs)
 
--- a record is added, or it is refused by this status, or memory is refused
+-- a record is added, or it is refused by this status, or an allocation fails
 abbrev pub Puts : {U : Type 0} → Result ContactPlan ℕ → Result U ℕ → ContactPlan → Type 0
 Puts wanted (Ok u) p = wanted ≡ Ok p
 Puts wanted (Err s) p = (s ≡ no_memory) ⊎ (wanted ≡ Err s)
 
--- all records are added, or this is the first that is refused, or memory is refused
+-- all records are added, or this is the first that is refused, or an allocation fails
 abbrev pub PutsAll : {U : Type 0} → Result ContactPlan RefusedRecord → Result U RefusedRecord → ContactPlan → Type 0
 PutsAll wanted (Ok u) p = wanted ≡ Ok p
 PutsAll wanted (Err b) p = (b.status ≡ no_memory) ⊎ (wanted ≡ Err b)
@@ -60,17 +59,17 @@ Makes wanted (Ok p) = wanted ≡ Ok p.plan
 Makes wanted (Err b) = (b.status ≡ no_memory) ⊎ (wanted ≡ Err b)
 
 -- a plan takes the place of another one; or nothing changes, and the status of a refusal is given with its place, unless
--- memory is refused
+-- an allocation fails
 abbrev pub TakesOver : OpenPlan → Result TabledPlan RefusedRecord → ℕ → ℕ → ℕ → OpenPlan → Type 0
 TakesOver o (Ok p) status old new n = (status ≡ done) × (new ≡ old) × Becomes o p.plan n
 TakesOver o (Err b) status old new n = (status ≡ b.status) × (new ≡ (if b.status == no_memory then old else b.place)) × (n ≡ o)
 
--- memory is refused, and nothing changes
+-- an allocation fails, and nothing changes
 abbrev pub AddsNone : OpenPlan → ℕ → ℕ → ℕ → OpenPlan → Type 0
 AddsNone o status old new n = (status ≡ no_memory) × (new ≡ old) × (n ≡ o)
 
 -- all records are added; or nothing changes, and the place and the status of the first that is refused are given; or
--- memory is refused
+-- an allocation fails
 abbrev pub AddsAll : OpenPlan → Result ContactPlan RefusedRecord → ℕ → ℕ → ℕ → OpenPlan → Type 0
 AddsAll o (Ok p) status old new n = ((status ≡ done) × (new ≡ old) × Becomes o p n) ⊎ AddsNone o status old new n
 AddsAll o (Err b) status old new n = ((status ≡ b.status) × (new ≡ b.place) × (n ≡ o)) ⊎ AddsNone o status old new n

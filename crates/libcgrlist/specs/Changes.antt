@@ -9,8 +9,7 @@ use Rattle.sabr_model.specs.plan.Adding.{begins, contact_refusal, next_contact, 
 use Rattle.sabr_model.specs.plan.Table.{without_number}
 use Rattle.libcgrlist.specs.declared.opened.NewContact.{NewContact}
 use Rattle.libcgrlist.specs.Opened.{OpenPlan}
-use Rattle.libcgrlist.specs.Request.{refused_or}
-use Rattle.libcgrlist.specs.Status.{change_status, done, has_listing, no_memory, value_light, value_node, value_time}
+use Rattle.libcgrlist.specs.Status.{refused_or, change_status, done, has_listing, no_memory, value_light, value_node, value_time}
 
 -- this plan stands in place of the old one, and the listing, if there is one, stays
 abbrev pub Becomes : OpenPlan → ContactPlan → OpenPlan → Type 0
@@ -21,7 +20,7 @@ abbrev pub Changes : OpenPlan → Result ContactPlan ℕ → ℕ → OpenPlan �
 Changes old (Err s) status new = (status ≡ s) × (new ≡ old)
 Changes old (Ok p) status new = (status ≡ done) × Becomes old p new
 
--- the same of a change that takes memory: if nothing else refuses it, memory may be refused, and nothing changes then
+-- the same of a change that allocates: if nothing else refuses it, an allocation may fail, and nothing changes then
 abbrev pub ChangesInMemory : OpenPlan → Result ContactPlan ℕ → ℕ → OpenPlan → Type 0
 ChangesInMemory old (Err s) status new = (status ≡ s) × (new ≡ old)
 ChangesInMemory old (Ok p) status new = ((status ≡ done) × Becomes old p new) ⊎ ((status ≡ no_memory) × (new ≡ old))

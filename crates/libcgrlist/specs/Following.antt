@@ -13,7 +13,7 @@ use Rattle.sabr_session.specs.Hops.{Hop, told_of}
 use Rattle.host.specs.Buffers.{put_over}
 use Rattle.libcgrlist.specs.Status.{done, no, no_room, request_status}
 use Rattle.libcgrlist.specs.declared.follow.Outcome.{Outcome}
-use Rattle.libcgrlist.specs.declared.hops.HopRow.{HopRow}
+use Rattle.libcgrlist.specs.declared.follow.HopRow.{HopRow}
 
 -- a fault and its place
 abbrev pub fault_outcome : ℕ → ℕ → Outcome
@@ -52,7 +52,7 @@ Follows p (Ok r) s status old new = (status ≡ route_status (is_route p r s)) �
 abbrev pub hop_row : Hop → HopRow
 hop_row h = record { from = h.contact.from; to = h.contact.to; sent = h.sent; arrival = h.arrival; contact = h.contact.number }
 
--- the row of a hop, whatever it follows
+-- the row of a hop, after any other
 abbrev pub row_alone : List ℕ → Hop → List HopRow
 row_alone front h = hop_row h ∷ []
 

@@ -9,12 +9,11 @@ use Rattle.sabr_frontier.specs.session.Paused.{IsPausedOver}
 use Rattle.sabr_search.specs.questions.Calls.{no_calls}
 use Rattle.sabr_frontier.specs.session.Session.{Seen, former_then, next_page, started}
 use Rattle.libcgrlist.specs.Answers.{WritesPage, count_refusal}
-use Rattle.libcgrlist.specs.Opened.{OpenPlan}
-use Rattle.libcgrlist.specs.Pages.{IsPage, RouteBuffers}
-use Rattle.libcgrlist.specs.Paused.{AreLinksOf, listing_of, listing_over}
+use Rattle.libcgrlist.specs.Opened.{OpenPlan, AreLinksOf, listing_of, listing_over}
+use Rattle.libcgrlist.specs.Buffers.{IsPage, RouteBuffers}
 use Rattle.libcgrlist.specs.Status.{done, has_listing, no, no_listing, no_memory}
 use Rattle.libcgrlist.specs.declared.listing.ListingPlace.{ListingPlace}
-use Rattle.libcgrlist.specs.declared.rows.Page.{Page}
+use Rattle.libcgrlist.specs.declared.buffers.Page.{Page}
 
 -- the records of the next page of a listing
 abbrev pub next_records : Seen → ℕ → List RouteRecord
@@ -32,7 +31,7 @@ listing_after s count = record s { state = (next_page s count).1; former = forme
 abbrev pub listing_then : Seen → ℕ → Page → Seen
 listing_then s count page = if nat_lt page.written page.routes then s else listing_after s count
 
--- no listing is open, or else memory is refused
+-- no listing is open, or else an allocation fails
 abbrev pub listing_refusal : Option Seen → ℕ
 listing_refusal None = no_listing
 listing_refusal (Some s) = no_memory

@@ -3,15 +3,20 @@ use Rattle.std.specs.Prelude.{◌≡◌, ℕ, Bool, true, false, IsTrue, Option,
 use Rattle.sabr_model.specs.plan.Plan.{IsPlan}
 use Rattle.libcgrlist.specs.Opened.{OpenPlan}
 use Rattle.libcgrlist.specs.Status.{closed}
+use Rattle.libcgrlist.specs.declared.handle.PlanHandle.{PlanHandle}
 
 -- what C owes of a handle, and gets back: an open one has a plan
-abbrev pub IsWhole : {X : Type 0} → Bool → Option X → Type 0
-IsWhole is_open held = IsTrue is_open → IsTrue (is_some held)
+abbrev pub IsWhole : PlanHandle → Type 0
+IsWhole handle = IsTrue handle.is_open → IsTrue (is_some handle.place.held)
 
 -- over a closed handle a call answers that, and changes nothing behind it; over an open one this holds of what stood
 -- behind it and of what stands there after the call, and the plan there obeys the rules of plans
-abbrev pub Calls : Bool → Option OpenPlan → ℕ → Option OpenPlan → (OpenPlan → OpenPlan → Type 0) → Type 0
-Calls false old status new P = (status ≡ closed) × (new ≡ old)
-Calls true (Some o) status (Some n) P = P o n × IsPlan n.plan.plan
-Calls true (Some o) status None P = ⊥
-Calls true None status new P = ⊥
+abbrev pub CallsOver : Bool → Option OpenPlan → ℕ → Option OpenPlan → (OpenPlan → OpenPlan → Type 0) → Type 0
+CallsOver false old status new P = (status ≡ closed) × (new ≡ old)
+CallsOver true (Some o) status (Some n) P = P o n × IsPlan n.plan.plan
+CallsOver true (Some o) status None P = ⊥
+CallsOver true None status new P = ⊥
+
+-- a handle stays open or closed, and whole, and this holds of what stands behind it before and after
+abbrev pub Calls : PlanHandle → PlanHandle → ℕ → (OpenPlan → OpenPlan → Type 0) → Type 0
+Calls old new status P = (new.is_open ≡ old.is_open) × IsWhole new × CallsOver old.is_open old.place.held status new.place.held P

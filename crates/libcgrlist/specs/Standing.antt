@@ -6,11 +6,11 @@ use Rattle.sabr_frontier.specs.session.Session.{Seen}
 use Rattle.sabr_session.specs.SessionPlaces.{Act, IsPlaced, Leaves}
 use Rattle.sabr_session.specs.Verifying.{IsSessionText}
 use Rattle.libcgrlist.specs.Listings.{AnswersBack, AnswersNext, IfOpen, OpensListing}
-use Rattle.libcgrlist.specs.Loading.{IsLoaded}
+use Rattle.libcgrlist.specs.SessionTexts.{IsLoaded}
 use Rattle.libcgrlist.specs.Opened.{OpenPlan}
-use Rattle.libcgrlist.specs.Pages.{RouteBuffers}
+use Rattle.libcgrlist.specs.Buffers.{RouteBuffers}
 use Rattle.libcgrlist.specs.Status.{done}
-use Rattle.libcgrlist.specs.declared.rows.Page.{Page}
+use Rattle.libcgrlist.specs.declared.buffers.Page.{Page}
 
 -- a listing of this request over the plan behind a handle stands after the first i routes, and nothing can be taken back
 pub record Begins (o : OpenPlan) (r : RouteRequest) (i : ℕ) (s : Seen) : Type 0 where

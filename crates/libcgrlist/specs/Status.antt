@@ -1,5 +1,5 @@
 -- The statuses of calls, as `cgrlist.h` numbers them.
-use Rattle.std.specs.Prelude.{ℕ}
+use Rattle.std.specs.Prelude.{ℕ, Result, Err, Option, None, Some}
 use Rattle.sabr_model.specs.declared.fault.AddFault.{AddFault}
 use Rattle.sabr_model.specs.declared.fault.AddFault.TheVariants as change
 use Rattle.sabr_model.specs.declared.fault.RequestError.{RequestError}
@@ -92,3 +92,8 @@ change_status change.RangeOverlap = 51
 change_status change.TooMany = 52
 change_status change.NothingToDelete = 53
 change_status change.NoMemory = no_memory
+
+-- the refusal if there is one, else this
+abbrev pub refused_or : {A E : Type 0} → Option E → Result A E → Result A E
+refused_or (Some e) other = Err e
+refused_or None other = other

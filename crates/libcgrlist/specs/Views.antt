@@ -1,15 +1,17 @@
--- What C sees of a plan and of a contact.
-use Rattle.std.specs.Prelude.{◌≡◌, ℕ, is_some, length, unwrap_or, Option, None, Some}
+-- What C sees of a plan: its counts, contacts, ranges and nodes.
+use Rattle.std.specs.Prelude.{◌≡◌, ℕ, is_some, length, unwrap_or, Option, None, Some, ◌↔◌, ◌⊎◌, Contains, List}
 use Rattle.sabr_model.specs.declared.contact.Contact.{Contact}
 use Rattle.sabr_model.specs.declared.contact.Range.{Range}
 use Rattle.sabr_model.specs.plan.Light.{light_of}
 use Rattle.sabr_model.specs.plan.Plan.{ContactPlan}
-use Rattle.sabr_model.specs.plan.Table.{node_count}
+use Rattle.sabr_model.specs.plan.Table.{node_count, ends_of}
 use Rattle.libcgrlist.specs.Opened.{contacts_without_light}
-use Rattle.libcgrlist.specs.Status.{done, no}
+use Rattle.libcgrlist.specs.Status.{done, no, no_memory}
 use Rattle.libcgrlist.specs.declared.views.Counts.{Counts}
 use Rattle.libcgrlist.specs.declared.views.ContactRow.{ContactRow}
 use Rattle.libcgrlist.specs.declared.views.RangeRow.{RangeRow}
+use Rattle.std.specs.List.Sorted.{IsStrictlyIncreasing}
+use Rattle.libcgrlist.specs.Buffers.{PutsWhole}
 
 -- how many contacts and ranges stand, how many nodes send or receive a standing contact, how many standing contacts
 -- have no light time at their start, and the largest number ever assigned
@@ -48,3 +50,14 @@ range_row r = record { one = r.one; other = r.other; start = r.start; end = r.en
 abbrev pub GivesRange : Option Range → ℕ → RangeRow → RangeRow → Type 0
 GivesRange (Some r) status old new = (status ≡ done) × (new ≡ range_row r)
 GivesRange None status old new = (status ≡ no) × (new ≡ old)
+
+-- the nodes that send or receive some contact, each once, in ascending order
+pub record AreNodesOf (contacts : List Contact) (nodes : List ℕ) : Type 0 where
+  pub rise : IsStrictlyIncreasing nodes
+  pub ends : (node : ℕ) → Contains nodes node ↔ Contains (ends_of contacts) node
+
+-- an allocation fails, and nothing is given; or the nodes are put, and their number is given
+abbrev pub AnswersNodes : List Contact → ℕ → List ℕ → List ℕ → ℕ → ℕ → Type 0
+AnswersNodes contacts status old new count_old count_new =
+    ((status ≡ no_memory) × (new ≡ old) × (count_new ≡ count_old))
+    ⊎ ((nodes : List ℕ) × AreNodesOf contacts nodes × PutsWhole nodes status old new × (count_new ≡ length nodes))

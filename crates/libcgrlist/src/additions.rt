@@ -6,9 +6,8 @@ ghost use Rattle.libcgrlist.specs.Changes.{contact_put};
 ghost use Rattle.libcgrlist.specs.Open.{Calls, IsWhole};
 
 use crate::changes::value_refusal;
-use crate::handle::PlanHandle;
-use crate::opened::{NewContact, Opened};
-use crate::plans::copy_of;
+use crate::handle::{PlanHandle, over_plan};
+use crate::opened::{NewContact, Opened, copy_of};
 use crate::status::{CLOSED, DONE, LISTING, MEMORY, VALUE_LIGHT, of_change};
 use crate::views::RangeRow;
 use sabr_model::{MAX_LIGHT, Plan};
@@ -178,19 +177,11 @@ pub extern "C" fn cgrlist_plan_add_contacts(
     contacts: &[NewContact],
     place: &mut usize,
 ) -> u32
-    requires { IsWhole handle.old.is_open handle.old.place.held }
-    ensures open { handle.new.is_open ≡ handle.old.is_open }
-    ensures whole { IsWhole handle.new.is_open handle.new.place.held }
-    ensures change { Calls handle.old.is_open handle.old.place.held result handle.new.place.held (λ o n. AddsAll o (contacts_added o contacts.now) result place.old place.new n) }
+    requires { IsWhole handle.old }
+    ensures change { Calls handle.old handle.new result (λ o n. AddsAll o (contacts_added o contacts.now) result place.old place.new n) }
     ensures closed { IsFalse handle.old.is_open → place.new ≡ place.old }
 {
-    if !handle.is_open {
-        return CLOSED;
-    }
-    let mut opened = handle.take(alloc);
-    let status = add_contacts(alloc, &mut opened, contacts, place);
-    handle.give(opened);
-    status
+    over_plan!(handle, alloc, opened => add_contacts(alloc, &mut opened, contacts, place))
 }
 
 /// Adds ranges in their order, or none of them, and gives the place of the first that is refused.
@@ -201,17 +192,9 @@ pub extern "C" fn cgrlist_plan_add_ranges(
     ranges: &[RangeRow],
     place: &mut usize,
 ) -> u32
-    requires { IsWhole handle.old.is_open handle.old.place.held }
-    ensures open { handle.new.is_open ≡ handle.old.is_open }
-    ensures whole { IsWhole handle.new.is_open handle.new.place.held }
-    ensures change { Calls handle.old.is_open handle.old.place.held result handle.new.place.held (λ o n. AddsAll o (ranges_added o ranges.now) result place.old place.new n) }
+    requires { IsWhole handle.old }
+    ensures change { Calls handle.old handle.new result (λ o n. AddsAll o (ranges_added o ranges.now) result place.old place.new n) }
     ensures closed { IsFalse handle.old.is_open → place.new ≡ place.old }
 {
-    if !handle.is_open {
-        return CLOSED;
-    }
-    let mut opened = handle.take(alloc);
-    let status = add_ranges(alloc, &mut opened, ranges, place);
-    handle.give(opened);
-    status
+    over_plan!(handle, alloc, opened => add_ranges(alloc, &mut opened, ranges, place))
 }

@@ -1,23 +1,54 @@
-//! The best route of a request.
+//! What C asks, and the best route of a request.
 
 ghost use Rattle.std.specs.Prelude.{◌≡◌, IfOk, OnErr, map};
 ghost use Rattle.sabr_model.specs.routes.Listing.{routes};
 ghost use Rattle.sabr_model.specs.routes.Record.{record_of};
-ghost use Rattle.libcgrlist.specs.Answers.{AnswersBest, UnlessWritten, WritesBest, none_or_one};
-ghost use Rattle.libcgrlist.specs.First.{first_routes};
+ghost use Rattle.libcgrlist.specs.Answers.{AnswersBest, UnlessWritten, WritesBest, none_or_one, first_routes, asked_request};
 ghost use Rattle.libcgrlist.specs.Open.{Calls, IsWhole};
-ghost use Rattle.libcgrlist.specs.Request.{asked_request};
 
+use crate::buffers::{RouteRow, put_whole};
 use crate::handle::PlanHandle;
 use crate::opened::Opened;
-use crate::request::Asked;
-use crate::rows::RouteRow;
 use crate::status::{CLOSED, MEMORY, NO, of_request};
-use crate::whole::put_whole;
 use sabr_index::Index;
-use sabr_model::{NoMemory, Request, Route, law3};
+use sabr_model::{MAX_HOPS, NoMemory, Request, RequestError, Route, law3};
 use sabr_search::{BestOf, Excluded, SearchCache, Settled};
 use std::alloc::Global;
+
+/// `cgrlist_request`: what a request asks, but for the nodes to avoid.
+#[repr(C)]
+#[derive(Clone, Copy)]
+pub struct Asked {
+    /// The source.
+    pub from: u64,
+    /// The destination.
+    pub to: u64,
+    /// When the bundle is at the source, in seconds since 1970-01-01T00:00:00Z.
+    pub at: u64,
+    /// The margin on light times, in parts per million.
+    pub margin_ppm: u32,
+    /// The most contacts that a route may have; 0 is no limit.
+    pub max_hops: u32,
+}
+
+impl Asked {
+    /// Makes the request, with these nodes to avoid.
+    ///
+    /// # Errors
+    ///
+    /// Those of [`Request::new`] and [`Request::with_limits`], the first that holds.
+    pub fn request(&self, avoid: &[u64]) -> Result<Request, RequestError>
+        ensures { result ≡ asked_request self.now avoid.now }
+    {
+        let request = Request::new(self.from, self.to, self.at, self.margin_ppm)?;
+        let max_hops = if self.max_hops == 0 {
+            MAX_HOPS
+        } else {
+            self.max_hops
+        };
+        request.with_limits(max_hops, avoid)
+    }
+}
 
 /// Finds the best route of a request.
 pub fn best_route(
@@ -87,10 +118,8 @@ pub extern "C" fn cgrlist_best(
     row: &mut RouteRow,
     contacts: &mut [u32],
 ) -> u32
-    requires { IsWhole handle.old.is_open handle.old.place.held }
-    ensures open { handle.new.is_open ≡ handle.old.is_open }
-    ensures whole { IsWhole handle.new.is_open handle.new.place.held }
-    ensures best { Calls handle.old.is_open handle.old.place.held result handle.new.place.held (λ o n. (n ≡ o) × AnswersBest o.plan.plan (asked_request asked.now avoid.now) result row.new contacts.old contacts.new) }
+    requires { IsWhole handle.old }
+    ensures best { Calls handle.old handle.new result (λ o n. (n ≡ o) × AnswersBest o.plan.plan (asked_request asked.now avoid.now) result row.new contacts.old contacts.new) }
     ensures kept { UnlessWritten result ((row.new ≡ row.old) × (contacts.new ≡ contacts.old)) }
 {
     if !handle.is_open {

@@ -6,7 +6,7 @@ ghost use Rattle.sabr_model.specs.plan.Adding.{new_range, number_of_opening};
 ghost use Rattle.libcgrlist.specs.Changes.{Changes, ChangesInMemory, contact_added, contact_deleted, number_deleted, range_added, range_deleted, value_refusal};
 ghost use Rattle.libcgrlist.specs.Open.{Calls, IsWhole};
 
-use crate::handle::PlanHandle;
+use crate::handle::{PlanHandle, over_plan};
 use crate::opened::{NewContact, Opened};
 use crate::status::{
     CLOSED, DONE, LISTING, NOTHING_TO_DELETE, VALUE_LIGHT, VALUE_NODE, VALUE_TIME, of_change,
@@ -136,16 +136,11 @@ pub extern "C" fn cgrlist_plan_add_contact(
     rate: u64,
     number: &mut u32,
 ) -> u32
-    requires { IsWhole handle.old.is_open handle.old.place.held }
-    ensures open { handle.new.is_open ≡ handle.old.is_open }
-    ensures whole { IsWhole handle.new.is_open handle.new.place.held }
-    ensures change { Calls handle.old.is_open handle.old.place.held result handle.new.place.held (λ o n. ChangesInMemory o (contact_added o (record { from = from; to = to; start = start; end = end; rate = rate })) result n) }
-    ensures given { Calls handle.old.is_open handle.old.place.held result handle.new.place.held (λ o n. result ≡ 0 → number.new ≡ o.plan.plan.largest + 1) }
+    requires { IsWhole handle.old }
+    ensures change { Calls handle.old handle.new result (λ o n. ChangesInMemory o (contact_added o (record { from = from; to = to; start = start; end = end; rate = rate })) result n) }
+    ensures given { Calls handle.old handle.new result (λ o n. result ≡ 0 → number.new ≡ o.plan.plan.largest + 1) }
     ensures kept { result ≢ 0 → number.new ≡ number.old }
 {
-    if !handle.is_open {
-        return CLOSED;
-    }
     let new = NewContact {
         from,
         to,
@@ -153,10 +148,7 @@ pub extern "C" fn cgrlist_plan_add_contact(
         end,
         rate,
     };
-    let mut opened = handle.take(alloc);
-    let status = add_contact(&mut opened, &new, number);
-    handle.give(opened);
-    status
+    over_plan!(handle, alloc, opened => add_contact(&mut opened, &new, number))
 }
 
 /// Adds a range.
@@ -170,14 +162,9 @@ pub extern "C" fn cgrlist_plan_add_range(
     end: u64,
     light: u32,
 ) -> u32
-    requires { IsWhole handle.old.is_open handle.old.place.held }
-    ensures open { handle.new.is_open ≡ handle.old.is_open }
-    ensures whole { IsWhole handle.new.is_open handle.new.place.held }
-    ensures change { Calls handle.old.is_open handle.old.place.held result handle.new.place.held (λ o n. ChangesInMemory o (range_added o (new_range one other start end light)) result n) }
+    requires { IsWhole handle.old }
+    ensures change { Calls handle.old handle.new result (λ o n. ChangesInMemory o (range_added o (new_range one other start end light)) result n) }
 {
-    if !handle.is_open {
-        return CLOSED;
-    }
     let new = Range {
         one,
         other,
@@ -185,10 +172,7 @@ pub extern "C" fn cgrlist_plan_add_range(
         end,
         light,
     };
-    let mut opened = handle.take(alloc);
-    let status = add_range(&mut opened, &new);
-    handle.give(opened);
-    status
+    over_plan!(handle, alloc, opened => add_range(&mut opened, &new))
 }
 
 /// Deletes a contact, and gives the number that it had.
@@ -201,20 +185,12 @@ pub extern "C" fn cgrlist_plan_delete_contact(
     start: u64,
     number: &mut u32,
 ) -> u32
-    requires { IsWhole handle.old.is_open handle.old.place.held }
-    ensures open { handle.new.is_open ≡ handle.old.is_open }
-    ensures whole { IsWhole handle.new.is_open handle.new.place.held }
-    ensures change { Calls handle.old.is_open handle.old.place.held result handle.new.place.held (λ o n. Changes o (contact_deleted o from to start) result n) }
-    ensures given { Calls handle.old.is_open handle.old.place.held result handle.new.place.held (λ o n. result ≡ 0 → number_of_opening o.plan.plan from to start ≡ Some number.new) }
+    requires { IsWhole handle.old }
+    ensures change { Calls handle.old handle.new result (λ o n. Changes o (contact_deleted o from to start) result n) }
+    ensures given { Calls handle.old handle.new result (λ o n. result ≡ 0 → number_of_opening o.plan.plan from to start ≡ Some number.new) }
     ensures kept { result ≢ 0 → number.new ≡ number.old }
 {
-    if !handle.is_open {
-        return CLOSED;
-    }
-    let mut opened = handle.take(alloc);
-    let status = delete_contact(&mut opened, from, to, start, number);
-    handle.give(opened);
-    status
+    over_plan!(handle, alloc, opened => delete_contact(&mut opened, from, to, start, number))
 }
 
 /// Deletes the contact with a number.
@@ -224,18 +200,10 @@ pub extern "C" fn cgrlist_plan_delete_number(
     handle: &mut PlanHandle,
     number: u32,
 ) -> u32
-    requires { IsWhole handle.old.is_open handle.old.place.held }
-    ensures open { handle.new.is_open ≡ handle.old.is_open }
-    ensures whole { IsWhole handle.new.is_open handle.new.place.held }
-    ensures change { Calls handle.old.is_open handle.old.place.held result handle.new.place.held (λ o n. Changes o (number_deleted o number) result n) }
+    requires { IsWhole handle.old }
+    ensures change { Calls handle.old handle.new result (λ o n. Changes o (number_deleted o number) result n) }
 {
-    if !handle.is_open {
-        return CLOSED;
-    }
-    let mut opened = handle.take(alloc);
-    let status = delete_number(&mut opened, number);
-    handle.give(opened);
-    status
+    over_plan!(handle, alloc, opened => delete_number(&mut opened, number))
 }
 
 /// Deletes a range.
@@ -247,16 +215,8 @@ pub extern "C" fn cgrlist_plan_delete_range(
     other: u64,
     start: u64,
 ) -> u32
-    requires { IsWhole handle.old.is_open handle.old.place.held }
-    ensures open { handle.new.is_open ≡ handle.old.is_open }
-    ensures whole { IsWhole handle.new.is_open handle.new.place.held }
-    ensures change { Calls handle.old.is_open handle.old.place.held result handle.new.place.held (λ o n. Changes o (range_deleted o one other start) result n) }
+    requires { IsWhole handle.old }
+    ensures change { Calls handle.old handle.new result (λ o n. Changes o (range_deleted o one other start) result n) }
 {
-    if !handle.is_open {
-        return CLOSED;
-    }
-    let mut opened = handle.take(alloc);
-    let status = delete_range(&mut opened, one, other, start);
-    handle.give(opened);
-    status
+    over_plan!(handle, alloc, opened => delete_range(&mut opened, one, other, start))
 }

@@ -2,20 +2,19 @@
 
 ghost use Rattle.std.specs.Prelude.{◌≡◌, ◌≤◌, IfOk, OnErr};
 ghost use Rattle.sabr_frontier.specs.listing.Listing.{most_routes};
-ghost use Rattle.libcgrlist.specs.Answers.{AnswersFirst, UnlessWritten, asked_page, page_status};
-ghost use Rattle.libcgrlist.specs.First.{first_routes, goes_on_after};
+ghost use Rattle.libcgrlist.specs.Answers.{AnswersFirst, UnlessWritten, asked_page, page_status, IsFirst, IsLastOf, first_routes, goes_on_after, asked_request};
 ghost use Rattle.libcgrlist.specs.Open.{Calls, IsWhole};
-ghost use Rattle.libcgrlist.specs.Pages.{IsPage, buffers};
-ghost use Rattle.libcgrlist.specs.Request.{asked_request};
+ghost use Rattle.libcgrlist.specs.Buffers.{IsPage, buffers};
 
+use crate::best::Asked;
+use crate::buffers::{Page, RouteRow, write_routes};
 use crate::handle::PlanHandle;
-use crate::listed::listed;
 use crate::opened::Opened;
-use crate::request::Asked;
-use crate::rows::{Page, RouteRow, write_routes};
 use crate::status::{CLOSED, DONE, MEMORY, ROOM, VALUE_COUNT, of_request};
+use sabr_frontier::{LastPage, Session, law6};
 use sabr_index::Index;
-use sabr_model::{NoMemory, Request};
+use sabr_model::{NoMemory, Request, law3};
+use sabr_search::Settled;
 use std::alloc::Global;
 
 /// The most routes of a page.
@@ -37,6 +36,38 @@ pub fn page_status(page: &Page) -> u32
     } else {
         DONE
     }
+}
+
+/// Finds the first page of a listing.
+fn first_page<'p>(
+    alloc: Global,
+    index: Index<'p, Global>,
+    finder: Settled<Global>,
+    request: Request,
+    count: u32,
+) -> Result<LastPage<'p, Settled<Global>, Global>, NoMemory>
+    requires { count ≤ most_routes }
+    ensures { IfOk result (IsLastOf index.entry request count) }
+{
+    Session::start_with_index(alloc, index, request, finder)?.last_page(count)
+}
+
+/// Finds the first routes of the list of all routes of a request.
+fn listed<'p>(
+    alloc: Global,
+    index: Index<'p, Global>,
+    finder: Settled<Global>,
+    request: Request,
+    count: u32,
+) -> Result<LastPage<'p, Settled<Global>, Global>, NoMemory>
+    requires { count ≤ most_routes }
+    ensures { IfOk result (IsFirst index.entry request count) }
+{
+    law3();
+    law6();
+    index.plan().rules_hold();
+    request.limits_hold();
+    first_page(alloc, index, finder, request, count)
 }
 
 /// Finds the first routes of a request, and writes them.
@@ -77,10 +108,8 @@ pub extern "C" fn cgrlist_first(
     contacts: &mut [u32],
     page: &mut Page,
 ) -> u32
-    requires { IsWhole handle.old.is_open handle.old.place.held }
-    ensures open { handle.new.is_open ≡ handle.old.is_open }
-    ensures whole { IsWhole handle.new.is_open handle.new.place.held }
-    ensures first { Calls handle.old.is_open handle.old.place.held result handle.new.place.held (λ o n. (n ≡ o) × AnswersFirst o.plan.plan count (asked_page count (asked_request asked.now avoid.now)) result (buffers rows.old contacts.old) (buffers rows.new contacts.new) page.new) }
+    requires { IsWhole handle.old }
+    ensures first { Calls handle.old handle.new result (λ o n. (n ≡ o) × AnswersFirst o.plan.plan count (asked_page count (asked_request asked.now avoid.now)) result (buffers rows.old contacts.old) (buffers rows.new contacts.new) page.new) }
     ensures kept { UnlessWritten result ((rows.new ≡ rows.old) × (contacts.new ≡ contacts.old) × (page.new ≡ page.old)) }
 {
     if !handle.is_open {

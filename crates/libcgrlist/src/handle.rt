@@ -20,6 +20,22 @@ pub struct PlanHandle {
     pub place: Place,
 }
 
+/// What an expression makes of the plan behind a handle, which is then given back. Over a closed handle, the function
+/// that calls this returns `CLOSED`.
+macro_rules! over_plan {
+    ($handle:ident, $alloc:ident, $opened:ident => $call:expr) => {{
+        if !$handle.is_open {
+            return CLOSED;
+        }
+        let mut $opened = $handle.take($alloc);
+        let made = $call;
+        $handle.give($opened);
+        made
+    }};
+}
+
+pub(crate) use over_plan;
+
 impl PlanHandle {
     /// Takes the plan out of an open handle, which stays open. The caller gives it back.
     pub fn take(&mut self, alloc: Global) -> Box<Opened, Global>

@@ -1,61 +1,65 @@
-//! The functions that the C library is made of: plans behind handles, and the answers over them. `library/proved.h`
-//! declares them, and `library/shims.c` calls them.
+//! The functions that the C library is made of. `library/proved.h` declares them for `library/shims.c`, whose functions
+//! are those of `cgrlist.h`: they take `NULL`, and make and close handles.
+//!
+//! A [`PlanHandle`] is what C has of a plan: whether it is open, and where it lies. An open one has an [`Opened`]: the
+//! plan, a listing over it if one is open, and what serves until the plan changes, which is the index of searches, the
+//! digest and the counts. Each export takes it out of the handle, asks it, and gives it back:
+//!
+//! - [`cgrlist_plan_new`], [`cgrlist_plan_read`], [`cgrlist_plan_copy`] and [`cgrlist_plan_renumber`] open a handle,
+//!   [`cgrlist_plan_prepare`] makes what serves until the next change, and [`cgrlist_plan_close`] frees all of it.
+//! - [`cgrlist_plan_add_contact`] and the like change the plan: wholly, or not at all.
+//! - [`cgrlist_plan_counts`] and the like, and [`cgrlist_plan_text`], show it.
+//! - [`cgrlist_best`], [`cgrlist_best_each`] and [`cgrlist_first`] search; [`cgrlist_follow`] and [`cgrlist_hops`] follow
+//!   a list of contacts.
+//! - [`cgrlist_listing_open`] and [`cgrlist_listing_load`] open a listing, of a request or of a session text. It waits as
+//!   a paused session between [`cgrlist_listing_next`], [`cgrlist_listing_back`] and [`cgrlist_listing_text`].
+//!   [`cgrlist_verify`] says whether a session text is that of a place in a list.
+//!
+//! A contract says of each status what stands in the buffers and behind the handle after the call. [`listings_stand`] and
+//! [`plan_texts_read_back`] are laws.
 #![tactic(auto)]
 
 mod additions;
 mod best;
+mod buffers;
 mod changes;
 mod first;
 mod follow;
-mod gathered;
 mod handle;
-mod hops;
-mod laws;
-mod listed;
 mod listing;
-mod listing_load;
-mod listing_text;
-mod nodes;
 mod opened;
 mod plan_text;
 mod plans;
-mod prepare;
 mod reach;
 mod renumber;
-mod request;
-mod rows;
+mod session_texts;
 mod status;
-mod verify;
 mod views;
-mod whole;
 
 pub use additions::{RefusedRecord, cgrlist_plan_add_contacts, cgrlist_plan_add_ranges};
 pub use best::cgrlist_best;
+pub use buffers::{Page, RouteRow};
 pub use changes::{
     cgrlist_plan_add_contact, cgrlist_plan_add_range, cgrlist_plan_delete_contact,
     cgrlist_plan_delete_number, cgrlist_plan_delete_range,
 };
 pub use first::cgrlist_first;
-pub use follow::cgrlist_follow;
+pub use follow::{cgrlist_follow, cgrlist_hops};
 pub use handle::{Loose, Place, PlanHandle};
-pub use hops::cgrlist_hops;
-pub use laws::{listings_stand, plan_texts_read_back};
 pub use listing::{
     ListingPlace, cgrlist_listing_back, cgrlist_listing_close, cgrlist_listing_next,
-    cgrlist_listing_open, cgrlist_listing_place,
+    cgrlist_listing_open, cgrlist_listing_place, listings_stand,
 };
-pub use listing_load::cgrlist_listing_load;
-pub use listing_text::cgrlist_listing_text;
-pub use nodes::cgrlist_plan_nodes;
 pub use opened::Opened;
-pub use plan_text::cgrlist_plan_text;
-pub use plans::{cgrlist_plan_close, cgrlist_plan_copy, cgrlist_plan_new, cgrlist_plan_read};
-pub use prepare::cgrlist_plan_prepare;
+pub use plan_text::{cgrlist_plan_text, plan_texts_read_back};
+pub use plans::{
+    cgrlist_plan_close, cgrlist_plan_copy, cgrlist_plan_new, cgrlist_plan_prepare,
+    cgrlist_plan_read,
+};
 pub use reach::{Reach, cgrlist_best_each};
 pub use renumber::cgrlist_plan_renumber;
-pub use rows::{Page, RouteRow};
-pub use verify::cgrlist_verify;
+pub use session_texts::{cgrlist_listing_load, cgrlist_listing_text, cgrlist_verify};
 pub use views::{
     cgrlist_plan_contact, cgrlist_plan_contact_at, cgrlist_plan_counts, cgrlist_plan_digest,
-    cgrlist_plan_greatest, cgrlist_plan_range_at,
+    cgrlist_plan_greatest, cgrlist_plan_nodes, cgrlist_plan_range_at,
 };

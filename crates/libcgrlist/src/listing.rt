@@ -4,18 +4,19 @@ ghost use Rattle.std.specs.Prelude.{◌≡◌, ◌≢◌, ◌≤◌, IfErr, IfOk
 ghost use Rattle.sabr_frontier.specs.listing.Listing.{most_routes};
 ghost use Rattle.sabr_frontier.specs.session.Session.{started};
 ghost use Rattle.sabr_search.specs.questions.Calls.{no_calls};
-ghost use Rattle.libcgrlist.specs.Answers.{UnlessWritten, asked_status, page_status};
+ghost use Rattle.libcgrlist.specs.Answers.{UnlessWritten, asked_request, asked_status, page_status};
+ghost use Rattle.libcgrlist.specs.Buffers.{IsPage, buffers};
 ghost use Rattle.libcgrlist.specs.Listings.{AnswersBack, AnswersNext, AnswersPlace, ClosesListing, GivesNext, GivesPlace, GoesBack, IsPlaceOf, OpensListing, TakesUp, goes_on, listing_then, next_records, second_refusal};
 ghost use Rattle.libcgrlist.specs.Open.{Calls, IsWhole};
-ghost use Rattle.libcgrlist.specs.Pages.{IsPage, buffers};
-ghost use Rattle.libcgrlist.specs.Paused.{listing_of};
-ghost use Rattle.libcgrlist.specs.Request.{asked_request, refused_or};
+ghost use Rattle.libcgrlist.specs.Opened.{listing_of};
+ghost use Rattle.libcgrlist.specs.Standing.{BackActs, LoadedBegin, NextActs, OpenedBegin};
+ghost use Rattle.libcgrlist.specs.Status.{refused_or};
 
+use crate::best::Asked;
+use crate::buffers::{Page, RouteRow, write_routes};
 use crate::first::{MOST_ROUTES, page_status};
-use crate::handle::PlanHandle;
-use crate::opened::{Opened, Paused};
-use crate::request::Asked;
-use crate::rows::{Page, RouteRow, write_routes};
+use crate::handle::{PlanHandle, over_plan};
+use crate::opened::{Opened, Paused, parted};
 use crate::status::{CLOSED, DONE, LISTING, MEMORY, NO, NO_LISTING, VALUE_COUNT, of_request};
 use sabr_frontier::Session;
 use sabr_index::{Index, PlanLinks};
@@ -44,10 +45,8 @@ fn open_listing(alloc: Global, opened: &mut Opened, request: Request) -> Result<
     let links = opened.take_links(alloc)?;
     let index = Index::from_links(opened.plan(), links);
     let session = Session::start_with_index(alloc, index, request, Settled::new(alloc))?;
-    let (paused, index) = session.pause();
-    let links = index.into_links();
-    opened.keep_links(links);
-    opened.keep_listing(paused);
+    let (links, paused) = parted(session);
+    opened.keep(links, paused);
     Ok(())
 }
 
@@ -68,7 +67,7 @@ fn open_asked(alloc: Global, opened: &mut Opened, request: Result<Request, Reque
 }
 
 /// Takes the listing and the plan's links out of what is behind a handle.
-fn take_up(alloc: Global, opened: &mut Opened) -> Result<(PlanLinks<Global>, Paused), u32>
+pub fn take_up(alloc: Global, opened: &mut Opened) -> Result<(PlanLinks<Global>, Paused), u32>
     ensures { TakesUp opened.old result opened.new }
 {
     if !opened.has_listing() {
@@ -120,10 +119,8 @@ fn next_page(
     let (links, paused) = take_up(alloc, opened)?;
     let mut session = paused.resume(Index::from_links(opened.plan(), links));
     let given = give_page(&mut session, count, rows, contacts);
-    let (paused, index) = session.pause();
-    let links = index.into_links();
-    opened.keep_links(links);
-    opened.keep_listing(paused);
+    let (links, paused) = parted(session);
+    opened.keep(links, paused);
     match given {
         Ok(page) => Ok(page),
         Err(_refused) => Err(MEMORY),
@@ -137,10 +134,8 @@ fn go_back(alloc: Global, opened: &mut Opened) -> Result<bool, u32>
     let (links, paused) = take_up(alloc, opened)?;
     let mut session = paused.resume(Index::from_links(opened.plan(), links));
     let gone = session.back();
-    let (paused, index) = session.pause();
-    let links = index.into_links();
-    opened.keep_links(links);
-    opened.keep_listing(paused);
+    let (links, paused) = parted(session);
+    opened.keep(links, paused);
     Ok(gone)
 }
 
@@ -158,17 +153,15 @@ fn place_in(session: &Session<'_, Settled<Global>, Global>) -> ListingPlace
     }
 }
 
-/// Tells where the listing stands.
+/// Returns where the listing stands.
 fn place_of(alloc: Global, opened: &mut Opened) -> Result<ListingPlace, u32>
     ensures { GivesPlace opened.old result opened.new }
 {
     let (links, paused) = take_up(alloc, opened)?;
     let session = paused.resume(Index::from_links(opened.plan(), links));
     let place = place_in(&session);
-    let (paused, index) = session.pause();
-    let links = index.into_links();
-    opened.keep_links(links);
-    opened.keep_listing(paused);
+    let (links, paused) = parted(session);
+    opened.keep(links, paused);
     Ok(place)
 }
 
@@ -190,19 +183,11 @@ pub extern "C" fn cgrlist_listing_open(
     asked: &Asked,
     avoid: &[u64],
 ) -> u32
-    requires { IsWhole handle.old.is_open handle.old.place.held }
-    ensures open { handle.new.is_open ≡ handle.old.is_open }
-    ensures whole { IsWhole handle.new.is_open handle.new.place.held }
-    ensures listing { Calls handle.old.is_open handle.old.place.held result handle.new.place.held (λ o n. OpensListing o (refused_or (second_refusal o.listing) (asked_status (asked_request asked.now avoid.now))) result n) }
+    requires { IsWhole handle.old }
+    ensures listing { Calls handle.old handle.new result (λ o n. OpensListing o (refused_or (second_refusal o.listing) (asked_status (asked_request asked.now avoid.now))) result n) }
 {
-    if !handle.is_open {
-        return CLOSED;
-    }
     let request = asked.request(avoid);
-    let mut opened = handle.take(alloc);
-    let status = open_asked(alloc, &mut opened, request);
-    handle.give(opened);
-    status
+    over_plan!(handle, alloc, opened => open_asked(alloc, &mut opened, request))
 }
 
 /// Gives the next page of the listing. If there is no room for all of it, the listing stays where it was.
@@ -215,10 +200,8 @@ pub extern "C" fn cgrlist_listing_next(
     contacts: &mut [u32],
     page: &mut Page,
 ) -> u32
-    requires { IsWhole handle.old.is_open handle.old.place.held }
-    ensures open { handle.new.is_open ≡ handle.old.is_open }
-    ensures whole { IsWhole handle.new.is_open handle.new.place.held }
-    ensures next { Calls handle.old.is_open handle.old.place.held result handle.new.place.held (λ o n. AnswersNext o o.listing count result (buffers rows.old contacts.old) (buffers rows.new contacts.new) page.new n) }
+    requires { IsWhole handle.old }
+    ensures next { Calls handle.old handle.new result (λ o n. AnswersNext o o.listing count result (buffers rows.old contacts.old) (buffers rows.new contacts.new) page.new n) }
     ensures kept { UnlessWritten result ((rows.new ≡ rows.old) × (contacts.new ≡ contacts.old) × (page.new ≡ page.old)) }
 {
     if !handle.is_open {
@@ -247,17 +230,10 @@ pub extern "C" fn cgrlist_listing_next(
 /// Takes back the last page of the listing that gave routes.
 #[unsafe(no_mangle)]
 pub extern "C" fn cgrlist_listing_back(alloc: Global, handle: &mut PlanHandle) -> u32
-    requires { IsWhole handle.old.is_open handle.old.place.held }
-    ensures open { handle.new.is_open ≡ handle.old.is_open }
-    ensures whole { IsWhole handle.new.is_open handle.new.place.held }
-    ensures back { Calls handle.old.is_open handle.old.place.held result handle.new.place.held (λ o n. AnswersBack o result n) }
+    requires { IsWhole handle.old }
+    ensures back { Calls handle.old handle.new result (λ o n. AnswersBack o result n) }
 {
-    if !handle.is_open {
-        return CLOSED;
-    }
-    let mut opened = handle.take(alloc);
-    let gone = go_back(alloc, &mut opened);
-    handle.give(opened);
+    let gone = over_plan!(handle, alloc, opened => go_back(alloc, &mut opened));
     match gone {
         Ok(true) => DONE,
         Ok(false) => NO,
@@ -272,18 +248,11 @@ pub extern "C" fn cgrlist_listing_place(
     handle: &mut PlanHandle,
     place: &mut ListingPlace,
 ) -> u32
-    requires { IsWhole handle.old.is_open handle.old.place.held }
-    ensures open { handle.new.is_open ≡ handle.old.is_open }
-    ensures whole { IsWhole handle.new.is_open handle.new.place.held }
-    ensures place { Calls handle.old.is_open handle.old.place.held result handle.new.place.held (λ o n. AnswersPlace o o.listing result place.new n) }
+    requires { IsWhole handle.old }
+    ensures place { Calls handle.old handle.new result (λ o n. AnswersPlace o o.listing result place.new n) }
     ensures kept { result ≢ 0 → place.new ≡ place.old }
 {
-    if !handle.is_open {
-        return CLOSED;
-    }
-    let mut opened = handle.take(alloc);
-    let found = place_of(alloc, &mut opened);
-    handle.give(opened);
+    let found = over_plan!(handle, alloc, opened => place_of(alloc, &mut opened));
     match found {
         Ok(found) => {
             *place = found;
@@ -296,16 +265,19 @@ pub extern "C" fn cgrlist_listing_place(
 /// Closes the listing. The plan stays open.
 #[unsafe(no_mangle)]
 pub extern "C" fn cgrlist_listing_close(alloc: Global, handle: &mut PlanHandle) -> u32
-    requires { IsWhole handle.old.is_open handle.old.place.held }
-    ensures open { handle.new.is_open ≡ handle.old.is_open }
-    ensures whole { IsWhole handle.new.is_open handle.new.place.held }
-    ensures close { Calls handle.old.is_open handle.old.place.held result handle.new.place.held (λ o n. ClosesListing o result n) }
+    requires { IsWhole handle.old }
+    ensures close { Calls handle.old handle.new result (λ o n. ClosesListing o result n) }
 {
-    if !handle.is_open {
-        return CLOSED;
-    }
-    let mut opened = handle.take(alloc);
-    let status = close_listing(&mut opened);
-    handle.give(opened);
-    status
+    over_plan!(handle, alloc, opened => close_listing(&mut opened))
 }
+
+/// States where a listing stands in the list of all routes of its request. One that was opened begins before the first
+/// route, and one of a session text that [`cgrlist_verify`](crate::cgrlist_verify) accepts at the text's place. From
+/// there each call for a page, and each that takes one back, does one of the acts after which
+/// [`pages_stand`](sabr_session::pages_stand) says where a session stands and what its next page is.
+pub fn listings_stand()
+    ensures opened { OpenedBegin }
+    ensures loaded { LoadedBegin }
+    ensures next { NextActs }
+    ensures back { BackActs }
+{}

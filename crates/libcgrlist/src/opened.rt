@@ -4,10 +4,9 @@ ghost use Rattle.std.specs.Prelude.{◌≡◌, None, Some, IfOk, IfSome, OnOk, O
 ghost use Rattle.std.specs.Option.{option_map};
 ghost use Rattle.sabr_plan.specs.Canonical.{digest_of};
 ghost use Rattle.sabr_frontier.specs.session.Paused.{IsPausedOver};
-ghost use Rattle.libcgrlist.specs.Opened.{OpenPlan, contacts_without_light};
-ghost use Rattle.libcgrlist.specs.Paused.{AreLinksOf, listing_over};
+ghost use Rattle.libcgrlist.specs.Opened.{AreLinksOf, OpenPlan, contacts_without_light, listing_of, listing_over};
 
-use sabr_frontier::PausedSession;
+use sabr_frontier::{PausedSession, Session};
 use sabr_index::{Index, PlanLinks};
 use sabr_model::{AddFault, NoMemory, Plan, Range};
 use sabr_plan::digest;
@@ -40,8 +39,7 @@ impl Model for Opened {
     ghost use Rattle.std.specs.Option.{option_map};
     ghost use Rattle.sabr_plan.specs.Canonical.{digest_of};
     ghost use Rattle.sabr_frontier.specs.session.Paused.{IsPausedOver};
-    ghost use Rattle.libcgrlist.specs.Opened.{OpenPlan, contacts_without_light};
-    ghost use Rattle.libcgrlist.specs.Paused.{AreLinksOf, listing_over};
+    ghost use Rattle.libcgrlist.specs.Opened.{AreLinksOf, OpenPlan, contacts_without_light, listing_over};
 
     ghost Value = { OpenPlan };
 
@@ -63,6 +61,26 @@ impl Opened {
             digest: None,
             without_light: None,
         }
+    }
+
+    /// Returns a copy of the plan, with its digest and its counts if they were made, and with no listing.
+    ///
+    /// # Errors
+    ///
+    /// [`NoMemory`] if an allocation failed.
+    pub fn copied(&self, alloc: Global) -> Result<Opened, NoMemory>
+        ensures plan { IfOk result (λ copy. copy.plan.plan ≡ self.now.plan.plan) }
+        ensures alone { IfOk result (λ copy. copy.listing ≡ None) }
+    {
+        let plan = copy_of(alloc, &self.plan)?;
+        Ok(Opened {
+            plan,
+            links: None,
+            finder: None,
+            listing: None,
+            digest: self.digest,
+            without_light: self.without_light,
+        })
     }
 
     /// The plan.
@@ -128,11 +146,13 @@ impl Opened {
         self.listing.take()
     }
 
-    /// Opens a listing, in place of any other.
-    pub fn keep_listing(&mut self, listing: Paused)
-        requires { IsPausedOver self.old.plan listing }
+    /// Keeps the plan's links, and opens a listing, in place of any other.
+    pub fn keep(&mut self, links: PlanLinks<Global>, listing: Paused)
+        requires links { AreLinksOf self.old.plan links }
+        requires listing { IsPausedOver self.old.plan listing }
         ensures { self.new ≡ record self.old { listing = Some (listing_over self.old.plan listing) } }
     {
+        self.links = Some(links);
         self.listing = Some(listing);
     }
 
@@ -162,7 +182,7 @@ impl Opened {
         counted
     }
 
-    /// Makes what is kept for the plan until it changes: its links, its digest and its counts.
+    /// Makes what serves until the plan changes: its links, its digest and its counts.
     ///
     /// # Errors
     ///
@@ -176,6 +196,26 @@ impl Opened {
         self.keep_links(links);
         Ok(())
     }
+}
+
+/// Returns a copy of a plan.
+pub fn copy_of(alloc: Global, plan: &Plan<Global>) -> Result<Plan<Global>, NoMemory>
+    ensures { IfOk result (λ copy. copy.plan ≡ plan.now.plan) }
+{
+    let contacts = Vec::from_slice(alloc, plan.contacts())?;
+    let ranges = Vec::from_slice(alloc, plan.ranges())?;
+    let copy = Plan::of_parts(alloc, contacts, ranges, plan.largest())?;
+    Ok(copy)
+}
+
+/// Returns the parts of a session that [`Opened::keep`] takes: its plan's links, and the listing.
+pub fn parted(session: Session<'_, Settled<Global>, Global>) -> (PlanLinks<Global>, Paused)
+    ensures links { AreLinksOf session.entry.plan result.0 }
+    ensures paused { IsPausedOver session.entry.plan result.1 }
+    ensures listing { listing_over session.entry.plan result.1 ≡ listing_of session.entry }
+{
+    let (paused, index) = session.pause();
+    (index.into_links(), paused)
 }
 
 /// Counts the contacts that have no light time at their start.

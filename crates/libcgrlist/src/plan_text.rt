@@ -3,13 +3,13 @@
 ghost use Rattle.std.specs.Prelude.{◌≡◌, ◌==◌, ◌+◌, ◌≤◌, ◌++◌, ◌∷◌, decimal, IfOk, IsFalse, OnOk, codes};
 ghost use Rattle.std.specs.List.{flat_map, list_any, AllByRecursion};
 ghost use Rattle.sabr_model.specs.plan.Plan.{IsWindow, last_time};
-ghost use Rattle.libcgrlist.specs.ListingTexts.{GivesNoText, GivesText};
+ghost use Rattle.libcgrlist.specs.Buffers.{GivesNoText, GivesText};
 ghost use Rattle.libcgrlist.specs.Open.{Calls, IsWhole};
-ghost use Rattle.libcgrlist.specs.PlanTexts.{addition_line, contacts_text, deletion_line, free_start, gap_text, plan_text, range_line};
+ghost use Rattle.libcgrlist.specs.PlanTexts.{PlanTextsReadBack, addition_line, contacts_text, deletion_line, free_start, gap_text, plan_text, range_line};
 
-use crate::handle::PlanHandle;
+use crate::buffers::put_whole;
+use crate::handle::{PlanHandle, over_plan};
 use crate::status::{CLOSED, MEMORY};
-use crate::whole::put_whole;
 use itoa::Buffer;
 use sabr_model::{Contact, NoMemory, Plan, Range};
 use sabr_plan::time_text;
@@ -205,18 +205,11 @@ pub extern "C" fn cgrlist_plan_text(
     text: &mut [u8],
     bytes: &mut usize,
 ) -> u32
-    requires { IsWhole handle.old.is_open handle.old.place.held }
-    ensures open { handle.new.is_open ≡ handle.old.is_open }
-    ensures whole { IsWhole handle.new.is_open handle.new.place.held }
-    ensures text { Calls handle.old.is_open handle.old.place.held result handle.new.place.held (λ o n. (n ≡ o) × GivesText (plan_text o.plan.plan) result text.old text.new bytes.old bytes.new) }
+    requires { IsWhole handle.old }
+    ensures text { Calls handle.old handle.new result (λ o n. (n ≡ o) × GivesText (plan_text o.plan.plan) result text.old text.new bytes.old bytes.new) }
     ensures closed { IsFalse handle.old.is_open → GivesNoText text.old text.new bytes.old bytes.new }
 {
-    if !handle.is_open {
-        return CLOSED;
-    }
-    let opened = handle.take(alloc);
-    let given = text_of_plan(alloc, opened.plan());
-    handle.give(opened);
+    let given = over_plan!(handle, alloc, opened => text_of_plan(alloc, opened.plan()));
     match given {
         Ok(given) => {
             *bytes = given.len();
@@ -225,3 +218,9 @@ pub extern "C" fn cgrlist_plan_text(
         Err(_refused) => MEMORY,
     }
 }
+
+/// States that reading the text of a plan, as [`cgrlist_plan_text`] writes it, makes the plan again: its contacts with
+/// their numbers, its ranges, and the largest number given.
+pub fn plan_texts_read_back()
+    ensures { PlanTextsReadBack }
+{}

@@ -1,23 +1,25 @@
-//! Opening plans, and closing them.
+//! Opening plans, preparing them, and closing them.
 
-ghost use Rattle.std.specs.Prelude.{◌≡◌, ◌⊎◌, [], None, false, true, IfOk, IsFalse, IsTrue, if◌then◌else◌};
+ghost use Rattle.std.specs.Prelude.{◌≡◌, ◌⊎◌, [], None, false, true, IsFalse, IsTrue, if◌then◌else◌};
 ghost use Rattle.sabr_plan.specs.Reading.{plan_of};
 ghost use Rattle.libcgrlist.specs.Open.{Calls, IsWhole};
-ghost use Rattle.libcgrlist.specs.Reading.{Makes, Opens, Reads, Refused};
+ghost use Rattle.libcgrlist.specs.Plans.{Makes, Opens, Reads, Refused};
+ghost use Rattle.libcgrlist.specs.Status.{done, no_memory};
 
-use crate::handle::PlanHandle;
+use crate::handle::{PlanHandle, over_plan};
 use crate::opened::Opened;
 use crate::status::{CLOSED, DONE, MEMORY, OPEN, of_line};
-use sabr_model::{NoMemory, Plan};
+use sabr_model::Plan;
 use sabr_plan::{PlanKind, parse_plan};
 use std::alloc::Global;
 
-/// Puts a plan behind a closed handle.
-pub fn open(alloc: Global, handle: &mut PlanHandle, plan: Plan<Global>) -> u32
-    requires { handle.old.is_open ≡ false }
-    ensures { Makes plan.plan result handle.new.is_open handle.new.place.held }
+/// Puts a plan over which no listing is open behind a closed handle.
+pub fn open(alloc: Global, handle: &mut PlanHandle, opened: Opened) -> u32
+    requires closed { handle.old.is_open ≡ false }
+    requires alone { opened.listing ≡ None }
+    ensures { Makes opened.plan.plan result handle.new }
 {
-    match Box::new(alloc, Opened::of(plan)) {
+    match Box::new(alloc, opened) {
         Ok(opened) => {
             handle.give(opened);
             DONE
@@ -29,14 +31,14 @@ pub fn open(alloc: Global, handle: &mut PlanHandle, plan: Plan<Global>) -> u32
 /// Opens an empty plan.
 #[unsafe(no_mangle)]
 pub extern "C" fn cgrlist_plan_new(alloc: Global, handle: &mut PlanHandle) -> u32
-    requires { IsWhole handle.old.is_open handle.old.place.held }
-    ensures whole { IsWhole handle.new.is_open handle.new.place.held }
-    ensures opens { Opens handle.old.is_open handle.old.place.held result handle.new.is_open handle.new.place.held (Makes (record { contacts = []; ranges = []; largest = 0 }) result handle.new.is_open handle.new.place.held) }
+    requires { IsWhole handle.old }
+    ensures whole { IsWhole handle.new }
+    ensures opens { Opens handle.old handle.new result (Makes (record { contacts = []; ranges = []; largest = 0 }) result handle.new) }
 {
     if handle.is_open {
         return OPEN;
     }
-    open(alloc, handle, Plan::new(alloc))
+    open(alloc, handle, Opened::of(Plan::new(alloc)))
 }
 
 /// Opens the plan that a text spells, or gives the number of its first bad line.
@@ -47,9 +49,9 @@ pub extern "C" fn cgrlist_plan_read(
     text: &[u8],
     line: &mut u32,
 ) -> u32
-    requires { IsWhole handle.old.is_open handle.old.place.held }
-    ensures whole { IsWhole handle.new.is_open handle.new.place.held }
-    ensures opens { Opens handle.old.is_open handle.old.place.held result handle.new.is_open handle.new.place.held (Reads (plan_of text.now true) result line.new handle.new.is_open handle.new.place.held ⊎ Refused result line.new handle.new.is_open) }
+    requires { IsWhole handle.old }
+    ensures whole { IsWhole handle.new }
+    ensures opens { Opens handle.old handle.new result (Reads (plan_of text.now true) result line.new handle.new ⊎ Refused result line.new handle.new) }
     ensures no_line { IsTrue handle.old.is_open → line.new ≡ 0 }
 {
     *line = 0;
@@ -57,7 +59,7 @@ pub extern "C" fn cgrlist_plan_read(
         return OPEN;
     }
     match parse_plan(alloc, text) {
-        Ok(plan) => open(alloc, handle, plan),
+        Ok(plan) => open(alloc, handle, Opened::of(plan)),
         Err(fault) if fault.kind == PlanKind::NoMemory => MEMORY,
         Err(fault) => {
             *line = fault.line;
@@ -66,26 +68,16 @@ pub extern "C" fn cgrlist_plan_read(
     }
 }
 
-/// Returns a copy of a plan.
-pub fn copy_of(alloc: Global, plan: &Plan<Global>) -> Result<Plan<Global>, NoMemory>
-    ensures { IfOk result (λ copy. copy.plan ≡ plan.now.plan) }
-{
-    let contacts = Vec::from_slice(alloc, plan.contacts())?;
-    let ranges = Vec::from_slice(alloc, plan.ranges())?;
-    let copy = Plan::of_parts(alloc, contacts, ranges, plan.largest())?;
-    Ok(copy)
-}
-
 /// Opens a copy of a plan behind a closed handle.
-fn copy_to(alloc: Global, plan: &Plan<Global>, copy: &mut PlanHandle) -> u32
-    requires { IsWhole copy.old.is_open copy.old.place.held }
-    ensures whole { IsWhole copy.new.is_open copy.new.place.held }
-    ensures copied { Opens copy.old.is_open copy.old.place.held result copy.new.is_open copy.new.place.held (Makes plan.now.plan result copy.new.is_open copy.new.place.held) }
+fn copy_to(alloc: Global, opened: &Opened, copy: &mut PlanHandle) -> u32
+    requires { IsWhole copy.old }
+    ensures whole { IsWhole copy.new }
+    ensures copied { Opens copy.old copy.new result (Makes opened.now.plan.plan result copy.new) }
 {
     if copy.is_open {
         return OPEN;
     }
-    match copy_of(alloc, plan) {
+    match opened.copied(alloc) {
         Ok(made) => open(alloc, copy, made),
         Err(_refused) => MEMORY,
     }
@@ -98,27 +90,32 @@ pub extern "C" fn cgrlist_plan_copy(
     handle: &mut PlanHandle,
     copy: &mut PlanHandle,
 ) -> u32
-    requires handle { IsWhole handle.old.is_open handle.old.place.held }
-    requires copy { IsWhole copy.old.is_open copy.old.place.held }
-    ensures open { handle.new.is_open ≡ handle.old.is_open }
-    ensures whole { IsWhole handle.new.is_open handle.new.place.held }
-    ensures copy_whole { IsWhole copy.new.is_open copy.new.place.held }
-    ensures copied { Calls handle.old.is_open handle.old.place.held result handle.new.place.held (λ o n. (n ≡ o) × Opens copy.old.is_open copy.old.place.held result copy.new.is_open copy.new.place.held (Makes o.plan.plan result copy.new.is_open copy.new.place.held)) }
+    requires handle { IsWhole handle.old }
+    requires copy { IsWhole copy.old }
+    ensures copy_whole { IsWhole copy.new }
+    ensures copied { Calls handle.old handle.new result (λ o n. (n ≡ o) × Opens copy.old copy.new result (Makes o.plan.plan result copy.new)) }
     ensures closed { IsFalse handle.old.is_open → (copy.new.is_open ≡ copy.old.is_open) × (copy.new.place.held ≡ copy.old.place.held) }
 {
-    if !handle.is_open {
-        return CLOSED;
+    over_plan!(handle, alloc, opened => copy_to(alloc, &opened, copy))
+}
+
+/// Makes what serves until a plan changes: its index, its digest and its counts.
+#[unsafe(no_mangle)]
+pub extern "C" fn cgrlist_plan_prepare(alloc: Global, handle: &mut PlanHandle) -> u32
+    requires { IsWhole handle.old }
+    ensures same { Calls handle.old handle.new result (λ o n. (n ≡ o) × ((result ≡ done) ⊎ (result ≡ no_memory))) }
+{
+    let prepared = over_plan!(handle, alloc, opened => opened.prepare(alloc));
+    match prepared {
+        Ok(()) => DONE,
+        Err(_refused) => MEMORY,
     }
-    let opened = handle.take(alloc);
-    let status = copy_to(alloc, opened.plan(), copy);
-    handle.give(opened);
-    status
 }
 
 /// Closes a plan and its listing, and frees them. A closed one stays so.
 #[unsafe(no_mangle)]
 pub extern "C" fn cgrlist_plan_close(alloc: Global, handle: &mut PlanHandle)
-    requires { IsWhole handle.old.is_open handle.old.place.held }
+    requires { IsWhole handle.old }
     ensures closed { handle.new.is_open ≡ false }
     ensures freed { handle.new.place.held ≡ (if handle.old.is_open then None else handle.old.place.held) }
 {

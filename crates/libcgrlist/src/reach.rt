@@ -1,15 +1,12 @@
 //! The best routes to many destinations.
 
 ghost use Rattle.std.specs.Prelude.{◌≡◌, ◌<◌, ◌≤◌, IsFalse, Ok, length, slice_index_or};
-ghost use Rattle.libcgrlist.specs.Answers.{none_or_one};
+ghost use Rattle.libcgrlist.specs.Answers.{none_or_one, AnswersReaches, AreReaches, IsReachOf, asked_to, first_reach, unreached, asked_request};
 ghost use Rattle.libcgrlist.specs.Open.{Calls, IsWhole};
-ghost use Rattle.libcgrlist.specs.Reaching.{AnswersReaches, AreReaches, IsReachOf, asked_to, first_reach, unreached};
-ghost use Rattle.libcgrlist.specs.Request.{asked_request};
 
-use crate::best::best_route;
-use crate::handle::PlanHandle;
+use crate::best::{Asked, best_route};
+use crate::handle::{PlanHandle, over_plan};
 use crate::opened::Opened;
-use crate::request::Asked;
 use crate::status::{CLOSED, DONE, MEMORY, NO, ROOM, of_request};
 use sabr_index::Index;
 use sabr_model::{Request, RequestError, Route};
@@ -167,18 +164,10 @@ pub extern "C" fn cgrlist_best_each(
     to: &[u64],
     reaches: &mut [Reach],
 ) -> u32
-    requires { IsWhole handle.old.is_open handle.old.place.held }
-    ensures open { handle.new.is_open ≡ handle.old.is_open }
-    ensures whole { IsWhole handle.new.is_open handle.new.place.held }
-    ensures reaches { Calls handle.old.is_open handle.old.place.held result handle.new.place.held (λ o n. (n ≡ o) × AnswersReaches o.plan.plan asked.now avoid.now to.now result reaches.old reaches.new) }
+    requires { IsWhole handle.old }
+    ensures reaches { Calls handle.old handle.new result (λ o n. (n ≡ o) × AnswersReaches o.plan.plan asked.now avoid.now to.now result reaches.old reaches.new) }
     ensures closed { IsFalse handle.old.is_open → reaches.new ≡ reaches.old }
 {
-    if !handle.is_open {
-        return CLOSED;
-    }
-    let mut opened = handle.take(alloc);
     let destinations = Destinations { asked, avoid, to };
-    let status = give_reaches(alloc, &mut opened, &destinations, reaches);
-    handle.give(opened);
-    status
+    over_plan!(handle, alloc, opened => give_reaches(alloc, &mut opened, &destinations, reaches))
 }

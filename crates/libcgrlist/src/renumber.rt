@@ -4,10 +4,10 @@ ghost use Rattle.std.specs.Prelude.{◌≡◌, ◌≢◌, ◌≤◌, IfOk, IsFal
 ghost use Rattle.sabr_model.specs.plan.Plan.{most_records};
 ghost use Rattle.host.specs.Buffers.{put_over};
 ghost use Rattle.libcgrlist.specs.Open.{Calls, IsWhole};
-ghost use Rattle.libcgrlist.specs.Reading.{Makes, Opens};
-ghost use Rattle.libcgrlist.specs.Renumbered.{contacts_after, numbered_from, numbers_of, ranges_after, renumbered};
+ghost use Rattle.libcgrlist.specs.Plans.{Makes, Opens, contacts_after, numbered_from, numbers_of, ranges_after, renumbered};
 
-use crate::handle::PlanHandle;
+use crate::handle::{PlanHandle, over_plan};
+use crate::opened::Opened;
 use crate::plans::open;
 use crate::status::{CLOSED, DONE, MEMORY, OPEN};
 use sabr_model::{Contact, NoMemory, Plan, Range};
@@ -87,9 +87,9 @@ fn renumber_to(
     copy: &mut PlanHandle,
     numbers: &mut [u32],
 ) -> u32
-    requires { IsWhole copy.old.is_open copy.old.place.held }
-    ensures whole { IsWhole copy.new.is_open copy.new.place.held }
-    ensures copied { Opens copy.old.is_open copy.old.place.held result copy.new.is_open copy.new.place.held (Makes (renumbered plan.now.plan second) result copy.new.is_open copy.new.place.held) }
+    requires { IsWhole copy.old }
+    ensures whole { IsWhole copy.new }
+    ensures copied { Opens copy.old copy.new result (Makes (renumbered plan.now.plan second) result copy.new) }
     ensures given { result ≡ 0 → numbers.new ≡ put_over numbers.old (numbers_of (contacts_after second plan.now.plan.contacts)) }
     ensures kept { result ≢ 0 → numbers.new ≡ numbers.old }
 {
@@ -102,7 +102,7 @@ fn renumber_to(
     let Ok(made) = renumbered(alloc, plan, &kept, second) else {
         return MEMORY;
     };
-    let status = open(alloc, copy, made);
+    let status = open(alloc, copy, Opened::of(made));
     if status == DONE {
         write_numbers(&kept, numbers);
     }
@@ -119,21 +119,13 @@ pub extern "C" fn cgrlist_plan_renumber(
     copy: &mut PlanHandle,
     numbers: &mut [u32],
 ) -> u32
-    requires handle { IsWhole handle.old.is_open handle.old.place.held }
-    requires copy { IsWhole copy.old.is_open copy.old.place.held }
-    ensures open { handle.new.is_open ≡ handle.old.is_open }
-    ensures whole { IsWhole handle.new.is_open handle.new.place.held }
-    ensures copy_whole { IsWhole copy.new.is_open copy.new.place.held }
-    ensures copied { Calls handle.old.is_open handle.old.place.held result handle.new.place.held (λ o n. (n ≡ o) × Opens copy.old.is_open copy.old.place.held result copy.new.is_open copy.new.place.held (Makes (renumbered o.plan.plan second) result copy.new.is_open copy.new.place.held)) }
-    ensures given { Calls handle.old.is_open handle.old.place.held result handle.new.place.held (λ o n. result ≡ 0 → numbers.new ≡ put_over numbers.old (numbers_of (contacts_after second o.plan.plan.contacts))) }
+    requires handle { IsWhole handle.old }
+    requires copy { IsWhole copy.old }
+    ensures copy_whole { IsWhole copy.new }
+    ensures copied { Calls handle.old handle.new result (λ o n. (n ≡ o) × Opens copy.old copy.new result (Makes (renumbered o.plan.plan second) result copy.new)) }
+    ensures given { Calls handle.old handle.new result (λ o n. result ≡ 0 → numbers.new ≡ put_over numbers.old (numbers_of (contacts_after second o.plan.plan.contacts))) }
     ensures kept { result ≢ 0 → numbers.new ≡ numbers.old }
     ensures closed { IsFalse handle.old.is_open → (copy.new.is_open ≡ copy.old.is_open) × (copy.new.place.held ≡ copy.old.place.held) }
 {
-    if !handle.is_open {
-        return CLOSED;
-    }
-    let opened = handle.take(alloc);
-    let status = renumber_to(alloc, opened.plan(), second, copy, numbers);
-    handle.give(opened);
-    status
+    over_plan!(handle, alloc, opened => renumber_to(alloc, opened.plan(), second, copy, numbers))
 }

@@ -1,7 +1,7 @@
 //! The statuses of calls, as `cgrlist.h` numbers them.
 
 ghost use Rattle.std.specs.Prelude.{◌≡◌};
-ghost use Rattle.libcgrlist.specs.Loading.{session_status};
+ghost use Rattle.libcgrlist.specs.SessionTexts.{session_status};
 ghost use Rattle.libcgrlist.specs.Status.{change_status, line_status, request_status};
 
 use sabr_model::{AddFault, RequestError};
@@ -14,7 +14,7 @@ pub const DONE: u32 = 0;
 pub const NO: u32 = 1;
 /// A buffer is too small.
 pub const ROOM: u32 = 2;
-/// An allocation was refused.
+/// An allocation failed.
 pub const MEMORY: u32 = 3;
 /// The plan isn't open.
 pub const CLOSED: u32 = 4;

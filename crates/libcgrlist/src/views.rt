@@ -1,17 +1,19 @@
 //! Looking at plans.
 
-ghost use Rattle.std.specs.Prelude.{◌≡◌, ◌≢◌, slice_get};
+ghost use Rattle.std.specs.Prelude.{◌≡◌, ◌≢◌, IfOk, IsFalse, slice_get};
 ghost use Rattle.std.specs.Option.{option_copied};
 ghost use Rattle.sabr_model.specs.plan.Plan.{contact_named};
+ghost use Rattle.sabr_model.specs.plan.Table.{ends_of};
 ghost use Rattle.sabr_plan.specs.Canonical.{digest_of};
+ghost use Rattle.libcgrlist.specs.Views.{AnswersNodes, AreNodesOf, Gives, GivesRange, counts_of};
 ghost use Rattle.libcgrlist.specs.Open.{Calls, IsWhole};
 ghost use Rattle.libcgrlist.specs.Status.{done};
-ghost use Rattle.libcgrlist.specs.Views.{Gives, GivesRange, counts_of};
 
-use crate::handle::PlanHandle;
+use crate::buffers::put_whole;
+use crate::handle::{PlanHandle, over_plan};
 use crate::opened::Opened;
-use crate::status::{CLOSED, DONE, NO};
-use sabr_model::{Contact, Plan, Range};
+use crate::status::{CLOSED, DONE, MEMORY, NO};
+use sabr_model::{Contact, NoMemory, Plan, Range};
 use std::alloc::Global;
 
 /// `cgrlist_counts`: what a plan has.
@@ -111,6 +113,28 @@ fn give_range(found: Option<&Range>, row: &mut RangeRow) -> u32
     DONE
 }
 
+/// Returns the senders and receivers of contacts.
+fn ends_of(alloc: Global, contacts: &[Contact]) -> Result<Vec<u64, Global>, NoMemory>
+    ensures { IfOk result (λ nodes. nodes.items ≡ ends_of contacts.now) }
+{
+    let mut nodes = Vec::new(alloc);
+    for contact in contacts {
+        nodes.push(contact.from)?;
+        nodes.push(contact.to)?;
+    }
+    Ok(nodes)
+}
+
+/// Returns the nodes that send or receive some contact, in ascending order.
+fn nodes_of(alloc: Global, contacts: &[Contact]) -> Result<Vec<u64, Global>, NoMemory>
+    ensures { IfOk result (λ nodes. AreNodesOf contacts.now nodes.items) }
+{
+    let mut nodes = ends_of(alloc, contacts)?;
+    nodes.sort_unstable();
+    nodes.dedup();
+    Ok(nodes)
+}
+
 /// Gives what a plan has, as `check` counts it. The first call after a change looks up the light times of all contacts.
 #[unsafe(no_mangle)]
 pub extern "C" fn cgrlist_plan_counts(
@@ -118,18 +142,11 @@ pub extern "C" fn cgrlist_plan_counts(
     handle: &mut PlanHandle,
     counts: &mut Counts,
 ) -> u32
-    requires { IsWhole handle.old.is_open handle.old.place.held }
-    ensures open { handle.new.is_open ≡ handle.old.is_open }
-    ensures whole { IsWhole handle.new.is_open handle.new.place.held }
-    ensures counts { Calls handle.old.is_open handle.old.place.held result handle.new.place.held (λ o n. (n ≡ o) × (result ≡ done) × (counts.new ≡ counts_of o.plan.plan)) }
+    requires { IsWhole handle.old }
+    ensures counts { Calls handle.old handle.new result (λ o n. (n ≡ o) × (result ≡ done) × (counts.new ≡ counts_of o.plan.plan)) }
     ensures kept { result ≢ 0 → counts.new ≡ counts.old }
 {
-    if !handle.is_open {
-        return CLOSED;
-    }
-    let mut opened = handle.take(alloc);
-    *counts = counted(&mut opened);
-    handle.give(opened);
+    *counts = over_plan!(handle, alloc, opened => counted(&mut opened));
     DONE
 }
 
@@ -140,18 +157,11 @@ pub extern "C" fn cgrlist_plan_greatest(
     handle: &mut PlanHandle,
     number: &mut u32,
 ) -> u32
-    requires { IsWhole handle.old.is_open handle.old.place.held }
-    ensures open { handle.new.is_open ≡ handle.old.is_open }
-    ensures whole { IsWhole handle.new.is_open handle.new.place.held }
-    ensures greatest { Calls handle.old.is_open handle.old.place.held result handle.new.place.held (λ o n. (n ≡ o) × (result ≡ done) × (number.new ≡ o.plan.plan.largest)) }
+    requires { IsWhole handle.old }
+    ensures greatest { Calls handle.old handle.new result (λ o n. (n ≡ o) × (result ≡ done) × (number.new ≡ o.plan.plan.largest)) }
     ensures kept { result ≢ 0 → number.new ≡ number.old }
 {
-    if !handle.is_open {
-        return CLOSED;
-    }
-    let opened = handle.take(alloc);
-    *number = opened.plan().largest();
-    handle.give(opened);
+    *number = over_plan!(handle, alloc, opened => opened.plan().largest());
     DONE
 }
 
@@ -162,18 +172,11 @@ pub extern "C" fn cgrlist_plan_digest(
     handle: &mut PlanHandle,
     digest: &mut [u8; 32],
 ) -> u32
-    requires { IsWhole handle.old.is_open handle.old.place.held }
-    ensures open { handle.new.is_open ≡ handle.old.is_open }
-    ensures whole { IsWhole handle.new.is_open handle.new.place.held }
-    ensures digest { Calls handle.old.is_open handle.old.place.held result handle.new.place.held (λ o n. (n ≡ o) × (result ≡ done) × (digest.new ≡ digest_of o.plan.plan)) }
+    requires { IsWhole handle.old }
+    ensures digest { Calls handle.old handle.new result (λ o n. (n ≡ o) × (result ≡ done) × (digest.new ≡ digest_of o.plan.plan)) }
     ensures kept { result ≢ 0 → digest.new ≡ digest.old }
 {
-    if !handle.is_open {
-        return CLOSED;
-    }
-    let mut opened = handle.take(alloc);
-    *digest = opened.digest();
-    handle.give(opened);
+    *digest = over_plan!(handle, alloc, opened => opened.digest());
     DONE
 }
 
@@ -185,20 +188,11 @@ pub extern "C" fn cgrlist_plan_contact(
     number: u32,
     contact: &mut ContactRow,
 ) -> u32
-    requires { IsWhole handle.old.is_open handle.old.place.held }
-    ensures open { handle.new.is_open ≡ handle.old.is_open }
-    ensures whole { IsWhole handle.new.is_open handle.new.place.held }
-    ensures contact { Calls handle.old.is_open handle.old.place.held result handle.new.place.held (λ o n. (n ≡ o) × Gives o.plan.plan (contact_named o.plan.plan number) result contact.old contact.new) }
+    requires { IsWhole handle.old }
+    ensures contact { Calls handle.old handle.new result (λ o n. (n ≡ o) × Gives o.plan.plan (contact_named o.plan.plan number) result contact.old contact.new) }
     ensures kept { result ≢ 0 → contact.new ≡ contact.old }
 {
-    if !handle.is_open {
-        return CLOSED;
-    }
-    let opened = handle.take(alloc);
-    let plan = opened.plan();
-    let status = give_contact(plan, plan.contact(number), contact);
-    handle.give(opened);
-    status
+    over_plan!(handle, alloc, opened => give_contact(opened.plan(), opened.plan().contact(number), contact))
 }
 
 /// Gives the standing contact at this place, from 0, in the order of numbers.
@@ -209,20 +203,11 @@ pub extern "C" fn cgrlist_plan_contact_at(
     place: usize,
     contact: &mut ContactRow,
 ) -> u32
-    requires { IsWhole handle.old.is_open handle.old.place.held }
-    ensures open { handle.new.is_open ≡ handle.old.is_open }
-    ensures whole { IsWhole handle.new.is_open handle.new.place.held }
-    ensures contact { Calls handle.old.is_open handle.old.place.held result handle.new.place.held (λ o n. (n ≡ o) × Gives o.plan.plan (slice_get o.plan.plan.contacts place) result contact.old contact.new) }
+    requires { IsWhole handle.old }
+    ensures contact { Calls handle.old handle.new result (λ o n. (n ≡ o) × Gives o.plan.plan (slice_get o.plan.plan.contacts place) result contact.old contact.new) }
     ensures kept { result ≢ 0 → contact.new ≡ contact.old }
 {
-    if !handle.is_open {
-        return CLOSED;
-    }
-    let opened = handle.take(alloc);
-    let plan = opened.plan();
-    let status = give_contact(plan, plan.contacts().get(place), contact);
-    handle.give(opened);
-    status
+    over_plan!(handle, alloc, opened => give_contact(opened.plan(), opened.plan().contacts().get(place), contact))
 }
 
 /// Gives the standing range at this place, from 0, in the order of pairs of nodes and starts.
@@ -233,17 +218,32 @@ pub extern "C" fn cgrlist_plan_range_at(
     place: usize,
     range: &mut RangeRow,
 ) -> u32
-    requires { IsWhole handle.old.is_open handle.old.place.held }
-    ensures open { handle.new.is_open ≡ handle.old.is_open }
-    ensures whole { IsWhole handle.new.is_open handle.new.place.held }
-    ensures range { Calls handle.old.is_open handle.old.place.held result handle.new.place.held (λ o n. (n ≡ o) × GivesRange (slice_get o.plan.plan.ranges place) result range.old range.new) }
+    requires { IsWhole handle.old }
+    ensures range { Calls handle.old handle.new result (λ o n. (n ≡ o) × GivesRange (slice_get o.plan.plan.ranges place) result range.old range.new) }
     ensures kept { result ≢ 0 → range.new ≡ range.old }
 {
-    if !handle.is_open {
-        return CLOSED;
+    over_plan!(handle, alloc, opened => give_range(opened.plan().ranges().get(place), range))
+}
+
+/// Gives the nodes that send or receive a standing contact, in ascending order, and their number. If there is no room
+/// for all of them, none is written.
+#[unsafe(no_mangle)]
+pub extern "C" fn cgrlist_plan_nodes(
+    alloc: Global,
+    handle: &mut PlanHandle,
+    nodes: &mut [u64],
+    count: &mut usize,
+) -> u32
+    requires { IsWhole handle.old }
+    ensures nodes { Calls handle.old handle.new result (λ o n. (n ≡ o) × AnswersNodes o.plan.plan.contacts result nodes.old nodes.new count.old count.new) }
+    ensures closed { IsFalse handle.old.is_open → (nodes.new ≡ nodes.old) × (count.new ≡ count.old) }
+{
+    let found = over_plan!(handle, alloc, opened => nodes_of(alloc, opened.plan().contacts()));
+    match found {
+        Ok(found) => {
+            *count = found.len();
+            put_whole(found.as_slice(), nodes)
+        }
+        Err(_refused) => MEMORY,
     }
-    let opened = handle.take(alloc);
-    let status = give_range(opened.plan().ranges().get(place), range);
-    handle.give(opened);
-    status
 }

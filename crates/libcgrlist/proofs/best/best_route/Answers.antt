@@ -3,7 +3,7 @@ use Rattle.std.specs.Prelude.{IfOk}
 use Rattle.sabr_model.proofs.RouteLemmas.Prefixes.{empty_is_prefix}
 use Rattle.sabr_model.specs.plan.Plan.{TabledPlan, IsPlan}
 use Rattle.sabr_search.specs.questions.Part.{IsBestOf}
-use Rattle.libcgrlist.proofs.BestLemmas.{found_is_first}
+use Rattle.libcgrlist.proofs.AnswerLemmas.{found_is_first}
 use Rattle.libcgrlist.proofs.best.best_route.Goals as goal
 
 pub best_beside-requires-clause-fits : goal.best_beside-requires-clause-fits

@@ -2,9 +2,8 @@ use Rattle.std.proofs.Common.{◌≡◌, ◌∙◌, ap, subst}
 use Rattle.sabr_model.specs.plan.Plan.{TabledPlan}
 use Rattle.sabr_model.specs.routes.Listing.{routes}
 use Rattle.sabr_model.specs.routes.Record.{record_of}
-use Rattle.libcgrlist.proofs.BestLemmas.{best_of}
-use Rattle.libcgrlist.specs.Answers.{none_or_one}
-use Rattle.libcgrlist.specs.First.{first_routes}
+use Rattle.libcgrlist.proofs.AnswerLemmas.{best_of}
+use Rattle.libcgrlist.specs.Answers.{none_or_one, first_routes}
 use Rattle.libcgrlist.specs.Opened.{OpenPlan}
 use Rattle.libcgrlist.proofs.best.find_best.Goals as goal
 

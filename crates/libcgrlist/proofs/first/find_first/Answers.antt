@@ -1,4 +1,4 @@
-use Rattle.libcgrlist.proofs.FirstLemmas.{short_of}
+use Rattle.libcgrlist.proofs.AnswerLemmas.{short_of}
 use Rattle.libcgrlist.proofs.first.find_first.Goals as goal
 
 pub write_routes-page-requires-clause-short : goal.write_routes-page-requires-clause-short

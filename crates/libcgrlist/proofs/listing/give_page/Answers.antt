@@ -1,7 +1,7 @@
 use Rattle.std.proofs.Common.{◌∙◌, subst}
 use Rattle.sabr_model.specs.routes.Arrival.{RouteRequest}
 use Rattle.sabr_model.specs.routes.Asking.{IsRequest}
-use Rattle.libcgrlist.proofs.ListingLemmas.{few_records, short_records}
+use Rattle.libcgrlist.proofs.PageLemmas.{few_records, short_records}
 use Rattle.libcgrlist.proofs.listing.give_page.Goals as goal
 
 pub write_routes-page-requires-clause-few : goal.write_routes-page-requires-clause-few

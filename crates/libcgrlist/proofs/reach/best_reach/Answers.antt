@@ -1,7 +1,7 @@
 use Rattle.std.proofs.Common.{◌∙◌, inl}
 use Rattle.sabr_model.specs.routes.Listing.{routes}
 use Rattle.sabr_model.specs.routes.Record.{record_of}
-use Rattle.libcgrlist.proofs.ReachLemmas.{first_reach_is}
+use Rattle.libcgrlist.proofs.AnswerLemmas.{first_reach_is}
 use Rattle.libcgrlist.specs.Answers.{none_or_one}
 use Rattle.libcgrlist.proofs.reach.best_reach.Goals as goal
 

@@ -1,7 +1,6 @@
 use Rattle.std.proofs.Common.{◌≡◌, ◌<◌, drop, get_or, length, length-set, arith, subst}
-use Rattle.libcgrlist.proofs.ReachLemmas.{each_more, rest_more}
-use Rattle.libcgrlist.specs.Reaching.{IsReachOf, asked_to, unreached}
-use Rattle.libcgrlist.specs.Request.{asked_request}
+use Rattle.libcgrlist.proofs.AnswerLemmas.{each_more, rest_more}
+use Rattle.libcgrlist.specs.Answers.{IsReachOf, asked_to, unreached, asked_request}
 use Rattle.libcgrlist.proofs.reach.write_reaches.Goals as goal
 
 pub loop-place-preserved : goal.loop-place-preserved

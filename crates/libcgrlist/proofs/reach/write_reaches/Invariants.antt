@@ -1,6 +1,5 @@
 use Rattle.std.proofs.Common.{◌≡◌, ℕ, ◌<◌, drop, get_or, length}
-use Rattle.libcgrlist.specs.Reaching.{IsReachOf, asked_to, unreached}
-use Rattle.libcgrlist.specs.Request.{asked_request}
+use Rattle.libcgrlist.specs.Answers.{IsReachOf, asked_to, unreached, asked_request}
 use Rattle.libcgrlist.proofs.reach.write_reaches.Given as goal
 
 abbrev pub invariant-loop-place : goal.invariant-loop-place

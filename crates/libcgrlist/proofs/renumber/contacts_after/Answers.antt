@@ -1,7 +1,7 @@
 use Rattle.std.proofs.Common.{nat_lt, rules, ◌∙◌, ap}
 use Rattle.std.proofs.lemmas.Fn.{filter_same}
 use Rattle.sabr_model.specs.declared.contact.Contact.{Contact}
-use Rattle.libcgrlist.specs.Renumbered.{contacts_after}
+use Rattle.libcgrlist.specs.Plans.{contacts_after}
 use Rattle.libcgrlist.proofs.renumber.contacts_after.Goals as goal
 
 pub returns : goal.returns

@@ -1,6 +1,6 @@
 use Rattle.std.proofs.Common.{length-set}
 use Rattle.sabr_model.specs.declared.contact.Contact.{Contact}
-use Rattle.libcgrlist.proofs.RenumberLemmas.{number_more}
+use Rattle.libcgrlist.proofs.PlanLemmas.{number_more}
 use Rattle.libcgrlist.proofs.renumber.number.Goals as goal
 
 pub loop-place-preserved : goal.loop-place-preserved

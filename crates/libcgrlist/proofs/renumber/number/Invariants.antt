@@ -1,5 +1,5 @@
 use Rattle.std.proofs.Common.{◌≡◌, ◌++◌, drop, length, take}
-use Rattle.libcgrlist.specs.Renumbered.{numbered_from}
+use Rattle.libcgrlist.specs.Plans.{numbered_from}
 use Rattle.libcgrlist.proofs.renumber.number.Given as goal
 
 abbrev pub invariant-loop-place : goal.invariant-loop-place

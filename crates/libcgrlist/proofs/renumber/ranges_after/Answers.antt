@@ -1,7 +1,7 @@
 use Rattle.std.proofs.Common.{nat_lt, rules, ◌∙◌, ap}
 use Rattle.std.proofs.lemmas.Fn.{filter_same}
 use Rattle.sabr_model.specs.declared.contact.Range.{Range}
-use Rattle.libcgrlist.specs.Renumbered.{ranges_after}
+use Rattle.libcgrlist.specs.Plans.{ranges_after}
 use Rattle.libcgrlist.proofs.renumber.ranges_after.Goals as goal
 
 pub returns : goal.returns

@@ -1,8 +1,8 @@
 use Rattle.std.proofs.Common.{◌≡◌, arith, subst, sym, ap, ◌∙◌}
 use Rattle.std.specs.Prelude.{length}
 use Rattle.sabr_model.specs.plan.Plan.{IsPlan}
-use Rattle.libcgrlist.specs.Renumbered.{contacts_after, ranges_after}
-use Rattle.libcgrlist.proofs.RenumberLemmas.{few_after, renumbered_in_place, IsPlan-renumbered}
+use Rattle.libcgrlist.specs.Plans.{contacts_after, ranges_after}
+use Rattle.libcgrlist.proofs.PlanLemmas.{few_after, renumbered_in_place, IsPlan-renumbered}
 use Rattle.libcgrlist.proofs.renumber.renumbered.Goals as goal
 
 pub number-requires : goal.number-requires

@@ -1,7 +1,7 @@
 use Rattle.std.proofs.Common.{◌∙◌, sym}
 use Rattle.host.proofs.BufferLemmas.{put_over-nothing}
 use Rattle.sabr_model.specs.declared.contact.Contact.{Contact}
-use Rattle.libcgrlist.proofs.RenumberLemmas.{number_put, number_not_put}
+use Rattle.libcgrlist.proofs.PlanLemmas.{number_put, number_not_put}
 use Rattle.libcgrlist.proofs.renumber.write_numbers.Goals.{else-i-numbers, then-i-numbers}
 use Rattle.libcgrlist.proofs.renumber.write_numbers.Goals as goal
 

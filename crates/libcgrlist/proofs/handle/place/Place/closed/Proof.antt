@@ -24,9 +24,8 @@ use Rattle.std.proofs.alloc.Global.TheLaws as heap_laws
 use Rattle.std.specs.contracts.impls.GlobalAllocator.TheImpl.{ghosts}
 use Rattle.std.proofs.raw_atomic.Walks.{proved_at, leaves}
 use Rattle.libcgrlist.specs.contracts.opened.Opened as opened
-use Rattle.libcgrlist.proofs.Values.{both, al}
+use Rattle.libcgrlist.proofs.Values.{both, al, closed_in}
 use Rattle.std.proofs.alloc.Calls.{handle_tells}
-use Rattle.libcgrlist.proofs.PlaceValues.{closed_in}
 use Rattle.libcgrlist.specs.contracts.handle.place.Place.closed.{ended, clauses}
 use Rattle.libcgrlist.specs.contracts.handle.place.Place.closed.Key.{name as #self}
 use Rattle.libcgrlist.proofs.handle.place.Place.closed.Statement.{statement}

@@ -22,9 +22,8 @@ use Rattle.std.proofs.alloc.Global.TheLaws as heap_laws
 use Rattle.std.specs.contracts.impls.GlobalAllocator.TheImpl.{ghosts}
 use Rattle.std.proofs.raw_atomic.Walks.{proved_at, leaves}
 use Rattle.libcgrlist.specs.contracts.opened.Opened as opened
-use Rattle.libcgrlist.proofs.Values.{both, loose_good, loose_in}
+use Rattle.libcgrlist.proofs.Values.{both, loose_good, loose_in, place_out, some_of}
 use Rattle.libcgrlist.specs.contracts.handle.place.Place as place
-use Rattle.libcgrlist.proofs.PlaceValues.{place_out, some_of}
 use Rattle.libcgrlist.specs.contracts.handle.place.Place.into_loose.{ended, clauses}
 use Rattle.libcgrlist.specs.contracts.handle.place.Place.into_loose.Key.{name as #self}
 use Rattle.libcgrlist.proofs.handle.place.Place.into_loose.Statement.{statement}

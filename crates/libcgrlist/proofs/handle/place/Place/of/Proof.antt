@@ -22,8 +22,7 @@ use Rattle.std.proofs.alloc.Global.TheLaws as heap_laws
 use Rattle.std.specs.contracts.impls.GlobalAllocator.TheImpl.{ghosts}
 use Rattle.std.proofs.raw_atomic.Walks.{proved_at, leaves}
 use Rattle.libcgrlist.specs.contracts.opened.Opened as opened
-use Rattle.libcgrlist.proofs.Values.{both, Loose, loose_good, loose_out}
-use Rattle.libcgrlist.proofs.PlaceValues.{place_in}
+use Rattle.libcgrlist.proofs.Values.{both, Loose, loose_good, loose_out, place_in}
 use Rattle.libcgrlist.specs.contracts.handle.place.Place.of.{ended, clauses}
 use Rattle.libcgrlist.specs.contracts.handle.place.Place.of.Key.{name as #self}
 use Rattle.libcgrlist.proofs.handle.place.Place.of.Statement.{statement}
