@@ -179,6 +179,7 @@ static void costs_of_listings(void) {
     cgrlist_place place;
     size_t bytes;
     cgrlist_listing *listing = NULL;
+    request.to = 50;
     COST("listing_open", 1, cgrlist_listing_close(listing), must(cgrlist_listing_open(plan, &request, &listing)));
     COST("listing_next, 100 routes", 1, (void)0, must(cgrlist_listing_next(listing, 100, routes, 1000, numbers, ROOM, &page)));
     COST("listing_place", 1, (void)0, must(cgrlist_listing_place(listing, &place)));
