@@ -9,7 +9,7 @@ from importlib.util import module_from_spec, spec_from_loader
 from checking import TOP, Room, checks_of
 
 CALLS = ("check", "first", "next", "verify", "explain", "many", "follow", "canonical")
-MOST = 160_000  # bytes
+MOST = 175_000  # bytes; the page with it has to stay below 500,000
 
 
 def build_script():
