@@ -35,6 +35,8 @@ LEFT_OUT = {
 # A command that calls such a program isn't run if it isn't installed, nor one that needs such a module of Python.
 NEEDS = ["parallel"]
 MODULES = {"examples/cluster.py": "distributed"}
+# A line that dask's workers log, such as of a heartbeat that comes after the cluster was closed.
+LOGGED = re.compile(r"^\S+ \S+ - distributed\.\S+ - [A-Z]+ - .*\n", re.M)
 
 
 def python_with(modules):
@@ -136,7 +138,7 @@ class Shown(Room):
             ran = subprocess.run(["bash", "-c", command], cwd=folder, env=how, **further)
         except subprocess.TimeoutExpired:
             return f"it had not ended after {SECONDS} seconds\n", 124
-        return without_progress(ran.stdout.decode(errors="replace")), ran.returncode
+        return LOGGED.sub("", without_progress(ran.stdout.decode(errors="replace"))), ran.returncode
 
     def found(self, document, commands, answer):
         """What the last of some commands prints, or if no answer is shown that it ends well; or else its status, too."""
