@@ -14,13 +14,15 @@ ghost use Rattle.sabr_frontier.specs.declared.loader.load_fault.LoadFault.TheVar
 ghost use Rattle.sabr_frontier.specs.listing.Listing.{IsState};
 ghost use Rattle.sabr_frontier.specs.loading.Loading.{IsRefusedBy, refusal_by, session_with, state_with, with_part};
 ghost use Rattle.sabr_frontier.specs.listing.State.{part_with};
+ghost use Rattle.sabr_frontier.specs.session.Paused.{IsPausedOver, seen_over};
 
-use crate::giving::searcher::Searcher;
 use crate::loader::carrying::carried;
 use crate::loader::load_fault::LoadFault;
 use crate::loader::partial_tree::{PartialTree, last_place};
 use crate::plan_request::PlanRequest;
 use crate::session::Session;
+use crate::session::paused::PausedSession;
+use sabr_index::Index;
 use sabr_model::{Plan, Request};
 use sabr_search::BestOf;
 use std::alloc::{Allocator, Global};
@@ -117,6 +119,29 @@ impl<'p, B: BestOf<A>, A: Allocator + Copy> Loader<'p, B, A> {
         ensures formed { OnOk result (IsState self.entry.plan.plan self.entry.request (state_with self.entry.parts emitted last.now)) }
         ensures err { IfErr result (IsRefusedBy self.entry.plan.plan self.entry.request (state_with self.entry.parts emitted last.now)) }
     {
+        let alloc = self.question.alloc();
+        let plan = self.question.plan;
+        let paused = self.finish_paused(emitted, last)?;
+        let index = Index::new(alloc, plan)?;
+        Ok(paused.resume(index))
+    }
+
+    /// Returns the session of the parts as [`finish`](Loader::finish) does, but paused: no index of the plan is made.
+    /// [`PausedSession::resume`] takes one that the caller has.
+    ///
+    /// # Errors
+    ///
+    /// Those of [`finish`](Loader::finish).
+    pub fn finish_paused(
+        self,
+        emitted: u128,
+        last: &[u32],
+    ) -> Result<PausedSession<B, A>, LoadFault>
+        ensures ok { IfOk result (λ s. seen_over B.calls_of self.entry.plan s ≡ session_with self.entry emitted last.now) }
+        ensures paused { IfOk result (IsPausedOver self.entry.plan) }
+        ensures formed { OnOk result (IsState self.entry.plan.plan self.entry.request (state_with self.entry.parts emitted last.now)) }
+        ensures err { IfErr result (IsRefusedBy self.entry.plan.plan self.entry.request (state_with self.entry.parts emitted last.now)) }
+    {
         if !self.partial.is_complete() {
             return Err(LoadFault::NotClosed);
         }
@@ -124,7 +149,6 @@ impl<'p, B: BestOf<A>, A: Allocator + Copy> Loader<'p, B, A> {
             return Err(LoadFault::BadCount);
         };
         let tree = self.partial.into_tree(self.question.alloc(), last)?;
-        let searcher = Searcher::new(self.question, self.finder)?;
-        Ok(Session::of_tree(searcher, tree))
+        Ok(PausedSession::of_tree(self.question, self.finder, tree))
     }
 }

@@ -1,16 +1,11 @@
 //! A session over a listing of routes: the next routes a page at a time, and back.
 
-ghost use Rattle.std.specs.Prelude.{◌≡◌, ◌≢◌, ℕ, ◌+◌, ◌^◌, ◌<◌, ◌≤◌, ◌⊎◌, ◌↔◌, ◌∷◌, [], map, length, is_some, None, Ok, IfOk, OnOk, OnErr, IsOk, IsTrue, IsFalse};
-ghost use Rattle.sabr_model.specs.plan.Plan.{IsPlan};
-ghost use Rattle.sabr_model.specs.routes.Asking.{IsRequest};
+ghost use Rattle.std.specs.Prelude.{◌≡◌, ◌+◌, ◌^◌, ◌<◌, ◌≤◌, ◌⊎◌, ◌↔◌, ◌∷◌, [], map, length, is_some, None, Ok, IfOk, OnOk, OnErr, IsOk, IsTrue, IsFalse};
 ghost use Rattle.sabr_model.specs.routes.Record.{record_of};
 ghost use Rattle.sabr_frontier.specs.listing.Fresh.{GivesNewRoutes};
 ghost use Rattle.sabr_frontier.specs.listing.Listing.{most_routes, next_route, state_at};
-ghost use Rattle.sabr_frontier.specs.session.Session.{IsStarted, former_then, next_page, page_searches, session_over, seen_part};
-ghost use Rattle.sabr_frontier.specs.tree.Searching.{GoOn, IsAtRest, looks_since};
-ghost use Rattle.sabr_frontier.specs.tree.Shape.{shape_of, shown};
-ghost use Rattle.sabr_frontier.specs.tree.Sound.{IsTree};
-ghost use Rattle.sabr_frontier.specs.tree.Undo.{IsRoomy};
+ghost use Rattle.sabr_frontier.specs.session.Session.{IsStarted, former_then, next_page, page_searches, seen_part};
+ghost use Rattle.sabr_frontier.specs.tree.Searching.{GoOn, looks_since};
 ghost use Rattle.sabr_frontier.specs.session.Views.{seen_left};
 
 pub mod last_page;
@@ -99,29 +94,6 @@ impl<'p, B: BestOf<A>, A: Allocator + Copy> Session<'p, B, A> {
             searches: 1,
             looks: 0,
         })
-    }
-
-    /// Makes a session over a tree that no page has changed.
-    pub(crate) fn of_tree(searcher: Searcher<'p, B, A>, tree: Tree<A>) -> Session<'p, B, A>
-        requires rules { IsPlan searcher.asked.plan.plan }
-        requires rest { IsAtRest searcher }
-        requires limits { IsRequest searcher.asked.request }
-        requires sound { IsTree searcher.asked.plan.plan searcher.asked.request (shape_of tree) }
-        requires fresh { tree.journal.items ≡ [] }
-        requires index { tree.index.items ≡ (shape_of tree).index }
-        requires room { IsRoomy tree }
-
-        // Nothing can be taken back, and no search was counted.
-        ensures { result ≡ session_over searcher.entry.asked.plan searcher.entry.asked.request (shown (shape_of tree)) searcher.entry.calls }
-    {
-        let pages = Vec::new(searcher.alloc());
-        Session {
-            searcher,
-            tree,
-            pages,
-            searches: 0,
-            looks: 0,
-        }
     }
 
     /// Returns the next `count` routes, at most 10000, or all that are left if they are fewer. They come by key: by

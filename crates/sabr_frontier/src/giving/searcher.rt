@@ -2,13 +2,13 @@
 
 ghost use Rattle.std.specs.Prelude.{◌≡◌, ◌+◌, IfOk, IsTrue};
 ghost use Rattle.std.specs.List.Sorted.{IsStrictlyIncreasing};
+ghost use Rattle.sabr_model.specs.plan.Plan.{TabledPlan};
 ghost use Rattle.sabr_model.specs.routes.Route.{is_prefix};
 ghost use Rattle.sabr_search.specs.answers.SearchCache.{IsSearchCache};
 ghost use Rattle.sabr_search.specs.questions.Bounded.{IsFloor};
 ghost use Rattle.sabr_frontier.specs.tree.Searching.{GoOn, IsAtRest, best_for, looks_since, searching_first};
 ghost use Rattle.sabr_frontier.specs.tree.Best.{bound_in, found_by};
 
-use crate::plan_request::PlanRequest;
 use sabr_index::Index;
 use sabr_model::{NoMemory, Plan, Request, Route};
 use sabr_search::{BestOf, Bound, BoundedPart, Excluded, GhostCalls, SearchCache, Sought};
@@ -80,26 +80,11 @@ impl<'p, B: BestOf<A>, A: Allocator + Copy> Model for Searcher<'p, B, A> {
 }
 
 impl<'p, B: BestOf<A>, A: Allocator + Copy> Searcher<'p, B, A> {
-    /// Makes the plan's index, and a searcher with an empty cache.
-    pub fn new(question: PlanRequest<'p, A>, finder: B) -> Result<Searcher<'p, B, A>, NoMemory>
-        ensures { IfOk result (λ searcher. searcher ≡ searching_first question.entry.plan.now question.entry.request (B.calls_of finder)) }
-    {
-        let alloc = question.alloc();
-        let index = Index::new(alloc, question.plan)?;
-        Ok(Searcher::over(alloc, index, question.request, finder))
-    }
-
     /// Makes a searcher over an index, with an empty cache.
     pub fn over(alloc: A, index: Index<'p, A>, request: Request, finder: B) -> Searcher<'p, B, A>
         ensures { result ≡ searching_first index.entry request (B.calls_of finder) }
     {
-        let rest = PausedSearcher {
-            alloc,
-            request,
-            finder,
-            cache: SearchCache::new(alloc),
-        };
-        rest.resume(index)
+        PausedSearcher::new(alloc, request, finder).resume(index)
     }
 
     /// Returns the searcher without its plan's index, and the index.
@@ -195,6 +180,20 @@ impl<'p, B: BestOf<A>, A: Allocator + Copy> Searcher<'p, B, A> {
 }
 
 impl<B: BestOf<A>, A: Allocator + Copy> PausedSearcher<B, A> {
+    /// Makes a searcher with an empty cache, for any plan.
+    pub fn new(alloc: A, request: Request, finder: B) -> PausedSearcher<B, A>
+        ensures request { result.request ≡ request }
+        ensures finder { result.finder ≡ finder }
+        ensures cache { (p : TabledPlan) → IsSearchCache p result.request result.cache }
+    {
+        PausedSearcher {
+            alloc,
+            request,
+            finder,
+            cache: SearchCache::new(alloc),
+        }
+    }
+
     /// Returns the searcher over an index of the plan that it was paused over.
     pub fn resume<'p>(self, index: Index<'p, A>) -> Searcher<'p, B, A>
         requires { IsSearchCache index self.request self.cache }

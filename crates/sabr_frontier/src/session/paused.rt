@@ -1,9 +1,16 @@
 //! A session without the index that borrows its plan.
 
-ghost use Rattle.std.specs.Prelude.{◌≡◌};
+ghost use Rattle.std.specs.Prelude.{◌≡◌, []};
+ghost use Rattle.sabr_model.specs.plan.Plan.{IsPlan};
+ghost use Rattle.sabr_model.specs.routes.Asking.{IsRequest};
 ghost use Rattle.sabr_frontier.specs.session.Paused.{IsPausedOver, seen_over};
+ghost use Rattle.sabr_frontier.specs.session.Session.{session_over};
+ghost use Rattle.sabr_frontier.specs.tree.Shape.{shape_of, shown};
+ghost use Rattle.sabr_frontier.specs.tree.Sound.{IsTree};
+ghost use Rattle.sabr_frontier.specs.tree.Undo.{IsRoomy};
 
 use crate::giving::searcher::PausedSearcher;
+use crate::plan_request::PlanRequest;
 use crate::session::Session;
 use crate::tree::Tree;
 use sabr_index::Index;
@@ -56,6 +63,33 @@ impl<'p, B: BestOf<A>, A: Allocator + Copy> Session<'p, B, A> {
 }
 
 impl<B: BestOf<A>, A: Allocator + Copy> PausedSession<B, A> {
+    /// Makes a paused session over a tree that no page has changed.
+    pub(crate) fn of_tree(
+        question: PlanRequest<'_, A>,
+        finder: B,
+        tree: Tree<A>,
+    ) -> PausedSession<B, A>
+        requires rules { IsPlan question.plan.now.plan }
+        requires limits { IsRequest question.request }
+        requires sound { IsTree question.plan.now.plan question.request (shape_of tree) }
+        requires fresh { tree.journal.items ≡ [] }
+        requires index { tree.index.items ≡ (shape_of tree).index }
+        requires room { IsRoomy tree }
+
+        // Nothing can be taken back, and no search was counted.
+        ensures seen { seen_over B.calls_of question.entry.plan.now result ≡ session_over question.entry.plan.now question.entry.request (shown (shape_of tree)) (B.calls_of finder) }
+        ensures paused { IsPausedOver question.entry.plan.now result }
+    {
+        let alloc = question.alloc();
+        PausedSession {
+            searcher: PausedSearcher::new(alloc, question.request, finder),
+            tree,
+            pages: Vec::new(alloc),
+            searches: 0,
+            looks: 0,
+        }
+    }
+
     /// Goes on with the session over an index of the plan that it was paused over: all is shown as before. Its cost is
     /// constant.
     pub fn resume<'p>(self, index: Index<'p, A>) -> Session<'p, B, A>
