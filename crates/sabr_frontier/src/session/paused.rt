@@ -1,9 +1,9 @@
 //! A session without the index that borrows its plan.
 
-ghost use Rattle.std.specs.Prelude.{◌≡◌, []};
-ghost use Rattle.sabr_model.specs.plan.Plan.{IsPlan};
+ghost use Rattle.std.specs.Prelude.{◌≡◌, ◌^◌, ◌<◌, ◌↔◌, IsTrue, [], length};
+ghost use Rattle.sabr_model.specs.plan.Plan.{IsPlan, TabledPlan};
 ghost use Rattle.sabr_model.specs.routes.Asking.{IsRequest};
-ghost use Rattle.sabr_frontier.specs.session.Paused.{IsPausedOver, seen_over};
+ghost use Rattle.sabr_frontier.specs.session.Paused.{IsPausedOver, former_states, has_more_over, seen_over, state_of};
 ghost use Rattle.sabr_frontier.specs.session.Session.{session_over};
 ghost use Rattle.sabr_frontier.specs.tree.Shape.{shape_of, shown};
 ghost use Rattle.sabr_frontier.specs.tree.Sound.{IsTree};
@@ -105,5 +105,27 @@ impl<B: BestOf<A>, A: Allocator + Copy> PausedSession<B, A> {
             searches: self.searches,
             looks: self.looks,
         }
+    }
+
+    /// How many routes were given and not taken back.
+    pub fn emitted(&self) -> u128
+        ensures count { result ≡ (state_of self.now).emitted }
+        ensures bound { result < 2 ^ 64 }
+    {
+        self.tree.leaves.len() as u128
+    }
+
+    /// Returns true if routes are left: some part carries one.
+    pub fn more(&self) -> bool
+        ensures { (p : TabledPlan) → IsPausedOver p self.now → result ≡ has_more_over p self.now }
+    {
+        !self.tree.is_empty()
+    }
+
+    /// Returns true if there is a page to take back: one that gave routes and wasn't taken back yet.
+    pub fn can_back(&self) -> bool
+        ensures { IsTrue result ↔ (0 < length (former_states self.now)) }
+    {
+        !self.pages.is_empty()
     }
 }
