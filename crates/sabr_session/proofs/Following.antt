@@ -32,8 +32,7 @@ use Rattle.sabr_model.proofs.PlanLemmas.Tabled.{place_one}
 use Rattle.sabr_model.proofs.RouteLemmas.Follows.{ends_elsewhere, ends_in_time, ends_there, front_is_good, path_behind}
 use Rattle.sabr_model.proofs.RouteLemmas.Prefixes.{empty_is_path}
 use Rattle.sabr_session.specs.declared.hops.node_set.NodeSet.{NodeSet}
-use Rattle.sabr_session.specs.NodeSets.{has_index, most_nodes}
-use Rattle.sabr_session.specs.Hops.{IsFollowed, PlacedHop, hop_after, placed_after, told_after, told_of}
+use Rattle.sabr_session.specs.Hops.{has_index, most_nodes, IsFollowed, PlacedHop, hop_after, placed_after, told_after, told_of}
 
 -- the hop of a contact is small
 pub hop_is_small : (p : TabledPlan) (n : ℕ) (c : Contact) (h : Hop) → IsPlan p.plan → contact_named p.plan n ≡ Some c → IsHopOf p c h → IsSmall h

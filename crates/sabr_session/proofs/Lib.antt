@@ -2,7 +2,6 @@ pub mod WordLemmas
 pub mod TextLemmas
 pub mod PlaceLemmas
 pub mod HopLemmas
-mod NodeSets
 mod Following
 pub mod ReadingLemmas
 mod SessionRowProofs

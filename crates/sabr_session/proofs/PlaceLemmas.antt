@@ -1,4 +1,3 @@
 -- Where sessions stand in the list of their request.
 pub mod Pages
 pub mod PlacedTexts
-pub mod StandingPages

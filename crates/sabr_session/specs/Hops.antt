@@ -1,5 +1,5 @@
--- The hops of a list of contacts, up to the first fault.
-use Rattle.std.specs.Prelude.{ℕ, ◌≡◌, ◌+◌, ◌++◌, ◌||◌, ◌==◌, ◌≤◌, Bool, IfSome, IsTrue, List, [], ◌∷◌, drop, length, max, is_none, slice_get, take, if◌then◌else◌}
+-- The hops of a list of contacts, up to the first fault, and the nodes that they visit.
+use Rattle.std.specs.Prelude.{ℕ, ◌≡◌, ◌+◌, ◌++◌, ◌||◌, ◌==◌, ◌≤◌, Bool, IfSome, IsTrue, List, [], ◌∷◌, drop, length, max, is_none, slice_get, take, if◌then◌else◌, ◌/◌, ◌%◌, ◌*◌, slice_index_or}
 use Rattle.std.specs.Option.{option_map_or}
 use Rattle.std.specs.declared.option.Option.{Option}
 use Rattle.std.specs.declared.option.Option.TheVariants.{Some}
@@ -7,7 +7,7 @@ use Rattle.sabr_model.specs.declared.contact.Contact.{Contact}
 use Rattle.sabr_model.specs.declared.fault.HopFault.{HopFault}
 use Rattle.sabr_model.specs.declared.following.Reached.{Reached}
 use Rattle.sabr_model.specs.declared.route_summary.RouteSummary.{RouteSummary}
-use Rattle.sabr_model.specs.plan.Plan.{ContactPlan, TabledPlan, IsPlan, contact_named, has}
+use Rattle.sabr_model.specs.plan.Plan.{ContactPlan, TabledPlan, IsPlan, contact_named, has, most_records}
 use Rattle.sabr_model.specs.plan.Tabled.{IsTabled}
 use Rattle.sabr_model.specs.routes.Arrival.{RouteRequest}
 use Rattle.sabr_model.specs.routes.Following.{IsReachedBy}
@@ -16,7 +16,15 @@ use Rattle.sabr_model.specs.routes.Fault.{fault_at, fault_of}
 use Rattle.sabr_model.specs.routes.Telling.{summary_of}
 use Rattle.sabr_session.specs.declared.hops.FollowedHop.{FollowedHop}
 use Rattle.sabr_session.specs.declared.hops.node_set.NodeSet.{NodeSet}
-use Rattle.sabr_session.specs.NodeSets.{has_index, most_nodes}
+use Rattle.std.specs.Int.{bit_at}
+
+-- the most nodes of a plan
+abbrev pub most_nodes : ℕ
+most_nodes = 40000
+
+-- whether the node at an index is in the set
+unfoldable pub has_index : NodeSet → ℕ → Bool
+has_index set k = bit_at (slice_index_or set.words (k / 64) 0) (k % 64) == 1
 
 -- a hop: its contact, and when the bundle is sent and arrives, in seconds since 1970-01-01T00:00:00Z
 pub record Hop : Type 0 where

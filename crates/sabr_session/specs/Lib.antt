@@ -1,5 +1,4 @@
 pub mod Gathering
-pub mod SpacedNumbers
 pub mod ReportText
 pub mod SessionText
 pub mod SessionRows
@@ -10,11 +9,7 @@ pub mod SessionRead
 pub mod SessionFed
 pub mod SessionLoader
 pub mod SessionGiven
-pub mod FedInTurn
-pub mod SessionPieces
-pub mod SessionLeaving
 pub mod TextLaws
 pub mod Verifying
 pub mod SessionPlaces
-pub mod NodeSets
 pub mod Hops

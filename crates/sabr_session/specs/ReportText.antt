@@ -3,7 +3,7 @@ use Rattle.std.specs.Prelude.{ℕ, ◌+◌, ◌≤◌, Bool, List, [], ◌∷◌
 use Rattle.std.specs.List.{concat}
 use Rattle.sabr_model.specs.routes.Record.{RouteRecord}
 use Rattle.sabr_plan.specs.Times.{last_spelled, time_text_of}
-use Rattle.sabr_session.specs.SpacedNumbers.{spaced_by}
+use Rattle.sabr_session.specs.SessionText.{spaced_by}
 
 -- both times of a route have a text, since they are before the end of year 9999
 abbrev pub HasSpelledTimes : RouteRecord → Type 0

@@ -1,4 +1,4 @@
--- A session text that is read in chunks: what was read so far, and what the text comes to.
+-- A session text that is read in chunks: what was read so far, what the text comes to, and what a call that reads leaves.
 use Rattle.std.specs.Prelude.{◌≡◌, ◌≢◌, ℕ, ◌+◌, ◌*◌, nat_lt, ◌&&◌, ◌||◌, Bool, true, false, List, [], ◌++◌, length, Result, Ok, Err, ◌⊎◌}
 use Rattle.sabr_model.specs.plan.Plan.{ContactPlan, TabledPlan}
 use Rattle.sabr_plan.specs.Canonical.{digest_of}
@@ -100,3 +100,10 @@ IsSessionFrom plan said (Err f) = (f ≡ NoMemory) ⊎ ComesTo plan.plan said (E
 abbrev pub IsFinished : Result OpenText SessionFault → Result Seen SessionFault → Type 0
 IsFinished (Ok t) answer = IsSessionFrom t.plan (outcome_of t [] true) answer
 IsFinished (Err f) answer = answer ≡ Err f
+
+-- ---- what a call that reads a line of a session text leaves; an allocation may also fail
+
+-- the new state, or the fault, or a failed allocation
+abbrev pub Leaves : {S U : Type 0} → Result S SessionFault → Result U SessionFault → S → Type 0
+Leaves wanted (Ok _) new = wanted ≡ Ok new
+Leaves wanted (Err f) new = (f ≡ NoMemory) ⊎ (wanted ≡ Err f)

@@ -1,4 +1,4 @@
--- Session text: the one text of a plan's digest, of a request and of a state of its listing, in each version.
+-- Session text: the one text of a plan's digest, of a request and of a state of its listing, in each version, and the slices that make it up.
 use Rattle.std.specs.Prelude.{◌≡◌, ℕ, ◌≤◌, List, [], ◌∷◌, ◌++◌, length, decimal, codes, flat_map, unwrap_or}
 use Rattle.std.specs.List.{concat}
 use Rattle.hex.specs.Hex.{encode_lower}
@@ -8,9 +8,24 @@ use Rattle.sabr_model.specs.routes.Asking.{unlimited}
 use Rattle.sabr_plan.specs.Times.{time_text_of}
 use Rattle.sabr_plan.specs.Canonical.{digest_of}
 use Rattle.sabr_frontier.specs.listing.State.{PartState, State}
-use Rattle.sabr_frontier.specs.session.Session.{Seen}
+use Rattle.sabr_frontier.specs.session.Session.{Seen, PartSeen}
 use Rattle.sabr_frontier.specs.listing.Listing.{state_at}
-use Rattle.sabr_session.specs.SpacedNumbers.{list_text}
+use Rattle.std.specs.Option.{option_map}
+use Rattle.sabr_frontier.specs.tree.Shape.{numbers_of}
+
+-- each number after a space, in decimal digits
+abbrev pub spaced_by : {N : Type 0} → (N → List ℕ) → List N → List ℕ
+spaced_by spelled [] = []
+spaced_by spelled (n ∷ ns) = (32 ∷ spelled n) ++ spaced_by spelled ns
+
+-- the same with no space before the first, and `-` where there is none
+abbrev pub listed_by : {N : Type 0} → (N → List ℕ) → List N → List ℕ
+listed_by spelled [] = codes "-"
+listed_by spelled (n ∷ ns) = spelled n ++ spaced_by spelled ns
+
+-- the numbers in decimal digits, separated by single spaces, and `-` where there is none
+abbrev pub list_text : List ℕ → List ℕ
+list_text ns = listed_by decimal ns
 
 -- `plan H`, H having two digits `0` to `9` and `a` to `f` for each number of the digest
 abbrev pub plan_line : List ℕ → List ℕ
@@ -80,3 +95,23 @@ session_text p r i = text_of (digest_of p) r (state_at p r i)
 -- the same in version 1
 abbrev pub old_session_text : ContactPlan → RouteRequest → ℕ → List ℕ
 old_session_text p r i = old_text_of (digest_of p) r (state_at p r i)
+
+-- ---- the slices that make up a session's text
+
+-- `request FROM TO AT PPM HOPS`
+abbrev pub asked_pieces : RouteRequest → List (List ℕ)
+asked_pieces r =
+    codes "request " ∷ decimal r.source ∷ codes " " ∷ decimal r.destination ∷ codes " " ∷ time_text_of r.at
+    ∷ codes " " ∷ decimal r.margin ∷ codes " " ∷ decimal r.max_hops ∷ []
+
+-- `emitted N`, `last LIST` and `parts M`
+abbrev pub counts_pieces : State → List (List ℕ)
+counts_pieces s = codes "emitted " ∷ decimal s.emitted ∷ codes "\nlast " ∷ list_text s.last ∷ codes "\nparts " ∷ decimal (length s.parts) ∷ codes "\n" ∷ []
+
+-- the part of a state that a session shows
+abbrev pub part_shown : PartSeen → PartState
+part_shown t = record { prefix = t.prefix; excluded = t.excluded; carried = option_map numbers_of t.route }
+
+-- its line
+abbrev pub seen_line : PartSeen → List ℕ
+seen_line t = part_line (part_shown t)

@@ -33,21 +33,19 @@
 
 mod hex_digest;
 mod hops;
-mod place_laws;
+mod laws;
 mod reading;
 mod rows;
 mod session_fault;
-mod text_laws;
 mod verifying;
 mod writing;
 
 pub use hex_digest::digest_text;
 pub use hops::{FollowedHop, Hops};
-pub use place_laws::{pages_stand, texts_are_placed};
+pub use laws::{law7, one_answer, pages_stand, pieces_are_one_text, texts_are_placed};
 pub use reading::{SessionFeed, read_session};
 pub use rows::texts_of_plan_a;
 pub use session_fault::SessionFault;
-pub use text_laws::{law7, one_answer, pieces_are_one_text};
 pub use verifying::verify;
 pub use writing::{
     TextBuffer, put_pieces, put_report, put_route_line, write_report, write_session,

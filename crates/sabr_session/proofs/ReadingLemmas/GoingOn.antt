@@ -9,10 +9,9 @@ use Rattle.sabr_session.specs.declared.session_fault.SessionFault.{SessionFault}
 use Rattle.sabr_session.specs.declared.session_fault.SessionFault.TheVariants as fault
 use Rattle.sabr_session.specs.SessionRead.{Said, misspelled, read_line, is_after, last_line}
 use Rattle.sabr_frontier.specs.session.Session.{Seen}
-use Rattle.sabr_session.specs.SessionFed.{SessionFed, IsSessionFrom, OpenText, outcome, outcome_of, is_bad_front, GoesOn, IsRefusedPiece, weight}
-use Rattle.sabr_session.specs.SessionLeaving.{Leaves}
+use Rattle.sabr_session.specs.SessionFed.{SessionFed, IsSessionFrom, OpenText, outcome, outcome_of, is_bad_front, GoesOn, IsRefusedPiece, weight, Leaves}
 use Rattle.sabr_session.proofs.ReadingLemmas.SessionOutcomes.{outcome-line, outcome-held, outcome-end, outcome-refused, outcome-read}
-use Rattle.sabr_session.proofs.ReadingLemmas.NeverRead.{misspelled_not, line_not_read}
+use Rattle.sabr_session.proofs.ReadingLemmas.StepsTaken.{misspelled_not, line_not_read}
 
 -- what stands before a piece and after some of it, over one plan
 pub record HasTaken (old : OpenText) (piece : List ℕ) (t : OpenText) (rest : List ℕ) : Type 0 where

@@ -12,7 +12,7 @@ use Rattle.sabr_session.specs.SessionRead.{Said, ComesTo}
 use Rattle.sabr_session.specs.SessionFed.{OpenText, nothing_fed, opened_over, outcome_of, IsRefusedPiece, IsFed, IsFinished}
 use Rattle.sabr_session.specs.SessionGiven.{ReadsSession, said_over}
 use Rattle.sabr_session.proofs.ReadingLemmas.SessionOutcomes.{said_of-outcome, outcome-read}
-use Rattle.sabr_session.proofs.ReadingLemmas.NeverRead.{text_not_read}
+use Rattle.sabr_session.proofs.ReadingLemmas.StepsTaken.{text_not_read}
 
 -- these bytes were read of a text over the plan that wasn't refused, and whatever comes after them, it comes to the same
 pub record HasGiven (plan : TabledPlan) (calls : Calls) (old new : Input) (t : OpenText) : Type 0 where
@@ -23,7 +23,7 @@ pub record HasGiven (plan : TabledPlan) (calls : Calls) (old new : Input) (t : O
   pub same : (more : List ℕ) (ended : Bool) → said_over plan (given ++ more) ended ≡ outcome_of t more ended
   pub fine : outcome_of t [] false ≡ Err fault.Read
 
--- the text that a feed holds is such
+-- a feed holds such a text
 abbrev pub HasFed : TabledPlan → Calls → Input → Input → Result OpenText SessionFault → Type 0
 HasFed plan calls old new (Ok t) = HasGiven plan calls old new t
 HasFed plan calls old new (Err f) = ⊥

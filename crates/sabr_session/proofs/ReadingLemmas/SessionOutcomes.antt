@@ -146,7 +146,7 @@ module _ (p : ContactPlan) (h : List ℕ) where
       ∙ ap (λ t. lines_outcome (s.lines + 1) s.said t ended) (ap lines_of parts ∙ lines_of-front front more whole)
       ∙ front_refused (s.lines + 1) s.said front t.ended t.open_line ended bad
 
-  -- bytes that aren't, where the reader fails after them
+  -- bytes that aren't refused, after which the reader fails
   pub outcome-read : (s : SessionFed) → is_one_line s.held ≡ true → is_bad_front (s.lines + 1) s.said s.held ≡ false → outcome p h s [] false ≡ Err fault.Read
   outcome-read s one good = outcome-end s false one ∙ by_bytes (is_after (s.lines + 1) s.said) (has_bytes s.held) (ltb 660008 (length s.held)) good
     where

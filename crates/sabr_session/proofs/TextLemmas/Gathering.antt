@@ -1,11 +1,26 @@
--- Texts that are put into a buffer in turn, and handed to its writer at the end.
-use Rattle.std.proofs.Common.{◌≡◌, ℕ, List, [], ◌++◌, Result, Ok, Err, ap, ◌∙◌, sym, append_assoc, append-nil, refl}
+-- Texts that are put into a buffer in turn, and handed to its writer at the end: slices, the lines of a session's text, and those of a report.
+use Rattle.std.proofs.Common.{◌≡◌, ℕ, List, [], ◌++◌, Result, Ok, Err, ap, ◌∙◌, sym, append_assoc, append-nil, refl, ◌+◌, ◌<◌, ◌∷◌, Bor, map, length, get_or, take, drop, add-one, drop-cons, codes, Option, Some, None, suc, length-take-le, arith}
 use Rattle.std.specs.Borrow.{MutBor}
 use Rattle.std.specs.Result.{IsErrAnd}
 use Rattle.sabr_model.specs.Devices.{Output, WritesText}
 use Rattle.sabr_model.proofs.ListLemmas.WrittenTexts.{Written-nil, Written-append, WrittenInPart-after, WrittenInPart-more}
 use Rattle.sabr_session.specs.declared.writing.text_buffer.TextBuffer.{TextBuffer}
 use Rattle.sabr_session.specs.Gathering.{IsEmptyBefore, HasPut, StopsIn, Puts, Sends}
+use Rattle.std.specs.List.{concat, flat_map}
+use Rattle.std.proofs.lemmas.List.{take_more, take-append-drop, map-append}
+use Rattle.sabr_plan.proofs.SpelledPlans.{flat_map-parted}
+use Rattle.std.specs.Option.{option_map}
+use Rattle.std.proofs.lemmas.List.Folds.{concat-append}
+use Rattle.std.proofs.lemmas.List.Concat.{flat_map-append}
+use Rattle.sabr_model.specs.plan.Plan.{ContactPlan}
+use Rattle.sabr_model.specs.routes.Arrival.{RouteRequest}
+use Rattle.sabr_model.specs.routes.Record.{record_of, RouteRecord}
+use Rattle.sabr_frontier.specs.listing.State.{PartState, State}
+use Rattle.sabr_frontier.specs.session.Session.{PartSeen, seen_part}
+use Rattle.sabr_frontier.specs.tree.Shape.{numbers_of}
+use Rattle.sabr_session.specs.SessionText.{list_text, request_line, part_line, state_lines, asked_pieces, counts_pieces, part_shown, seen_line}
+use Rattle.std.proofs.Math.Seq.{take-suc}
+use Rattle.sabr_session.specs.ReportText.{report_line, report_lines}
 
 -- the bytes held, and two texts: separated after the first text's part that was written
 split_at : (h i sent xs ys : List ℕ) → h ++ xs ≡ sent ++ i → h ++ (xs ++ ys) ≡ sent ++ (i ++ ys)
@@ -91,3 +106,113 @@ module _ {W : Type 0} {output : W → Output} where
   WritesText-sent {b = b} c x xs (Err _) new ends p q =
       let t = StopsIn-after {b = b} {c = c} xs [] p (rw (append-nil b.held.items) q) in
       rw (ends (sym (t.same_writer ∙ new.same_writer))) (rw (new.empty, append-nil xs, new.unchanged) at t.stopped)
+
+-- ---- pieces and lines that are put into a text one after the other
+
+-- all of them, joined
+abbrev pub joined : List (Bor (List ℕ)) → List ℕ
+joined pieces = concat (map (λ t. t.now) pieces)
+
+joined-append : (xs ys : List (Bor (List ℕ))) → joined (xs ++ ys) ≡ joined xs ++ joined ys
+joined-append [] ys = refl
+joined-append (x ∷ xs) ys = ap (λ zs. x.now ++ zs) (joined-append xs ys) ∙ sym (append_assoc x.now (joined xs) (joined ys))
+
+-- one more of them
+pub joined-more : (xs : List (Bor (List ℕ))) (i : ℕ) (d : Bor (List ℕ)) → i < length xs
+    → joined (take (i + 1) xs) ≡ joined (take i xs) ++ (get_or xs i d).now
+joined-more xs i d h =
+    ap joined (take_more xs i d h) ∙ joined-append (take i xs) (get_or xs i d ∷ []) ∙ ap (λ z. joined (take i xs) ++ z) (append-nil (get_or xs i d).now)
+
+-- those before one of them, that one, and those after it
+pub joined-at : (xs : List (Bor (List ℕ))) (i : ℕ) (d : Bor (List ℕ)) → i < length xs
+    → joined xs ≡ joined (take i xs) ++ ((get_or xs i d).now ++ joined (drop (i + 1) xs))
+joined-at xs i d h =
+    ap joined (sym (take-append-drop i xs)) ∙ joined-append (take i xs) (drop i xs)
+    ∙ ap (λ z. joined (take i xs) ++ joined z) (drop-cons xs i d h ∙ ap (λ k. get_or xs i d ∷ drop k xs) (sym (add-one i)))
+
+-- the lines of the first n records, which are ys, that of the next, which is x, and those after it
+pub lines-at : {X : Type 0} (line : X → List ℕ) (all ys : List X) (n : ℕ) (x : X) → ys ≡ take n all → (n < length all) × (x ≡ get_or all n x)
+    → flat_map line all ≡ flat_map line ys ++ (line x ++ flat_map line (drop (n + 1) all))
+lines-at line all ys n x e h =
+    let rest : List ℕ = flat_map line (drop (n + 1) all) in
+    flat_map-parted line all n x h.0
+    ∙ append_assoc (flat_map line (take n all)) (line (get_or all n x)) rest
+    ∙ ap (λ zs. flat_map line zs ++ (line (get_or all n x) ++ rest)) (sym e)
+    ∙ ap (λ y. flat_map line ys ++ (line y ++ rest)) (sym h.1)
+
+module _ {W : Type 0} {output : W → Output} where
+  -- one more piece is put
+  pub HasPut-piece : {a b c : TextBuffer W} (xs : List (Bor (List ℕ))) (place : ℕ) (d : Bor (List ℕ)) → place < length xs
+      → HasPut output a (joined (take place xs)) b → HasPut output b (get_or xs place d).now c → HasPut output a (joined (take (place + 1) xs)) c
+  HasPut-piece xs place d l p q = rw (joined-more xs place d l) (HasPut-append (joined (take place xs)) (get_or xs place d).now p q)
+
+  -- the writer failed in one of the pieces
+  pub Puts-in_piece : {A E : Type 0} (P : E → Type 0) {a b c : TextBuffer W} (xs : List (Bor (List ℕ))) (place : ℕ) (d : Bor (List ℕ)) (r : Result A E) → place < length xs
+      → IsErrAnd r P → HasPut output a (joined (take place xs)) b → StopsIn output b (b.held.items ++ (get_or xs place d).now) c → Puts output a (joined xs) r c
+  Puts-in_piece P {c = c} xs place d r l is p q =
+      rw (joined-at xs place d l)
+      (Puts-after c (joined (take place xs)) ((get_or xs place d).now ++ joined (drop (place + 1) xs)) r p
+      (Puts-stopped P (get_or xs place d).now (joined (drop (place + 1) xs)) r is q))
+
+-- ---- the lines of a session's text, made of their pieces
+
+-- the line of a request
+pub request_in_pieces : (r : RouteRequest) → request_line r ≡ concat (asked_pieces r) ++ ((codes " / " ++ list_text r.avoided) ++ codes "\n")
+request_in_pieces r = concat-append (asked_pieces r) (codes " / " ∷ list_text r.avoided ∷ codes "\n" ∷ [])
+
+-- the lines of a state
+pub state_in_pieces : (s : State) → state_lines s ≡ concat (counts_pieces s) ++ (flat_map part_line s.parts ++ codes "end\n")
+state_in_pieces s = concat-append (counts_pieces s) (flat_map part_line s.parts ∷ codes "end\n" ∷ [])
+
+-- the numbers of the record of a route
+numbers_of_record : (p : ContactPlan) (r : RouteRequest) (o : Option (List ℕ)) → option_map numbers_of (option_map (record_of p r) o) ≡ o
+numbers_of_record p r None = refl
+numbers_of_record p r (Some s) = refl
+
+-- what a session shows of a part is the part
+part_seen : (p : ContactPlan) (r : RouteRequest) (t : PartState) → part_shown (seen_part p r t) ≡ t
+part_seen p r t =
+    let same : ◌≡◌ {A = PartState} (record { prefix = t.prefix; excluded = t.excluded; carried = option_map numbers_of (option_map (record_of p r) t.carried) }) (record { prefix = t.prefix; excluded = t.excluded; carried = t.carried }) = rw (numbers_of_record p r t.carried) refl in
+    same
+
+-- the lines of what a session shows are the lines of the parts
+lines_seen : (p : ContactPlan) (r : RouteRequest) (ts : List PartState) → flat_map seen_line (map (seen_part p r) ts) ≡ flat_map part_line ts
+lines_seen p r [] = refl
+lines_seen p r (t ∷ ts) = ap (λ u. part_line u ++ flat_map seen_line (map (seen_part p r) ts)) (part_seen p r t) ∙ ap (λ zs. part_line t ++ zs) (lines_seen p r ts)
+
+pub lines_of_seen : (p : ContactPlan) (r : RouteRequest) (seen : List PartSeen) (ts : List PartState) → seen ≡ map (seen_part p r) ts → flat_map seen_line seen ≡ flat_map part_line ts
+lines_of_seen p r seen ts e = ap (flat_map seen_line) e ∙ lines_seen p r ts
+
+-- one more line
+pub lines-more : {X : Type 0} (view : X → PartSeen) (xs : List X) (x : X) → flat_map seen_line (map view (xs ++ x ∷ [])) ≡ flat_map seen_line (map view xs) ++ seen_line (view x)
+lines-more view xs x =
+    ap (flat_map seen_line) (map-append view xs (x ∷ [])) ∙ flat_map-append seen_line (map view xs) (view x ∷ [])
+    ∙ ap (λ zs. flat_map seen_line (map view xs) ++ zs) (append-nil (seen_line (view x)))
+
+-- ---- the lines of a report, route by route
+
+-- two lists of routes in turn
+pub report_lines-append : (rank : ℕ) (xs ys : List RouteRecord) → report_lines rank (xs ++ ys) ≡ report_lines rank xs ++ report_lines (rank + length xs) ys
+report_lines-append rank [] ys = ap (λ k. report_lines k ys) (omega arith)
+report_lines-append rank (x ∷ xs) ys =
+    let same : rank + 1 + length xs ≡ rank + length (x ∷ xs) = omega arith in
+    ap (λ zs. report_line rank x ++ zs) (report_lines-append (rank + 1) xs ys ∙ ap (λ k. report_lines (rank + 1) xs ++ report_lines k ys) same)
+    ∙ sym (append_assoc (report_line rank x) (report_lines (rank + 1) xs) (report_lines (rank + length (x ∷ xs)) ys))
+
+-- the same, where the first list is a beginning of that length
+from_place : (rank : ℕ) (xs : List RouteRecord) (i : ℕ) (ys : List RouteRecord) → i < length xs → report_lines (rank + length (take i xs)) ys ≡ report_lines (rank + i) ys
+from_place rank xs i ys h = ap (λ k. report_lines (rank + k) ys) (length-take-le i xs (omega (arith, h)))
+
+-- the route at a place, with those before it and those after it
+pub report_lines-at : (rank : ℕ) (xs : List RouteRecord) (i : ℕ) (d : RouteRecord) → i < length xs
+    → report_lines rank xs ≡ report_lines rank (take i xs) ++ (report_line (rank + i) (get_or xs i d) ++ report_lines (rank + i + 1) (drop (suc i) xs))
+report_lines-at rank xs i d h =
+    ap (report_lines rank) (sym (take-append-drop i xs)) ∙ report_lines-append rank (take i xs) (drop i xs)
+    ∙ ap (λ zs. report_lines rank (take i xs) ++ zs) (from_place rank xs i (drop i xs) h ∙ ap (report_lines (rank + i)) (drop-cons xs i d h))
+
+-- one more route
+pub report_lines-take : (rank : ℕ) (xs : List RouteRecord) (i : ℕ) (d : RouteRecord) → i < length xs
+    → report_lines rank (take (suc i) xs) ≡ report_lines rank (take i xs) ++ report_line (rank + i) (get_or xs i d)
+report_lines-take rank xs i d h =
+    ap (report_lines rank) (take-suc xs i d h) ∙ report_lines-append rank (take i xs) (get_or xs i d ∷ [])
+    ∙ ap (λ zs. report_lines rank (take i xs) ++ zs) (from_place rank xs i (get_or xs i d ∷ []) h ∙ append-nil (report_line (rank + i) (get_or xs i d)))

@@ -12,14 +12,13 @@ use Rattle.sabr_frontier.specs.listing.Rising.{Rises}
 use Rattle.sabr_frontier.specs.listing.State.{PartState, pair_of}
 use Rattle.sabr_frontier.specs.tree.Undo.{last_item, front}
 use Rattle.sabr_frontier.proofs.TreeLemmas.ModifiedPlaces.{last_split}
-use Rattle.sabr_session.specs.SpacedNumbers.{list_text}
+use Rattle.sabr_session.specs.SessionText.{list_text}
 use Rattle.sabr_session.specs.SessionWords.{words_of, contacts_of, most_number}
 use Rattle.sabr_session.specs.SessionLines.{carried_of, part_of}
 use Rattle.sabr_session.specs.SessionRead.{Said, rise_strictly, comes_after, may_carry, line_said, read_lines}
-use Rattle.sabr_session.proofs.WordLemmas.PartWords.{three_lists}
+use Rattle.sabr_session.proofs.WordLemmas.SpacedWords.{three_lists}
 use Rattle.sabr_session.proofs.WordLemmas.SpelledWords.{list_words, other_number, words-apart, before-list, after-list}
-use Rattle.sabr_session.proofs.TextLemmas.SpelledLines.{concat_line, length-concat, list_line, list_length}
-use Rattle.sabr_session.proofs.TextLemmas.SpelledHead.{IsContactList, label-there, contacts_words, contacts_read, word-apart}
+use Rattle.sabr_session.proofs.TextLemmas.SpelledHead.{concat_line, length-concat, list_line, list_length, IsContactList, label-there, contacts_words, contacts_read, word-apart}
 
 -- what a text says of a part, whose route isn't empty
 pub record PartIsTellable (t : PartState) : Type 0 where

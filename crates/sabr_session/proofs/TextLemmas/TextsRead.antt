@@ -14,16 +14,13 @@ use Rattle.sabr_plan.specs.Times.{time_text_of}
 use Rattle.sabr_plan.specs.Words.{TextLines, is_one_line, lines_of}
 use Rattle.sabr_frontier.specs.listing.State.{PartState, State}
 use Rattle.sabr_frontier.specs.listing.Listing.{IsState}
-use Rattle.sabr_session.specs.SpacedNumbers.{list_text}
-use Rattle.sabr_session.specs.SessionText.{part_line, plan_line, request_line, old_request_line, state_lines, text_of, old_text_of, HasText, IsUnlimited}
+use Rattle.sabr_session.specs.SessionText.{list_text, part_line, plan_line, request_line, old_request_line, state_lines, text_of, old_text_of, HasText, IsUnlimited}
 use Rattle.sabr_session.specs.SessionRead.{Said, nothing_said, line_said, read_lines, last_line, said_of, ComesTo, IsSessionOf}
 use Rattle.sabr_session.specs.declared.reading.first_lines.Version.{Version}
 use Rattle.sabr_session.specs.declared.reading.first_lines.Version.TheVariants.{One, Two}
 use Rattle.sabr_plan.proofs.SpelledNumbers.{same_text}
-use Rattle.sabr_session.proofs.WordLemmas.SpelledWords.{decimal_is_word}
-use Rattle.sabr_session.proofs.TextLemmas.SpelledLines.{joined, AreLines, lines_of-joined, lf_after, concat_line, length-concat, word_line, list_line, list_length, nodes_length}
-use Rattle.sabr_session.proofs.WordLemmas.SpelledDigests.{digest_length, digest_word}
-use Rattle.sabr_session.proofs.TextLemmas.SpelledHead.{accepted_nodes, accepted_few, time_word, digest_read, emitted_read, count_read, last_read, request_text, old_request_text, request_read, old_request_read, asked_is, old_asked_is}
+use Rattle.sabr_session.proofs.WordLemmas.SpelledWords.{decimal_is_word, digest_length, digest_word}
+use Rattle.sabr_session.proofs.TextLemmas.SpelledHead.{joined, AreLines, lines_of-joined, lf_after, concat_line, length-concat, word_line, list_line, list_length, nodes_length, accepted_nodes, accepted_few, time_word, digest_read, emitted_read, count_read, last_read, request_text, old_request_text, request_read, old_request_read, asked_is, old_asked_is}
 use Rattle.sabr_session.proofs.TextLemmas.SpelledParts.{part_pieces, spelled_part, part_line_is, ArePartsOf, read_on, parts_read}
 use Rattle.sabr_session.proofs.ReadingLemmas.ShortStates.{StateIsTellable}
 use Rattle.sabr_plan.proofs.Held.{one_line-append}

@@ -10,8 +10,7 @@ use Rattle.sabr_model.specs.routes.Asking.{unlimited, with_limits}
 use Rattle.sabr_plan.specs.Steps.{and_then}
 use Rattle.sabr_plan.specs.Words.{TextLines, has_bytes, before_lines, lines_of}
 use Rattle.sabr_frontier.specs.listing.State.{PartState, State}
-use Rattle.sabr_session.specs.SpacedNumbers.{list_text}
-use Rattle.sabr_session.specs.SessionText.{part_line, text_of, old_text_of, HasText, IsUnlimited}
+use Rattle.sabr_session.specs.SessionText.{list_text, part_line, text_of, old_text_of, HasText, IsUnlimited}
 use Rattle.sabr_session.specs.SessionLines.{header_of, request_of, emitted_of, last_listed, count_of, part_of, is_end}
 use Rattle.sabr_session.specs.SessionRead.{Said, nothing_said, misspelled, spelled_at, rise_strictly, comes_after, may_carry, placed, asked, part_said, end_said, line_said, read_line, read_lines, is_after, last_line, said_of, state_of}
 use Rattle.sabr_session.specs.declared.reading.first_lines.Version.{Version}
@@ -19,7 +18,7 @@ use Rattle.sabr_session.specs.declared.reading.first_lines.Version.TheVariants.{
 use Rattle.sabr_model.specs.declared.request_values.RequestValues.{RequestValues}
 use Rattle.sabr_session.specs.declared.session_fault.SessionFault.TheVariants as fault
 use Rattle.sabr_session.proofs.ReadingLemmas.StepsTaken.{and_then_ok, given_as_ok, spelled_at_ok}
-use Rattle.sabr_session.proofs.TextLemmas.LinesTold.{header_line, header_told, digest_told, values_text, IsOfVersion, request_told, asked_told, emitted_told, last_told, count_told, part_told, end_told}
+use Rattle.sabr_session.proofs.TextLemmas.SaidLines.{header_line, header_told, digest_told, values_text, IsOfVersion, request_told, asked_told, emitted_told, last_told, count_told, part_told, end_told}
 
 -- ---- lines
 

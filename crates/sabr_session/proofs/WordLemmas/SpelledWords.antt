@@ -1,16 +1,25 @@
--- The words in which numbers, lists and times are spelled.
-use Rattle.std.proofs.Common.{◌≡◌, ℕ, ◌+◌, ◌%◌, ◌<◌, ◌≤◌, ◌^◌, Bool, true, false, cond, eqb, List, [], ◌∷◌, ◌++◌, length, map, refl, ap, ◌∙◌, arith, append-nil, decimal, codes, option_map}
-use Rattle.std.specs.List.{slice_split, onto_first}
+-- The words in which numbers, lists, times and digests are spelled, and digits as the first word of a text.
+use Rattle.std.proofs.Common.{◌≡◌, ℕ, ◌+◌, ◌%◌, ◌<◌, ◌≤◌, ◌^◌, Bool, true, false, cond, eqb, List, [], ◌∷◌, ◌++◌, length, map, refl, ap, ◌∙◌, arith, append-nil, decimal, codes, option_map, zero, suc, ◌*◌, ◌/◌, leb}
+use Rattle.std.specs.List.{slice_split, onto_first, list_all}
 use Rattle.std.specs.Str.{bytes_eq}
 use Rattle.std.proofs.lemmas.Bool.Decides.{nat_tests}
 use Rattle.std.proofs.lemmas.Fmt.{decimal_by_steps_wide}
 use Rattle.std.proofs.lemmas.List.Splits.{length-slice_split}
 use Rattle.std.specs.declared.option.Option.TheVariants.{Some}
-use Rattle.sabr_session.specs.SpacedNumbers.{spaced_by, list_text}
+use Rattle.sabr_session.specs.SessionText.{spaced_by, list_text}
 use Rattle.sabr_session.specs.SessionWords.{is_space, words_of, all_of, counted, is_dash, list_within, is_slash, before_slash, after_slash}
 use Rattle.sabr_plan.specs.Numbers.{number_within}
 use Rattle.sabr_plan.proofs.SpelledNumbers.{number_within-spelled_within}
 use Rattle.sabr_session.proofs.WordLemmas.ReadNumbers.{counted-some}
+use Rattle.std.specs.Prelude.{slice_index}
+use Rattle.std.specs.Int.{w32, to_be_bytes}
+use Rattle.std.proofs.lemmas.Bool.{and_parts, leb-true}
+use Rattle.std.proofs.lemmas.List.Folds.{list_all_at}
+use Rattle.hex.specs.Hex.{lower_digits, encode_with, encode_lower}
+use Rattle.sha2.specs.Sha256.{sha256, digest_bytes}
+use Rattle.sha2.proofs.Facts256.{length-sha256}
+use Rattle.sabr_session.specs.SessionLines.{is_digest_digit, is_digest}
+use Rattle.sabr_plan.specs.Digits.{is_digit}
 
 -- bytes after the space: neither a space nor LF is one of them
 abbrev pub IsWord : List ℕ → Type 0
@@ -156,3 +165,78 @@ module _ (low high : ℕ) (short : high < 10 ^ 64) where
   pub after-list : (ns : List ℕ) (ws : List (List ℕ)) → AreWithin low high ns → after_slash (list_words ns ++ codes "/" ∷ ws) ≡ ws
   after-list [] ws h = refl
   after-list (n ∷ ns) ws h = after-numbers (n ∷ ns) ws h
+
+-- ---- a digest's digits: there are 64, and each is one of a session text's
+
+-- bytes
+abbrev AreBytes : List ℕ → Type 0
+AreBytes [] = Unit {0}
+AreBytes (b ∷ bs) = (b < 256) × AreBytes bs
+
+bytes-append : (xs ys : List ℕ) → AreBytes xs → AreBytes ys → AreBytes (xs ++ ys)
+bytes-append [] ys h k = k
+bytes-append (x ∷ xs) ys h k = (h.0, bytes-append xs ys h.1 k)
+
+digest_bytes_are : (h : List ℕ) (n : ℕ) → AreBytes (digest_bytes h n)
+unfolding digest_bytes
+digest_bytes_are h zero = tt
+digest_bytes_are h (suc n) =
+    bytes-append (digest_bytes h n) (to_be_bytes w32 (slice_index h n)) (digest_bytes_are h n) (omega arith, (omega arith, (omega arith, (omega arith, tt))))
+
+sha256_are : (m : List ℕ) → AreBytes (sha256 m)
+unfolding sha256
+sha256_are m = digest_bytes_are _ 8
+
+-- a digit of the table
+a_digit : (k : ℕ) → k < 16 → is_digest_digit (slice_index lower_digits k) ≡ true
+a_digit k l = by_test (is_digest_digit (slice_index lower_digits k)) refl
+  where
+    by_test : (b : Bool) → is_digest_digit (slice_index lower_digits k) ≡ b → b ≡ true
+    by_test true e = refl
+    by_test false e = let none : true ≡ false = list_all_at is_digest_digit lower_digits k 0 l e in cc
+
+encoded_digits : (bs : List ℕ) → AreBytes bs → list_all is_digest_digit (encode_lower bs) ≡ true
+unfolding encode_with
+encoded_digits [] h = refl
+encoded_digits (b ∷ bs) h = rw (a_digit (b / 16) (omega (arith, h.0)), a_digit (b % 16) (omega arith)) (encoded_digits bs h.1)
+
+encoded_length : (bs : List ℕ) → length (encode_lower bs) ≡ 2 * length bs
+unfolding encode_with
+encoded_length [] = omega arith
+encoded_length (b ∷ bs) = let rest = encoded_length bs in omega (arith, rest)
+
+pub digest_length : (m : List ℕ) → length (encode_lower (sha256 m)) ≡ 64
+digest_length m = encoded_length (sha256 m) ∙ ap (λ n. 2 * n) (length-sha256 m)
+
+-- a digest
+pub digest_is : (m : List ℕ) → is_digest (encode_lower (sha256 m)) ≡ true
+digest_is m = rw (digest_length m) (encoded_digits (sha256 m) (sha256_are m))
+
+digit_word : (b : ℕ) → is_digest_digit b ≡ true → 32 < b
+digit_word b e = grind (arith, nat_tests)
+
+digits_word : (ds : List ℕ) → list_all is_digest_digit ds ≡ true → IsWord ds
+digits_word [] e = tt
+digits_word (d ∷ ds) e =
+    let both = and_parts (is_digest_digit d) (list_all is_digest_digit ds) e in
+    (digit_word d both.0, digits_word ds both.1)
+
+pub digest_word : (m : List ℕ) → IsWord (encode_lower (sha256 m))
+digest_word m = digits_word (encode_lower (sha256 m)) (encoded_digits (sha256 m) (sha256_are m))
+
+-- ---- digits at the front of a text, as its first word
+
+digits_make_word : (ds : List ℕ) → list_all is_digit ds ≡ true → IsWord ds
+digits_make_word [] all = tt
+digits_make_word (d ∷ ds) all =
+    let p = and_parts (is_digit d) (list_all is_digit ds) all in
+    let low : 48 ≤ d = leb-true 48 d (and_parts (leb 48 d) (leb d 57) p.0).0 in
+    (omega arith, digits_make_word ds p.1)
+
+-- with nothing after them
+pub digits-alone : (ds : List ℕ) → list_all is_digit ds ≡ true → words_of ds ≡ ds ∷ []
+digits-alone ds all = words-word ds (digits_make_word ds all)
+
+-- with a space after them
+pub digits-ahead : (ds rest : List ℕ) → list_all is_digit ds ≡ true → words_of (ds ++ 32 ∷ rest) ≡ ds ∷ words_of rest
+digits-ahead ds rest all = words-apart ds rest ∙ ap (λ ws. ws ++ words_of rest) (digits-alone ds all)

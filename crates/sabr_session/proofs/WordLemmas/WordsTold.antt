@@ -6,7 +6,7 @@ use Rattle.std.specs.Str.{bytes_eq}
 use Rattle.std.specs.Str.Parse.{digits_value}
 use Rattle.std.proofs.lemmas.List.Splits.{join_with_byte-slice_split}
 use Rattle.std.proofs.lemmas.Slice.Eq.{bytes_eq-Decides}
-use Rattle.sabr_session.specs.SpacedNumbers.{list_text}
+use Rattle.sabr_session.specs.SessionText.{list_text}
 use Rattle.sabr_session.specs.SessionWords.{words_of, all_of, counted, is_dash, list_within, contacts_of, is_slash, before_slash, after_slash, most_number}
 use Rattle.sabr_plan.specs.Numbers.{number_within}
 

@@ -5,8 +5,7 @@ ghost use Rattle.sabr_plan.specs.Canonical.{digest_of};
 ghost use Rattle.sabr_plan.specs.Words.{is_one_line};
 ghost use Rattle.sabr_frontier.specs.listing.Listing.{IsState};
 ghost use Rattle.sabr_session.specs.SessionRead.{misspelled, most_bytes, read_line};
-ghost use Rattle.sabr_session.specs.SessionFed.{GoesOn, IsRefusedFront, IsRefusedPiece, IsSessionFrom, is_bad_front, opened_over, outcome_of, weight, weight_bound};
-ghost use Rattle.sabr_session.specs.SessionLeaving.{Leaves};
+ghost use Rattle.sabr_session.specs.SessionFed.{GoesOn, IsRefusedFront, IsRefusedPiece, IsSessionFrom, is_bad_front, opened_over, outcome_of, weight, weight_bound, Leaves};
 
 use crate::reading::session_lines::SessionLines;
 use crate::session_fault::SessionFault;

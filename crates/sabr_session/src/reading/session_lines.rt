@@ -5,8 +5,7 @@ ghost use Rattle.std.specs.Str.{bytes_eq};
 ghost use Rattle.hex.specs.Hex.{encode_lower};
 ghost use Rattle.sabr_frontier.specs.listing.Listing.{IsState};
 ghost use Rattle.sabr_session.specs.SessionRead.{asked, is_after, line_said, other_said, part_said, request_said};
-ghost use Rattle.sabr_session.specs.SessionFed.{most_lines, opened_over, IsSessionFrom};
-ghost use Rattle.sabr_session.specs.SessionLeaving.{Leaves};
+ghost use Rattle.sabr_session.specs.SessionFed.{most_lines, opened_over, IsSessionFrom, Leaves};
 
 use crate::hex_digest::digest_text;
 use crate::reading::first_lines::{

@@ -3,7 +3,7 @@
 ghost use Rattle.std.specs.Prelude.{◌++◌, map};
 ghost use Rattle.std.specs.List.{concat};
 ghost use Rattle.sabr_session.specs.Gathering.{Puts};
-ghost use Rattle.sabr_session.specs.SpacedNumbers.{listed_by};
+ghost use Rattle.sabr_session.specs.SessionText.{listed_by};
 
 use crate::writing::put_numbers::{put_number, put_numbers};
 use crate::writing::text_buffer::TextBuffer;
@@ -14,7 +14,8 @@ use sabr_model::{Write, WriteFault};
 ///
 /// # Errors
 ///
-/// [`WriteFault`] if the writer failed. Then a prefix of the bytes held and the slices was written.
+/// [`WriteFault`] if the writer failed. Then a beginning of these bytes was written: those that the buffer held, and
+/// then those of the slices.
 pub fn put_pieces<W: Write>(
     text: &mut TextBuffer<'_, W>,
     pieces: &[&[u8]],

@@ -2,7 +2,7 @@
 
 ghost use Rattle.std.specs.Prelude.{◌++◌};
 ghost use Rattle.sabr_session.specs.Gathering.{Puts};
-ghost use Rattle.sabr_session.specs.SpacedNumbers.{spaced_by};
+ghost use Rattle.sabr_session.specs.SessionText.{spaced_by};
 
 use crate::writing::text_buffer::TextBuffer;
 use itoa::{Buffer, Integer};

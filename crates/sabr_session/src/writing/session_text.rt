@@ -8,8 +8,7 @@ ghost use Rattle.sabr_plan.specs.Canonical.{digest_of};
 ghost use Rattle.sabr_frontier.specs.tree.Shape.{numbers_of};
 ghost use Rattle.sabr_frontier.specs.session.Views.{seen_of, seen_left};
 ghost use Rattle.sabr_session.specs.Gathering.{Puts};
-ghost use Rattle.sabr_session.specs.SessionText.{plan_line, request_line, state_lines, text_of, text_of_session, HasText};
-ghost use Rattle.sabr_session.specs.SessionPieces.{asked_pieces, counts_pieces, seen_line};
+ghost use Rattle.sabr_session.specs.SessionText.{plan_line, request_line, state_lines, text_of, text_of_session, HasText, asked_pieces, counts_pieces, seen_line};
 
 use crate::hex_digest::digest_text;
 use crate::writing::put_lists::{put_list, put_pieces};

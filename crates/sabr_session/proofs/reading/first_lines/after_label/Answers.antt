@@ -1,5 +1,5 @@
 use Rattle.std.proofs.Common.{sym, ◌∙◌, true, false}
-use Rattle.sabr_session.proofs.WordLemmas.Labels.{label-short, label-front}
+use Rattle.sabr_session.proofs.WordLemmas.SpacedWords.{label-short, label-front}
 use Rattle.sabr_session.proofs.reading.first_lines.after_label.Goals as goal
 
 pub returns-then-text-label : goal.returns-then-text-label

@@ -5,7 +5,7 @@ use Rattle.std.specs.Cmp.Lexicographic.{pointwise, same_text}
 use Rattle.std.proofs.lemmas.Bool.Decides.{nat_tests}
 use Rattle.std.proofs.lemmas.List.{nil_from_length, take-append-drop}
 use Rattle.sabr_session.specs.SessionWords.{words_of}
-use Rattle.sabr_session.proofs.WordLemmas.PlainNumbers.{digits-alone, digits-ahead}
+use Rattle.sabr_session.proofs.WordLemmas.SpelledWords.{digits-alone, digits-ahead}
 use Rattle.sabr_session.proofs.reading.words.plain_number.Goals as goal
 
 -- what comes after a front that was tested

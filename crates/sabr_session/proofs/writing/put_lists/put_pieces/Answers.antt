@@ -1,5 +1,4 @@
-use Rattle.sabr_session.proofs.TextLemmas.Gathering.{HasPut-nil}
-use Rattle.sabr_session.proofs.TextLemmas.Pieces.{HasPut-piece, Puts-in_piece}
+use Rattle.sabr_session.proofs.TextLemmas.Gathering.{HasPut-nil, HasPut-piece, Puts-in_piece}
 use Rattle.sabr_session.proofs.writing.put_lists.put_pieces.Goals as goal
 
 pub loop-piece-init : goal.loop-piece-init

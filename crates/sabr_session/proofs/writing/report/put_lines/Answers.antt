@@ -1,8 +1,7 @@
 use Rattle.std.proofs.Common.{ℕ, ◌+◌, List, drop, suc, add-one, arith}
 use Rattle.sabr_model.specs.routes.Record.{RouteRecord}
 use Rattle.sabr_session.specs.ReportText.{report_line, report_lines}
-use Rattle.sabr_session.proofs.TextLemmas.Gathering.{HasPut-append, Puts-stopped, Puts-after}
-use Rattle.sabr_session.proofs.TextLemmas.ReportLines.{report_lines-at, report_lines-take}
+use Rattle.sabr_session.proofs.TextLemmas.Gathering.{HasPut-append, Puts-stopped, Puts-after, report_lines-at, report_lines-take}
 use Rattle.sabr_session.proofs.writing.report.put_lines.Goals as goal
 
 pub returns-in_err-put_line : goal.returns-in_err-put_line

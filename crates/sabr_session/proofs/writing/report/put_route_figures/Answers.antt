@@ -4,7 +4,7 @@ use Rattle.std.specs.List.{concat}
 use Rattle.std.proofs.lemmas.List.Folds.{concat-append}
 use Rattle.sabr_model.specs.routes.Record.{RouteRecord}
 use Rattle.sabr_session.specs.ReportText.{route_line, figure_pieces}
-use Rattle.sabr_session.specs.SpacedNumbers.{spaced_by}
+use Rattle.sabr_session.specs.SessionText.{spaced_by}
 use Rattle.sabr_session.proofs.TextLemmas.Gathering.{Puts-stopped, Puts-after}
 use Rattle.sabr_session.proofs.writing.report.put_route_figures.Goals as goal
 

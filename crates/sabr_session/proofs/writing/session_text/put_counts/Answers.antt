@@ -1,6 +1,6 @@
 use Rattle.std.proofs.Common.{ℕ, List, ◌++◌, codes, decimal, length}
 use Rattle.sabr_frontier.specs.listing.State.{State}
-use Rattle.sabr_session.specs.SpacedNumbers.{list_text}
+use Rattle.sabr_session.specs.SessionText.{list_text}
 use Rattle.sabr_session.proofs.TextLemmas.Gathering.{Puts-stopped, Puts-after}
 use Rattle.sabr_session.proofs.writing.session_text.put_counts.Goals as goal
 

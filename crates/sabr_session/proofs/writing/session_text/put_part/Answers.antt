@@ -1,7 +1,7 @@
 use Rattle.std.proofs.Common.{ℕ, List, ◌++◌, codes, unwrap_or, []}
 use Rattle.std.specs.Option.{option_map, option_copied}
 use Rattle.sabr_frontier.specs.tree.Shape.{numbers_of}
-use Rattle.sabr_session.specs.SpacedNumbers.{list_text}
+use Rattle.sabr_session.specs.SessionText.{list_text}
 use Rattle.sabr_session.proofs.TextLemmas.Gathering.{Puts-stopped, Puts-after}
 use Rattle.sabr_session.proofs.writing.session_text.put_part.Goals as goal
 

@@ -3,10 +3,8 @@ use Rattle.std.specs.List.{flat_map}
 use Rattle.std.proofs.lemmas.Iterator.Consumers.{YieldsList-from_first, YieldsList-so_far, YieldsList-turn, YieldsList-end}
 use Rattle.sabr_frontier.specs.session.Session.{PartSeen}
 use Rattle.sabr_frontier.specs.session.Views.{seen_of, seen_left}
-use Rattle.sabr_session.specs.SessionPieces.{seen_line}
-use Rattle.sabr_session.proofs.TextLemmas.Gathering.{HasPut-append, Puts-stopped, Puts-after}
-use Rattle.sabr_session.proofs.TextLemmas.Pieces.{lines-at}
-use Rattle.sabr_session.proofs.TextLemmas.SessionPieces.{lines-more}
+use Rattle.sabr_session.specs.SessionText.{seen_line}
+use Rattle.sabr_session.proofs.TextLemmas.Gathering.{HasPut-append, Puts-stopped, Puts-after, lines-at, lines-more}
 use Rattle.sabr_session.proofs.writing.session_text.put_parts.Goals as goal
 
 pub returns-in_err-put_part : goal.returns-in_err-put_part

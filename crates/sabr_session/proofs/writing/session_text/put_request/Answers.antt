@@ -1,10 +1,8 @@
 use Rattle.std.proofs.Common.{ℕ, List, ◌++◌, codes}
 use Rattle.std.specs.List.{concat}
 use Rattle.sabr_model.specs.routes.Arrival.{RouteRequest}
-use Rattle.sabr_session.specs.SpacedNumbers.{list_text}
-use Rattle.sabr_session.specs.SessionPieces.{asked_pieces}
-use Rattle.sabr_session.proofs.TextLemmas.Gathering.{Puts-stopped, Puts-after}
-use Rattle.sabr_session.proofs.TextLemmas.SessionPieces.{request_in_pieces}
+use Rattle.sabr_session.specs.SessionText.{list_text, asked_pieces}
+use Rattle.sabr_session.proofs.TextLemmas.Gathering.{Puts-stopped, Puts-after, request_in_pieces}
 use Rattle.sabr_session.proofs.writing.session_text.put_request.Goals as goal
 
 pub returns-in_err-put_asked : goal.returns-in_err-put_asked

@@ -1,10 +1,8 @@
 use Rattle.std.proofs.Common.{ℕ, List, ◌++◌, codes}
 use Rattle.std.specs.List.{concat, flat_map}
 use Rattle.sabr_frontier.specs.listing.State.{State}
-use Rattle.sabr_session.specs.SessionText.{part_line}
-use Rattle.sabr_session.specs.SessionPieces.{counts_pieces}
-use Rattle.sabr_session.proofs.TextLemmas.Gathering.{Puts-stopped, Puts-after}
-use Rattle.sabr_session.proofs.TextLemmas.SessionPieces.{state_in_pieces, lines_of_seen}
+use Rattle.sabr_session.specs.SessionText.{part_line, counts_pieces}
+use Rattle.sabr_session.proofs.TextLemmas.Gathering.{Puts-stopped, Puts-after, state_in_pieces, lines_of_seen}
 use Rattle.sabr_session.proofs.writing.session_text.put_state.Goals as goal
 
 pub returns-in_err-put_counts : goal.returns-in_err-put_counts

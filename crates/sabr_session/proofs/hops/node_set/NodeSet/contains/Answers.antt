@@ -1,4 +1,4 @@
-use Rattle.sabr_session.proofs.NodeSets.{tested}
+use Rattle.sabr_session.proofs.HopLemmas.{tested}
 use Rattle.sabr_session.proofs.hops.node_set.NodeSet.contains.Goals as goal
 
 pub returns : goal.returns

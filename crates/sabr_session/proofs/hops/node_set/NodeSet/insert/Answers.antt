@@ -1,5 +1,5 @@
 use Rattle.std.proofs.Common.{arith}
-use Rattle.sabr_session.proofs.NodeSets.{in_it, others_stay}
+use Rattle.sabr_session.proofs.HopLemmas.{in_it, others_stay}
 use Rattle.sabr_session.proofs.hops.node_set.NodeSet.insert.Goals as goal
 
 pub returns-clause-this : goal.returns-clause-this

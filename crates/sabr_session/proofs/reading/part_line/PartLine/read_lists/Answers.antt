@@ -2,7 +2,7 @@
 use Rattle.std.proofs.Common.{[], false}
 use Rattle.std.proofs.lemmas.Result.{IfOk-weaker}
 use Rattle.sabr_session.specs.SessionWords.{words_of}
-use Rattle.sabr_session.proofs.WordLemmas.PartWords.{no_words, bad_prefix, bad_excluded, third_list}
+use Rattle.sabr_session.proofs.WordLemmas.SpacedWords.{no_words, bad_prefix, bad_excluded, third_list}
 use Rattle.sabr_session.proofs.reading.part_line.PartLine.read_lists.Goals as goal
 
 pub returns-in_default : goal.returns-in_default

@@ -1,5 +1,5 @@
 use Rattle.sabr_session.proofs.TextLemmas.PiecesJoined.{pieces_joined}
-use Rattle.sabr_session.proofs.text_laws.pieces_are_one_text.Goals as goal
+use Rattle.sabr_session.proofs.laws.pieces_are_one_text.Goals as goal
 
 pub returns : goal.returns
 returns c = pieces_joined

@@ -1,5 +1,5 @@
 use Rattle.sabr_session.proofs.TextLemmas.OneAnswer.{is_read_back, are_apart}
-use Rattle.sabr_session.proofs.text_laws.law7.Goals as goal
+use Rattle.sabr_session.proofs.laws.law7.Goals as goal
 
 pub returns : goal.returns
 returns c = λ p good. record { read_back = is_read_back p good; apart = are_apart p good }

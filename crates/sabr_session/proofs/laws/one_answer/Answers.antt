@@ -1,5 +1,5 @@
 use Rattle.sabr_session.proofs.TextLemmas.OneAnswer.{answers_once}
-use Rattle.sabr_session.proofs.text_laws.one_answer.Goals as goal
+use Rattle.sabr_session.proofs.laws.one_answer.Goals as goal
 
 pub returns : goal.returns
 returns c = answers_once
