@@ -13,7 +13,9 @@ import textwrap
 
 from checking import TOP, Broken, Room, checks_of, parts_of
 
-CRATES = "sabr_model sabr_plan sabr_search sabr_frontier sabr_session commands failing"
+CRATES = "sabr_model sabr_plan sabr_search sabr_frontier sabr_session commands"
+# The module of `steps` that examples use, of which the further crate gets a copy.
+FAILING = "crates/steps/src/failing"
 # The module whose example is for readers of its own crate is public in the copy.
 PLAN_LIBRARY, PRIVATE, PUBLIC = "crates/sabr_plan/src/lib.rt", "\nmod gathering;\n", "\npub mod gathering;\n"
 
@@ -22,7 +24,7 @@ HEAD = """\
 //! The examples of the crates.
 
 use commands::{Status, run_first};
-use failing::{End, LimitedWriter, PieceReader, Ration};
+use crate::failing::{End, LimitedWriter, PieceReader, Ration};
 use sabr_frontier::Session;
 use sabr_model::{HopFault, Plan, Request, follow};
 use sabr_plan::gathering::{GatheredContacts, GatheredRanges, gathered_plan};
@@ -105,7 +107,7 @@ EXAMPLES = {
         assert!(rt; err.held().is_empty());
         """,
     ),
-    "crates/failing/src/lib.rt": ("", ""),
+    "crates/steps/src/failing.rt": ("", ""),
 }
 # The example that is also tried with a false answer in place of the true one.
 FALSIFIED, TRUE, FALSE = "crates/sabr_model/src/lib.rt", "Ok(1893456010)", "Ok(1893456011)"
@@ -155,7 +157,9 @@ class Tried(Room):
         modules = {"falsified": test_of(FALSIFIED, falsified), **{module_of(it): test_of(it, found[it]) for it in found}}
         crate = "crates/crate_examples"
         os.makedirs(f"{self.path}/{crate}/src/tests")
-        self.file(f"{crate}/src/lib.rt", "//! Tests alone.\n#![tactic(auto)]\n\n#[cfg(test)]\nmod tests;\n")
+        shutil.copy(f"{TOP}/{FAILING}.rt", f"{self.path}/{crate}/src")
+        shutil.copytree(f"{TOP}/{FAILING}", f"{self.path}/{crate}/src/failing")
+        self.file(f"{crate}/src/lib.rt", "//! Tests alone.\n#![tactic(auto)]\n\n#[cfg(test)]\nmod failing;\n#[cfg(test)]\nmod tests;\n")
         self.file(f"{crate}/src/tests.rt", HEAD + "".join(f"mod {name};\n" for name in modules))
         for name, text in modules.items():
             self.file(f"{crate}/src/tests/{name}.rt", text)

@@ -48,8 +48,8 @@ pub fn put_route<A: Allocator + Copy>(
     alloc: Global,
 ) -> Option<()> {
     put_numbers(text, route.contacts.as_slice(), alloc)?;
-    let told = format!(in alloc; " / {} {} {}", route.delivery, route.until, route.entry).ok()?;
-    text.push_str(told.as_str()).ok()
+    let times = format!(in alloc; " / {} {} {}", route.delivery, route.until, route.entry).ok()?;
+    text.push_str(times.as_str()).ok()
 }
 
 /// The answer of a call that returned routes: their count, and each.

@@ -4,13 +4,13 @@ ghost use Rattle.std.specs.Prelude.{◌≤◌, IfSome};
 ghost use Rattle.sabr_frontier.specs.listing.Listing.{most_routes};
 
 use crate::answers::refused;
-use crate::desk::Desk;
+use crate::failing::LimitedWriter;
+use crate::harness::Harness;
 use crate::words::{Words, numbers, small_number};
 use commands::{
     Disk, Status, ValueFault, ValueName, run_check, run_explain, run_first, run_follow, run_many,
     run_next, run_verify, run_words,
 };
-use failing::LimitedWriter;
 use std::alloc::{Allocator, Global};
 
 /// What a command writes to.
@@ -24,19 +24,19 @@ struct Writers {
 /// Runs a command: its status, and what each writer holds.
 pub fn command_step<A: Allocator + Copy>(
     alloc: A,
-    desk: &Desk<'_>,
+    harness: &Harness<'_>,
     words: &mut Words<'_>,
 ) -> Option<String> {
     let mut writers = Writers {
-        out: desk.out.writer(desk.alloc),
-        kept: desk.kept.writer(desk.alloc),
-        err: desk.err.writer(desk.alloc),
+        out: harness.out.writer(harness.alloc),
+        kept: harness.kept.writer(harness.alloc),
+        err: harness.err.writer(harness.alloc),
     };
-    let status = status_of(alloc, desk, words, &mut writers)?;
-    let out = digits(desk.alloc, &writers.out)?;
-    let kept = digits(desk.alloc, &writers.kept)?;
-    let err = digits(desk.alloc, &writers.err)?;
-    format!(in desk.alloc; "{} {out} {kept} {err}", status.number()).ok()
+    let status = status_of(alloc, harness, words, &mut writers)?;
+    let out = digits(harness.alloc, &writers.out)?;
+    let kept = digits(harness.alloc, &writers.kept)?;
+    let err = digits(harness.alloc, &writers.err)?;
+    format!(in harness.alloc; "{} {out} {kept} {err}", status.number()).ok()
 }
 
 /// The fault of a value that the next word names, and its text.
@@ -62,57 +62,57 @@ fn digits(alloc: Global, writer: &LimitedWriter) -> Option<String> {
 /// Runs the command that the next word names.
 fn status_of<A: Allocator + Copy>(
     alloc: A,
-    desk: &Desk<'_>,
+    harness: &Harness<'_>,
     words: &mut Words<'_>,
     writers: &mut Writers,
 ) -> Option<Status> {
     match words.next()? {
-        "first" => first(alloc, desk, words, writers),
-        "next" => next(alloc, desk, words, writers),
-        "verify" => Some(verify(alloc, desk, writers)),
-        "check" => Some(check(alloc, desk, writers)),
-        "explain" => explain(alloc, desk, words, writers),
-        "many" => many(alloc, desk, words, writers),
-        "follow" => Some(follow(alloc, desk, writers)),
-        "words" => program(desk, words, writers),
+        "first" => first(alloc, harness, words, writers),
+        "next" => next(alloc, harness, words, writers),
+        "verify" => Some(verify(alloc, harness, writers)),
+        "check" => Some(check(alloc, harness, writers)),
+        "explain" => explain(alloc, harness, words, writers),
+        "many" => many(alloc, harness, words, writers),
+        "follow" => Some(follow(alloc, harness, writers)),
+        "words" => program(harness, words, writers),
         _ => None,
     }
 }
 
 fn first<A: Allocator + Copy>(
     alloc: A,
-    desk: &Desk<'_>,
+    harness: &Harness<'_>,
     words: &mut Words<'_>,
     writers: &mut Writers,
 ) -> Option<Status> {
     let (count, keeps) = count_of(words)?;
-    let request = desk.asked.request().ok()?;
-    let plan = &mut desk.plan.reader();
+    let request = harness.asked.request().ok()?;
+    let plan = &mut harness.plan.reader();
     let (out, kept, err) = (&mut writers.out, &mut writers.kept, &mut writers.err);
     Some(run_first(alloc, plan, request, count, out, keeps, kept, err))
 }
 
 fn next<A: Allocator + Copy>(
     alloc: A,
-    desk: &Desk<'_>,
+    harness: &Harness<'_>,
     words: &mut Words<'_>,
     writers: &mut Writers,
 ) -> Option<Status> {
     let (count, keeps) = count_of(words)?;
-    let (plan, old) = (&mut desk.plan.reader(), &mut desk.session.reader());
+    let (plan, old) = (&mut harness.plan.reader(), &mut harness.session.reader());
     let (out, kept, err) = (&mut writers.out, &mut writers.kept, &mut writers.err);
     Some(run_next(alloc, plan, old, count, out, keeps, kept, err))
 }
 
-fn verify<A: Allocator + Copy>(alloc: A, desk: &Desk<'_>, writers: &mut Writers) -> Status {
-    let (plan, old) = (&mut desk.plan.reader(), &mut desk.session.reader());
+fn verify<A: Allocator + Copy>(alloc: A, harness: &Harness<'_>, writers: &mut Writers) -> Status {
+    let (plan, old) = (&mut harness.plan.reader(), &mut harness.session.reader());
     run_verify(alloc, plan, old, &mut writers.out, &mut writers.err)
 }
 
-fn check<A: Allocator + Copy>(alloc: A, desk: &Desk<'_>, writers: &mut Writers) -> Status {
+fn check<A: Allocator + Copy>(alloc: A, harness: &Harness<'_>, writers: &mut Writers) -> Status {
     run_check(
         alloc,
-        &mut desk.plan.reader(),
+        &mut harness.plan.reader(),
         &mut writers.out,
         &mut writers.err,
     )
@@ -120,43 +120,43 @@ fn check<A: Allocator + Copy>(alloc: A, desk: &Desk<'_>, writers: &mut Writers) 
 
 fn explain<A: Allocator + Copy>(
     alloc: A,
-    desk: &Desk<'_>,
+    harness: &Harness<'_>,
     words: &mut Words<'_>,
     writers: &mut Writers,
 ) -> Option<Status> {
-    let contacts = numbers(desk.alloc, words)?;
-    let request = desk.asked.request().ok()?;
-    let plan = &mut desk.plan.reader();
+    let contacts = numbers(harness.alloc, words)?;
+    let request = harness.asked.request().ok()?;
+    let plan = &mut harness.plan.reader();
     let (out, err) = (&mut writers.out, &mut writers.err);
     Some(run_explain(alloc, plan, request, &contacts, out, err))
 }
 
 fn many<A: Allocator + Copy>(
     alloc: A,
-    desk: &Desk<'_>,
+    harness: &Harness<'_>,
     words: &mut Words<'_>,
     writers: &mut Writers,
 ) -> Option<Status> {
     let (count, _) = count_of(words)?;
-    let (plan, requests) = (&mut desk.plan.reader(), &mut desk.session.reader());
+    let (plan, requests) = (&mut harness.plan.reader(), &mut harness.session.reader());
     let (out, err) = (&mut writers.out, &mut writers.err);
     Some(run_many(alloc, plan, requests, count, out, err))
 }
 
-fn follow<A: Allocator + Copy>(alloc: A, desk: &Desk<'_>, writers: &mut Writers) -> Status {
-    let (plan, lists) = (&mut desk.plan.reader(), &mut desk.session.reader());
+fn follow<A: Allocator + Copy>(alloc: A, harness: &Harness<'_>, writers: &mut Writers) -> Status {
+    let (plan, lists) = (&mut harness.plan.reader(), &mut harness.session.reader());
     run_follow(alloc, plan, lists, &mut writers.out, &mut writers.err)
 }
 
 /// Runs the program over these words.
-fn program(desk: &Desk<'_>, words: &mut Words<'_>, writers: &mut Writers) -> Option<Status> {
-    let mut taken = Vec::new(desk.alloc);
+fn program(harness: &Harness<'_>, words: &mut Words<'_>, writers: &mut Writers) -> Option<Status> {
+    let mut taken = Vec::new(harness.alloc);
     for word in words {
         taken.push(word).ok()?;
     }
-    let mut files = Disk::new(desk.rt);
+    let mut files = Disk::new(harness.rt);
     let (out, err) = (&mut writers.out, &mut writers.err);
-    Some(run_words(desk.alloc, &taken, &mut files, out, err))
+    Some(run_words(harness.alloc, &taken, &mut files, out, err))
 }
 
 /// Takes a count of routes, and whether the session is kept.

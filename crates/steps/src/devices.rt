@@ -1,8 +1,8 @@
 //! The ways in which texts are given and taken.
 
-use crate::desk::decoded;
+use crate::failing::{End, LimitedWriter, PieceReader};
+use crate::harness::decoded;
 use crate::words::{Words, number};
-use failing::{End, LimitedWriter, PieceReader};
 use std::alloc::Global;
 
 /// A text that is given in pieces, up to a limit, and what comes after the limit.
@@ -56,16 +56,16 @@ impl Given {
 
 /// How much a writer takes.
 #[derive(Clone, Copy)]
-pub struct Room {
+pub struct WriterSetup {
     limit: usize,
     piece: usize,
     flush_fails: bool,
 }
 
-impl Room {
+impl WriterSetup {
     /// Ample room.
-    pub fn ample() -> Room {
-        Room {
+    pub fn ample() -> WriterSetup {
+        WriterSetup {
             limit: usize::MAX,
             piece: usize::MAX,
             flush_fails: false,

@@ -1,7 +1,7 @@
 //! The steps that load a session part by part, or feed its text.
 
 use crate::answers::{done, refused};
-use crate::desk::{Desk, decoded};
+use crate::harness::{Harness, decoded};
 use crate::words::{Words, numbers};
 use sabr_frontier::{LoadFault, Loader, Session};
 use sabr_search::BestOf;
@@ -11,11 +11,11 @@ use std::alloc::{Allocator, Global};
 /// Takes the steps up to `finish`, which ends the loading.
 pub fn loaded<'p, A: Allocator + Copy, B: BestOf<A>>(
     mut loader: Loader<'p, B, A>,
-    desk: &mut Desk<'_>,
+    harness: &mut Harness<'_>,
 ) -> Option<Result<Session<'p, B, A>, LoadFault>> {
-    let begun = done(desk.alloc);
-    desk.say(begun);
-    let end = add_parts(&mut loader, desk)?;
+    let begun = done(harness.alloc);
+    harness.answer(begun);
+    let end = add_parts(&mut loader, harness)?;
     Some(loader.finish(end.emitted, &end.last))
 }
 
@@ -29,20 +29,20 @@ struct End {
 /// Adds parts up to `finish`.
 fn add_parts<A: Allocator + Copy, B: BestOf<A>>(
     loader: &mut Loader<'_, B, A>,
-    desk: &mut Desk<'_>,
+    harness: &mut Harness<'_>,
 ) -> Option<End> {
     for _ in 0..u64::MAX {
-        let (name, mut words) = desk.next()?;
+        let (name, mut words) = harness.next()?;
         if name == "finish" {
             let emitted = words.next()?.parse::<u128>().ok()?;
-            let last = numbers(desk.alloc, &mut words)?;
+            let last = numbers(harness.alloc, &mut words)?;
             return Some(End { emitted, last });
         }
         let answer = match name {
-            "part" => add_part(loader, desk.alloc, &mut words),
-            _ => desk.step(name, &mut words),
+            "part" => add_part(loader, harness.alloc, &mut words),
+            _ => harness.step(name, &mut words),
         };
-        desk.say(answer);
+        harness.answer(answer);
     }
     None
 }
@@ -70,26 +70,26 @@ fn add_part<A: Allocator + Copy, B: BestOf<A>>(
 /// Takes the steps up to `finish`, which ends the text.
 pub fn fed<'p, A: Allocator + Copy, B: BestOf<A>>(
     mut feed: SessionFeed<'p, B, A>,
-    desk: &mut Desk<'_>,
+    harness: &mut Harness<'_>,
 ) -> Option<Result<Session<'p, B, A>, SessionFault>> {
-    let begun = done(desk.alloc);
-    desk.say(begun);
-    feed_pieces(&mut feed, desk)?;
+    let begun = done(harness.alloc);
+    harness.answer(begun);
+    feed_pieces(&mut feed, harness)?;
     Some(feed.finish())
 }
 
 /// Feeds pieces up to `finish`.
 fn feed_pieces<A: Allocator + Copy, B: BestOf<A>>(
     feed: &mut SessionFeed<'_, B, A>,
-    desk: &mut Desk<'_>,
+    harness: &mut Harness<'_>,
 ) -> Option<()> {
     for _ in 0..u64::MAX {
-        let (name, mut words) = desk.next()?;
+        let (name, mut words) = harness.next()?;
         if name == "finish" {
             return Some(());
         }
-        let answer = feed_step(feed, desk, name, &mut words);
-        desk.say(answer);
+        let answer = feed_step(feed, harness, name, &mut words);
+        harness.answer(answer);
     }
     None
 }
@@ -97,14 +97,14 @@ fn feed_pieces<A: Allocator + Copy, B: BestOf<A>>(
 /// Feeds a piece, or answers how many bytes are held.
 fn feed_step<A: Allocator + Copy, B: BestOf<A>>(
     feed: &mut SessionFeed<'_, B, A>,
-    desk: &mut Desk<'_>,
+    harness: &mut Harness<'_>,
     name: &str,
     words: &mut Words<'_>,
 ) -> Option<String> {
     match name {
-        "piece" => feed_piece(feed, desk.alloc, words),
-        "held" => format!(in desk.alloc; "{}", feed.held()).ok(),
-        _ => desk.step(name, words),
+        "piece" => feed_piece(feed, harness.alloc, words),
+        "held" => format!(in harness.alloc; "{}", feed.held()).ok(),
+        _ => harness.step(name, words),
     }
 }
 

@@ -7,9 +7,9 @@
 mod answers;
 mod asked;
 mod commands_called;
-mod desk;
 mod devices;
-mod fresh;
+mod failing;
+mod harness;
 mod held_session;
 mod loading;
 mod over_plan;
@@ -18,8 +18,8 @@ mod plans;
 mod sessions;
 mod words;
 
-use desk::Desk;
 use failing::Ration;
+use harness::Harness;
 use std::io::{self, Write};
 use std::process::ExitCode;
 
@@ -28,9 +28,9 @@ fn main(rt: HostRuntime) -> ExitCode {
         return ExitCode::from(2);
     };
     let ration = Ration::new(rt.alloc(), 0);
-    let mut desk = Desk::new(&rt, &ration, text.as_str());
-    plans::perform(&ration, &mut desk);
-    match rt.stdout().write_all(desk.said()) {
+    let mut harness = Harness::new(&rt, &ration, text.as_str());
+    plans::perform(&ration, &mut harness);
+    match rt.stdout().write_all(harness.answers()) {
         Ok(()) => ExitCode::SUCCESS,
         Err(_) => ExitCode::from(2),
     }

@@ -1,7 +1,7 @@
 //! The steps of a finder, and those that ask a plan without a session.
 
 use crate::answers::{no_memory, put_route, refused, yes_or_no};
-use crate::desk::Desk;
+use crate::harness::Harness;
 use crate::words::{Words, numbers};
 use sabr_index::Index;
 use sabr_model::{NoMemory, Plan, Request, Route, follow};
@@ -12,16 +12,16 @@ use std::alloc::{Allocator, Global};
 pub fn part_step<A: Allocator + Copy, B: BestOf<A>>(
     plan: &Plan<A>,
     finder: &mut B,
-    desk: &mut Desk<'_>,
+    harness: &mut Harness<'_>,
     name: &str,
     words: &mut Words<'_>,
 ) -> Option<String> {
-    let request = desk.asked.request().ok()?;
+    let request = harness.asked.request().ok()?;
     match name {
-        "fits" => fitting(plan, &request, desk.alloc, words),
-        "best" => best_named(finder, plan, &request, desk.alloc, words),
-        "looks" => format!(in desk.alloc; "{}", finder.looks()).ok(),
-        "follow" => followed(plan, &request, desk.alloc, words),
+        "fits" => fitting(plan, &request, harness.alloc, words),
+        "best" => best_named(finder, plan, &request, harness.alloc, words),
+        "looks" => format!(in harness.alloc; "{}", finder.looks()).ok(),
+        "follow" => followed(plan, &request, harness.alloc, words),
         _ => None,
     }
 }
@@ -91,26 +91,26 @@ pub fn best_beside<A: Allocator + Copy, B: BestOf<A>>(
     over: A,
     plan: &Plan<A>,
     finder: &mut B,
-    desk: &Desk<'_>,
+    harness: &Harness<'_>,
     words: &mut Words<'_>,
 ) -> Option<String> {
-    let request = desk.asked.request().ok()?;
-    let prefix = numbers(desk.alloc, words)?;
-    let excluded = numbers(desk.alloc, words)?;
+    let request = harness.asked.request().ok()?;
+    let prefix = numbers(harness.alloc, words)?;
+    let excluded = numbers(harness.alloc, words)?;
     let part = Part {
         prefix: &prefix,
         excluded: &excluded,
     };
     if !fits(plan, &request, part) {
-        return String::from_str(desk.alloc, "no prefix").ok();
+        return String::from_str(harness.alloc, "no prefix").ok();
     }
     let Ok(index) = Index::new(over, plan) else {
-        return no_memory(desk.alloc);
+        return no_memory(harness.alloc);
     };
     let mut cache = SearchCache::new(over);
     let others = Excluded::of(&excluded);
     let found = finder.best_beside(&mut cache, &index, &request, &prefix, others);
-    found_text(found, desk.alloc)
+    found_text(found, harness.alloc)
 }
 
 /// The route that a finder found, or what it answered instead.

@@ -2,23 +2,23 @@
 
 use crate::answers::{bytes, done, refused};
 use crate::commands_called::{command_step, value_fault};
-use crate::desk::Desk;
+use crate::failing::Ration;
+use crate::harness::Harness;
 use crate::over_plan::steps_over;
 use crate::words::{Words, number, small_number};
-use failing::Ration;
 use sabr_model::{AddFault, LAST_TIME, Plan};
 use sabr_plan::{canonical, digest, read_plan};
 use sabr_search::{Layered, Settled};
 use std::alloc::{Allocator, Global};
 
 /// Takes all steps.
-pub fn perform<'r>(ration: &'r Ration, desk: &mut Desk<'_>) {
+pub fn perform<'r>(ration: &'r Ration, harness: &mut Harness<'_>) {
     let mut made = Made {
         plan: Plan::new(ration),
         settled: Settled::new(ration),
         layered: Layered::new(ration),
     };
-    made.take_steps(ration, desk);
+    made.take_steps(ration, harness);
 }
 
 /// The plan, and a finder of each kind.
@@ -31,23 +31,29 @@ struct Made<'r> {
 
 impl<'r> Made<'r> {
     /// Takes all steps.
-    fn take_steps(&mut self, ration: &'r Ration, desk: &mut Desk<'_>) {
+    fn take_steps(&mut self, ration: &'r Ration, harness: &mut Harness<'_>) {
         for _ in 0..u64::MAX {
-            let Some((name, mut words)) = desk.next() else {
+            let Some((name, mut words)) = harness.next() else {
                 return;
             };
-            self.step(ration, desk, name, &mut words);
+            self.step(ration, harness, name, &mut words);
         }
     }
 
     /// Takes a step, and the steps over the plan that follow it.
-    fn step(&mut self, ration: &'r Ration, desk: &mut Desk<'_>, name: &str, words: &mut Words<'_>) {
+    fn step(
+        &mut self,
+        ration: &'r Ration,
+        harness: &mut Harness<'_>,
+        name: &str,
+        words: &mut Words<'_>,
+    ) {
         match name {
-            "settled" => steps_over(ration, &self.plan, &mut self.settled, desk),
-            "layered" => steps_over(ration, &self.plan, &mut self.layered, desk),
+            "settled" => steps_over(ration, &self.plan, &mut self.settled, harness),
+            "layered" => steps_over(ration, &self.plan, &mut self.layered, harness),
             _ => {
-                let answer = self.answer(ration, desk, name, words);
-                desk.say(answer);
+                let answer = self.answer(ration, harness, name, words);
+                harness.answer(answer);
             }
         }
     }
@@ -56,16 +62,16 @@ impl<'r> Made<'r> {
     fn answer(
         &mut self,
         ration: &'r Ration,
-        desk: &mut Desk<'_>,
+        harness: &mut Harness<'_>,
         name: &str,
         words: &mut Words<'_>,
     ) -> Option<String> {
         if name != "fresh" {
-            return plan_step(ration, &mut self.plan, desk, name, words);
+            return plan_step(ration, &mut self.plan, harness, name, words);
         }
         self.settled = Settled::new(ration);
         self.layered = Layered::new(ration);
-        done(desk.alloc)
+        done(harness.alloc)
     }
 }
 
@@ -73,47 +79,55 @@ impl<'r> Made<'r> {
 fn plan_step<A: Allocator + Copy>(
     alloc: A,
     plan: &mut Plan<A>,
-    desk: &mut Desk<'_>,
+    harness: &mut Harness<'_>,
     name: &str,
     words: &mut Words<'_>,
 ) -> Option<String> {
     match name {
-        "new" => renewed(alloc, plan, desk),
-        "read" => read(alloc, plan, desk),
-        "contact" => numbered(desk.alloc, add_contact(plan, words)),
-        "range" => answered(desk.alloc, add_range(plan, words)),
-        "drop-contact" => numbered(desk.alloc, delete_contact(plan, words)),
-        "drop-range" => answered(desk.alloc, delete_range(plan, words)),
-        "canonical" => canonical_text(plan, desk),
-        "digest" => bytes(desk.alloc, &digest(plan)),
-        "run" => command_step(alloc, desk, words),
-        "value-fault" => value_fault(desk.alloc, words),
-        _ => desk.step(name, words),
+        "new" => renewed(alloc, plan, harness),
+        "read" => read(alloc, plan, harness),
+        "contact" => numbered(harness.alloc, add_contact(plan, words)),
+        "range" => answered(harness.alloc, add_range(plan, words)),
+        "drop-contact" => numbered(harness.alloc, delete_contact(plan, words)),
+        "drop-range" => answered(harness.alloc, delete_range(plan, words)),
+        "canonical" => canonical_text(plan, harness),
+        "digest" => bytes(harness.alloc, &digest(plan)),
+        "run" => command_step(alloc, harness, words),
+        "value-fault" => value_fault(harness.alloc, words),
+        _ => harness.step(name, words),
     }
 }
 
 /// Makes an empty plan.
-fn renewed<A: Allocator + Copy>(alloc: A, plan: &mut Plan<A>, desk: &Desk<'_>) -> Option<String> {
+fn renewed<A: Allocator + Copy>(
+    alloc: A,
+    plan: &mut Plan<A>,
+    harness: &Harness<'_>,
+) -> Option<String> {
     *plan = Plan::new(alloc);
-    done(desk.alloc)
+    done(harness.alloc)
 }
 
 /// Reads the plan's text.
-fn read<A: Allocator + Copy>(alloc: A, plan: &mut Plan<A>, desk: &Desk<'_>) -> Option<String> {
-    match read_plan(alloc, &mut desk.plan.reader()) {
+fn read<A: Allocator + Copy>(
+    alloc: A,
+    plan: &mut Plan<A>,
+    harness: &Harness<'_>,
+) -> Option<String> {
+    match read_plan(alloc, &mut harness.plan.reader()) {
         Ok(planned) => {
             *plan = planned;
-            done(desk.alloc)
+            done(harness.alloc)
         }
-        Err(fault) => { format!(in desk.alloc; "{} {:?}: {fault}", fault.line, fault.kind).ok() }
+        Err(fault) => { format!(in harness.alloc; "{} {:?}: {fault}", fault.line, fault.kind).ok() }
     }
 }
 
 /// Writes the canonical text: what the writer holds, and whether all of it was written.
-fn canonical_text<A: Allocator + Copy>(plan: &Plan<A>, desk: &Desk<'_>) -> Option<String> {
-    let mut writer = desk.out.writer(desk.alloc);
+fn canonical_text<A: Allocator + Copy>(plan: &Plan<A>, harness: &Harness<'_>) -> Option<String> {
+    let mut writer = harness.out.writer(harness.alloc);
     let written = canonical(plan, &mut writer).is_ok();
-    held(desk.alloc, written, writer.held())
+    held(harness.alloc, written, writer.held())
 }
 
 /// Whether a text was written, and what its writer holds.

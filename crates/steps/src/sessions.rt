@@ -1,7 +1,7 @@
 //! The steps of a session.
 
 use crate::answers::{done, no_memory, put_numbers, put_route, routes, yes_or_no};
-use crate::desk::Desk;
+use crate::harness::Harness;
 use crate::plans::held;
 use crate::words::{Words, small_number};
 use sabr_frontier::Session;
@@ -13,19 +13,19 @@ use std::alloc::{Allocator, Global};
 /// Does a step of a session.
 pub fn session_step<A: Allocator + Copy, B: BestOf<A>>(
     session: &mut Session<'_, B, A>,
-    desk: &mut Desk<'_>,
+    harness: &mut Harness<'_>,
     name: &str,
     words: &mut Words<'_>,
 ) -> Option<String> {
     match name {
-        "page" => page(session, desk.alloc, small_number(words)),
-        "page-looks" => format!(in desk.alloc; "{}", session.looks()).ok(),
-        "back" => yes_or_no(desk.alloc, session.back()),
-        "certify" => certified(session, desk.alloc),
-        "place" => place(session, desk.alloc),
-        "parts" => parts(session, desk.alloc),
-        "write" => written(session, desk),
-        "keep" => kept(session, desk),
+        "page" => page(session, harness.alloc, small_number(words)),
+        "page-looks" => format!(in harness.alloc; "{}", session.looks()).ok(),
+        "back" => yes_or_no(harness.alloc, session.back()),
+        "certify" => certified(session, harness.alloc),
+        "place" => place(session, harness.alloc),
+        "parts" => parts(session, harness.alloc),
+        "write" => written(session, harness),
+        "keep" => kept(session, harness),
         _ => None,
     }
 }
@@ -56,13 +56,13 @@ fn certified<A: Allocator + Copy, B: BestOf<A>>(
 /// Writes the session's text, and keeps it as the text of a session to read.
 fn kept<A: Allocator + Copy, B: BestOf<A>>(
     session: &Session<'_, B, A>,
-    desk: &mut Desk<'_>,
+    harness: &mut Harness<'_>,
 ) -> Option<String> {
-    let mut writer = desk.kept.writer(desk.alloc);
+    let mut writer = harness.kept.writer(harness.alloc);
     write_session(session, &digest(session.plan()), &mut writer).ok()?;
-    let text = Vec::from_slice(desk.alloc, writer.held()).ok()?;
-    desk.session.set_text(text);
-    done(desk.alloc)
+    let text = Vec::from_slice(harness.alloc, writer.held()).ok()?;
+    harness.session.set_text(text);
+    done(harness.alloc)
 }
 
 /// What a session shows of its place: routes given, the last of them, whether there are more, parts, whether a page can
@@ -108,9 +108,9 @@ fn parts<A: Allocator + Copy, B: BestOf<A>>(
 /// Writes the session's text: whether all of it was written, and what the writer holds.
 fn written<A: Allocator + Copy, B: BestOf<A>>(
     session: &Session<'_, B, A>,
-    desk: &Desk<'_>,
+    harness: &Harness<'_>,
 ) -> Option<String> {
-    let mut writer = desk.kept.writer(desk.alloc);
+    let mut writer = harness.kept.writer(harness.alloc);
     let is_written = write_session(session, &digest(session.plan()), &mut writer).is_ok();
-    held(desk.alloc, is_written, writer.held())
+    held(harness.alloc, is_written, writer.held())
 }

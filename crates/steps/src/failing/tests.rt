@@ -1,6 +1,6 @@
 //! The allocator, the readers and the writers fail where a test wants it, and std's readers and writers are devices.
 
-use crate::{End, LimitedWriter, PieceReader, Ration};
+use crate::failing::{End, LimitedWriter, PieceReader, Ration};
 use sabr_model::{Device, Failed, Read, Write, write_text};
 use std::alloc::{AllocError, Allocator};
 use std::cell::Cell;

@@ -2,9 +2,9 @@
 
 use crate::answers::done;
 use crate::asked::Asked;
-use crate::devices::{Given, Room};
+use crate::devices::{Given, WriterSetup};
+use crate::failing::Ration;
 use crate::words::{Words, number};
-use failing::Ration;
 use hex::FromHex;
 use sabr_plan::{parse_time, time_text};
 use std::alloc::Global;
@@ -12,42 +12,42 @@ use std::str::{self, Lines};
 
 /// What all steps share.
 #[derive(Drop)]
-pub struct Desk<'t> {
+pub struct Harness<'t> {
     pub rt: &'t HostRuntime,
     pub alloc: Global,
     pub ration: &'t Ration,
     lines: Lines<'t>,
-    said: String,
+    answers: String,
     pub asked: Asked,
     pub plan: Given,
     pub session: Given,
-    pub out: Room,
-    pub kept: Room,
-    pub err: Room,
+    pub out: WriterSetup,
+    pub kept: WriterSetup,
+    pub err: WriterSetup,
 }
 
-impl<'t> Desk<'t> {
+impl<'t> Harness<'t> {
     /// Begins with the first step.
-    pub fn new(rt: &'t HostRuntime, ration: &'t Ration, text: &'t str) -> Desk<'t> {
+    pub fn new(rt: &'t HostRuntime, ration: &'t Ration, text: &'t str) -> Harness<'t> {
         let alloc = rt.alloc();
-        Desk {
+        Harness {
             rt,
             alloc,
             ration,
             lines: text.lines(),
-            said: String::new(alloc),
+            answers: String::new(alloc),
             asked: Asked::new(),
             plan: Given::new(alloc),
             session: Given::new(alloc),
-            out: Room::ample(),
-            kept: Room::ample(),
-            err: Room::ample(),
+            out: WriterSetup::ample(),
+            kept: WriterSetup::ample(),
+            err: WriterSetup::ample(),
         }
     }
 
     /// All answers.
-    pub fn said(&self) -> &[u8] {
-        self.said.as_str().as_bytes()
+    pub fn answers(&self) -> &[u8] {
+        self.answers.as_str().as_bytes()
     }
 
     /// Takes the next step: the word that names it, and its other words.
@@ -58,16 +58,16 @@ impl<'t> Desk<'t> {
     }
 
     /// Answers a step.
-    pub fn say(&mut self, answer: Option<String>) {
+    pub fn answer(&mut self, answer: Option<String>) {
         match answer {
             Some(text) => {
-                let _ = self.said.push_str(text.as_str());
+                let _ = self.answers.push_str(text.as_str());
             }
             None => {
-                let _ = self.said.push_str("?");
+                let _ = self.answers.push_str("?");
             }
         }
-        let _ = self.said.push_str("\n");
+        let _ = self.answers.push_str("\n");
     }
 
     /// Does a step that needs no plan. `None` if it is another step.

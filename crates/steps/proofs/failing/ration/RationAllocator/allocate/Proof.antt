@@ -1,15 +1,15 @@
 -- It refuses the one request, and else answers what the inner allocator answers.
-use Rattle.std.proofs.Common.{◌≡◌, ℕ, ◌+◌, ◌^◌, ◌<◌, true, false, Bool, List, [], ◌∷◌, Ok, Err, refl, w64, Bor}
+use Rattle.std.proofs.Common.{◌≡◌, ℕ, ◌+◌, ◌^◌, ◌<◌, true, false, Bool, List, [], ◌∷◌, Ok, Err, refl, w64, Bor, ap}
 use seplogic.Ra.Ura.{Ura}
 use mir.Syntax.{Ty, Args, Fn, a_type, dnil, dcons}
 use mir.Val.{Val, vbool, vint, vptr}
 use mir.MapTy.{inst_fn}
-use base.Logic.{SProp, ent, id⊢}
-use base.Fml.{Lft, Share, ftrue, flft}
+use base.Logic.{SProp, ent, id⊢, sep, ex, guard}
+use base.Fml.{Lft, Share, ftrue, flft, fsep}
 use prog.Memory.{Memory, size, align, capped, up}
 use prog.Routine.{Routine}
 use prog.Wp.{WpFn, Tables}
-use types.Logic.{Logic}
+use types.Logic.{Logic, sem}
 use contract.BorrowLft.{◌⊑◌, ⊑_trans}
 use contract.Monad.{Fun, fact}
 use contract.Running.{tables, tables_of}
@@ -17,33 +17,70 @@ use sound.WpLaws.{fm_of, WpFn-mono}
 use types.Run.{stop, fld, addr, lit, no_more, and_then, first, branches, skips, exec, returns, returns_within, enter}
 use types.Part.{agg}
 use denote.Exit.{yes}
-use denote.RattleType.{owns}
+use denote.RattleType.{owns, RattleType}
 use denote.Ref.{shr_vals}
 use denote.Opens.{unhide}
 use denote.Param.{bounded, param}
 use denote.Plain.{uint_vals, uint_Tells}
 use denote.Signature.{Slot, plain, types_at}
-use denote.Steps.{heard, nothing}
+use denote.Steps.{heard, nothing, only}
 use denote.Triple.Clauses.{Ended, Clauses}
 use denote.Triple.Spec.{triple_of}
-use denote.Triple.Statement.{Triple}
+use denote.Triple.Statement.{Triple, Contract}
 use denote.Triple.Table.{entered, cited}
 use denote.Triple.Walked.{Stays, stay_dropped, walk_of, ends_at, walked, Goes-dropped, walk_Meets}
-use types.Kit.{‵, raw, ◌⊛◌, some, at_ret, later, given, learn, ◌$◌, ◌∵◌, !, qed, move, keep, drop, use0, use1, use2, split, join, fsplit, fjoin, pick, suffices, await, done}
+use types.Kit.{‵, raw, ◌⊛◌, some, at_ret, later, given, learn, ◌$◌, ◌∵◌, !, qed, move, keep, drop, use0, use1, use2, split, join, fsplit, fjoin, pick, suffices, await, done, feq_i, feq_l, check, show, updating, now as at_once}
 use types.ByLocal.{alloc_all, pass_all, free_all, look_at, get, through, sets, lands_as, env}
 use denote.RawPtr.{block_ptr}
-use denote.Builtin.{usize, RefOf}
+use denote.Builtin.{usize, RefOf, bool}
 use denote.Triple.Call.{calls_at}
 use Rattle.std.proofs.alloc.Calls.{Al, α, seen, Answer, answer_val, Answer-typed, Answer-Ok, Answer-err, takes_key, Takes, at_takes, Answered, Takes-goes, Takes-gives, answers}
-use Rattle.failing.proofs.Refusals.{Question, at_question, Question-goes, Question-gives}
-use Rattle.failing.proofs.tally.is_refused.Symbol as c_sym
-use Rattle.failing.proofs.tally.is_refused.Met as c_met
-use Rattle.failing.specs.contracts.ration.Ration as wrapper
-use Rattle.failing.specs.contracts.ration.RationAllocator.allocate as F
-use Rattle.failing.specs.contracts.ration.RationAllocator.allocate.Key as key
-use Rattle.failing.proofs.ration.RationAllocator.allocate.Statement as stated
-use Rattle.failing.proofs.ration.RationAllocator.allocate.Code as code
 use Rattle.std.proofs.alloc.Shapes.{after}
+use denote.Memory.{hidden_shr}
+use Rattle.steps.proofs.failing.ration.is_refused.Symbol as c_sym
+use Rattle.steps.proofs.failing.ration.is_refused.Met as c_met
+use Rattle.steps.specs.contracts.failing.ration.Ration as wrapper
+use Rattle.steps.specs.contracts.failing.ration.RationAllocator.allocate as F
+use Rattle.steps.specs.contracts.failing.ration.RationAllocator.allocate.Key as key
+use Rattle.steps.proofs.failing.ration.RationAllocator.allocate.Statement as stated
+use Rattle.steps.proofs.failing.ration.RationAllocator.allocate.Code as code
+use Rattle.std.specs.contracts.cell.Cell as CellOf
+use Rattle.steps.specs.contracts.failing.ration.Tally as Tallied
+use Rattle.steps.specs.contracts.failing.ration.is_refused as Asked
+
+-- The question whether a request is refused, at a call: what it is handed, and what its caller has of it.
+
+-- a cell with a tally
+abbrev TallyCell : RattleType
+TallyCell = CellOf.the_row Tallied.the_row
+
+module _ {M : Type 1} {𝓤 : Ura M} (𝓛 : Logic 𝓤) (at_mem : Memory → SProp 𝓤) (run : Routine → Fun 𝓤) where
+  -- the contract of the question
+  abbrev Question : Contract 𝓤
+  Question = triple_of 𝓛 Asked.signature (Asked.spec 𝓛 at_mem run)
+
+  -- its arguments, at a cell
+  abbrev at_question : Lft → Share → ℕ × ℕ → Question.Ghost
+  at_question κ q cell = (((κ, tt), (q, tt), tt, (record { ref_ptr = cell; now = record { value = tt } }, tt), (vptr cell.0 cell.1 ∷ [], tt)), tt)
+
+module _ {M : Type 1} {𝓤 : Ura M} (𝓛 : Logic 𝓤) (at_mem : Memory → SProp 𝓤) (run : Routine → Fun 𝓤) (κ : Lft) (q : Share) (cell : ℕ × ℕ) where
+  open 𝓛 use {H, A}
+
+  -- a shared cell and its lifetime's token are what it takes
+  Question-goes : ent 𝓤 (sep 𝓤 (sem 𝓛 (hidden_shr TallyCell κ (record { value = tt }) cell.0 cell.1)) (A.lft κ q)) ((Question 𝓛 at_mem run).pre (at_question 𝓛 at_mem run κ q cell))
+  Question-goes =
+      qed 𝓛 (‵ (hidden_shr TallyCell κ (record { value = tt }) cell.0 cell.1) ∷ ‵ (flft κ q) ∷ []) ∵ feq_i ! (List Val) (vptr cell.0 cell.1 ∷ []) (vptr cell.0 cell.1 ∷ []) refl $ fjoin ! $
+      nothing ! $ move ! (1 ∷ []) $ fjoin ! $ nothing ! $ move ! (2 ∷ []) $ join ! $ join ! $ nothing ! $ move ! (1 ∷ []) $ done !
+
+  -- its answer is a truth value, and the token comes back
+  abbrev Heard : Val → SProp 𝓤
+  Heard v = ex 𝓤 (λ (yes : Bool). guard 𝓤 (v ≡ vbool yes) (A.lft κ q))
+
+  Question-gives : (v : Val) → ent 𝓤 ((Question 𝓛 at_mem run).post (at_question 𝓛 at_mem run κ q cell) v) (H.⇛ (Heard v))
+  Question-gives v =
+      qed 𝓛 (raw ((Question 𝓛 at_mem run).post (at_question 𝓛 at_mem run κ q cell) v) ∷ []) ∵ updating ! $
+      use1 𝓛 (later (some (λ (r : Bool). ((‵ (flft κ q) ⊛ ‵ ftrue) ⊛ ‵ (bool.own_val r (v ∷ []))) ⊛ some (λ (ws : Unit {0} × Unit {0}). ‵ (fsep ftrue ftrue) ⊛ ‵ ftrue)))) (id⊢ 𝓤 _) $ await ! tt $ pick ! (λ r.
+      split ! $ split ! $ move ! (1 ∷ []) $ feq_l ! (λ e. split ! $ at_once ! $ show ! (λ (yes : Bool). guard 𝓤 (v ≡ vbool yes) (A.lft κ q)) r $ check ! (ap only e) $ keep ! (0 ∷ []) $ done !))
 
 module _ (Z : Al) where
   abbrev args : Args
@@ -125,4 +162,4 @@ allocate_spec 𝓤 𝓛 𝓜 𝓡 wired Y L g d d' met _ =
     entered 𝓤 𝓛.H (triple_of 𝓛 (F.signature Y) (F.spec Y g d d' 𝓛 𝓜.mem 𝓡.returns)) 𝓣.C 𝓣.Λ (key.name (args Z)) (here Z) (code.unfolded 𝓤 𝓛.H 𝓜 𝓡 wired (Y, tt) d d')
     (walk_Meets 𝓛 (ended Z) (stayed Z) (Goes-dropped 𝓛 2 (self Z) yes (λ κs x f. refl), (Goes-dropped 𝓛 2 (plain (λ _. usize)) yes (λ κs x f. refl), (Goes-dropped 𝓛 2 (plain (λ _. usize)) yes (λ κs x f. refl), tt))) c (WpFn 𝓤 𝓛.H 𝓣.C 𝓣.Λ (here Z)) (WpFn-mono 𝓤 𝓛.H 𝓛.laws 𝓣 (here Z))
     (walked 𝓛 (ended Z) (stayed Z) c (WpFn 𝓤 𝓛.H 𝓣.C 𝓣.Λ (here Z)) (λ κs. (shr_vals, (uint_vals w64, (uint_vals w64, tt)))) (λ κs. ((λ r vs s. s.0), (uint_Tells w64, (uint_Tells w64, tt))))
-    (λ κs qs bounds a τ are. walk Z 𝓛 𝓜.mem 𝓡.returns 𝓣 (met.allocate d') (cited 𝓤 𝓛.H _ 𝓜 𝓡 𝓡.env c_sym.name (𝓡.env c_sym.name) refl (c_met.met 𝓤 𝓛 𝓜 𝓡 (code.calls-failing::tally::is_refused 𝓡.env wired))) κs.0 κs.1.0 qs.0 qs.1.0 bounds.0 a.0 a.1.0 a.1.1.0 τ are.1.0.1 are.1.1.0.1)))
+    (λ κs qs bounds a τ are. walk Z 𝓛 𝓜.mem 𝓡.returns 𝓣 (met.allocate d') (cited 𝓤 𝓛.H _ 𝓜 𝓡 𝓡.env c_sym.name (𝓡.env c_sym.name) refl (c_met.met 𝓤 𝓛 𝓜 𝓡 (code.calls-steps::failing::ration::is_refused 𝓡.env wired))) κs.0 κs.1.0 qs.0 qs.1.0 bounds.0 a.0 a.1.0 a.1.1.0 τ are.1.0.1 are.1.1.0.1)))

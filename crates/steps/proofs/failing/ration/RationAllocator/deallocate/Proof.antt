@@ -38,11 +38,11 @@ use denote.RawPtr.{Ptr, block_ptr, null_ptr, ptr_val, rawptr_vals, rawptr_Tells}
 use denote.Builtin.{usize, RawPtr, RefOf}
 use denote.Triple.Call.{calls_at}
 use Rattle.std.proofs.alloc.Calls.{Al, α, seen, token, gives_key, Gives, at_gives, Gives-goes, Gives-Gives}
-use Rattle.failing.specs.contracts.ration.Ration as wrapper
-use Rattle.failing.specs.contracts.ration.RationAllocator.deallocate as F
-use Rattle.failing.specs.contracts.ration.RationAllocator.deallocate.Key as key
-use Rattle.failing.proofs.ration.RationAllocator.deallocate.Statement as stated
-use Rattle.failing.proofs.ration.RationAllocator.deallocate.Code as code
+use Rattle.steps.specs.contracts.failing.ration.Ration as wrapper
+use Rattle.steps.specs.contracts.failing.ration.RationAllocator.deallocate as F
+use Rattle.steps.specs.contracts.failing.ration.RationAllocator.deallocate.Key as key
+use Rattle.steps.proofs.failing.ration.RationAllocator.deallocate.Statement as stated
+use Rattle.steps.proofs.failing.ration.RationAllocator.deallocate.Code as code
 
 module _ (Z : Al) where
   abbrev args : Args

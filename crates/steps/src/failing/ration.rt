@@ -1,6 +1,5 @@
-//! The allocator that refuses one request.
+//! The allocator that refuses one request, and the count of requests.
 
-use crate::tally::{Tally, is_refused};
 use std::alloc::{AllocError, Allocator, Global};
 use std::cell::Cell;
 
@@ -51,4 +50,19 @@ unsafe impl<B: Allocator> Allocator for Ration<B> {
     unsafe fn deallocate(&self, ptr: *mut u8, size: usize, align: usize) {
         self.inner.deallocate(ptr, size, align);
     }
+}
+
+/// The number of requests, and the number of the one to refuse, 0 for none.
+#[derive(Clone, Copy)]
+struct Tally {
+    made: u64,
+    refused: u64,
+}
+
+/// Counts a request, and returns whether it is the one to refuse.
+fn is_refused(tally: &Cell<Tally>) -> bool {
+    let Tally { made, refused } = tally.get();
+    let made = made.wrapping_add(1);
+    tally.set(Tally { made, refused });
+    made == refused
 }

@@ -23,11 +23,9 @@
 //! The contracts say that a `Ration` is an allocator, whose blocks are the inner allocator's, and which bytes the
 //! reader and the writer give and take. What a `Ration` counts stands in a cell, of which no contract can speak: tests
 //! show it.
-#![tactic(auto)]
 
 mod ration;
 mod reader;
-mod tally;
 #[cfg(test)]
 mod tests;
 mod writer;
