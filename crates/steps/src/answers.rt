@@ -14,7 +14,7 @@ pub fn refused<F: Debug + Display + Drop>(alloc: Global, fault: F) -> Option<Str
     format!(in alloc; "{fault:?}: {fault}").ok()
 }
 
-/// The answer of a call that was refused for memory.
+/// The answer of a call in which an allocation failed.
 pub fn no_memory(alloc: Global) -> Option<String> {
     String::from_str(alloc, "NoMemory").ok()
 }

@@ -74,8 +74,8 @@ impl<'p, B: NewFinder<A>, A: Allocator + Copy> HeldSession<'p, B, A> {
         }
     }
 
-    /// The last page of the session, at most 10000 routes. It is `Some(None)` if memory was refused, and `None` without a
-    /// session or a number.
+    /// The last page of the session, at most 10000 routes. It is `Some(None)` if an allocation failed, and `None`
+    /// without a session or a number.
     fn last_page(&mut self, words: &mut Words<'_>) -> Option<Option<LastPage<'p, B, A>>> {
         let count = small_number(words)?.min(10000);
         Some(self.session.take()?.last_page(count).ok())

@@ -55,7 +55,7 @@ fn followed<A: Allocator + Copy>(
     }
 }
 
-/// The least route of the part PREFIX / EXCLUDED.
+/// The best route of the part PREFIX / EXCLUDED.
 fn best_named<A: Allocator + Copy, B: BestOf<A>>(
     finder: &mut B,
     plan: &Plan<A>,
@@ -72,7 +72,7 @@ fn best_named<A: Allocator + Copy, B: BestOf<A>>(
     best(finder, plan, request, part, alloc)
 }
 
-/// The least route of a part.
+/// The best route of a part.
 fn best<A: Allocator + Copy, B: BestOf<A>>(
     finder: &mut B,
     plan: &Plan<A>,

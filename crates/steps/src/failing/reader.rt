@@ -24,7 +24,7 @@ pub struct PieceReader<'a> {
     end: End,
     /// The bytes that it returned, for proofs alone.
     given: GhostBytes,
-    /// Whether its last answer told the end, for proofs alone.
+    /// Whether its last answer reported the end, for proofs alone.
     ended: GhostFlag,
     /// How often it failed, for proofs alone.
     failures: GhostCount,
