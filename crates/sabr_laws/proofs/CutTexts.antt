@@ -1,19 +1,20 @@
 -- A session text that is read without a fault begins no other.
-use Rattle.std.proofs.Common.{◌≡◌, ℕ, ◌+◌, ◌<◌, Bool, true, false, cond, ◌&&◌, not, ltb, List, [], ◌∷◌, ◌++◌, length, refl, sym, ap, subst, ◌∙◌, arith, Result, Ok, Err}
+use Rattle.std.proofs.Common.{◌≡◌, ℕ, ◌+◌, ◌<◌, Bool, true, false, cond, ◌&&◌, not, ltb, List, [], ◌∷◌, ◌++◌, length, refl, sym, ap, subst, ◌∙◌, arith, Result, Ok, Err, eqb}
 use Rattle.std.proofs.lemmas.Bool.{le-ltb}
 use borrow.Author.Tests.{ltb-true, ltb-false}
 use Rattle.sabr_model.specs.plan.Plan.{ContactPlan}
 use Rattle.sabr_model.specs.routes.Arrival.{RouteRequest}
-use Rattle.sabr_plan.specs.Words.{TextLines, has_bytes, lines_of}
+use Rattle.sabr_plan.specs.Words.{TextLines, has_bytes, lines_of, before_lines}
 use Rattle.sabr_frontier.specs.listing.State.{State}
-use Rattle.sabr_session.specs.SessionRead.{Said, nothing_said, misspelled, line_said, read_line, read_lines, is_after, last_line, said_of, ComesTo}
+use Rattle.sabr_session.specs.SessionRead.{Said, nothing_said, misspelled, line_said, read_line, read_lines, is_after, last_line, said_of, ComesTo, IsSessionOf}
 use Rattle.sabr_session.specs.declared.session_fault.SessionFault.{SessionFault}
-use Rattle.sabr_session.specs.declared.session_fault.SessionFault.TheVariants as fault
 use Rattle.sabr_session.proofs.ReadingLemmas.StepsTaken.{and_then_ok}
 use Rattle.sabr_session.proofs.TextLemmas.SaidLines.{other_line}
 use Rattle.sabr_session.proofs.WordLemmas.SpelledWords.{other_number}
-use Rattle.sabr_laws.specs.CutTexts.{NoTextBeginsAnother}
-use Rattle.sabr_laws.proofs.TextLines.{lines_of-append, no_lines}
+use Rattle.sabr_laws.specs.CutTexts.{NoTextBeginsAnother, CutTextsAreRefused}
+use Rattle.sabr_plan.specs.Canonical.{digest_of}
+use Rattle.sabr_session.proofs.TextLemmas.OneAnswer.{is_read_back}
+use Rattle.sabr_session.specs.declared.session_fault.SessionFault.TheVariants as fault
 
 -- a text may end after the line `end` alone
 ends_well : (n : ℕ) (line : List ℕ) (s t : Said) → last_line true n line s ≡ Ok t → (7 + s.count < n) × (line ≡ [])
@@ -86,3 +87,48 @@ no_text_begins_another p h begins rest x whole more y one =
     let a = said_well p (said_of p h begins true) y one in
     let b = said_well p (said_of p h (begins ++ rest) true) x whole in
     more (nothing_behind p h begins rest a.0 b.0 a.1 b.1)
+
+-- The lines of a text that begins with whole lines.
+-- the lines of a text, and those of another
+abbrev pub followed_by : TextLines → TextLines → TextLines
+followed_by t u = record { ended = t.ended ++ u.ended; open_line = u.open_line }
+
+-- the lines with one more byte in front
+abbrev byte_onto : ℕ → Bool → TextLines → TextLines
+byte_onto b is_end t = cond is_end (record { ended = [] ∷ t.ended; open_line = t.open_line }) (before_lines b t)
+
+byte_more : (b : ℕ) (is_end : Bool) (ended : List (List ℕ)) (rest : List ℕ) (whole more : TextLines)
+    → (rest ≡ [] → whole ≡ followed_by (record { ended = ended; open_line = rest }) more)
+    → (byte_onto b is_end (record { ended = ended; open_line = rest })).open_line ≡ []
+    → byte_onto b is_end whole ≡ followed_by (byte_onto b is_end (record { ended = ended; open_line = rest })) more
+byte_more b true ended rest whole more so none = ap (byte_onto b true) (so none)
+byte_more b false [] rest whole more so none = absurd cc
+byte_more b false (line ∷ lines) rest whole more so none = ap (before_lines b) (so none)
+
+-- what follows whole lines begins a line
+pub lines_of-append : (bytes more : List ℕ) → (lines_of bytes).open_line ≡ [] → lines_of (bytes ++ more) ≡ followed_by (lines_of bytes) (lines_of more)
+unfolding lines_of
+lines_of-append [] more none = refl
+lines_of-append (b ∷ bytes) more none = byte_more b (eqb b 10) (lines_of bytes).ended (lines_of bytes).open_line (lines_of (bytes ++ more)) (lines_of more) (lines_of-append bytes more) none
+
+some_line : (b : ℕ) (is_end : Bool) (ended : List (List ℕ)) (rest : List ℕ) → (byte_onto b is_end (record { ended = ended; open_line = rest })).ended ≡ []
+    → (byte_onto b is_end (record { ended = ended; open_line = rest })).open_line ≡ [] → ⊥
+some_line b true ended rest none empty = cc
+some_line b false [] rest none empty = cc
+some_line b false (line ∷ lines) rest none empty = cc
+
+-- a text with no line is empty
+pub no_lines : (bytes : List ℕ) → (lines_of bytes).ended ≡ [] → (lines_of bytes).open_line ≡ [] → bytes ≡ []
+unfolding lines_of
+no_lines [] none empty = refl
+no_lines (b ∷ bytes) none empty = absurd (some_line b (eqb b 10) (lines_of bytes).ended (lines_of bytes).open_line none empty)
+
+-- No proper beginning of a session's text spells a session.
+pub cut_texts_are_refused : CutTextsAreRefused
+cut_texts_are_refused p r s plan told =
+    let h = digest_of p in
+    let read = is_read_back p plan r s told in
+    record {
+      text = λ begins rest parted more. no_text_begins_another p h begins rest (r, s) (subst (λ (b : List ℕ). IsSessionOf p h b true (Ok (r, s))) (sym parted) read.text) more;
+      old = λ free begins rest parted more. no_text_begins_another p h begins rest (r, s) (subst (λ (b : List ℕ). IsSessionOf p h b true (Ok (r, s))) (sym parted) (read.old free)) more;
+    }

@@ -1,11 +1,7 @@
 pub mod SameListing
 pub mod Alike
-pub mod Left
-pub mod Kept
-pub mod Lost
+pub mod FewerContacts
 pub mod Limited
 pub mod PlanTexts
 pub mod OneText
-pub mod TextLines
 pub mod CutTexts
-pub mod WholeTexts

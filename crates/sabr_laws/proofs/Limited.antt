@@ -9,7 +9,7 @@ use Rattle.sabr_model.specs.routes.Asking.{with_limits}
 use Rattle.sabr_model.specs.routes.Route.{receivers, IsRoute}
 use Rattle.sabr_laws.specs.Fewer.{keeps_limits, LimitsLeaveRoutesOut}
 use Rattle.sabr_laws.proofs.Alike.{AgreeOn, arrival_after_alike, delivery_alike}
-use Rattle.sabr_laws.proofs.Left.{AreLeftOf, leaves}
+use Rattle.sabr_laws.proofs.SameListing.{AreLeftOf, leaves}
 
 -- a node of a list whose nodes are all in another is in the other
 has_too : (v : ℕ) (vs ws : List ℕ) → list_all (λ w. has w ws) vs ≡ true → has v vs ≡ true → has v ws ≡ true
@@ -18,7 +18,7 @@ has_too v (w ∷ vs) ws all there =
     let parts = and_parts (has w ws) (list_all (λ x. has x ws) vs) all in
     ⊎_elim (λ here. subst (λ x. has x ws ≡ true) (sym (eqb-true v w here)) parts.0) (λ behind. has_too v vs ws parts.1 behind) (or_cases (eqb v w) (has v vs) there)
 
--- whoever goes over none of the nodes of a list goes over none of a list of some of them
+-- a route that goes over none of the nodes of a list goes over none of some of them
 none_of_fewer : (some all nodes : List ℕ) → list_all (λ w. has w all) some ≡ true → list_all (λ v. not (has v all)) nodes ≡ true → list_all (λ v. not (has v some)) nodes ≡ true
 none_of_fewer some all [] within none = refl
 none_of_fewer some all (v ∷ nodes) within none =

@@ -1,5 +1,0 @@
-use Rattle.sabr_model.proofs.RouteLemmas.Candidates.{candidates_are_listed}
-use Rattle.sabr_model.proofs.laws.candidates_hold_each_once.Goals as goal
-
-pub returns : goal.returns
-returns c = candidates_are_listed
