@@ -13,7 +13,7 @@ import textwrap
 
 from checking import TOP, Broken, Room, checks_of, parts_of
 
-CRATES = "sabr_model sabr_plan sabr_search sabr_frontier sabr_session commands"
+CRATES = "sabr_model sabr_plan sabr_index sabr_search sabr_frontier sabr_session commands"
 # The module of `steps` that examples use, of which the further crate gets a copy.
 FAILING = "crates/steps/src/failing"
 # The module whose example is for readers of its own crate is public in the copy.
@@ -26,6 +26,7 @@ HEAD = """\
 use commands::{Status, run_first};
 use crate::failing::{End, LimitedWriter, PieceReader, Ration};
 use sabr_frontier::Session;
+use sabr_index::Index;
 use sabr_model::{HopFault, Plan, Request, follow};
 use sabr_plan::gathering::{GatheredContacts, GatheredRanges, gathered_plan};
 use sabr_plan::{digest, parse_plan, parse_time};
@@ -64,6 +65,7 @@ EXAMPLES = {
     "crates/sabr_model/src/lib.rt": ("", ""),
     "crates/sabr_plan/src/lib.rt": ("", ""),
     "crates/sabr_plan/src/gathering.rt": ("", ""),
+    "crates/sabr_index/src/lib.rt": ("", ""),
     "crates/sabr_frontier/src/lib.rt": (
         """\
         let mut plan = Plan::new(rt.alloc());

@@ -1,7 +1,6 @@
 pub mod PassNumbers
 pub mod LinkLemmas
 pub mod TableLemmas
-pub mod InRows
 pub mod IncomingLemmas
 pub mod ContactOrders
 pub mod SenderLemmas

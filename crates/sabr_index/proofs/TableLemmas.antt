@@ -9,7 +9,7 @@ use Rattle.sabr_index.specs.declared.link.Pass.{Pass}
 use Rattle.sabr_index.specs.declared.table.NodePart.{NodePart}
 use Rattle.sabr_index.specs.Links.{NodeLinks}
 use Rattle.sabr_index.specs.Incoming.{links_of, no_link}
-use Rattle.sabr_index.specs.Table.{part_of, parts_of, LiesIn, AreParts, IsPartMore}
+use Rattle.sabr_index.specs.Linking.{part_of, parts_of, LiesIn, AreParts, IsPartMore}
 
 module _ {X : Type 0} where
   -- a part is the same in a longer list

@@ -26,12 +26,12 @@ pub record IsBefore (x y : Pass) : Type 0 where
   pub end : x.end ≤ y.latest_end
   pub latest_end : x.latest_end ≤ y.latest_end
   pub light_before : y.least_light_before ≤ x.light
-  pub light_behind : x.least_light_behind ≤ y.light
-  pub number_behind : x.least_number_behind ≤ y.number
+  pub light_after : x.least_light_after ≤ y.light
+  pub number_after : x.least_number_after ≤ y.number
 
 -- y, some places after x, has the number as far after that of x, where it stands in the row that x knows
 abbrev pub IsInRow : Pass → ℕ → Pass → Type 0
-IsInRow x behind y = behind ≤ x.in_row_behind → y.number ≡ x.number + behind
+IsInRow x behind y = behind ≤ x.next_numbers → y.number ≡ x.number + behind
 
 -- the pass keeps within the bounds of its link
 pub record IsWithin (b : LinkBounds) (x : Pass) : Type 0 where

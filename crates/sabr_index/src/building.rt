@@ -1,13 +1,13 @@
-//! How the links of each node are built.
+//! How the links of each node are built. The passes of a node to one receiver are side by side, and are one link.
 
-ghost use Rattle.std.specs.Prelude.{◌≡◌, ◌<◌, ◌^◌, All, IfOk, OnOk, MatchOption, length};
-ghost use Rattle.sabr_index.specs.Order.{AreByNode, number_at, numbers_at};
+ghost use Rattle.std.specs.Prelude.{◌≡◌, ◌<◌, ◌^◌, All, IfOk, OnOk, MatchOption, length, ◌≤◌, ◌++◌, ℕ, List, IsPermutation, map, slice_index_or};
+ghost use Rattle.sabr_index.specs.Linking.{AreByNode, number_at, numbers_at, HasNoLight, IsPassOfNumber, ArePassesMore, AreLinked, IsBounded, contact_of, AreRows, IsPartMore};
 ghost use Rattle.sabr_index.specs.Links.{links_in};
-ghost use Rattle.sabr_index.specs.Linking.{HasNoLight, IsPassOfNumber, ArePassesMore, AreLinked};
-ghost use Rattle.sabr_index.specs.Table.{IsPartMore};
+ghost use Rattle.sabr_index.specs.declared.link.Link.{Link};
+ghost use Rattle.sabr_index.specs.declared.link.Pass.{Pass};
 
+use crate::bounds::order_row;
 use crate::link::{Link, Pass};
-use crate::rows::link_rows;
 use crate::table::{LinkTable, NodePart};
 use sabr_model::{Grouped, Plan};
 use std::alloc::{AllocError, Allocator};
@@ -76,7 +76,7 @@ fn push_passes<A: Allocator + Copy>(
     Ok(())
 }
 
-/// Makes the pass of the contact at a place, bounded by itself alone, or none if it has no light time.
+/// Makes the pass of the contact at a place, whose bounds are its own values. `None` if it has no light time.
 #[inline(always)]
 fn pass_of<A: Allocator + Copy>(plan: &Plan<A>, place: usize) -> Option<Pass>
     requires place { place < length plan.now.plan.contacts }
@@ -93,9 +93,50 @@ fn pass_of<A: Allocator + Copy>(plan: &Plan<A>, place: usize) -> Option<Pass>
         end: hop.end,
         latest_end: hop.end,
         least_light_before: light,
-        least_light_behind: light,
-        least_number_behind: number,
+        least_light_after: light,
+        least_number_after: number,
         receiver,
-        in_row_behind: 0,
+        next_numbers: 0,
     })
+}
+
+/// Adds a link for each row of passes that have one receiver, and puts the row in order.
+fn link_rows<A: Allocator + Copy>(
+    passes: &mut [Pass],
+    links: &mut Vec<Link, A>,
+) -> Result<(), AllocError>
+    requires few { length passes.old < 2 ^ 16 }
+    requires bounded { All IsBounded passes.old }
+    ensures moved { OnOk result (IsPermutation (map contact_of passes.old) (map contact_of passes.new)) }
+    ensures rows { OnOk result ((rows : List Link) × (links.new.items ≡ links.old.items ++ rows) × AreRows passes.new rows (length passes.new) × (length rows ≤ length passes.new)) }
+{
+    let mut first = 0;
+    while first < passes.len() {
+        let receiver = passes[first].receiver;
+        let end = end_of_row(passes, first);
+        let bounds = order_row(&mut passes[first..end]);
+        links.push(Link {
+            receiver,
+            first: first as u16,
+            end: end as u16,
+            bounds,
+        })?;
+        first = end;
+    }
+    Ok(())
+}
+
+/// Returns the place after the row of passes that begins at `first`, which have one receiver.
+fn end_of_row(passes: &[Pass], first: usize) -> usize
+    requires { first < length passes.now }
+    ensures filled { first < result }
+    ensures within { result ≤ length passes.now }
+    ensures alike { (k : ℕ) (d : Pass) → first ≤ k → k < result → (slice_index_or passes.now k d).receiver ≡ (slice_index_or passes.now first d).receiver }
+{
+    let receiver = passes[first].receiver;
+    let mut end = first + 1;
+    while end < passes.len() && passes[end].receiver == receiver {
+        end += 1;
+    }
+    end
 }

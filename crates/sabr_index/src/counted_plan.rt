@@ -40,8 +40,8 @@ impl<'p, A: Allocator + Copy> Model for CountedPlan<'p, A> {
     ghost invariant = { λ i. IsIndex i.plan.now i.linked i.incoming.starts.items i.incoming.named.items };
 }
 
-/// The links of an index without its plan. An owner of a plan keeps them beside it, and has the plan's index again at
-/// no cost, as long as the plan stays the same.
+/// The links of an index without its plan. The owner of a plan can store them beside it, and make the index again at no
+/// cost, as long as the plan stays the same.
 #[derive(Drop)]
 pub struct PlanLinks<A: Allocator + Copy = Global> {
     /// By node its links.
@@ -50,8 +50,8 @@ pub struct PlanLinks<A: Allocator + Copy = Global> {
     pub incoming: IncomingLinks<A>,
 }
 
-/// What one look at a contact returns for a list of contacts that goes on by it: the contact as a search reads it, if
-/// the plan has it, and the summary of the longer list.
+/// What one look at a contact returns, if a list of contacts goes on by it: the contact as a search reads it, unless the
+/// plan doesn't have it, and the summary of the longer list.
 #[derive(Clone, Copy)]
 pub struct Followed {
     pub hop: Option<Hop>,
@@ -59,7 +59,7 @@ pub struct Followed {
 }
 
 impl<'p, A: Allocator + Copy> CountedPlan<'p, A> {
-    /// Puts a plan beside its links.
+    /// Joins a plan and its links.
     pub(crate) fn over(
         plan: &'p Plan<A>,
         linked: LinkTable<A>,
@@ -88,7 +88,7 @@ impl<'p, A: Allocator + Copy> CountedPlan<'p, A> {
     }
 
     /// The plan.
-    pub(crate) fn whole(&self) -> &'p Plan<A>
+    pub(crate) fn plan(&self) -> &'p Plan<A>
         ensures { result.now ≡ self.now }
     {
         self.plan

@@ -81,10 +81,10 @@ impl<'p, A: Allocator + Copy> Index<'p, A> {
     pub fn plan(&self) -> &'p Plan<A>
         ensures { result.now ≡ self.now }
     {
-        self.counted.whole()
+        self.counted.plan()
     }
 
-    /// The plan as searches hold it: nothing leads from there to a contact's record but what counts a look.
+    /// The plan as searches hold it, from which a contact's record is read only by a call that counts a look.
     pub fn counted(&self) -> &CountedPlan<'p, A>
         ensures { result.now ≡ self.now }
     {

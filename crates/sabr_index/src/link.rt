@@ -3,7 +3,7 @@
 /// A standing contact with a light time, among the contacts of one link in order of their starts. With it are bounds on
 /// the contacts before and after it, so that a search can skip most of them.
 ///
-/// Other crates read its record by `look` alone; the bounds are for everybody.
+/// Other crates read its record only by `look`, and its bounds without it.
 #[derive(Clone, Copy)]
 pub struct Pass {
     /// The contact's number.
@@ -19,23 +19,23 @@ pub struct Pass {
     /// The smallest light time of this contact and those before it on the link.
     pub least_light_before: u32,
     /// The smallest light time of this contact and those after it on the link.
-    pub least_light_behind: u32,
+    pub least_light_after: u32,
     /// The smallest number of this contact and those after it on the link.
-    pub least_number_behind: u32,
+    pub least_number_after: u32,
     /// The index of its receiver in the table of nodes.
     pub(crate) receiver: u16,
-    /// A number of contacts after this one whose numbers surely follow its own one by one, if the link has that many.
-    pub in_row_behind: u16,
+    /// How many contacts right after this one have the next numbers, one by one, as far as 16 bits count.
+    pub next_numbers: u16,
 }
 
 /// Bounds that hold for each pass of a link, so that a search can skip the whole link.
 #[derive(Clone, Copy)]
 pub struct LinkBounds {
-    /// A second by which each pass has ended.
+    /// A second by which each of its passes has ended.
     pub latest_end: u64,
-    /// A light time in seconds that no pass is below.
+    /// A light time in seconds that none of its passes is below.
     pub least_light: u32,
-    /// A second before which nothing arrives over any pass.
+    /// A second before which no bundle arrives over any of its passes.
     pub soonest: u64,
 }
 

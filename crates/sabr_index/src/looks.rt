@@ -1,17 +1,19 @@
-//! The looks that a search takes at the records of contacts.
+//! Counted accesses to the records of contacts (looks), and a record that was accessed.
 
-ghost use Rattle.std.specs.Prelude.{◌≡◌, ◌+◌, ◌<◌, ◌≤◌, min, length};
+ghost use Rattle.std.specs.Prelude.{◌≡◌, ◌+◌, ◌<◌, ◌≤◌, min, length, ltb};
 ghost use Rattle.sabr_index.specs.Looks.{many_looks, looks_taken};
 
+use crate::link::Pass;
 use sabr_model::Plan;
 use std::alloc::Allocator;
+use std::marker::Model;
 
 /// More looks than a search ever needs.
 const MANY_LOOKS: u64 = u64::MAX;
 
 /// The looks that a search may still take. Each use of a contact's record takes one.
 ///
-/// It can't be copied, and no look is given back but those that were set aside.
+/// It can't be copied. Only looks that were set aside come back.
 #[derive(Drop)]
 pub struct Looks {
     left: u64,
@@ -90,5 +92,83 @@ impl Looks {
         ensures aside { aside.count ≤ self.new.left }
     {
         self.left = self.left.saturating_add(aside.count);
+    }
+}
+
+/// A pass that was looked at: its record may be read as long as this value lives. Contracts see the pass.
+#[derive(Drop)]
+pub struct Looked<'a> {
+    pass: &'a Pass,
+}
+
+impl<'a> Model for Looked<'a> {
+    ghost use Rattle.sabr_index.specs.declared.link.Pass.{Pass};
+
+    ghost Value = { Pass };
+
+    ghost view = { λ l. l.pass.now };
+}
+
+impl Pass {
+    /// Looks at the contact's record. Other crates have no other way to it.
+    #[inline(always)]
+    pub fn look(&self, looks: &mut Looks) -> Looked<'_>
+        requires few { 0 < looks.old.left }
+        ensures counted { looks.old.left ≡ looks.new.left + 1 }
+        ensures same { result ≡ self.now }
+    {
+        looks.take();
+        Looked { pass: self }
+    }
+
+    /// Returns true if the contact starts before a second. It takes no look: since the passes of a link are in order
+    /// of their starts, it is a bound on all passes from this one on, for a binary search.
+    #[inline(always)]
+    pub fn begins_before(&self, before: u64) -> bool
+        ensures { result ≡ ltb self.now.start before }
+    {
+        self.start < before
+    }
+}
+
+impl<'a> Looked<'a> {
+    /// The contact's number.
+    #[inline(always)]
+    pub fn number(&self) -> u32
+        ensures { result ≡ self.now.number }
+    {
+        self.pass.number
+    }
+
+    /// The one-way light time in seconds that is in force at its start.
+    #[inline(always)]
+    pub fn light(&self) -> u32
+        ensures { result ≡ self.now.light }
+    {
+        self.pass.light
+    }
+
+    /// The first second at which the contact can be used.
+    #[inline(always)]
+    pub fn start(&self) -> u64
+        ensures { result ≡ self.now.start }
+    {
+        self.pass.start
+    }
+
+    /// The first second at which the contact can no longer be used.
+    #[inline(always)]
+    pub fn end(&self) -> u64
+        ensures { result ≡ self.now.end }
+    {
+        self.pass.end
+    }
+
+    /// The pass, with its bounds.
+    #[inline(always)]
+    pub fn pass(&self) -> &'a Pass
+        ensures { result.now ≡ self.now }
+    {
+        self.pass
     }
 }

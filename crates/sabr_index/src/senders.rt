@@ -1,4 +1,4 @@
-//! The links to a node, as a search reads them that goes backward from the goal.
+//! The links to a node, which a search reads that goes backward from the goal.
 
 ghost use Rattle.std.specs.Prelude.{◌≡◌, ◌<◌, Some, length, slice_get};
 ghost use Rattle.sabr_index.specs.Links.{AreWithin};
@@ -10,7 +10,7 @@ use std::alloc::{Allocator, Global};
 use std::marker::Model;
 
 /// A link by the index of its sender in the table of nodes and its place among the sender's links, with its bounds,
-/// which are compared before it is read. All stand side by side, without a gap.
+/// which are compared before it is read. The entry has no gaps between its fields.
 #[derive(Clone, Copy)]
 pub struct Incoming {
     pub latest_end: u64,

@@ -2,7 +2,7 @@
 
 ghost use Rattle.std.specs.Prelude.{◌≡◌, ◌<◌, Some, length, slice_get, slice_index_or};
 ghost use Rattle.sabr_index.specs.Incoming.{links_of, no_link};
-ghost use Rattle.sabr_index.specs.Table.{parts_of, AreParts};
+ghost use Rattle.sabr_index.specs.Linking.{parts_of, AreParts};
 
 use crate::link::{Link, Links, Pass};
 use std::alloc::Allocator;
@@ -29,7 +29,7 @@ pub struct LinkTable<A: Allocator + Copy> {
 impl<A: Allocator + Copy> Model for LinkTable<A> {
     ghost use Rattle.std.specs.Prelude.{List};
     ghost use Rattle.sabr_index.specs.Links.{NodeLinks};
-    ghost use Rattle.sabr_index.specs.Table.{parts_of, AreParts};
+    ghost use Rattle.sabr_index.specs.Linking.{parts_of, AreParts};
 
     ghost Value = { List NodeLinks };
 
@@ -60,6 +60,11 @@ impl<A: Allocator + Copy> LinkTable<A> {
         ensures { result ≡ length self.now }
     {
         self.nodes.len()
+    }
+
+    /// The number of links of all nodes, for which a caller reserves room.
+    pub fn link_count(&self) -> usize {
+        self.links.len()
     }
 
     /// The links of the node at an index.

@@ -207,13 +207,13 @@ impl<'a, A: Allocator + Copy> Task<'a, A> {
     }
 
     /// Returns how many passes of a link, from this one on, are excluded: 0 if a way may take this one, and otherwise
-    /// at most one more than its `in_row_behind`. Only contacts that the start sends are excluded. One finger serves a
+    /// at most one more than its `next_numbers`. Only contacts that the start sends are excluded. One finger serves a
     /// whole walk over the passes of a link.
     #[inline(always)]
     pub fn excluded_from(&self, node: usize, pass: &Looked<'_>, finger: &mut Finger) -> usize
         ensures none { result ≡ 0 → node ≡ self.now.start → has pass.now.number self.now.excluded ≡ false }
         ensures some { (j : ℕ) → j < result → (node ≡ self.now.start) × (has (pass.now.number + j) self.now.excluded ≡ true) }
-        ensures in_row { result ≤ pass.now.in_row_behind + 1 }
+        ensures in_row { result ≤ pass.now.next_numbers + 1 }
     {
         if node != self.start {
             return 0;
@@ -221,7 +221,7 @@ impl<'a, A: Allocator + Copy> Task<'a, A> {
         finger.counts(
             self.excluded,
             pass.number(),
-            pass.pass().in_row_behind as u32,
+            pass.pass().next_numbers as u32,
         )
     }
 

@@ -29,7 +29,7 @@ use Rattle.sabr_search.proofs.WayLemmas.RoutesAndWays.{same_some}
 
 -- the default after the end of a list of passes
 abbrev pub no_pass : Pass
-no_pass = record { number = 0; receiver = 0; light = 0; start = 0; end = 0; latest_end = 0; least_light_before = 0; least_light_behind = 0; least_number_behind = 0; in_row_behind = 0 }
+no_pass = record { number = 0; receiver = 0; light = 0; start = 0; end = 0; latest_end = 0; least_light_before = 0; least_light_after = 0; least_number_after = 0; next_numbers = 0 }
 
 abbrev pub no_link : Link
 no_link = record { receiver = 0; first = 0; end = 0; bounds = record { latest_end = 0; least_light = 0; soonest = 0 } }
@@ -103,7 +103,7 @@ module _ (task : SearchTask) (is : IsTask task) (u to : ℕ) (passes : List Pass
   none_ended t k x w b at ended s = let o = over_pass task is u to t x w b (link.each k x at) s in omega (arith, o.before_end, ended)
 
   -- what a walk jumps over takes nothing
-  pub none_excluded : (t i k r : ℕ) (x y : Pass) (w b : ℕ) → slice_get passes i ≡ Some x → i ≤ k → k < i + r → slice_get passes k ≡ Some y → r ≤ x.in_row_behind + 1 →
+  pub none_excluded : (t i k r : ℕ) (x y : Pass) (w b : ℕ) → slice_get passes i ≡ Some x → i ≤ k → k < i + r → slice_get passes k ≡ Some y → r ≤ x.next_numbers + 1 →
       ((j : ℕ) → j < r → (u ≡ task.start) × (has (x.number + j) task.excluded ≡ true)) → Takes task y.number u t w b → ⊥
   none_excluded t i k r x y w b at_i le less at_k few out s =
       let there : i + (k - i) ≡ k = omega (arith, le) in
@@ -112,13 +112,13 @@ module _ (task : SearchTask) (is : IsTask task) (u to : ℕ) (passes : List Pass
       both_ways (has y.number task.excluded) (s.allowed here.0) (ap (λ n. has n task.excluded) number ∙ here.1)
 
   -- if a pass and the lightest contact after it arrive late, all after it do
-  pub late_over : (t before i : ℕ) (x : Pass) → slice_get passes i ≡ Some x → before ≤ max t x.start + x.least_light_behind →
+  pub late_over : (t before i : ℕ) (x : Pass) → slice_get passes i ≡ Some x → before ≤ max t x.start + x.least_light_after →
       (k : ℕ) (y : Pass) (w b : ℕ) → i ≤ k → slice_get passes k ≡ Some y → Takes task y.number u t w b → before ≤ b
   late_over t before i x at_i late k y w b le at_k s =
       let o = over_pass task is u to t y w b (link.each k y at_k) s in
       let kept = link.kept i k x y le at_i at_k in
       let light : y.light ≤ cost task.request.margin y.light = omega arith in
-      omega (arith, o.sum, late, kept.start, kept.light_behind, light)
+      omega (arith, o.sum, late, kept.start, kept.light_after, light)
 
   -- nothing arrives before its pass starts, or before it is sent
   pub starts_late : (t k : ℕ) (x : Pass) (w b : ℕ) → slice_get passes k ≡ Some x → Takes task x.number u t w b → (x.start ≤ b) × (t ≤ b)

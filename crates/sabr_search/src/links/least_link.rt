@@ -54,7 +54,7 @@ impl<'a, A: Allocator + Copy> Task<'a, A> {
         let mut place = first_open(passes, at);
         while place < passes.len() {
             let pass = passes[place].look(looks);
-            if is_at_most(chosen, pass.pass().least_number_behind) {
+            if is_at_most(chosen, pass.pass().least_number_after) {
                 return chosen;
             }
             let excluded = self.excluded_from(link.from, &pass, &mut finger);

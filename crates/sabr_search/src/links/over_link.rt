@@ -60,9 +60,9 @@ pub fn first_open(passes: &[Pass], at: u64) -> usize
 /// Returns true if, by its start and the light times from it on, what is at the sender at `at` arrives at `before` or
 /// later over this pass and over each one after it. The margin is left out.
 pub fn comes_late(pass: &Looked<'_>, at: u64, before: u64) -> bool
-    ensures { IsTrue result → before ≤ max at pass.now.start + pass.now.least_light_behind }
+    ensures { IsTrue result → before ≤ max at pass.now.start + pass.now.least_light_after }
 {
-    before.saturating_sub(at.max(pass.start())) <= pass.pass().least_light_behind as u64
+    before.saturating_sub(at.max(pass.start())) <= pass.pass().least_light_after as u64
 }
 
 impl<'a, A: Allocator + Copy> Task<'a, A> {

@@ -5,8 +5,7 @@ use Rattle.std.proofs.lemmas.List.{take_at, drop_at, drop_all, length-map}
 use Rattle.std.proofs.lemmas.List.Sorted.{length_permutation}
 use Rattle.std.proofs.lemmas.Slice.{between_to_end}
 use Rattle.sabr_index.specs.declared.link.Pass.{Pass}
-use Rattle.sabr_index.specs.Order.{numbers_at}
-use Rattle.sabr_index.specs.Linking.{contact_of}
+use Rattle.sabr_index.specs.Linking.{numbers_at, contact_of}
 use Rattle.sabr_index.proofs.LinkLemmas.{are_links}
 use Rattle.sabr_index.proofs.building.add_node.Goals as goal
 

@@ -1,7 +1,7 @@
 use Rattle.std.proofs.Common.{◌≡◌, ◌-◌, ◌<◌, ◌≤◌, ℕ, length}
 use Rattle.std.specs.Prelude.{slice_index_or}
 use Rattle.sabr_index.specs.declared.link.Pass.{Pass}
-use Rattle.sabr_index.proofs.rows.end_of_row.Given as goal
+use Rattle.sabr_index.proofs.building.end_of_row.Given as goal
 
 abbrev pub invariant-loop-end : goal.invariant-loop-end
 invariant-loop-end l = record {

@@ -3,9 +3,7 @@ use Rattle.std.specs.Prelude.{slice_get}
 use Rattle.std.proofs.lemmas.List.{length-map}
 use Rattle.std.proofs.lemmas.List.Elements.{All-take, All-drop}
 use Rattle.sabr_index.specs.Links.{links_in}
-use Rattle.sabr_index.specs.Linking.{AreSent, AreLinked}
-use Rattle.sabr_index.specs.Order.{number_at, numbers_at}
-use Rattle.sabr_index.specs.Table.{part_of, parts_of}
+use Rattle.sabr_index.specs.Linking.{AreSent, AreLinked, number_at, numbers_at, part_of, parts_of}
 use Rattle.sabr_index.proofs.LinkLemmas.{linked_more}
 use Rattle.sabr_index.proofs.TableLemmas.{part_more}
 use Rattle.sabr_index.proofs.IncomingLemmas.{links_push}

@@ -1,7 +1,6 @@
 use Rattle.std.proofs.Common.{◌≡◌, ◌≤◌, length, get_or}
 use Rattle.sabr_index.specs.Links.{links_in}
-use Rattle.sabr_index.specs.Linking.{AreLinked}
-use Rattle.sabr_index.specs.Table.{parts_of, AreParts}
+use Rattle.sabr_index.specs.Linking.{AreLinked, parts_of, AreParts}
 use Rattle.sabr_index.proofs.building.link_nodes.Given as goal
 
 abbrev pub invariant-loop-index : goal.invariant-loop-index

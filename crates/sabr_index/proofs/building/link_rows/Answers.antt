@@ -11,7 +11,7 @@ use Rattle.sabr_index.specs.declared.link.Pass.{Pass}
 use Rattle.sabr_index.specs.Links.{AreInOrder, AreInRows, AreWithin, IsRow, passes_over}
 use Rattle.sabr_index.specs.Linking.{IsBounded, contact_of}
 use Rattle.sabr_index.proofs.LinkLemmas.{all_moved, rows_kept, rows_more}
-use Rattle.sabr_index.proofs.rows.link_rows.Goals as goal
+use Rattle.sabr_index.proofs.building.link_rows.Goals as goal
 
 -- the contacts are the same when those of a part were moved
 part_moved : (xs row : List Pass) (first n : ℕ) → IsPermutation (map contact_of (take n (drop first xs))) (map contact_of row) → IsPermutation (map contact_of xs) (map contact_of (put_mid first n xs row))
@@ -26,7 +26,7 @@ part_moved xs row first n moved =
 
 pub loop-first-preserved : goal.loop-first-preserved
 loop-first-preserved g c =
-    let none : Pass = record { number = 0; receiver = 0; light = 0; start = 0; end = 0; latest_end = 0; least_light_before = 0; least_light_behind = 0; least_number_behind = 0; in_row_behind = 0 } in
+    let none : Pass = record { number = 0; receiver = 0; light = 0; start = 0; end = 0; latest_end = 0; least_light_before = 0; least_light_after = 0; least_number_after = 0; next_numbers = 0 } in
     let h = c.loop-first.invariant in
     let is = c.order_row-bounds.ensures in
     let xs = c.loop-first.passes in

@@ -2,7 +2,7 @@ use Rattle.std.proofs.Common.{◌≡◌, ◌++◌, ◌-◌, ◌≤◌, List, len
 use Rattle.std.specs.Prelude.{IsPermutation}
 use Rattle.sabr_index.specs.declared.link.Link.{Link}
 use Rattle.sabr_index.specs.Linking.{IsBounded, contact_of, AreRows}
-use Rattle.sabr_index.proofs.rows.link_rows.Given as goal
+use Rattle.sabr_index.proofs.building.link_rows.Given as goal
 
 abbrev pub invariant-loop-first : goal.invariant-loop-first
 invariant-loop-first g l = record {

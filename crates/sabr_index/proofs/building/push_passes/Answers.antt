@@ -3,8 +3,7 @@ use Rattle.std.proofs.lemmas.List.{get_or-map, length-map}
 use Rattle.std.proofs.lemmas.List.Elements.{All-push}
 use Rattle.sabr_model.specs.declared.contact.Contact.{Contact}
 use Rattle.sabr_index.specs.declared.link.Pass.{Pass}
-use Rattle.sabr_index.specs.Order.{numbers_at}
-use Rattle.sabr_index.specs.Linking.{IsBounded}
+use Rattle.sabr_index.specs.Linking.{numbers_at, IsBounded}
 use Rattle.sabr_index.proofs.LinkLemmas.{passes_more, passes_skip}
 use Rattle.sabr_index.proofs.building.push_passes.Goals as goal
 use Rattle.sabr_index.proofs.building.push_passes.Goals.{in-Some+in_ok-push, in_default}

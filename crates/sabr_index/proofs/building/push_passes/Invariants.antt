@@ -1,6 +1,5 @@
 use Rattle.std.proofs.Common.{take}
-use Rattle.sabr_index.specs.Order.{numbers_at}
-use Rattle.sabr_index.specs.Linking.{ArePassesMore}
+use Rattle.sabr_index.specs.Linking.{numbers_at, ArePassesMore}
 use Rattle.sabr_index.proofs.building.push_passes.Given as goal
 
 abbrev pub invariant-loop-place : goal.invariant-loop-place

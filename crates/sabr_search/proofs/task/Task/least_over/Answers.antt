@@ -46,7 +46,7 @@ returns-then-is_at_most-clause-full g c = λ n w b has s early.
     let step = step_over task passes n c.args.link.from c.args.at w b has s in
     rw (← has.3) (elim (cases_lt has.0 i) [
       | inl before ↦ c.loop-place.invariant.full has.0 has.1 w b before has.2 step early
-      | inr behind ↦ at_most_more c.loop-place.chosen pass.least_number_behind has.1.number (c.requires.link.0.kept i has.0 pass has.1 behind here has.2).number_behind (rw c.pass.ensures at (c.is_at_most.ensures.at_most c.if-is_at_most.true))
+      | inr behind ↦ at_most_more c.loop-place.chosen pass.least_number_after has.1.number (c.requires.link.0.kept i has.0 pass has.1 behind here has.2).number_after (rw c.pass.ensures at (c.is_at_most.ensures.at_most c.if-is_at_most.true))
     ])
 
 pub hop_over-hop-requires-clause-pass : goal.hop_over-hop-requires-clause-pass
