@@ -1,5 +1,4 @@
 pub mod ListLemmas
 pub mod PlanLemmas
 pub mod RouteLemmas
-pub mod RowProofs
 pub mod GroupingLemmas

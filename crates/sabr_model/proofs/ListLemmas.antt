@@ -1,5 +1,4 @@
 -- Lists, and numbers in them.
-pub mod Monotone
 pub mod Begins
 pub mod Members
 pub mod Ordered
@@ -7,7 +6,6 @@ pub mod Answered
 pub mod Has
 pub mod Apart
 pub mod Different
-pub mod Rises
 pub mod CountWalks
 pub mod WrittenTexts
 pub mod ReadTexts

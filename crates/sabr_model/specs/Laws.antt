@@ -50,7 +50,7 @@ RoutesAreListed = (p : ContactPlan) (r : RouteRequest) → IsPlan p → IsListOf
 pub record LeavesNoWayOut (p : ContactPlan) (r : RouteRequest) : Type 0 where
   -- the contacts of each journey that comes to no node twice are a listed route, which delivers no later
   pub listed : (s : List ℕ) (d : ℕ) → IsJourney p r s d → MeetsNoneTwice p r s → Contains (routes p r) s × (delivery_of p r s ≤ d)
-  -- each listed route is the way of such a journey, which ends at its delivery
+  -- conversely, for each listed route there is such a journey, which ends at the delivery of the route
   pub travelled : (s : List ℕ) → Contains (routes p r) s → IsJourney p r s (delivery_of p r s) × MeetsNoneTwice p r s
   -- no journey ends before the first route delivers, and there is none at all if no route is listed
   pub first : (s : List ℕ) (d : ℕ) → IsJourney p r s d → FirstDeliversBy p r d

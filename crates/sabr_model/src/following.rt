@@ -43,7 +43,8 @@ fn is_received<A: Allocator + Copy>(plan: &Plan<A>, numbers: &[u32], node: u64) 
     false
 }
 
-/// Returns true if the node receives one of these contacts, the classes of whose receivers are marked.
+/// Returns true if the node receives one of these contacts. `marks` has the remainders of their receivers by 64, so that
+/// most nodes need no search.
 fn is_again<A: Allocator + Copy>(
     plan: &Plan<A>,
     marks: &[bool; 64],
@@ -136,7 +137,7 @@ impl<'a, A: Allocator + Copy> Follower<'a, A> {
         Ok(here)
     }
 
-    /// Returns what [`follow`] returns for a path and one more number. The path leads to `here`, and the classes of its
+    /// Returns what [`follow`] returns for a path and one more number. The path leads to `here`, and its
     /// receivers are marked.
     fn end_on(
         &self,
@@ -219,7 +220,7 @@ pub fn follow_hop<A: Allocator + Copy>(
     Follower { plan, request }.take_hop(&[true; 64], prefix, here, number)
 }
 
-/// Marks the classes of these contacts' receivers.
+/// Marks these contacts' receivers, each by its remainder by 64.
 fn mark_receivers<A: Allocator + Copy>(plan: &Plan<A>, marks: &mut [bool; 64], numbers: &[u32])
     ensures { AreMarked marks.new (receivers plan.now.plan numbers.now) }
 {
@@ -237,7 +238,7 @@ fn mark_receivers<A: Allocator + Copy>(plan: &Plan<A>, marks: &mut [bool; 64], n
 /// # Errors
 ///
 /// Those of [`follow`].
-pub fn follow_behind<A: Allocator + Copy>(
+pub fn follow_after<A: Allocator + Copy>(
     plan: &Plan<A>,
     request: &Request,
     contacts: &[u32],

@@ -27,14 +27,6 @@ impl<A: Allocator + Copy> Numbers<A> {
         Numbers { items }
     }
 
-    /// Returns the vector that holds the list. It doesn't allocate.
-    pub fn into_vec(self) -> Vec<u32, A>
-        ensures { result.items ≡ self }
-    {
-        let Numbers { items } = self;
-        items
-    }
-
     /// The numbers, from the first to the last.
     pub fn as_slice(&self) -> &[u32]
         ensures { result.now ≡ self.now }

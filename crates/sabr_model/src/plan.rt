@@ -2,26 +2,28 @@
 
 mod add_contact;
 mod add_range;
-mod arriving;
+mod contact_light;
+mod contacts_by_number;
 mod delete;
 pub mod ends;
-mod light;
+mod guessed_lights;
 mod light_times;
-mod lights;
 mod nodes;
 mod openings;
-mod parts;
-pub mod places;
 mod ranges;
 mod refusals;
-mod views;
 
-ghost use Rattle.std.specs.Prelude.{◌≡◌, []};
+ghost use Rattle.std.specs.Prelude.{◌≡◌, [], IfOk};
+ghost use Rattle.std.specs.Option.{option_copied};
+ghost use Rattle.sabr_model.specs.plan.Plan.{IsPlan, contact_named};
 
 use crate::contact::{Contact, Range};
-use crate::node_table::NodeTable;
-pub use arriving::arrive;
+use crate::fault::NoMemory;
+use crate::node_table::{NodeTable, table_of};
+pub use contact_light::arrive;
+use contacts_by_number::contact_of_number;
 pub use ends::Ends;
+use guessed_lights::lights_of;
 use indexmap::IndexMap;
 use light_times::LightTimes;
 use openings::Openings;
@@ -81,5 +83,74 @@ impl<A: Allocator + Copy> Plan<A> {
             lights: LightTimes::new(alloc),
             openings: Openings::new(alloc),
         }
+    }
+
+    /// Makes the plan of these contacts and ranges, where `largest` is the largest number ever assigned.
+    ///
+    /// Its time grows with the number of contacts and ranges.
+    ///
+    /// # Errors
+    ///
+    /// [`NoMemory`] if an allocation for its tables failed.
+    pub fn of_parts(
+        alloc: A,
+        contacts: Vec<Contact, A>,
+        ranges: Vec<Range, A>,
+        largest: u32,
+    ) -> Result<Plan<A>, NoMemory>
+        requires { IsPlan (record { contacts = contacts.items; ranges = ranges.items; largest = largest }) }
+        ensures { IfOk result (λ p. p.plan ≡ record { contacts = contacts.items; ranges = ranges.items; largest = largest }) }
+    {
+        let (table, ends) = table_of(alloc, &contacts)?;
+        let lights = lights_of(alloc, &contacts, &ranges)?;
+        Ok(Plan {
+            alloc,
+            contacts,
+            ranges,
+            table,
+            largest,
+            ends,
+            lights,
+            openings: Openings::new(alloc),
+        })
+    }
+
+    /// The standing contacts, by ascending number.
+    pub fn contacts(&self) -> &[Contact]
+        ensures value { result.now ≡ self.now.plan.contacts }
+        ensures rules { IsPlan self.now.plan }
+    {
+        &self.contacts
+    }
+
+    /// States that a plan obeys the rules of contact plans, for proofs. It does nothing at run time.
+    pub fn rules_hold(&self)
+        ensures { IsPlan self.now.plan }
+    {
+        self.contacts();
+    }
+
+    /// The standing ranges, in ascending order of (one, other, start).
+    pub fn ranges(&self) -> &[Range]
+        ensures { result.now ≡ self.now.plan.ranges }
+    {
+        &self.ranges
+    }
+
+    /// The largest number ever assigned to a contact, 0 at first.
+    pub fn largest(&self) -> u32
+        ensures { result ≡ self.now.plan.largest }
+    {
+        self.largest
+    }
+
+    /// Returns the standing contact with this number. `None` if the number was never assigned, or its contact was
+    /// deleted.
+    ///
+    /// It is O(1) if no contact was deleted, and a binary search otherwise.
+    pub fn contact(&self, number: u32) -> Option<&Contact>
+        ensures { option_copied result ≡ contact_named self.now.plan number }
+    {
+        contact_of_number(&self.contacts, number)
     }
 }

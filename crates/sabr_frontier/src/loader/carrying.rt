@@ -16,7 +16,7 @@ use crate::lists::holds;
 use crate::loader::leading::Lead;
 use crate::loader::load_fault::LoadFault;
 use crate::plan_request::PlanRequest;
-use sabr_model::{HopFault, Plan, Request, Route, RouteSummary, follow, follow_behind};
+use sabr_model::{HopFault, Plan, Request, Route, RouteSummary, follow, follow_after};
 use std::alloc::Allocator;
 
 /// Returns true if a list begins with the prefix, is longer, and takes none of the excluded numbers next.
@@ -61,7 +61,7 @@ fn follow_from<A: Allocator + Copy>(
             summary: RouteSummary::of(plan, route),
         });
     };
-    let delivery = follow_behind(plan, request, route, prefix.len(), lead.here)?;
+    let delivery = follow_after(plan, request, route, prefix.len(), lead.here)?;
     Ok(Followed {
         delivery,
         summary: lead.summary_of(plan, route, prefix.len()),

@@ -388,3 +388,8 @@ asks-last_day =
       avoids = refl;
       nodes = search rules;
     }
+
+-- for the rows
+pub ruleset worked_plans = (obeys-a, obeys-b, obeys-c, obeys-and_back, obeys-and_across, obeys-ending_10, obeys-ending_11, obeys-dark, obeys-last, obeys-less, obeys-again, obeys-darker, obeys-as_before, obeys-there_and_back)
+
+pub ruleset worked_requests = (asks-plain, asks-at_60, asks-at_100, asks-one_hop, asks-two_hops, asks-without_2, asks-without_4, asks-to_2, asks-last_day)

@@ -9,6 +9,7 @@ use Rattle.sabr_model.specs.plan.Plan.{ContactPlan, contact_named}
 use Rattle.sabr_model.specs.plan.Light.{light_of}
 use Rattle.sabr_model.specs.routes.Arrival.{RouteRequest, arrival, arrival_after, cost}
 use Rattle.sabr_model.specs.routes.Journeys.{CanArrive}
+use Rattle.sabr_model.specs.Laws.{ArrivalIsMonotone}
 
 -- ---- from an arrival to the second at which the bundle is sent
 
@@ -64,3 +65,19 @@ module _ (p : ContactPlan) (r : RouteRequest) (t n : ℕ) (s : List ℕ) (d : �
 pub soonest : (p : ContactPlan) (r : RouteRequest) (t : ℕ) (s : List ℕ) (d : ℕ) → arrival_after p r t s ≡ Some d → CanArrive p r t s d
 soonest p r t [] d e = cc
 soonest p r t (n ∷ s) d e = first_sent p r t n s d (λ u. soonest p r u s d) (contact_named p n) refl e
+
+cond_some : (b : Bool) (o : Option ℕ) (x : ℕ) → cond b o None ≡ Some x → (b ≡ true) × (o ≡ Some x)
+cond_some true o x e = (refl, e)
+cond_some false o x e = absurd cc
+
+earlier : (sent sent' end margin x : ℕ) (o : Option ℕ) → sent ≤ sent' → cond (ltb sent' end) (option_map (λ l. sent' + cost margin l) o) None ≡ Some x
+    → (y : ℕ) × (cond (ltb sent end) (option_map (λ l. sent + cost margin l) o) None ≡ Some y) × (y ≤ x)
+earlier sent sent' end margin x None le e = absurd (let h : None ≡ Some x = (cond_some (ltb sent' end) None x e).1 in cc)
+earlier sent sent' end margin x (Some l) le e =
+    let h = cond_some (ltb sent' end) (Some (sent' + cost margin l)) x e in
+    let lt = ltb-true sent' end h.0 in
+    let same : sent' + cost margin l ≡ x = cc (h.1) in
+    (sent + cost margin l, cond-true (ltb sent end) (Some (sent + cost margin l)) None (lt-ltb sent end (omega arith)), omega arith)
+
+pub arrival_is_monotone : ArrivalIsMonotone
+arrival_is_monotone p r c t u x le e = earlier (max t c.start) (max u c.start) c.end r.margin x (light_of p c) (omega arith) e

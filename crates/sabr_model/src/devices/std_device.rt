@@ -2,10 +2,8 @@
 
 ghost use Rattle.std.specs.Prelude.{◌≡◌, [], false};
 
-use crate::devices::traits::{Failed, Read, Write};
-use crate::ghost_bytes::GhostBytes;
-use crate::ghost_count::GhostCount;
-use crate::ghost_flag::GhostFlag;
+use crate::devices::{Failed, Read, Write};
+use crate::ghost_values::{GhostBytes, GhostCount, GhostFlag};
 use std::io;
 
 /// A reader or writer of std. Every error of std becomes `Failed`.

@@ -56,8 +56,8 @@ impl<A: Allocator + Copy> Plan<A> {
     /// Adds a contact, and returns its number: one more than the largest number ever assigned.
     ///
     /// Times are seconds since 1970-01-01T00:00:00Z, and `end` is at most 253370764799. The rate is in bytes per
-    /// second. An error leaves the plan as it was. The first
-    /// addition is a pass over the contacts, and later ones look the contact up by its sender, receiver and start.
+    /// second. An error leaves the plan as it was. The first addition is a pass over the contacts, and later ones look
+    /// the contact up by its sender, receiver and start.
     ///
     /// # Errors
     ///

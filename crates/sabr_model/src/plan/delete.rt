@@ -19,8 +19,8 @@ impl<A: Allocator + Copy> Plan<A> {
     /// Deletes the contact with this sender, receiver and start, and returns its number, which is never assigned again.
     /// The start is in seconds since 1970-01-01T00:00:00Z.
     ///
-    /// It doesn't allocate. It moves the later contacts. Unless the plan was changed by an addition before, it is a
-    /// pass over the contacts. If one of its nodes has no other contact, the nodes of all contacts are looked up.
+    /// It doesn't allocate, and moves the later contacts. It is a pass over the contacts, unless a contact was added by
+    /// a call before. If one of the nodes has no other contact, the nodes of all contacts are looked up.
     ///
     /// # Errors
     ///

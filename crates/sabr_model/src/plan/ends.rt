@@ -71,8 +71,8 @@ fn look_up_ends<A: Allocator + Copy>(
     }
 }
 
-/// Removes the ends of a contact that was deleted. Unless its nodes are `kept`, so that each node has its old index, all
-/// ends are looked up.
+/// Removes the ends of a contact that was deleted. If both its nodes are still in the table (`kept`), all nodes have
+/// their old indexes. Otherwise all ends are looked up again.
 pub fn remove_ends<A: Allocator + Copy>(
     table: &NodeTable<A>,
     contacts: &[Contact],

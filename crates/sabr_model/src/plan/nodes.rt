@@ -6,7 +6,7 @@ ghost use Rattle.sabr_model.specs.plan.Table.{sent_by, node_count};
 ghost use Rattle.sabr_model.specs.plan.Tabled.{IsTabled, IsHopOf, IsHopNamed};
 
 use super::Plan;
-use super::places::place_of_number;
+use super::contacts_by_number::place_of_number;
 use crate::contact::Contact;
 use crate::hop::Hop;
 use std::alloc::Allocator;

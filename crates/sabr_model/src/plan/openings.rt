@@ -5,7 +5,7 @@ ghost use Rattle.std.specs.List.{list_any};
 ghost use Rattle.sabr_model.specs.plan.Plan.{opens, rises_above, same_opening, none_twice};
 ghost use Rattle.sabr_model.specs.plan.Openings.{IsNoted};
 
-use super::places::{place_of_number, place_of_opening};
+use super::contacts_by_number::{place_of_number, place_of_opening};
 use crate::contact::Contact;
 use std::alloc::{AllocError, Allocator};
 use std::collections::BTreeMap;

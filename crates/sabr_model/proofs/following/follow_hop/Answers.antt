@@ -2,8 +2,7 @@ use Rattle.std.proofs.Common.{◌≡◌, ◌∷◌, ◌++◌, []}
 use Rattle.std.specs.Prelude.{IfOk, IfErr, Ok, Err, Some, None, IsTrue}
 use Rattle.sabr_model.specs.routes.Route.{receivers, is_path}
 use Rattle.sabr_model.specs.routes.Fault.{fault_at, first_fault}
-use Rattle.sabr_model.proofs.RouteLemmas.Follows.{first_fault_behind, path_behind}
-use Rattle.sabr_model.proofs.RouteLemmas.Marks.{all_marked}
+use Rattle.sabr_model.proofs.RouteLemmas.Follows.{first_fault_behind, path_behind, all_marked}
 use Rattle.sabr_model.proofs.following.follow_hop.Goals as goal
 
 pub take_hop-requires-clause-marks : goal.take_hop-requires-clause-marks

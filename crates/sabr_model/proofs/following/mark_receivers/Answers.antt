@@ -4,7 +4,7 @@ use Rattle.std.proofs.lemmas.List.{take_more}
 use Rattle.sabr_model.specs.plan.Plan.{contact_named}
 use Rattle.sabr_model.specs.routes.Route.{receivers}
 use Rattle.sabr_model.specs.routes.Following.{AreMarked}
-use Rattle.sabr_model.proofs.RouteLemmas.Marks.{marked_contact, marked_still}
+use Rattle.sabr_model.proofs.RouteLemmas.Follows.{marked_contact, marked_still}
 use Rattle.sabr_model.proofs.following.mark_receivers.Goals as goal
 use Rattle.sabr_model.proofs.following.mark_receivers.Goals.{in-Some, in_default}
 

@@ -1,6 +1,6 @@
 use Rattle.std.proofs.Common.{sym, ◌∙◌}
-use Rattle.sabr_model.proofs.ListLemmas.Rises.{rises_stops, rises_on, rises_ends}
-use Rattle.sabr_model.proofs.request.rise.Goals as goal
+use Rattle.sabr_model.proofs.ListLemmas.Ordered.{rises_stops, rises_on, rises_ends}
+use Rattle.sabr_model.proofs.request.is_increasing.Goals as goal
 
 pub returns-then-number-low : goal.returns-then-number-low
 returns-then-number-low c = sym (c.loop-number.invariant ∙ rises_stops c.loop-number.low c.args.numbers.now c.loop-number.number-index c.loop-number-test.true c.if-number-low.true)

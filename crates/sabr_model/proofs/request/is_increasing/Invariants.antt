@@ -1,6 +1,6 @@
 use Rattle.std.proofs.Common.{◌≡◌, drop}
 use Rattle.sabr_model.specs.plan.Plan.{rises_above}
-use Rattle.sabr_model.proofs.request.rise.Given as goal
+use Rattle.sabr_model.proofs.request.is_increasing.Given as goal
 
 abbrev pub invariant-loop-number : goal.invariant-loop-number
 invariant-loop-number l = rises_above 0 l.numbers ≡ rises_above l.low (drop l.number-index l.numbers)

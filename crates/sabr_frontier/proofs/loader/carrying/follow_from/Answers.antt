@@ -6,8 +6,8 @@ use Rattle.sabr_model.specs.routes.Telling.{summary_of}
 use Rattle.sabr_frontier.specs.loading.Leading.{IsLead}
 use Rattle.sabr_frontier.proofs.loader.carrying.follow_from.Goals as goal
 
-pub follow_behind-requires : goal.follow_behind-requires
-follow_behind-requires g c =
+pub follow_after-requires : goal.follow_after-requires
+follow_after-requires g c =
     let p = c.args.plan.now.plan in
     let r = c.args.request.now in
     let known : IsLead p r c.args.prefix.now c.in-Some.lead = subst (λ o. IfSome o (IsLead p r c.args.prefix.now)) c.in-Some.is c.requires.lead in

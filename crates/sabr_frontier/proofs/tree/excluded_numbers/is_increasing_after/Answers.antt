@@ -1,5 +1,5 @@
 use Rattle.std.proofs.Common.{sym, ◌∙◌}
-use Rattle.sabr_model.proofs.ListLemmas.Rises.{rises_stops, rises_on, rises_ends}
+use Rattle.sabr_model.proofs.ListLemmas.Ordered.{rises_stops, rises_on, rises_ends}
 use Rattle.sabr_frontier.proofs.tree.excluded_numbers.is_increasing_after.Goals as goal
 
 pub returns-then-number-low : goal.returns-then-number-low

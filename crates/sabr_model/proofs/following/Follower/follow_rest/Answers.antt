@@ -2,8 +2,7 @@ use Rattle.std.proofs.Common.{◌≡◌, ℕ, ◌+◌, List, [], ◌∷◌, ◌+
 use Rattle.std.proofs.lemmas.List.{length-set, take_all, take_more}
 use Rattle.sabr_model.specs.routes.Route.{receivers}
 use Rattle.sabr_model.specs.routes.Following.{AreMarked}
-use Rattle.sabr_model.proofs.RouteLemmas.Follows.{all_followed, first_fault_on, front_is_good}
-use Rattle.sabr_model.proofs.RouteLemmas.Marks.{marked_on}
+use Rattle.sabr_model.proofs.RouteLemmas.Follows.{all_followed, first_fault_on, front_is_good, marked_on}
 use Rattle.sabr_model.proofs.following.Follower.follow_rest.Goals as goal
 
 pub loop-i-init : goal.loop-i-init

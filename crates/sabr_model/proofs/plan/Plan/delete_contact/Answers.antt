@@ -12,7 +12,7 @@ use Rattle.sabr_model.specs.plan.Known.{BeginLights}
 use Rattle.sabr_model.proofs.PlanLemmas.Deletions.{found_by_number, without_opening, IsPlan-fewer_contacts}
 use Rattle.sabr_model.proofs.PlanLemmas.Limits.{few_contacts}
 use Rattle.sabr_model.specs.plan.Openings.{IsNoted}
-use Rattle.sabr_model.proofs.PlanLemmas.Noted.{noted_removed}
+use Rattle.sabr_model.proofs.PlanLemmas.KnownLemmas.{noted_removed}
 use Rattle.sabr_model.proofs.PlanLemmas.Removed.{found_there, others, ends_removed, lights_removed}
 use Rattle.sabr_model.proofs.plan.Plan.delete_contact.Goals as goal
 

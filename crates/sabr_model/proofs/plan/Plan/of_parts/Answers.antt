@@ -10,7 +10,7 @@ use Rattle.sabr_model.specs.plan.ContactEnds.{AreEnds}
 use Rattle.sabr_model.specs.plan.Known.{BeginLights}
 use Rattle.sabr_model.proofs.PlanLemmas.RangeOrder.{range_list}
 use Rattle.sabr_model.proofs.PlanLemmas.Limits.{few_contacts}
-use Rattle.sabr_model.proofs.PlanLemmas.Noted.{noted_none}
+use Rattle.sabr_model.proofs.PlanLemmas.KnownLemmas.{noted_none}
 use Rattle.sabr_model.proofs.plan.Plan.of_parts.Goals as goal
 
 pub table_of-requires : goal.table_of-requires

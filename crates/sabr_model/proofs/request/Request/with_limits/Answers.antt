@@ -1,5 +1,5 @@
 use Rattle.std.proofs.Common.{rules, ◌≡◌, sym}
-use Rattle.sabr_model.proofs.ListLemmas.Rises.{avoided_rise, rising_nodes}
+use Rattle.sabr_model.proofs.ListLemmas.Ordered.{avoided_rise, rising_nodes}
 use Rattle.sabr_model.proofs.request.Request.with_limits.Goals as goal
 
 -- the nodes that are kept are those that were given

@@ -1,7 +1,7 @@
 use Rattle.std.proofs.Common.{◌∙◌, sym, ap, cond, arith}
 use Rattle.std.specs.Prelude.{slice_get}
 use Rattle.std.specs.declared.option.Option.TheVariants.{None}
-use Rattle.sabr_model.proofs.PlanLemmas.Noted.{none_noted, none_numbered, only_there}
+use Rattle.sabr_model.proofs.PlanLemmas.KnownLemmas.{none_noted, none_numbered, only_there}
 use Rattle.sabr_model.proofs.plan.openings.Openings.find.Goals as goal
 
 pub returns-in_default : goal.returns-in_default

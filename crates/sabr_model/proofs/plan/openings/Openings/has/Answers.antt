@@ -1,6 +1,6 @@
 use Rattle.std.proofs.Common.{◌∙◌}
 use Rattle.sabr_model.specs.plan.Plan.{opens}
-use Rattle.sabr_model.proofs.PlanLemmas.Noted.{any_at_place}
+use Rattle.sabr_model.proofs.PlanLemmas.KnownLemmas.{any_at_place}
 use Rattle.sabr_model.proofs.plan.openings.Openings.has.Goals as goal
 
 pub returns : goal.returns

@@ -1,4 +1,4 @@
-use Rattle.sabr_model.proofs.PlanLemmas.Noted.{noted_next}
+use Rattle.sabr_model.proofs.PlanLemmas.KnownLemmas.{noted_next}
 use Rattle.sabr_model.proofs.plan.openings.Openings.note_next.Goals as goal
 
 pub returns-clause-noted : goal.returns-clause-noted

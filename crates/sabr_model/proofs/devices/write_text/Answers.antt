@@ -1,0 +1,55 @@
+use Rattle.std.proofs.Common.{◌≡◌, ◌≢◌, ℕ, ◌+◌, ◌-◌, ◌<◌, List, [], ◌∷◌, take, drop, length, arith, sym, ◌∙◌, ap, length-drop, append-nil, refl}
+use Rattle.std.proofs.Math.Seq.{take-add}
+use Rattle.std.proofs.lemmas.List.{take-append-drop, take_all}
+use Rattle.std.proofs.lemmas.Bool.Decides.{nat_tests}
+use Rattle.sabr_model.specs.Devices.{Output, Takes, stall_faults}
+use Rattle.sabr_model.proofs.ListLemmas.WrittenTexts.{Takes-append, Takes-kept}
+use Rattle.sabr_model.proofs.devices.write_text.Goals as goal
+
+rest : (text : List ℕ) (at : ℕ) → take (length text - at) (drop at text) ≡ drop at text
+rest text at = take_all _ _ (omega (arith, length-drop {A = ℕ}))
+
+-- a write that took something has not stalled
+went : (n : ℕ) (xs : List ℕ) → n ≢ 0 → stall_faults n xs ≡ 0
+went n [] h = refl
+went n (x ∷ xs) h = grind (arith, nat_tests)
+
+-- a write that took nothing of a piece that is not empty has stalled
+stalls : (n : ℕ) (xs : List ℕ) → n ≡ 0 → 0 < length xs → stall_faults n xs ≡ 1
+stalls n [] e h = absurd (omega arith)
+stalls n (x ∷ xs) e h = rw e refl
+
+-- no byte was taken after others
+stalled : (a b c : Output) (xs : List ℕ) → Takes a xs b → Takes b [] c → Takes a xs c
+stalled a b c xs p q = rw (append-nil xs) at (Takes-append a b c xs [] p q)
+
+pub loop-at-preserved : goal.loop-at-preserved
+loop-at-preserved g c =
+    let h = c.in-Ok.ensures {u = tt} in
+    let text : List ℕ = c.args.text.now in
+    let e = rest text c.loop-at.at in
+    let more : c.in-Ok.taken ≢ 0 = c.if-taken-eq0.false in
+    record {
+      in_range = omega (arith, h.bound, ap length e, length-drop {A = ℕ});
+      written = rw take-add (Takes-append (g.W.Write.output c.args.writer.now) (g.W.Write.output c.loop-at.writer) (g.W.Write.output c.write.new.self) _ _ c.loop-at.invariant.written (rw e at h.bytes));
+      fine = let none = went c.in-Ok.taken (take (length text - c.loop-at.at) (drop c.loop-at.at text)) more in omega (arith, h.count, none, c.loop-at.invariant.fine);
+    }
+
+pub returns-in_default : goal.returns-in_default
+returns-in_default g c =
+    let h = c.in_default.ensures in
+    let text : List ℕ = c.args.text.now in
+    ((take c.loop-at.at text, (drop c.loop-at.at text, sym (take-append-drop c.loop-at.at text)), Takes-kept (g.W.Write.output c.args.writer.now) (g.W.Write.output c.loop-at.writer) (g.W.Write.output c.write.new.self) _ c.loop-at.invariant.written h.bytes), omega (arith, h.count, c.loop-at.invariant.fine))
+
+pub returns-then-taken-eq0 : goal.returns-then-taken-eq0
+returns-then-taken-eq0 g c =
+    let h = c.in-Ok.ensures {u = tt} in
+    let text : List ℕ = c.args.text.now in
+    let none = c.if-taken-eq0.true in (
+      (
+        take c.loop-at.at text,
+        (drop c.loop-at.at text, sym (take-append-drop c.loop-at.at text)),
+        stalled (g.W.Write.output c.args.writer.now) (g.W.Write.output c.loop-at.writer) (g.W.Write.output c.write.new.self) _ c.loop-at.invariant.written (rw none at h.bytes),
+      ),
+      h.count ∙ ap (λ k. (g.W.Write.output c.loop-at.writer).failures + k) (stalls _ _ none (rw (rest text c.loop-at.at) (omega (arith, length-drop {A = ℕ}, c.loop-at-test.true)))) ∙ ap (λ k. k + 1) c.loop-at.invariant.fine,
+    )

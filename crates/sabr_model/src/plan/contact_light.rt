@@ -1,0 +1,85 @@
+//! The one-way light time in force at a contact's start, and the arrival over a contact.
+
+ghost use Rattle.std.specs.Prelude.{◌≡◌, ◌<◌, ◌≤◌, [], Some, None, IfSome, MatchOption, length, slice_index_or};
+ghost use Rattle.sabr_model.specs.plan.Plan.{IsPlan, contact_named, most_light, last_time};
+ghost use Rattle.sabr_model.specs.plan.Light.{light_of};
+ghost use Rattle.sabr_model.specs.plan.RangeOrder.{IsRangeList};
+ghost use Rattle.sabr_model.specs.routes.Arrival.{arrival};
+
+use super::Plan;
+use super::contacts_by_number::place_of_number;
+use super::ranges::light_in_force;
+use crate::contact::{Contact, Range};
+use crate::request::Request;
+use std::alloc::Allocator;
+
+impl<A: Allocator + Copy> Plan<A> {
+    /// Returns the one-way light time in seconds, 0 to 1000000, in force at the contact's start. `None` if no range
+    /// states one.
+    ///
+    /// A range from the larger node to the smaller holds only that way, and there takes precedence over one that holds
+    /// both ways (this project's profile). It is one or two binary searches of the ranges.
+    pub fn light(&self, contact: &Contact) -> Option<u32>
+        ensures value { result ≡ light_of self.now.plan contact.now }
+        ensures limit { IfSome result (λ l. l ≤ most_light) }
+    {
+        light_of_contact(&self.ranges, contact)
+    }
+
+    /// Returns the standing contact with this number, and its light time. `None` if there is no such contact. It reads
+    /// no range if the plan has stored the light times.
+    pub(crate) fn contact_with_light(&self, number: u32) -> Option<(&Contact, Option<u32>)>
+        ensures contact { MatchOption result (contact_named self.now.plan number ≡ None) (λ x. contact_named self.now.plan number ≡ Some x.0.now) }
+        ensures light { IfSome result (λ x. x.1 ≡ light_of self.now.plan x.0.now) }
+        ensures rules { IsPlan self.now.plan }
+    {
+        let place = place_of_number(&self.contacts, number)?;
+        let contact = &self.contacts[place];
+        Some((contact, self.light_at(place, contact)))
+    }
+
+    /// Returns the light time of the contact at an index.
+    #[inline(always)]
+    pub(super) fn light_at(&self, place: usize, contact: &Contact) -> Option<u32>
+        requires within { place < length self.now.plan.contacts }
+        requires there { contact.now ≡ slice_index_or self.now.plan.contacts place contact.now }
+        ensures { result ≡ light_of self.now.plan contact.now }
+    {
+        match self.lights.get(place) {
+            Some(light) => light,
+            None => light_of_contact(&self.ranges, contact),
+        }
+    }
+}
+
+/// Returns the light time that these ranges state for a contact.
+#[cold]
+#[inline(never)]
+pub fn light_of_contact(ranges: &[Range], contact: &Contact) -> Option<u32>
+    requires { IsRangeList ranges.now }
+    ensures { result ≡ light_of (record { contacts = []; ranges = ranges.now; largest = 0 }) contact.now }
+{
+    match light_in_force(ranges, contact.from, contact.to, contact.start) {
+        Some(light) => Some(light),
+        None if contact.from > contact.to => {
+            light_in_force(ranges, contact.to, contact.from, contact.start)
+        }
+        None => None,
+    }
+}
+
+/// Returns the second at which a bundle that is at the contact's sender at `t` arrives at its receiver (CCSDS
+/// 734.3-B-1: earliest transmission time, one-way light time and margin). `None` if the contact has ended by the second
+/// at which the bundle could be sent, or if no light time is known.
+pub fn arrive<A: Allocator + Copy>(
+    plan: &Plan<A>,
+    request: &Request,
+    t: u64,
+    contact: &Contact,
+) -> Option<u64>
+    requires { contact.now.end ≤ last_time }
+    ensures { result ≡ arrival plan.now.plan request.now t contact.now }
+{
+    let light = plan.light(contact)?;
+    request.arrive_over(t, contact.start, contact.end, light)
+}
