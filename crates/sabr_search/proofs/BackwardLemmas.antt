@@ -1,9 +1,5 @@
 -- From the goal backward.
-pub mod Picks
-pub mod Backward
-pub mod LateLayers
 pub mod LateLists
-pub mod LateNoted
 pub mod LateMade
-pub mod LastSeconds
+pub mod Relaxing
 pub mod Whole

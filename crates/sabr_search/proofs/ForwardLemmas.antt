@@ -1,6 +1,4 @@
 -- From the start forward.
-pub mod HopLayers
-pub mod Keys
 pub mod Forward
 pub mod LayerEntries
 pub mod MadeLayers

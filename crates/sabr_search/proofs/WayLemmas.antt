@@ -5,9 +5,6 @@ pub mod RoutesAndWays
 pub mod Prefixes
 pub mod PartWays
 pub mod Least
-pub mod Bounds
 pub mod PrefixPaths
 pub mod Shortness
-pub mod FaultsOfPrefixes
 pub mod EarliestSeconds
-pub mod Staying

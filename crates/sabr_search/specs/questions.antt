@@ -1,13 +1,9 @@
--- The question of a part, its ways, and the least of them.
-pub mod Ways
+-- The query of a subproblem, the paths that answer it, and the best of them.
 pub mod Task
-pub mod Steps
 pub mod Linked
-pub mod RouteSummary
 pub mod PrefixPath
 pub mod Part
 pub mod FirstSteps
-pub mod WideTasks
 pub mod Bounded
 pub mod Calls
 pub mod Stops

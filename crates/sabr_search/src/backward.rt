@@ -2,7 +2,6 @@
 
 pub mod deadlines;
 pub mod from_goal;
-pub mod latest;
-pub mod nearest;
+pub mod relaxation;
 pub mod since;
 pub mod walk;

@@ -7,7 +7,7 @@ ghost use Rattle.sabr_search.specs.questions.Bounded.{IsSought, IsFloor, IsWhole
 ghost use Rattle.sabr_search.specs.answers.SearchCache.{IsSearchCache};
 ghost use Rattle.sabr_model.specs.routes.Route.{is_prefix};
 ghost use Rattle.sabr_model.specs.plan.Table.{node_count};
-ghost use Rattle.sabr_search.specs.questions.RouteSummary.{answer_hops};
+ghost use Rattle.sabr_search.specs.answers.Asked.{answer_hops};
 
 use crate::bound::{BoundedPart, Sought};
 use crate::part::{Excluded, Part};

@@ -61,9 +61,9 @@ impl<A: Allocator + Copy> Memory<A> {
         }
     }
 
-    /// Begins a question: finds the bounds of nodes, and layers for the question's floor, if they are due. What might
+    /// Prepares for a question: finds the bounds of nodes, and layers for the question's floor, if they are due. What might
     /// need more looks than are left, or an allocation that failed, isn't known.
-    pub fn open(
+    pub fn prepare(
         &mut self,
         asked: &Question<'_, '_, '_, A>,
         looks: &mut Looks,

@@ -1,8 +1,8 @@
 //! What a search for the best way finds.
 
 ghost use Rattle.std.specs.Prelude.{IsTrue};
-ghost use Rattle.sabr_search.specs.answers.Found.{IsEnough};
-ghost use Rattle.sabr_search.specs.layers.Made.{IsFoundBest};
+ghost use Rattle.sabr_search.specs.answers.Answers.{IsEnough};
+ghost use Rattle.sabr_search.specs.layers.Lists.{IsFoundBest};
 
 use crate::bound::Bound;
 use std::alloc::{Allocator, Global};

@@ -3,7 +3,7 @@
 ghost use Rattle.std.specs.Prelude.{◌+◌, ◌*◌, ◌≤◌, ◌<◌, IfOk, length};
 ghost use Rattle.sabr_search.specs.questions.Task.{IsTask, most_nodes};
 ghost use Rattle.sabr_search.specs.answers.Asked.{bound_left, hops_left};
-ghost use Rattle.sabr_search.specs.answers.Found.{IsEnough, IsFound, found_hops};
+ghost use Rattle.sabr_search.specs.answers.Answers.{IsEnough, IsFound, found_hops};
 ghost use Rattle.sabr_search.specs.layers.Late.{AreArrivals, AreSince, IsNoneSooner, HasWayAt};
 ghost use Rattle.sabr_search.specs.layers.Settling.{AreReal};
 ghost use Rattle.sabr_search.specs.questions.FirstSteps.{AreFirstSteps, IsNoneBefore};
@@ -136,12 +136,12 @@ impl<A: Allocator + Copy> LayerSearch<A> {
         let Some(best) = made else {
             return Ok(Found::Beyond(bound.at_any_hops()));
         };
-        let least = Aim {
+        let earliest = Aim {
             task,
             since: aim.since,
             first: aim.first,
             delivery: best.delivery,
         };
-        self.best_at(&least, looks, hops, bound)
+        self.best_at(&earliest, looks, hops, bound)
     }
 }

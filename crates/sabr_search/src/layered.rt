@@ -9,7 +9,7 @@ ghost use Rattle.sabr_search.specs.questions.Calls.{begun_with, no_calls, with_c
 ghost use Rattle.sabr_search.specs.questions.Task.{IsAsked};
 ghost use Rattle.sabr_search.specs.layers.Late.{AreArrivals};
 ghost use Rattle.sabr_index.specs.Looks.{looks_taken};
-ghost use Rattle.sabr_search.specs.questions.RouteSummary.{answer_hops};
+ghost use Rattle.sabr_search.specs.answers.Asked.{answer_hops};
 
 use crate::best::BestOf;
 use crate::bound::{Bound, BoundedPart, Sought};

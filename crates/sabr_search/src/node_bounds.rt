@@ -1,15 +1,16 @@
 //! What holds for the ways of every question of a session, over the whole graph.
 
-ghost use Rattle.std.specs.Prelude.{◌≡◌, []};
+ghost use Rattle.std.specs.Prelude.{◌≡◌, ◌≤◌, ℕ, [], IfOk, min, slice_index};
 ghost use Rattle.sabr_model.specs.plan.Plan.{TabledPlan};
 ghost use Rattle.sabr_model.specs.routes.Arrival.{RouteRequest};
-ghost use Rattle.sabr_search.specs.layers.NodeBounds.{AreLateFor, AreNodeBounds};
+ghost use Rattle.sabr_search.specs.layers.NodeBounds.{AreLateFor, AreNodeBounds, AreSoonFor};
+ghost use Rattle.sabr_search.specs.layers.Relaxation.{IsWholeGraph};
 ghost use Rattle.sabr_search.specs.questions.FirstSteps.{tabled_of};
-ghost use Rattle.sabr_search.specs.questions.Task.{IsAsked};
+ghost use Rattle.sabr_search.specs.questions.Task.{IsAsked, IsBehind, never};
 
-use crate::backward::latest::latest_by;
-use crate::backward::nearest::costs_of;
-use crate::forward::soonest::soonest_of;
+use crate::backward::relaxation::{costs_of, latest_by};
+use crate::forward::settling::{Forward, Settling};
+use crate::stopped::Stopped;
 use crate::task::Task;
 use crate::visit::{NEVER, UNDELIVERED};
 use sabr_index::Looks;
@@ -26,6 +27,46 @@ const FIRST_QUESTIONS: u32 = 2;
 /// 256, those for 100 routes over sparse-20000 take 29 percent more: in a copy of this design in plain Rust. To vary
 /// it: `bench/figures.py --counts 10,100`, over all plans.
 const FIRST_GAP: u32 = 128;
+
+/// Lowers each second to a given one at the most.
+fn lower<A: Allocator + Copy>(seconds: &mut Vec<u64, A>, most: u64)
+    ensures { (k : ℕ) → slice_index seconds.new.items k ≤ min (slice_index seconds.old.items k) most }
+{
+    for place in 0..seconds.len() {
+        seconds[place] = seconds[place].min(most);
+    }
+}
+
+/// Finds for each node a second before which no way over the whole graph comes there from the source: its soonest
+/// arrival, or the first delivery if that is sooner.
+fn soonest_of<A: Allocator + Copy>(
+    alloc: A,
+    task: &Task<'_, A>,
+    looks: &mut Looks,
+    late: &[u64],
+) -> Result<Vec<u64, A>, Stopped>
+    requires whole { IsWholeGraph task.now }
+    requires source { IsBehind task.now [] }
+    requires late { AreLateFor (tabled_of task.now) task.now.request never late.now }
+    ensures soon { IfOk result (λ v. AreSoonFor (tabled_of task.now) task.now.request v.items) }
+{
+    let forward = Forward {
+        task,
+        late,
+        costs: &[],
+        hops: &[],
+        until: UNDELIVERED,
+    };
+    let mut settling = Settling::new(alloc);
+    let mut first = Vec::new(alloc);
+    let found = settling.run(&forward, looks, &mut first)?;
+    let most = match found {
+        Some(best) => best.delivery,
+        None => UNDELIVERED,
+    };
+    lower(&mut settling.arrival, most);
+    Ok(settling.arrival)
+}
 
 /// What is known of the ways of every question of a request.
 #[derive(Drop)]
@@ -114,7 +155,10 @@ impl<A: Allocator + Copy> NodeBounds<A> {
         let late = latest_by(alloc, task, looks, NEVER).unwrap_or(Vec::new(alloc));
         let soon = soonest_of(alloc, task, looks, &late).unwrap_or(Vec::new(alloc));
         self.late = late;
-        self.costs = costs_of(alloc, task, &mut self.hops).unwrap_or(Vec::new(alloc));
+        let none = (Vec::new(alloc), Vec::new(alloc));
+        let (costs, hops) = costs_of(alloc, task, looks).unwrap_or(none);
+        self.costs = costs;
+        self.hops = hops;
         self.soon = soon;
         self.is_begun = true;
     }

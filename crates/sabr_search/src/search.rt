@@ -5,15 +5,15 @@ ghost use Rattle.sabr_index.specs.Looks.{looks_taken};
 ghost use Rattle.sabr_model.specs.routes.Telling.{summary_of};
 ghost use Rattle.sabr_search.specs.answers.Answers.{narrowed};
 ghost use Rattle.sabr_search.specs.answers.Asked.{AnswersAt, bound_left, hops_left};
-ghost use Rattle.sabr_search.specs.answers.Early.{IsEarly};
-ghost use Rattle.sabr_search.specs.answers.Found.{IsEnough, IsFound, found_hops};
+ghost use Rattle.sabr_search.specs.answers.Asked.{IsEarly};
+ghost use Rattle.sabr_search.specs.answers.Answers.{IsEnough, IsFound, found_hops};
 ghost use Rattle.sabr_search.specs.answers.SearchCache.{IsMemory};
 ghost use Rattle.sabr_search.specs.layers.Late.{AreSince, IsNoneSooner};
 ghost use Rattle.sabr_search.specs.layers.NodeBounds.{AreNodeBounds};
 ghost use Rattle.sabr_search.specs.questions.Bounded.{IsSought, IsCutUpTo, IsWhole, sought_hops};
 ghost use Rattle.sabr_search.specs.questions.FirstSteps.{tabled_of};
 ghost use Rattle.sabr_search.specs.questions.Task.{IsAsked, IsOfRequest, IsTask};
-ghost use Rattle.sabr_search.specs.questions.WideTasks.{ForbidsFewer};
+ghost use Rattle.sabr_search.specs.answers.Answers.{ForbidsFewer};
 ghost use Rattle.sabr_search.specs.questions.Stops.{StopsOnlyIf};
 
 use crate::backward::from_goal::Aim;
@@ -99,7 +99,7 @@ impl<A: Allocator + Copy> Search<A> {
         let task = asked.task;
         let (hops, bound) = (asked.hops_left(), asked.bound_left());
         let is_limited = hops + 1 < task.forbidden().len();
-        if is_limited && !self.settles.takes() {
+        if is_limited && !self.settles.allows() {
             return self
                 .layers
                 .best_of(asked, node_bounds.soon.as_slice(), &mut self.first, looks);
@@ -114,7 +114,7 @@ impl<A: Allocator + Copy> Search<A> {
         };
         let reached = self.settling.run(&forward, looks, &mut self.first)?;
         let Some(best) = reached else {
-            self.settles.win(1);
+            self.settles.count_saved(1);
             return Ok(Found::Beyond(bound.at_any_hops()));
         };
         let since = Since {
@@ -133,7 +133,7 @@ impl<A: Allocator + Copy> Search<A> {
         if best.hops > hops {
             return self.layers.best_within(&aim, looks, hops, bound);
         }
-        self.settles.win(1);
+        self.settles.count_saved(1);
         self.layers.best_at(&aim, looks, hops, bound)
     }
 
@@ -198,7 +198,7 @@ impl<A: Allocator + Copy> Search<A> {
         ensures memory { IsMemory (tabled_of asked.now.task.now) asked.now.task.now.request memory.new }
         ensures early { IfOk result (λ o. IfSome o (IsEarly asked.now memory.new.answers.slots.items)) }
     {
-        let _opened = memory.open(asked, looks);
+        let _prepared = memory.prepare(asked, looks);
         let walk = &mut self.layers.walk;
         if !memory.answers.serves(asked) {
             let Some(found) = memory.whole_deadlines.answer(walk, asked, looks)? else {
@@ -251,7 +251,7 @@ impl<A: Allocator + Copy> Search<A> {
         match early {
             Some(Early::Cached(place)) => {
                 let answer = &memory.answers.slots[place];
-                memory.widening.count_win(answer.breadth);
+                memory.widening.count_answer(answer.breadth);
                 match &answer.found {
                     Found::Way(delivery) => {
                         return asked.route(self.alloc, looks, answer.lists.way(), *delivery);

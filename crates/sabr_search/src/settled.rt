@@ -7,7 +7,7 @@ ghost use Rattle.sabr_search.specs.questions.Part.{IsBestOf};
 ghost use Rattle.sabr_search.specs.questions.Calls.{begun_with, no_calls, with_call};
 ghost use Rattle.sabr_search.specs.questions.Bounded.{IsSought, IsCutUpTo, IsFloor, IsWhole, sought_hops};
 ghost use Rattle.sabr_index.specs.Looks.{looks_taken};
-ghost use Rattle.sabr_search.specs.questions.RouteSummary.{answer_hops, IsCut};
+ghost use Rattle.sabr_search.specs.answers.Asked.{answer_hops, IsCut};
 ghost use Rattle.sabr_search.specs.answers.SearchCache.{IsSearchCache};
 
 use crate::best::BestOf;

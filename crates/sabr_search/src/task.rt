@@ -1,6 +1,6 @@
 //! What a search looks for, which doesn't change while it runs, and the arrival over one contact.
 
-ghost use Rattle.std.specs.Prelude.{◌≡◌, ℕ, ◌≤◌, ◌<◌, ◌+◌, ◌*◌, ◌^◌, Some, IfSome, IfNone, IsTrue, false, true, length};
+ghost use Rattle.std.specs.Prelude.{◌≡◌, ◌≢◌, ℕ, ◌≤◌, ◌<◌, ◌+◌, ◌*◌, ◌^◌, Some, IfSome, IfNone, IsTrue, false, true, length, slice_index_or};
 ghost use Rattle.sabr_model.specs.routes.Arrival.{cost};
 ghost use Rattle.sabr_model.specs.plan.Plan.{has, most_light};
 ghost use Rattle.sabr_model.specs.routes.Hops.{hop_arrival, IsSmall};
@@ -146,6 +146,18 @@ impl<'a, A: Allocator + Copy> Task<'a, A> {
         ensures { result.now ≡ self.now.forbidden }
     {
         self.forbidden.flags()
+    }
+
+    /// Returns true if a way to the goal may go over a node: it is open, and not the goal.
+    #[inline(always)]
+    pub fn is_between(&self, node: usize) -> bool
+        requires task { IsTask self.now }
+        requires node { node < length self.now.table }
+        ensures permitted { IsTrue result → slice_index_or self.now.forbidden node false ≡ false }
+        ensures other { IsTrue result → node ≢ self.now.goal }
+        ensures closed { result ≡ false → slice_index_or self.now.forbidden node false ≡ false → node ≡ self.now.goal }
+    {
+        node != self.goal && !self.forbidden()[node]
     }
 
     /// The nodes that are forbidden.

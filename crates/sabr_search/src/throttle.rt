@@ -1,7 +1,7 @@
-//! Whether tries pay.
+//! Whether tries save more than they cost.
 
-/// Decides which tries are made, by what the latest tries cost and saved. After tries that didn't pay, some are
-/// skipped.
+/// Decides which tries are made, by what the latest tries cost and saved. After tries that saved too little,
+/// some are skipped.
 #[derive(Clone, Copy)]
 pub struct Throttle {
     /// After `tries` tries, these are judged: if they didn't save at least `least` more than they cost, the next
@@ -32,7 +32,7 @@ impl Throttle {
     }
 
     /// Returns true if a try is to be made, and counts it.
-    pub fn takes(&mut self) -> bool {
+    pub fn allows(&mut self) -> bool {
         if self.rest > 0 {
             self.rest -= 1;
             return false;
@@ -49,12 +49,12 @@ impl Throttle {
     }
 
     /// Counts what a try cost.
-    pub fn pay(&mut self, cost: u64) {
+    pub fn count_cost(&mut self, cost: u64) {
         self.spent = self.spent.saturating_add(cost);
     }
 
     /// Counts what a try saved.
-    pub fn win(&mut self, saved: u64) {
+    pub fn count_saved(&mut self, saved: u64) {
         self.saved = self.saved.saturating_add(saved);
     }
 }

@@ -1,28 +1,129 @@
--- What an answer after a prefix comes to: it is the least route, and the looks are within the bounds of a finder.
-use Rattle.std.proofs.Common.{◌≡◌, ◌≢◌, ◌⊎◌, inl, inr, ℕ, zero, suc, ◌+◌, ◌-◌, ◌*◌, ◌^◌, ◌<◌, ◌≤◌, min, true, false, cond, eqb, List, [], ◌∷◌, ◌++◌, length, slice_index_or, Option, Some, None, refl, ap, sym, subst, ◌∙◌, arith, length-append}
+-- What an answer after a prefix comes to: it is the best route, and the looks are within the bounds of a finder; and what
+-- holds for the question of each part, by the soonest arrivals from the source.
+use Rattle.std.proofs.Common.{◌≡◌, ℕ, true, false, List, [], ◌∷◌, ◌++◌, not, refl, sym, ap, ◌∙◌, arith, length-append, ◌≢◌, inl, inr, Bool, eqb, ◌||◌, Some, slice_get, slice_index_or, subst, slice_index, ◌⊎◌, zero, suc, ◌+◌, ◌-◌, ◌*◌, ◌^◌, ◌<◌, ◌≤◌, min, cond, length, Option, None}
+use Rattle.std.proofs.lemmas.Bool.{or_from, not-true, false_from_ne_true, cases_eq, and_parts, and_from, cases_lt, both_ways, eq-eqb, eqb-true}
+use Rattle.std.specs.Option.{option_and_then}
+use Rattle.sabr_model.specs.plan.Plan.{TabledPlan, has}
+use Rattle.sabr_model.specs.routes.Arrival.{RouteRequest, arrival_after}
+use Rattle.sabr_model.specs.routes.Route.{chain_end, receivers, is_route}
+use Rattle.sabr_model.specs.routes.Telling.{summary_of}
+use Rattle.sabr_model.proofs.ListLemmas.Begins.{receivers-append, chain_end-append, different_apart}
+use Rattle.sabr_search.specs.questions.Task.{SearchTask, IsBehind, IsOfRequest, is_closed, HasNodes, Takes, IsAsked, IsTask, left_of}
+use Rattle.sabr_search.specs.questions.PrefixPath.{IsStop}
+use Rattle.sabr_search.specs.questions.FirstSteps.{tabled_of, Leads}
+use Rattle.sabr_search.specs.layers.Late.{AreSince, IsNoneSooner}
+use Rattle.sabr_search.specs.layers.NodeBounds.{AreSoonFor, Goes, IsBetween, AreLateFor, AreCostsFor}
+use Rattle.sabr_search.proofs.WayLemmas.Prefixes.{IsPrefix, prefix_facts}
+use Rattle.sabr_search.proofs.WayLemmas.Chains.{arrival_after-append, all_of, has_either}
+use Rattle.sabr_search.proofs.WayLemmas.RoutesAndWays.{same_some, way_from_chain, IsChain, chain_of_way, takes_timely}
+use Rattle.sabr_search.specs.layers.Settling.{IsBound}
+use Rattle.sabr_search.proofs.WayLemmas.PrefixPaths.{after_later}
 use Rattle.std.specs.Prelude.{IsTrue}
 use Rattle.std.proofs.Math.Nat.{mul-le-mul, mul-le-mul_right}
-use Rattle.std.proofs.lemmas.Bool.{and_parts, and_from, cases_lt, both_ways, eq-eqb, eqb-true}
 use Rattle.sabr_model.specs.routes.Parts.{goes_on}
 use Rattle.sabr_model.specs.routes.Asking.{most_hops}
 use Rattle.sabr_model.specs.routes.Record.{RouteRecord}
-use Rattle.sabr_model.specs.routes.Route.{is_route}
 use Rattle.sabr_search.specs.declared.bound.Bound.{Bound}
 use Rattle.sabr_index.specs.declared.looks.Looks.{Looks}
 use Rattle.sabr_search.specs.questions.Bounded.{IsBeyond, IsFloor, bound_after, is_up_to}
 use Rattle.sabr_search.specs.questions.Part.{IsBestOf}
-use Rattle.sabr_search.specs.questions.Task.{SearchTask, IsAsked, IsTask, Takes, left_of}
-use Rattle.sabr_search.specs.questions.Ways.{Leads}
-use Rattle.sabr_search.specs.layers.Late.{IsNoneSooner}
 use Rattle.sabr_search.specs.layers.Picks.{IsBestWay}
 use Rattle.sabr_index.specs.Looks.{looks_taken}
 use Rattle.sabr_search.specs.answers.Answers.{IsWayBeyond, HasNoWayWithin}
-use Rattle.sabr_search.proofs.WayLemmas.Prefixes.{IsPrefix, prefix_facts}
-use Rattle.sabr_search.proofs.WayLemmas.Bounds.{above_before}
+use Rattle.sabr_search.proofs.AnswerLemmas.BoundedWays.{above_before}
 use Rattle.sabr_search.proofs.WayLemmas.Least.{delivered}
 use Rattle.sabr_search.proofs.WayLemmas.PartWays.{IsPartWay, part_way, way_is_route}
 use Rattle.sabr_search.proofs.AnswerLemmas.Law.{IsSummarized, contacts_few, prefix_few, found_is_least, none_is_least, behind_sizes}
 use Rattle.sabr_search.proofs.WayLemmas.Shortness.{way_few}
+
+-- What holds for the question of each part.
+
+-- The soonest arrivals from the source.
+
+-- an empty list knows nothing
+pub none_soon : (p : TabledPlan) (r : RouteRequest) (soon : List ℕ) → soon ≡ [] → AreSoonFor p r soon
+none_soon p r soon empty = rw empty (λ ns v node t some at chain after open'. omega arith)
+
+-- the arrivals of a search over the whole graph from the source
+pub soon_for : (task : SearchTask) → IsBehind task [] → task.excluded ≡ [] → (since : List ℕ) → AreSince task since → AreSoonFor (tabled_of task) task.request since
+soon_for task behind free since are = λ ns v node t some at chain after open'.
+    let there = ap (λ b. arrival_after task.plan task.request b ns) (sym (same_some behind.arrives)) ∙ after in
+    are ns v t some (way_from_chain task [] behind ns task.start task.request.source task.at v node t (behind.stands ∙ sym behind.chained) chain at there open' (λ n more same here. ap (has n) free))
+
+-- a question starts where its prefix ends
+pub stop_of : (task : SearchTask) (prefix : List ℕ) → IsBehind task prefix → IsStop (tabled_of task) task.request prefix (record { node = task.start; at = task.at; summary = summary_of task.plan prefix })
+stop_of task prefix behind = record { last_node = behind.last_node; chained = behind.chained; stands = behind.stands; arrives = behind.arrives; tells = refl }
+
+-- the request closes no receiver of a prefix
+pub receivers_open : (task : SearchTask) (prefix : List ℕ) → IsPrefix task.plan task.request prefix → (x : ℕ) → has x (receivers task.plan prefix) ≡ true → is_closed task.plan task.request [] x ≡ false
+receivers_open task prefix facts x one =
+    let r = task.request in
+    or_from (has x (r.source ∷ [])) (has x r.avoided)
+    (false_from_ne_true (has x (r.source ∷ [])) (λ source. different_apart (r.source ∷ []) (receivers task.plan prefix) x facts.different source one))
+    (not-true (has x r.avoided) (all_of (λ n. not (has n r.avoided)) (receivers task.plan prefix) facts.allowed x one))
+
+-- what is known of the ways from the source is so of a question's ways, each of which goes on from its prefix
+pub soon_after : (task : SearchTask) (prefix : List ℕ) → IsOfRequest task → IsPrefix task.plan task.request prefix → IsStop (tabled_of task) task.request prefix (record { node = task.start; at = task.at; summary = summary_of task.plan prefix })
+    → (soon : List ℕ) → AreSoonFor (tabled_of task) task.request soon → AreSince task soon
+soon_after task prefix over facts stop soon are = λ ns v t some way.
+    let p = task.plan in
+    let r = task.request in
+    let chain : IsChain task [] ns v t task.at stop.last_node = chain_of_way task [] over.closes ns task.start task.at v t stop.last_node stop.stands way in
+    are (prefix ++ ns) v chain.last t (omega (arith, some, length-append prefix ns)) chain.stands
+    (chain_end-append p r.source prefix ns ∙ ap (option_and_then (λ b. chain_end p b ns)) stop.chained ∙ chain.chain)
+    (arrival_after-append p r r.at prefix ns ∙ ap (option_and_then (λ b. arrival_after p r b ns)) stop.arrives ∙ chain.after)
+    (λ x h.
+    has_either x (receivers p prefix) (receivers p ns) (sym (ap (has x) (receivers-append p prefix ns)) ∙ h) (is_closed p r [] x ≡ false)
+    (λ one. receivers_open task prefix facts x one)
+    (λ other. chain.open_nodes x other))
+
+-- what is forbidden for fewer nodes
+fewer : (a b c : Bool) → ((a || b) || c) ≡ false → ((a || false) || c) ≡ false
+fewer true b c h = absurd cc
+fewer false true c h = absurd cc
+fewer false false c h = h
+
+-- the question after a prefix closes what the request does
+pub of_request : (task : SearchTask) (prefix : List ℕ) → IsBehind task prefix → IsOfRequest task
+of_request task prefix behind = record {
+  goal_is = behind.goal_is;
+  since = after_later task.plan task.request prefix task.request.at task.at behind.arrives;
+  closes = λ k x at open'.
+      let closed : is_closed task.plan task.request prefix x ≡ false = sym (behind.forbids k x at) ∙ open' in
+      fewer (eqb x task.request.source) (has x (receivers task.plan prefix)) (has x task.request.avoided) closed;
+}
+
+-- what forbids fewer nodes takes no step away
+pub goes_of : (task : SearchTask) → IsOfRequest task → (n u t w b : ℕ) → Takes task n u t w b → Goes (tabled_of task) task.request n u t w b
+goes_of task over n u t w b s = record {
+  contact = s.contact;
+  named = s.named;
+  sender = s.sender;
+  receiver = s.receiver;
+  permitted = over.closes w s.contact.to s.receiver s.permitted;
+  arrives = s.arrives;
+}
+
+-- what is known of the ways over the whole graph is so of a question's ways
+pub bounds_of_nodes : (task : SearchTask) → HasNodes task.plan task.table → IsOfRequest task → (until : ℕ) (late costs : List ℕ) → AreLateFor (tabled_of task) task.request until late → AreCostsFor (tabled_of task) task.request costs → IsBound task until late costs
+bounds_of_nodes task nodes over until late costs are_late are_costs = record {
+  goal = are_late.goal task.goal over.goal_is;
+  steps = λ n u t w b s open' other. are_late.steps n u t w b (goes_of task over n u t w b s) (between n u t w b s open' other);
+  there = omega (arith, are_costs.goal task.goal over.goal_is);
+  since = over.since;
+  lowers = λ n u t w b s open' since. elim (cases_eq u task.goal) [
+    | inl same ↦ omega (arith, ap (slice_index costs) same, are_costs.goal task.goal over.goal_is, (takes_timely task nodes).later n u t w b s)
+    | inr other ↦ omega (arith, (takes_timely task nodes).later n u t w b s, are_costs.steps n u t w b (goes_of task over n u t w b s) (between n u t w b s open' other) since)
+  ];
+}
+  where
+    between : (n u t w b : ℕ) → Takes task n u t w b → slice_index_or task.forbidden u false ≡ false → u ≢ task.goal → IsBetween (tabled_of task) task.request u
+    between n u t w b s open' other = record {
+      node = s.contact.from;
+      stands = s.sender;
+      permitted = over.closes u s.contact.from s.sender open';
+      other = λ same. other (nodes.apart u task.goal task.request.destination (subst (λ x. slice_get task.table u ≡ Some x) same s.sender) over.goal_is);
+    }
 
 -- the answer after a prefix: the route goes on by the best way, or no way leads to the goal
 abbrev pub IsAnswered : SearchTask → List ℕ → Option RouteRecord → Type 0

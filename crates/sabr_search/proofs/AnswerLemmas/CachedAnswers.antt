@@ -14,16 +14,13 @@ use Rattle.sabr_search.specs.declared.found.Found.{Found}
 use Rattle.sabr_search.specs.declared.found.Found.TheVariants.{Way, Beyond}
 use Rattle.sabr_search.specs.declared.question.Question.{Question}
 use Rattle.sabr_search.specs.declared.visit.Visit.{Visit}
-use Rattle.sabr_search.specs.questions.Ways.{Leads}
+use Rattle.sabr_search.specs.questions.FirstSteps.{Leads, tabled_of}
 use Rattle.sabr_search.specs.questions.Task.{SearchTask, Takes, IsTask, IsAsked}
 use Rattle.sabr_search.specs.layers.Picks.{IsBestWay}
-use Rattle.sabr_search.specs.questions.FirstSteps.{tabled_of}
-use Rattle.sabr_search.specs.answers.Answers.{narrowed, Narrows, IsWayBeyond}
+use Rattle.sabr_search.specs.answers.Answers.{narrowed, Narrows, IsWayBeyond, IsFoundWith}
 use Rattle.sabr_search.specs.answers.CachedAnswers.{asked, AreListed, IsAnswer, Covers, HoldsFor, IsAnswerTo, IsPut, Arrives}
-use Rattle.sabr_search.specs.answers.Found.{IsFoundWith}
 use Rattle.sabr_search.specs.answers.Asked.{AnswersAt, bound_left, hops_left}
-use Rattle.sabr_search.proofs.WayLemmas.Bounds.{up_to_itself}
-use Rattle.sabr_search.proofs.WayLemmas.Staying.{answers_stay}
+use Rattle.sabr_search.proofs.AnswerLemmas.BoundedWays.{up_to_itself, answers_stay}
 use Rattle.sabr_search.proofs.WayLemmas.Ways.{Leads-append}
 use Rattle.sabr_search.proofs.WayLemmas.RoutesAndWays.{takes_timely}
 

@@ -13,15 +13,13 @@ use Rattle.sabr_model.proofs.ListLemmas.Members.{IsIn, in_map}
 use Rattle.sabr_model.proofs.RouteLemmas.Listed.{has_from_in}
 use Rattle.sabr_model.proofs.RouteLemmas.Routes.{route_facts}
 use Rattle.sabr_model.proofs.ListLemmas.Begins.{first_hop, receivers-cons}
-use Rattle.sabr_search.specs.layers.NumberOrder.{IsNotAfter}
+use Rattle.sabr_search.specs.layers.Picks.{IsNotAfter, IsBestWay}
 use Rattle.sabr_search.specs.questions.Part.{IsBestOf}
-use Rattle.sabr_search.specs.layers.Picks.{IsBestWay}
-use Rattle.sabr_search.specs.questions.Ways.{Leads}
+use Rattle.sabr_search.specs.questions.FirstSteps.{Leads}
 use Rattle.sabr_search.specs.questions.Task.{SearchTask, Takes, HasNodes, IsTask, IsBehind, latest_arrival}
 use Rattle.sabr_search.proofs.WayLemmas.Least.{least_in_part, none_in_part}
-use Rattle.sabr_search.proofs.LinkLemmas.PlanFacts.{contact_in, takes_early}
+use Rattle.sabr_search.proofs.LinkLemmas.PlanFacts.{contact_in, takes_early, few_different}
 use Rattle.sabr_search.proofs.WayLemmas.Prefixes.{IsPrefix}
-use Rattle.sabr_search.proofs.LinkLemmas.StepLists.{few_different}
 use Rattle.sabr_model.proofs.PlanLemmas.Tabled.{has_place}
 use Rattle.sabr_model.proofs.RouteLemmas.Paths.{value_of}
 

@@ -9,18 +9,15 @@ use Rattle.std.proofs.lemmas.List.{length-replicate}
 use Rattle.std.proofs.lemmas.Option.{slice_get_within}
 use Rattle.sabr_search.specs.declared.visit.Visit.{Visit}
 use Rattle.sabr_search.specs.declared.found.Best.{Best}
-use Rattle.sabr_search.specs.questions.Ways.{Leads}
+use Rattle.sabr_search.specs.questions.FirstSteps.{Leads, IsNoneBefore}
 use Rattle.sabr_search.specs.questions.Task.{SearchTask, Takes, IsTask, never, latest_arrival}
-use Rattle.sabr_search.specs.questions.FirstSteps.{IsNoneBefore}
-use Rattle.sabr_search.specs.layers.Lists.{IsKnown, AreClosed}
-use Rattle.sabr_search.specs.questions.Steps.{senders, degree}
-use Rattle.sabr_search.specs.layers.Made.{IsWayTo, AreOpened, IsFoundBest}
+use Rattle.sabr_search.specs.layers.Lists.{IsKnown, AreClosed, IsWayTo, AreOpened, IsFoundBest}
+use Rattle.sabr_search.specs.questions.Linked.{senders, degree}
 use Rattle.sabr_search.specs.layers.Settling.{IsBound, IsWaiting, AreBy, settled_count, AreArrivalsBy, IsQueue, AreSettling, IsFallen, AreSettledTaken, AreSettled, IsFirstWay, IsReached}
 use Rattle.sabr_search.proofs.WayLemmas.Ways.{Leads-later}
-use Rattle.sabr_search.proofs.LinkLemmas.Counts.{settled_more}
+use Rattle.sabr_search.proofs.LinkLemmas.PlanFacts.{settled_more, senders_length}
 use Rattle.sabr_search.proofs.WayLemmas.RoutesAndWays.{takes_timely}
 use Rattle.sabr_search.proofs.AnswerLemmas.Law.{way_early}
-use Rattle.sabr_search.proofs.LinkLemmas.StepLists.{senders_length}
 use Rattle.sabr_search.proofs.ForwardLemmas.MadeLayers.{index_past}
 use Rattle.sabr_search.proofs.ForwardLemmas.Queues.{flag_here, flag_other, flag_many, all_off, set_here, set_many, count_more, count_short, head_inside, head_open, head_other, head_soon, settles}
 

@@ -1,16 +1,23 @@
 -- Steps of a forward search: what one contact, one node and one layer leave.
-use Rattle.std.proofs.Common.{◌≡◌, min, ◌⊎◌, inl, inr, ℕ, ◌+◌, ◌<◌, ◌≤◌, List, Bool, false, Some, slice_get, slice_index, slice_index_or, refl, ap, sym, subst, ◌∙◌, arith}
+use Rattle.std.proofs.Common.{◌≡◌, min, ◌⊎◌, inl, inr, ℕ, ◌+◌, ◌<◌, ◌≤◌, List, Bool, false, Some, slice_get, slice_index, slice_index_or, refl, ap, sym, subst, ◌∙◌, arith, [], ◌∷◌, map}
 use Rattle.std.proofs.lemmas.Bool.{cases_lt}
 use Rattle.sabr_model.specs.declared.contact.Contact.{Contact}
 use Rattle.sabr_model.specs.declared.hop.Hop.{Hop}
 use Rattle.sabr_model.specs.plan.Plan.{contact_named, has}
 use Rattle.sabr_search.specs.declared.visit.Visit.{Visit}
 use Rattle.sabr_search.specs.questions.Task.{SearchTask, Takes, IsTask}
-use Rattle.sabr_search.specs.questions.Steps.{IsHopAt}
+use Rattle.sabr_search.specs.questions.Linked.{IsHopAt}
 use Rattle.sabr_model.specs.routes.Hops.{hop_arrival}
 use Rattle.sabr_search.specs.layers.Lists.{AreLists, IsLowered, IsKnown, Arrivals}
 use Rattle.sabr_search.proofs.LinkLemmas.PlanFacts.{hop_arrival_is}
 use Rattle.sabr_search.proofs.WayLemmas.RoutesAndWays.{same_some}
+use Rattle.std.specs.Prelude.{All}
+use Rattle.std.specs.BinaryHeap.{IsUpperBound}
+use Rattle.std.specs.Ordering.{nat_cmp}
+use Rattle.std.specs.declared.cmp.Reverse.{Reverse}
+use Rattle.std.proofs.lemmas.List.Elements.{All-nil, All-cons}
+use Rattle.std.proofs.lemmas.Map.Keys.{ge_from_not_lt}
+use Rattle.sabr_search.specs.layers.Events.{event_of}
 
 -- nothing was taken
 pub lowered_none : (forbidden : List Bool) (goal at begin : ℕ) (Given : Arrivals) (arrival place : List ℕ) (reached : List Visit) (best : ℕ) →
@@ -91,3 +98,10 @@ hop_takes task is n h hop u t x sent permitted allowed arrives =
 -- a place before the next is an earlier one or this
 pub last_or_before : (n i : ℕ) → n < i + 1 → (n < i) ⊎ (n ≡ i)
 last_or_before n i h = grind arith
+
+-- The keys of events in their order.
+
+-- no event is earlier than that of the least key
+pub earliest_of_least : (x : Reverse ℕ) (keys : List (Reverse ℕ)) → IsUpperBound (λ (a b : Reverse ℕ). nat_cmp b.0 a.0) x keys → All (λ (e : Visit). (event_of x.0).at ≤ e.at) (map (λ (k : Reverse ℕ). event_of k.0) keys)
+earliest_of_least x [] least = All-nil (λ (e : Visit). (event_of x.0).at ≤ e.at)
+earliest_of_least x (k ∷ keys) least = All-cons (λ (e : Visit). (event_of x.0).at ≤ e.at) (event_of k.0) (map (λ (j : Reverse ℕ). event_of j.0) keys) (omega (arith, ge_from_not_lt k.0 x.0 least.0)) (earliest_of_least x keys least.1)

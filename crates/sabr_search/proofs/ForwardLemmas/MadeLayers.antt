@@ -7,14 +7,12 @@ use Rattle.std.proofs.lemmas.Option.{slice_get-get_or, slice_get_within, get_or_
 use Rattle.sabr_search.specs.declared.visit.Visit.{Visit}
 use Rattle.sabr_search.specs.declared.found.Best.{Best}
 use Rattle.sabr_search.specs.layers.Deadlines.{Entries}
-use Rattle.sabr_search.specs.questions.Ways.{Leads}
+use Rattle.sabr_search.specs.questions.FirstSteps.{Leads}
 use Rattle.sabr_search.specs.questions.Task.{SearchTask, Takes, IsTask, never}
-use Rattle.sabr_search.specs.layers.Lists.{AreLists, IsLowered, IsKnownFrom, GivenFrom, AreSources, IsBroughtTo}
-use Rattle.sabr_search.specs.layers.Made.{IsWayTo, IsFound, IsMade, IsFoundBest}
+use Rattle.sabr_search.specs.layers.Lists.{AreLists, IsLowered, IsKnownFrom, GivenFrom, AreSources, IsBroughtTo, IsWayTo, IsFound, IsMade, IsFoundBest}
 use Rattle.sabr_search.specs.layers.Late.{IsNoneSooner}
 use Rattle.sabr_search.proofs.WayLemmas.Ways.{Leads-append, Leads-later}
-use Rattle.sabr_search.proofs.ForwardLemmas.HopLayers.{ReachedBy, IsTaken, none_sooner}
-use Rattle.sabr_search.proofs.ForwardLemmas.LayerEntries.{same_below}
+use Rattle.sabr_search.proofs.ForwardLemmas.LayerEntries.{ReachedBy, IsTaken, none_sooner, same_below}
 use Rattle.sabr_search.proofs.ForwardLemmas.Forward.{last_or_before}
 use Rattle.sabr_search.proofs.WayLemmas.RoutesAndWays.{same_some, takes_timely}
 use Rattle.sabr_search.proofs.LinkLemmas.PlanFacts.{takes_early}

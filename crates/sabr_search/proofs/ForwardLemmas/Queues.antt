@@ -9,8 +9,7 @@ use Rattle.std.proofs.lemmas.List.Sums.{sum_by-set, count_by-le-length}
 use Rattle.sabr_search.specs.declared.visit.Visit.{Visit}
 use Rattle.sabr_search.specs.declared.found.Best.{Best}
 use Rattle.sabr_search.specs.questions.Task.{SearchTask, Takes, IsTask, never, latest_arrival}
-use Rattle.sabr_search.specs.layers.Lists.{AreClosed, IsKnown}
-use Rattle.sabr_search.specs.layers.Made.{IsWayTo, IsFound}
+use Rattle.sabr_search.specs.layers.Lists.{AreClosed, IsKnown, IsWayTo, IsFound}
 use Rattle.sabr_search.specs.layers.Settling.{IsBound, IsWaiting, AreSettledBy, AreBy, settled_count, IsQueue, AreHops, AreSettling, IsFallen, AreSettledTaken}
 use Rattle.sabr_search.proofs.WayLemmas.Ways.{Leads-append}
 use Rattle.sabr_search.proofs.WayLemmas.RoutesAndWays.{takes_timely}

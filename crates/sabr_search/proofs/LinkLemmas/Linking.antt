@@ -13,10 +13,8 @@ use Rattle.sabr_model.specs.routes.Arrival.{cost}
 use Rattle.sabr_model.specs.plan.Plan.{contact_named}
 use Rattle.sabr_index.specs.Links.{AreLinksOf, IsLinkOf, IsPassOf, SentLink, AreLinksTo, passes_over}
 use Rattle.sabr_search.specs.questions.Task.{SearchTask, IsTask}
-use Rattle.sabr_search.specs.questions.Steps.{place_in, received}
-use Rattle.sabr_search.specs.questions.Linked.{IsPassAt, IsLinkAt, AreLinksAt, AreSendersAt}
-use Rattle.sabr_search.proofs.LinkLemmas.Arrivals.{arrival_parts}
-use Rattle.sabr_search.proofs.LinkLemmas.StepLists.{place_is, sum_taken, sum_taken_le}
+use Rattle.sabr_search.specs.questions.Linked.{place_in, received, IsPassAt, IsLinkAt, AreLinksAt, AreSendersAt}
+use Rattle.sabr_search.proofs.LinkLemmas.PlanFacts.{arrival_parts, place_is, sum_taken, sum_taken_le}
 use Rattle.sabr_model.proofs.ListLemmas.Different.{part_has}
 use Rattle.sabr_search.proofs.WayLemmas.RoutesAndWays.{same_some}
 

@@ -20,10 +20,8 @@ use Rattle.sabr_model.specs.plan.Plan.{has}
 use Rattle.sabr_search.specs.questions.Task.{SearchTask, IsTask, Takes}
 use Rattle.sabr_search.specs.layers.Lists.{IsKnown}
 use Rattle.sabr_model.specs.routes.Hops.{hop_arrival, IsSmall}
-use Rattle.sabr_search.specs.questions.Steps.{IsHopAt}
-use Rattle.sabr_search.specs.questions.Linked.{IsPassAt, IsLinkAt, HasNumber, AreLinksAt, IsLinkHere, IsRuledOut}
-use Rattle.sabr_search.proofs.LinkLemmas.Arrivals.{arrival_parts}
-use Rattle.sabr_search.proofs.LinkLemmas.PlanFacts.{hop_small}
+use Rattle.sabr_search.specs.questions.Linked.{IsHopAt, IsPassAt, IsLinkAt, HasNumber, AreLinksAt, IsLinkHere, IsRuledOut}
+use Rattle.sabr_search.proofs.LinkLemmas.PlanFacts.{arrival_parts, hop_small}
 use Rattle.sabr_search.proofs.ForwardLemmas.Forward.{known_old, hop_takes}
 use Rattle.sabr_search.proofs.WayLemmas.RoutesAndWays.{same_some}
 

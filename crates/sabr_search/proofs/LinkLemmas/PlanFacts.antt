@@ -1,27 +1,123 @@
--- What a plan's rules say of a contact of a number, of its hop, and of the table of nodes.
-use Rattle.std.proofs.Common.{◌≡◌, ℕ, zero, suc, ◌+◌, ◌*◌, ◌<◌, ◌≤◌, max, Bool, true, false, ◌&&◌, cond, not, eqb, ltb, List, [], ◌∷◌, slice_get, refl, sym, ap, subst, ◌∙◌, inl, inr, ⊎_elim, arith}
-use Rattle.std.specs.Prelude.{IfSome, Contains, ◌↔◌}
-use Rattle.std.proofs.lemmas.Bool.{and_parts, not-true, both_ways, false_from_ne_true, ltb-true, cond-true, lt-ltb}
-use Rattle.std.specs.List.{find}
+-- What a plan's rules say of a contact of a number, of its hop and its arrival, and of the table of nodes; and how many
+-- contacts are looked at.
+use Rattle.std.proofs.Common.{◌≡◌, ℕ, ◌+◌, ◌<◌, ◌≤◌, max, true, false, cond, ltb, refl, arith, ◌≢◌, ◌⊎◌, inl, inr, ◌==◌, List, [], ◌∷◌, length, Bool, slice_index_or, slice_set, eq-eqb, ne_eqb, zero, suc, eqb, map, take, slice_get, sym, ap, ◌∙◌, ⊎_elim, add-one, ◌*◌, ◌&&◌, not, subst}
+use Rattle.std.proofs.lemmas.Bool.{ltb-true, both_ways, eqb-true, or_cases, cases_Bool, and_parts, not-true, false_from_ne_true, cond-true, lt-ltb}
 use Rattle.std.specs.Option.{option_map}
-use Rattle.std.specs.declared.option.Option.{Option}
 use Rattle.std.specs.declared.option.Option.TheVariants.{Some, None}
 use Rattle.sabr_model.specs.declared.contact.Contact.{Contact}
-use Rattle.sabr_model.specs.declared.contact.Range.{Range}
-use Rattle.sabr_model.specs.declared.hop.Hop.{Hop}
-use Rattle.sabr_model.specs.plan.Plan.{ContactPlan, TabledPlan, IsPlan, IsWindow, contact_named, has, are_different}
+use Rattle.sabr_model.specs.plan.Plan.{ContactPlan, has, are_different, TabledPlan, IsPlan, IsWindow, contact_named}
 use Rattle.sabr_model.specs.plan.Light.{light_of, light_of_pair, or_else, is_within}
 use Rattle.sabr_model.specs.routes.Arrival.{RouteRequest, cost, arrival}
+use Rattle.std.specs.List.{count_by, sum_by, find}
+use Rattle.std.proofs.lemmas.List.Sums.{sum_by-cons}
+use Rattle.std.proofs.lemmas.Grind.{common_steps}
+use Rattle.std.specs.Cmp.{nat_eq_equiv}
+use Rattle.std.proofs.lemmas.Map.Made.{length-le_from_is_member}
+use Rattle.sabr_search.specs.questions.Task.{SearchTask, HasNodes, IsTask, Takes, latest_arrival}
+use Rattle.sabr_search.specs.questions.Linked.{place_in, senders, IsHopAt}
+use Rattle.sabr_model.proofs.RouteLemmas.Listed.{distinct_from_different, in_from_has, has_from_in}
+use Rattle.sabr_model.proofs.PlanLemmas.Tabled.{has_place}
+use Rattle.std.specs.Prelude.{IfSome, Contains, ◌↔◌}
+use Rattle.std.specs.declared.option.Option.{Option}
+use Rattle.sabr_model.specs.declared.contact.Range.{Range}
+use Rattle.sabr_model.specs.declared.hop.Hop.{Hop}
 use Rattle.sabr_model.specs.plan.Table.{ends_of}
 use Rattle.sabr_model.specs.plan.Tabled.{IsTabled, IsHopOf, IsHopNamed}
 use Rattle.sabr_model.proofs.ListLemmas.Members.{IsIn, all_in, in_flat_map, in_from_Contains, Contains-from_in}
-use Rattle.sabr_model.proofs.RouteLemmas.Listed.{in_from_has, has_from_in}
 use Rattle.sabr_model.specs.routes.Hops.{hop_arrival, IsSmall}
 use Rattle.std.proofs.Math.Nat.{mul-le-mul}
-use Rattle.sabr_search.specs.questions.Task.{HasNodes, SearchTask, IsTask, Takes, latest_arrival}
-use Rattle.sabr_search.specs.questions.Steps.{IsHopAt}
-use Rattle.sabr_search.proofs.LinkLemmas.Arrivals.{arrival_parts}
-use Rattle.sabr_model.proofs.PlanLemmas.Tabled.{has_place}
+
+-- The arrival over one contact.
+
+-- what an arrival is made of
+pub record IsArrival (p : ContactPlan) (r : RouteRequest) (t : ℕ) (c : Contact) (b : ℕ) : Type 0 where
+  pub light : ℕ
+  pub in_force : light_of p c ≡ Some light
+  pub before_end : max t c.start < c.end
+  pub sum : b ≡ max t c.start + cost r.margin light
+
+pub arrival_parts : (p : ContactPlan) (r : RouteRequest) (t : ℕ) (c : Contact) (b : ℕ) → arrival p r t c ≡ Some b → IsArrival p r t c b
+arrival_parts p r t c b e =
+    elim (ltb (max t c.start) c.end) as (λ w. ltb (max t c.start) c.end ≡ w → cond w (option_map (λ l. max t c.start + cost r.margin l) (light_of p c)) None ≡ Some b → IsArrival p r t c b) [
+      | false ↦ λ q h. absurd cc
+      | true ↦ λ q h. elim (light_of p c) as (λ o. light_of p c ≡ o → option_map (λ l. max t c.start + cost r.margin l) o ≡ Some b → IsArrival p r t c b) [
+        | None ↦ λ f g. absurd cc
+        | Some l ↦ λ f g. (let same : max t c.start + cost r.margin l ≡ b = cc (g) in record { light = l; in_force = f; before_end = ltb-true (max t c.start) c.end q; sum = omega (arith, same) })
+      ] refl h
+    ] refl e
+
+pub arrives_later : (p : ContactPlan) (r : RouteRequest) (t : ℕ) (c : Contact) (b : ℕ) → arrival p r t c ≡ Some b → t ≤ b
+arrives_later p r t c b e = let a = arrival_parts p r t c b e in omega (arith, a.sum)
+
+-- How many contacts are looked at: each node of a list of different nodes looks at the contacts that it sends.
+
+count_by-cons : {X : Type 0} (p : X → Bool) (x : X) (xs : List X) → count_by p (x ∷ xs) ≡ cond (p x) 1 0 + count_by p xs
+count_by-cons p x xs = sum_by-cons (λ y. cond (p y) 1 0) x xs
+
+same_or_other : (f k : ℕ) → (f ≡ k) ⊎ (f ≢ k)
+same_or_other f k = grind arith
+
+flag_at : (flags : List Bool) (k f : ℕ) → k < length flags → slice_index_or flags k false ≡ false →
+    cond (slice_index_or (slice_set flags k true) f false) 1 0 ≡ cond (slice_index_or flags f false) 1 0 + cond (f == k) 1 0
+flag_at flags k f in' off =
+    elim (same_or_other f k) [
+      | inl same ↦
+          let on : slice_index_or (slice_set flags k true) f false ≡ true = grind (arith, common_steps) in
+          let was : slice_index_or flags f false ≡ false = grind (arith, common_steps) in
+          rw (on, was, eq-eqb f k same) refl
+      | inr other ↦
+          let kept : slice_index_or (slice_set flags k true) f false ≡ slice_index_or flags f false = grind (arith, common_steps) in
+          rw (kept, ne_eqb f k other) (omega arith)
+    ]
+
+-- a node more is settled: its contacts come to those of the settled nodes
+pub settled_more : (flags : List Bool) (k : ℕ) (fs : List ℕ) → k < length flags → slice_index_or flags k false ≡ false →
+    count_by (λ f. slice_index_or (slice_set flags k true) f false) fs ≡ count_by (λ f. slice_index_or flags f false) fs + count_by (λ f. f == k) fs
+settled_more flags k [] in' off = refl
+settled_more flags k (f ∷ fs) in' off =
+    let one : cond (slice_index_or (slice_set flags k true) f false) 1 0 ≡ cond (slice_index_or flags f false) 1 0 + cond (f == k) 1 0 = flag_at flags k f in' off in
+    omega (arith, count_by-cons (λ g. slice_index_or (slice_set flags k true) g false) f fs, count_by-cons (λ g. slice_index_or flags g false) f fs, count_by-cons (λ g. g == k) f fs, one, settled_more flags k fs in' off)
+
+-- The place of a sender in the table of nodes, and how many different numbers a list can have.
+
+-- the place of an element of a list in which no element comes twice
+place_found : (xs : List ℕ) (x : ℕ) → has x xs ≡ true → slice_get xs (place_in xs x) ≡ Some x
+place_found [] x h = absurd cc
+place_found (y ∷ ys) x h =
+    ⊎_elim
+    (λ here. ap (λ b. slice_get (y ∷ ys) (cond b 0 (place_in ys x + 1))) here ∙ ap Some (sym (eqb-true x y here)))
+    (λ other. ap (λ b. slice_get (y ∷ ys) (cond b 0 (place_in ys x + 1))) other ∙ rw add-one
+    (place_found ys x (⊎_elim (λ e. absurd (both_ways (eqb x y) other e)) (λ k. k) (or_cases (eqb x y) (has x ys) h))))
+    (cases_Bool (eqb x y))
+
+pub place_is : (p : ContactPlan) (table : List ℕ) → HasNodes p table → (u x : ℕ) → slice_get table u ≡ Some x → place_in table x ≡ u
+place_is p table nodes u x e = nodes.apart (place_in table x) u x (place_found table x (has_place table u x e)) e
+
+-- different numbers of a list are no more than the list has
+pub few_different : (xs ys : List ℕ) → are_different xs ≡ true → ((q : ℕ) → has q xs ≡ true → has q ys ≡ true) → length xs ≤ length ys
+few_different xs ys d inside = length-le_from_is_member nat_eq_equiv xs ys (distinct_from_different xs d) inside
+
+map_length : {X : Type 0} (f : X → ℕ) (xs : List X) → length (map f xs) ≡ length xs
+map_length f [] = refl
+map_length f (x ∷ xs) = ap suc (map_length f xs)
+
+-- all nodes together send as many contacts as the plan has
+pub senders_length : (task : SearchTask) → length (senders task) ≡ length task.plan.contacts
+senders_length task = map_length (λ (c : Contact). place_in task.table c.from) task.plan.contacts
+
+-- a sum over the first of a list, with one more, and over all
+sum_next : {X : Type 0} (f : X → ℕ) (xs : List X) (k : ℕ) (x : X) → slice_get xs k ≡ Some x → sum_by f (take (suc k) xs) ≡ sum_by f (take k xs) + f x
+sum_next f [] k x at = absurd cc
+sum_next f (y ∷ ys) zero x at = let same : y ≡ x = cc (at) in omega (arith, sum_by-cons f y [], ap f same)
+sum_next f (y ∷ ys) (suc k) x at = omega (arith, sum_by-cons f y (take (suc k) ys), sum_by-cons f y (take k ys), sum_next f ys k x at)
+
+pub sum_taken : {X : Type 0} (f : X → ℕ) (xs : List X) (k : ℕ) (x : X) → slice_get xs k ≡ Some x → sum_by f (take (k + 1) xs) ≡ sum_by f (take k xs) + f x
+sum_taken f xs k x at = rw (add-one k) (sum_next f xs k x at)
+
+pub sum_taken_le : {X : Type 0} (f : X → ℕ) (xs : List X) (k : ℕ) → sum_by f (take k xs) ≤ sum_by f xs
+sum_taken_le f xs zero = omega arith
+sum_taken_le f [] (suc k) = omega arith
+sum_taken_le f (y ∷ ys) (suc k) = omega (arith, sum_by-cons f y (take k ys), sum_by-cons f y ys, sum_taken_le f ys k)
 
 -- what a search through a list finds is in the list and passes
 pub found_in : {X : Type 0} (test : X → Bool) (xs : List X) (x : X) → find test xs ≡ Some x → IsIn x xs × (test x ≡ true)

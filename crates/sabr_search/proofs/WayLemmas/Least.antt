@@ -16,8 +16,8 @@ use Rattle.sabr_model.specs.routes.Listing.{routes}
 use Rattle.sabr_model.specs.routes.Parts.{goes_on, least_in}
 use Rattle.sabr_model.proofs.ListLemmas.Members.{IsIn, in_from_Contains, Contains-from_in, all_in}
 use Rattle.sabr_model.proofs.RouteLemmas.RoutesListed.{routes_are_listed}
-use Rattle.sabr_search.specs.layers.NumberOrder.{IsNotAfter}
-use Rattle.sabr_search.specs.questions.Ways.{Leads}
+use Rattle.sabr_search.specs.layers.Picks.{IsNotAfter}
+use Rattle.sabr_search.specs.questions.FirstSteps.{Leads}
 use Rattle.sabr_search.specs.questions.Task.{SearchTask, Takes, IsBehind}
 use Rattle.sabr_search.proofs.WayLemmas.Prefixes.{IsPrefix}
 use Rattle.sabr_search.proofs.WayLemmas.PartWays.{IsPartWay, part_way, way_is_route}

@@ -11,10 +11,9 @@ use Rattle.sabr_model.specs.routes.Route.{chain_end, receivers, is_route, IsRout
 use Rattle.sabr_model.specs.routes.Parts.{goes_on}
 use Rattle.sabr_model.proofs.ListLemmas.Begins.{receivers-cons, receivers-append, chain_end-append, different_apart}
 use Rattle.sabr_model.proofs.RouteLemmas.Routes.{route_facts, route_from_facts}
-use Rattle.sabr_search.specs.questions.Ways.{Leads}
+use Rattle.sabr_search.specs.questions.FirstSteps.{Leads}
 use Rattle.sabr_search.specs.questions.Task.{SearchTask, Takes, IsBehind, is_closed}
-use Rattle.sabr_search.proofs.WayLemmas.Ways.{Leads-append}
-use Rattle.sabr_search.proofs.BackwardLemmas.Picks.{no_return}
+use Rattle.sabr_search.proofs.WayLemmas.Ways.{Leads-append, no_return}
 use Rattle.sabr_search.proofs.WayLemmas.Chains.{arrival_after-append, all_of, all_from, has_right, has_either}
 use Rattle.sabr_search.proofs.WayLemmas.Prefixes.{IsPrefix, goes_on-append, goes_on_parts}
 use Rattle.sabr_search.proofs.WayLemmas.RoutesAndWays.{takes_timely, way_from_chain, IsChain, opens_of, chain_of_way}

@@ -20,10 +20,9 @@ use Rattle.sabr_model.specs.routes.Hops.{hop_arrival}
 use Rattle.sabr_search.specs.declared.prefix_path.Stop.{Stop}
 use Rattle.sabr_search.specs.questions.Task.{SearchTask, HasNodes, IsTask, IsBehind, is_closed, task_of, most_nodes, latest_arrival}
 use Rattle.sabr_search.specs.questions.PrefixPath.{AreForbidden, IsStop, AreStops}
-use Rattle.sabr_search.proofs.LinkLemmas.Arrivals.{arrival_parts, arrives_later}
+use Rattle.sabr_search.proofs.LinkLemmas.PlanFacts.{arrival_parts, arrives_later, hop_arrival_is, contact_window, light_small, cost_small}
 use Rattle.sabr_search.proofs.WayLemmas.RoutesAndWays.{start_is_forbidden}
 use Rattle.sabr_search.proofs.WayLemmas.Chains.{has_append, first_arrival}
-use Rattle.sabr_search.proofs.LinkLemmas.PlanFacts.{hop_arrival_is, contact_window, light_small, cost_small}
 use Rattle.sabr_search.proofs.WayLemmas.Prefixes.{IsPrefix}
 use Rattle.sabr_model.proofs.PlanLemmas.Tabled.{has_place}
 use Rattle.sabr_model.proofs.RouteLemmas.Paths.{IsHop, hop_facts, beginning_is_path, receivers_push, chain_end_push, arrival_after_push}

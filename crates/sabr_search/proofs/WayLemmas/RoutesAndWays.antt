@@ -8,10 +8,10 @@ use Rattle.sabr_model.specs.routes.Arrival.{arrival_after}
 use Rattle.sabr_model.specs.routes.Route.{chain_end, receivers}
 use Rattle.sabr_model.proofs.ListLemmas.Begins.{FirstHop, first_hop, receivers-cons, end_is_received}
 use Rattle.sabr_model.proofs.RouteLemmas.Waiting.{arrival_is_monotone}
-use Rattle.sabr_search.specs.questions.Ways.{Leads}
+use Rattle.sabr_search.specs.questions.FirstSteps.{Leads}
 use Rattle.sabr_search.specs.questions.Task.{SearchTask, Takes, HasNodes, IsBehind, is_closed}
 use Rattle.sabr_search.proofs.WayLemmas.Chains.{first_arrival, chain_end-cons, arrival_after-cons}
-use Rattle.sabr_search.proofs.LinkLemmas.Arrivals.{arrives_later}
+use Rattle.sabr_search.proofs.LinkLemmas.PlanFacts.{arrives_later}
 use Rattle.sabr_search.proofs.WayLemmas.Ways.{IsTimely}
 
 pub same_some : {X : Type 0} {x y : X} → Some x ≡ Some y → x ≡ y

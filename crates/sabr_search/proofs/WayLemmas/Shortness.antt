@@ -11,12 +11,12 @@ use Rattle.sabr_model.specs.plan.Table.{ends_of}
 use Rattle.sabr_model.specs.plan.Tabled.{IsTabled}
 use Rattle.sabr_model.specs.routes.Route.{chain_end, receivers}
 use Rattle.sabr_model.proofs.ListLemmas.Begins.{receivers-append, chain_end-append}
-use Rattle.sabr_search.specs.questions.Ways.{Leads}
+use Rattle.sabr_search.specs.questions.FirstSteps.{Leads}
 use Rattle.sabr_search.specs.questions.Task.{SearchTask, Takes, IsBehind, most_nodes}
 use Rattle.sabr_search.proofs.WayLemmas.Prefixes.{IsPrefix}
 use Rattle.sabr_search.proofs.WayLemmas.RoutesAndWays.{IsChain, opens_of, chain_of_way}
 use Rattle.sabr_search.proofs.WayLemmas.PartWays.{way_differs}
-use Rattle.sabr_search.proofs.LinkLemmas.StepLists.{few_different}
+use Rattle.sabr_search.proofs.LinkLemmas.PlanFacts.{few_different}
 use Rattle.sabr_search.proofs.AnswerLemmas.Law.{chain_few, contacts_few, prefix_few}
 use Rattle.sabr_model.proofs.ListLemmas.Different.{different_append}
 

@@ -1,5 +1,6 @@
-use Rattle.std.proofs.Common.{◌≡◌, ℕ, ◌≤◌, List, [], ◌∷◌, ◌++◌, refl, sym, ◌∙◌, arith}
-use Rattle.sabr_search.specs.questions.Ways.{StepRelation, Leads}
+-- Ways, joined and taken apart, and what a pick of the smallest numbers says.
+use Rattle.std.proofs.Common.{◌≡◌, ℕ, ◌≤◌, List, [], ◌∷◌, ◌++◌, refl, sym, ◌∙◌, arith, ◌+◌, ◌<◌, length, length-append}
+use Rattle.sabr_search.specs.questions.FirstSteps.{StepRelation, Leads}
 
 -- no step goes back in time, a bundle that comes earlier arrives, too, and no later, and a number names one step
 pub record IsTimely (T : StepRelation) : Type 0 where
@@ -33,3 +34,11 @@ module _ (T : StepRelation) (timely : IsTimely T) where
   Leads-one (n ∷ ns) u t v e w f h k =
       let same = timely.one n u t h.0 h.1 k.0 k.1 h.2 k.2 in
       Leads-one ns h.0 h.1 v e w f h.3 (rw (same.0, same.1) k.3)
+
+-- if fewer hops come later, a way with which the goal is reached by d comes to no node twice
+pub no_return : (T : StepRelation) → IsTimely T → (start at goal r d : ℕ) → ((ns : List ℕ) (e : ℕ) → length ns < r → Leads T start at ns goal e → d < e) →
+    (xs ys zs : List ℕ) (v t s e : ℕ) → Leads T start at xs v t → Leads T v t ys v s → Leads T v s zs goal e → e ≤ d → length xs + length ys + length zs ≡ r → 0 < length ys → ⊥
+no_return T timely start at goal r d fewest xs ys zs v t s e to round on late sum pos =
+    let sooner = Leads-earlier T timely zs v s goal e t on (Leads-later T timely ys v t v s round) in
+    let short : length (xs ++ zs) < r = omega (arith, length-append xs zs) in
+    omega (arith, sooner.1, fewest (xs ++ zs) sooner.0 short (Leads-append T timely xs zs start at v t goal sooner.0 to sooner.2))

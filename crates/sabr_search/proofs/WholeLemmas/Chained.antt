@@ -1,5 +1,6 @@
--- The chains of layers made backward: the entries of a node from its last one down, and the walks over them.
-use Rattle.std.proofs.Common.{◌≡◌, inl, inr, ℕ, ◌+◌, ◌-◌, ◌<◌, ◌≤◌, List, [], ◌∷◌, ◌++◌, length, Some, slice_get, slice_index, slice_set, ap, sym, ◌∙◌, arith, length-append}
+-- The chains of layers made backward: the entries of a node from its last one down, the walks over them, and a node that
+-- is noted.
+use Rattle.std.proofs.Common.{◌≡◌, inl, inr, ℕ, ◌+◌, ◌-◌, ◌<◌, ◌≤◌, List, [], ◌∷◌, ◌++◌, length, Some, slice_get, slice_index, slice_set, ap, sym, ◌∙◌, arith, length-append, ◌≢◌, take, false, slice_index_or, refl}
 use Rattle.std.proofs.lemmas.Bool.{cases_lt, cases_eq}
 use Rattle.std.proofs.lemmas.Bool.Decides.{nat_tests}
 use Rattle.std.proofs.lemmas.Option.{slice_get_within}
@@ -7,9 +8,12 @@ use Rattle.std.proofs.Math.Seq.{get_or-append_seam}
 use Rattle.std.proofs.lemmas.List.{get_or_append_left}
 use Rattle.sabr_search.specs.declared.backward.deadlines.Deadline.{Deadline}
 use Rattle.sabr_search.specs.layers.Deadlines.{AreLinked, IsLastBelow, IsLatestWithin, IsOf, head_of}
-use Rattle.sabr_search.proofs.BackwardLemmas.Backward.{get_set_here, get_set_other}
-use Rattle.sabr_search.proofs.BackwardLemmas.LateLists.{get_push_before, push_cases, set_cases, set_many}
+use Rattle.sabr_search.proofs.BackwardLemmas.LateLists.{get_set_here, get_set_other, get_push_before, push_cases, set_cases, set_many, changed_late, pushed_late, take_set, take_push}
 use Rattle.sabr_search.proofs.WayLemmas.RoutesAndWays.{same_some}
+use Rattle.sabr_search.specs.declared.backward.deadlines.Deadlines.{Deadlines}
+use Rattle.sabr_search.specs.declared.backward.from_goal.Aim.{Aim}
+use Rattle.sabr_search.specs.questions.Task.{SearchTask, Takes}
+use Rattle.sabr_search.specs.layers.Late.{AreGrowing, AreGrown, AreLate, InTimeFor, IsNotedLate}
 
 pub is_of : (entries : List Deadline) (p v : ℕ) (e : Deadline) → slice_get entries p ≡ Some e → e.node ≡ v → IsOf entries p v
 is_of entries p v e at same = (e.before, at ∙ ap (λ k. Some (record { node = k; before = e.before })) same)
@@ -101,3 +105,75 @@ latest_here entries later v end place x some there was = λ p e less at same. el
   | inl before ↦ up_to entries later v x (place - 1) p e there (omega arith) at same
   | inr behind ↦ absurd (was.none p behind less (is_of entries p v e at same))
 ]
+
+-- A node that is noted to be too late later than before: the chains of the entries with it.
+
+-- a node's last entry is where it says
+pub last_of : (task : SearchTask) (first begin : ℕ) (late place : List ℕ) (entries : List Deadline) → AreLate task first begin late place entries → (v : ℕ) → v < length task.table → IsLastBelow entries v (length entries) (head_of late place v)
+last_of task first begin late place entries was v inside = elim (cases_eq (slice_index late v) 0) [
+  | inl none ↦ rw (head_none late place v none) (record {
+    within = omega arith;
+    entry = λ some. absurd (omega (arith, some));
+    none = λ p low high here. elim (cases_eq p 0) [
+      | inl first ↦ omega (arith, none, was.by p _ here.1, (was.goal _ (ap (slice_get entries) (sym first) ∙ here.1)).1)
+      | inr later ↦ omega (arith, none, was.by p _ here.1, (was.each p _ (omega (arith, later)) here.1).some)
+    ];
+  })
+  | inr other ↦
+      (let some : 0 < slice_index late v = omega (arith, other) in
+      let top = was.top v inside some in
+      rw (head_some late place v some) (record {
+        within = omega (arith, slice_get_within entries (slice_index place v) _ top);
+        entry = λ here. (slice_index late v, ap (slice_get entries) (omega arith) ∙ top);
+        none = λ p low high here. elim (cases_eq (slice_index place v) 0) [
+          | inl first ↦ (was.each p _ (omega (arith, low)) here.1).other ((was.goal _ (ap (slice_get entries) (sym first) ∙ top)).0)
+          | inr later ↦ omega (arith, was.by p _ here.1, was.rising (slice_index place v) p _ _ (omega (arith, later)) (omega (arith, low)) top here.1 refl)
+        ];
+      }))
+]
+
+-- each head is within the entries
+pub head_within : (task : SearchTask) (first begin : ℕ) (late place : List ℕ) (entries : List Deadline) → AreLate task first begin late place entries → (v : ℕ) → v < length task.table → head_of late place v ≤ length entries
+head_within task first begin late place entries was v inside = (last_of task first begin late place entries was v inside).within
+
+-- layers that have grown no more, or once more
+pub grown_none : {A : Type 0} (aim : Aim A) (left : ℕ) (s : Deadlines A) → AreGrowing aim left s → AreGrown aim left s s
+grown_none aim left s growing = record { growing = growing; rises = λ k. omega arith; ends = refl; before = refl }
+
+pub grown_more : {A : Type 0} (aim : Aim A) (left : ℕ) (s t u : Deadlines A) → AreGrown aim left s t → AreGrown aim left t u → AreGrown aim left s u
+grown_more aim left s t u first second = record {
+  growing = second.growing;
+  rises = λ k. omega (arith, first.rises k, second.rises k);
+  ends = second.ends ∙ first.ends;
+  before = rw first.ends at second.before ∙ first.before;
+}
+
+-- the lists with one node noted, and what stood before the layer
+pub record AreNoted {A : Type 0} (task : SearchTask) (first begin u x : ℕ) (s t : Deadlines A) : Type 0 where
+  pub lists : AreLate task first begin (slice_set s.late.items u x) t.place.items t.entries.items
+  pub linked : AreLinked t.entries.items t.fewer.items
+  pub kept : take begin t.entries.items ≡ take begin s.entries.items
+
+pub late_noted : {A : Type 0} (task : SearchTask) (first begin : ℕ) (s t : Deadlines A) → AreLate task first begin s.late.items s.place.items s.entries.items → AreLinked s.entries.items s.fewer.items →
+    (u x : ℕ) → u < length task.table → slice_index_or task.forbidden u false ≡ false → u ≢ task.goal → slice_index s.late.items u < x →
+    ((t : ℕ) → t < x → (n : ℕ) × (w : ℕ) × (b : ℕ) × Takes task n u t w b × InTimeFor s.entries.items first begin w b) →
+    IsNotedLate (head_of s.late.items s.place.items u) begin u x s t → AreNoted task first begin u x s t
+late_noted task first begin s t was linked u x inside permitted other later sound (inl here) = elim (cases_eq (slice_index s.late.items u) 0) [
+  | inl none ↦ absurd (omega (arith, here.0, head_none s.late.items s.place.items u none))
+  | inr yes' ↦
+      (let some : 0 < slice_index s.late.items u = omega (arith, yes') in
+      let head = head_some s.late.items s.place.items u some in
+      let above : begin ≤ slice_index s.place.items u = omega (arith, here.0, head) in
+      let place : head_of s.late.items s.place.items u - 1 ≡ slice_index s.place.items u = omega (arith, head) in
+      let is : t.entries.items ≡ slice_set s.entries.items (slice_index s.place.items u) (record { node = u; before = x }) = here.2 ∙ ap (λ k. slice_set s.entries.items k (record { node = u; before = x })) place in
+      record {
+        lists = rw (here.1, is) (changed_late task first begin s.late.items s.place.items s.entries.items was u x inside permitted other later sound some above);
+        linked = rw (is, here.3) (linked_set s.entries.items (slice_index s.place.items u) u x (slice_index s.late.items u) (was.top u inside some) s.fewer.items linked);
+        kept = rw is (take_set begin s.entries.items (slice_index s.place.items u) (record { node = u; before = x }) above);
+      })
+]
+late_noted task first begin s t was linked u x inside permitted other later sound (inr new) = record {
+  lists = rw (new.1, new.2) (pushed_late task first begin s.late.items s.place.items s.entries.items was u x inside permitted other later sound (λ some. omega (arith, new.0, head_some s.late.items s.place.items u some)));
+  linked = rw (new.2, new.3) (linked_push s.entries.items (record { node = u; before = x }) s.fewer.items _ linked (last_of task first begin s.late.items s.place.items s.entries.items was u inside));
+  kept = rw new.2 (take_push begin s.entries.items (record { node = u; before = x }) was.begins);
+}

@@ -6,8 +6,8 @@ use Rattle.std.specs.declared.option.Option.TheVariants.{Some, None}
 use Rattle.std.proofs.lemmas.List.Elements.{All-get_or}
 use Rattle.std.proofs.lemmas.List.{length-map}
 use Rattle.std.proofs.lemmas.List.Sums.{count_by-le-length}
-use Rattle.sabr_search.specs.questions.Steps.{degree, senders}
-use Rattle.sabr_search.proofs.LinkLemmas.StepLists.{senders_length}
+use Rattle.sabr_search.specs.questions.Linked.{degree, senders}
+use Rattle.sabr_search.proofs.LinkLemmas.PlanFacts.{senders_length}
 use Rattle.std.proofs.lemmas.Bool.{cases_lt}
 use Rattle.std.proofs.lemmas.Option.{slice_get_within, slice_get-get_or, get_or_from_slice_get, none-some}
 use Rattle.sabr_search.specs.declared.visit.Step.{Step}
@@ -15,17 +15,16 @@ use Rattle.sabr_search.specs.declared.backward.walk.DeadEnd.{DeadEnd}
 use Rattle.sabr_search.specs.declared.backward.deadlines.Deadline.{Deadline}
 use Rattle.sabr_search.specs.declared.backward.deadlines.Deadlines.{Deadlines}
 use Rattle.sabr_search.specs.declared.visit.Visit.{Visit}
-use Rattle.sabr_search.specs.questions.Ways.{Leads}
+use Rattle.sabr_search.specs.questions.FirstSteps.{Leads}
 use Rattle.sabr_search.specs.questions.Task.{SearchTask, IsTask, Takes}
 use Rattle.sabr_search.specs.layers.Late.{IsNoneSooner}
-use Rattle.sabr_search.specs.layers.NumberOrder.{IsNotAfter}
-use Rattle.sabr_search.specs.layers.Picks.{IsAtMost, IsPicked}
+use Rattle.sabr_search.specs.layers.Picks.{IsNotAfter, IsAtMost, IsPicked}
 use Rattle.sabr_search.specs.layers.WholeDeadlines.{AreDeadEnds, AreSound, IsDeadEnd, AreWholeDeadlinesOf, IsStepOn, last_visit}
 use Rattle.sabr_search.specs.layers.Deadlines.{IsInTimeWithin, IsLatestWithin, end_within}
 use Rattle.sabr_search.proofs.WayLemmas.Ways.{Leads-append}
 use Rattle.sabr_search.proofs.WayLemmas.RoutesAndWays.{takes_timely, same_some}
 use Rattle.sabr_search.proofs.ForwardLemmas.MadeLayers.{index_past, layer_of, spent_more}
-use Rattle.sabr_search.proofs.WholeLemmas.DeadEnds.{dead_later, dead_too_late}
+use Rattle.sabr_search.proofs.WholeLemmas.Leaves.{dead_later, dead_too_late}
 
 abbrev pub visit_of : Step → Visit
 visit_of s = record { node = s.node; at = s.at }

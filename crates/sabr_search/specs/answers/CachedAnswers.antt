@@ -1,18 +1,18 @@
 -- Cached answers: of which question each is the answer, and which questions it answers by the law of answers.
-use Rattle.std.specs.Prelude.{◌≡◌, ◌⊎◌, ℕ, ◌≤◌, Bool, true, false, IsTrue, nat_lt, nat_le, ◌&&◌, All, List, length, slice_get, slice_index_or}
+use Rattle.std.specs.Prelude.{ℕ, List, ◌≡◌, ◌⊎◌, ◌≤◌, Bool, true, false, IsTrue, nat_lt, nat_le, ◌&&◌, All, length, slice_get, slice_index_or}
 use Rattle.std.specs.declared.option.Option.TheVariants.{Some}
 use Rattle.sabr_model.specs.declared.contact.Contact.{Contact}
 use Rattle.sabr_model.specs.plan.Plan.{TabledPlan, contact_named}
 use Rattle.sabr_model.specs.routes.Arrival.{RouteRequest, arrival}
 use Rattle.sabr_search.specs.declared.early.answers.Answer.{Answer}
 use Rattle.sabr_search.specs.declared.visit.Visit.{Visit}
-use Rattle.sabr_search.specs.questions.Ways.{Leads}
+use Rattle.sabr_search.specs.questions.FirstSteps.{Leads}
 use Rattle.sabr_search.specs.questions.Task.{SearchTask, Takes}
 use Rattle.sabr_search.specs.declared.bound.Bound.{Bound}
 use Rattle.sabr_search.specs.declared.found.Found.{Found}
 use Rattle.sabr_search.specs.declared.found.Found.TheVariants.{Way, Beyond}
 use Rattle.sabr_search.specs.questions.Bounded.{is_up_to}
-use Rattle.sabr_search.specs.answers.Found.{IsFoundWith}
+use Rattle.sabr_search.specs.answers.Answers.{IsFoundWith}
 
 -- what was asked, with these forbidden nodes and this goal
 abbrev pub asked : {A : Type 0} → TabledPlan → RouteRequest → Answer A → List Bool → ℕ → SearchTask

@@ -1,12 +1,14 @@
 -- Layers made backward from the goal: for each node, the first second that is too late so far; and the entries, layer
 -- by layer, the goal's first.
-use Rattle.std.specs.Prelude.{◌≡◌, ◌≢◌, ◌⊎◌, ℕ, ◌+◌, ◌-◌, ◌≤◌, ◌<◌, List, [], ◌∷◌, ◌++◌, take, length, false, slice_get, slice_set, slice_index, slice_index_or}
+use Rattle.std.specs.Prelude.{ℕ, ◌-◌, max, nat_lt, if◌then◌else◌, List, map, slice_index, ◌≡◌, ◌≢◌, ◌⊎◌, ◌+◌, ◌≤◌, ◌<◌, [], ◌∷◌, ◌++◌, take, length, false, slice_get, slice_set, slice_index_or}
+use Rattle.std.specs.List.{range_with_len}
 use Rattle.std.specs.declared.option.Option.TheVariants.{Some}
 use Rattle.sabr_search.specs.declared.backward.deadlines.Deadline.{Deadline}
 use Rattle.sabr_search.specs.declared.backward.deadlines.Deadlines.{Deadlines}
+use Rattle.sabr_search.specs.declared.backward.from_goal.Aim.{Aim}
 use Rattle.sabr_search.specs.layers.Deadlines.{AreLinked, Entries}
-use Rattle.sabr_search.specs.questions.Ways.{Leads}
-use Rattle.sabr_search.specs.questions.Task.{SearchTask, Takes}
+use Rattle.sabr_search.specs.questions.FirstSteps.{Leads}
+use Rattle.sabr_search.specs.questions.Task.{SearchTask, IsTask, Takes}
 use Rattle.sabr_search.specs.questions.Linked.{IsLinkWithin, HasNumber}
 use Rattle.sabr_index.specs.declared.link.Pass.{Pass}
 use Rattle.sabr_index.specs.declared.link.SenderHead.{SenderHead}
@@ -23,6 +25,10 @@ pub record AreArrivals (task : SearchTask) (since : List ℕ) : Type 0 where
 -- a bundle at node w at second b is in time for an entry at the places from `first` to before `begin`
 abbrev pub InTimeFor : List Deadline → ℕ → ℕ → ℕ → ℕ → Type 0
 InTimeFor entries first begin w b = (p : ℕ) × (e : Deadline) × (first ≤ p) × (p < begin) × (slice_get entries p ≡ Some e) × (e.node ≡ w) × (b < e.before)
+
+-- so is what is at a node before a second, for an entry of layer `left`
+abbrev pub IsInLayer : {A : Type 0} → ℕ → Deadlines A → Deadline → Type 0
+IsInLayer left s to = (b : ℕ) → b < to.before → InTimeFor s.entries.items (slice_index s.ends.items left) (slice_index s.ends.items (left + 1)) to.node b
 
 -- an entry after the goal's: of another open node
 pub record IsLateEntry (task : SearchTask) (e : Deadline) : Type 0 where
@@ -46,13 +52,18 @@ pub record AreLate (task : SearchTask) (first begin : ℕ) (late place : List �
   pub sound : (p : ℕ) (e : Deadline) (t : ℕ) → begin ≤ p → slice_get entries p ≡ Some e → t < e.before → (n : ℕ) × (w : ℕ) × (b : ℕ) × Takes task n e.node t w b × InTimeFor entries first begin w b
 
 -- layers while the one after layer `left` grows
-pub record AreGrowing {A : Type 0} (task : SearchTask) (left : ℕ) (s : Deadlines A) : Type 0 where
-  pub lists : AreLate task (slice_index s.ends.items left) (slice_index s.ends.items (left + 1)) s.late.items s.place.items s.entries.items
+pub record AreGrowing {A : Type 0} (aim : Aim A) (left : ℕ) (s : Deadlines A) : Type 0 where
+  pub task : IsTask aim.task.now
+  pub arrivals : length aim.since.now ≡ length aim.task.now.table
+  pub bounded : left + 1 < length s.ends.items
+  pub lists : AreLate aim.task.now (slice_index s.ends.items left) (slice_index s.ends.items (left + 1)) s.late.items s.place.items s.entries.items
   pub linked : AreLinked s.entries.items s.fewer.items
 
--- the layer after layer `left` has grown: the ends of layers stay, and so do the entries before it
-pub record AreGrown {A : Type 0} (task : SearchTask) (left : ℕ) (s t : Deadlines A) : Type 0 where
-  pub growing : AreGrowing task left t
+-- the layer after layer `left` has grown: the ends of layers stay, and so do the entries before it; no node is too late
+-- sooner than before
+pub record AreGrown {A : Type 0} (aim : Aim A) (left : ℕ) (s t : Deadlines A) : Type 0 where
+  pub growing : AreGrowing aim left t
+  pub rises : (k : ℕ) → slice_index s.late.items k ≤ slice_index t.late.items k
   pub ends : t.ends ≡ s.ends
   pub before : take (slice_index s.ends.items (left + 1)) t.entries.items ≡ take (slice_index s.ends.items (left + 1)) s.entries.items
 

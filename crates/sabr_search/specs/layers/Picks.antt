@@ -1,11 +1,18 @@
 -- The smallest numbers from the front, and the best way of a search.
-use Rattle.std.specs.Prelude.{◌≡◌, ℕ, ◌≤◌, ◌<◌, List, length, false, slice_index_or}
+use Rattle.std.specs.Prelude.{◌≡◌, ◌⊎◌, ℕ, ◌<◌, List, [], ◌∷◌, ◌≤◌, length, false, slice_index_or}
 use Rattle.std.specs.declared.option.Option.{Option}
 use Rattle.std.specs.declared.option.Option.TheVariants.{Some, None}
 use Rattle.sabr_search.specs.declared.visit.Step.{Step}
-use Rattle.sabr_search.specs.questions.Ways.{Leads}
-use Rattle.sabr_search.specs.layers.NumberOrder.{IsNotAfter}
+use Rattle.sabr_search.specs.questions.FirstSteps.{Leads}
 use Rattle.sabr_search.specs.questions.Task.{SearchTask, Takes}
+
+-- Numbers compared from the front.
+
+-- xs is a beginning of ys, or less at the first place where they differ
+abbrev pub IsNotAfter : List ℕ → List ℕ → Type 0
+IsNotAfter [] ys = Unit {0}
+IsNotAfter (x ∷ xs) [] = ⊥
+IsNotAfter (x ∷ xs) (y ∷ ys) = (x < y) ⊎ ((x ≡ y) × IsNotAfter xs ys)
 
 -- there is a step, and its number is at most n
 abbrev pub IsAtMost : Option Step → ℕ → Type 0

@@ -1,19 +1,17 @@
 -- What a search by arrival keeps: the settled nodes, the waiting events, and the first delivery so far.
-use Rattle.std.specs.Prelude.{◌≡◌, ◌≢◌, ℕ, ◌+◌, ◌-◌, ◌≤◌, ◌<◌, min, List, length, Bool, true, false, All, Contains, slice_get, slice_index, slice_index_or}
+use Rattle.std.specs.Prelude.{ℕ, ◌/◌, ◌%◌, ◌^◌, ◌≡◌, ◌≢◌, ◌+◌, ◌-◌, ◌≤◌, ◌<◌, min, List, length, Bool, true, false, All, Contains, slice_get, slice_index, slice_index_or}
+use Rattle.sabr_search.specs.declared.visit.Visit.{Visit}
 use Rattle.std.specs.List.{count_by}
 use Rattle.std.specs.declared.option.Option.{Option}
 use Rattle.std.specs.declared.option.Option.TheVariants.{Some, None}
-use Rattle.sabr_search.specs.declared.visit.Visit.{Visit}
 use Rattle.sabr_search.specs.declared.found.Best.{Best}
 use Rattle.sabr_search.specs.declared.forward.settling.Forward.{Forward}
 use Rattle.sabr_search.specs.declared.forward.settling.Settling.{Settling}
 use Rattle.sabr_index.specs.declared.link.Pass.{Pass}
 use Rattle.sabr_search.specs.questions.Linked.{HasNumber}
-use Rattle.sabr_search.specs.questions.Ways.{Leads}
-use Rattle.sabr_search.specs.questions.FirstSteps.{IsNoneBefore}
+use Rattle.sabr_search.specs.questions.FirstSteps.{Leads, IsNoneBefore}
 use Rattle.sabr_search.specs.questions.Task.{SearchTask, Takes, never, latest_arrival}
-use Rattle.sabr_search.specs.layers.Made.{IsWayTo, IsFound}
-use Rattle.sabr_search.specs.layers.Lists.{AreClosed, IsKnown}
+use Rattle.sabr_search.specs.layers.Lists.{IsWayTo, IsFound, AreClosed, IsKnown}
 
 -- by node a second before which no way comes there, or from which on none delivers before d, if that is sooner; nothing
 -- is said of a node after the list's end

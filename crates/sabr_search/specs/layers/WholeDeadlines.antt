@@ -12,9 +12,8 @@ use Rattle.sabr_search.specs.declared.backward.walk.Walk.{Walk}
 use Rattle.sabr_search.specs.declared.found.FoundWay.{FoundWay}
 use Rattle.sabr_index.specs.declared.looks.Looks.{Looks}
 use Rattle.sabr_search.specs.declared.visit.Visit.{Visit}
-use Rattle.sabr_search.specs.questions.Ways.{Leads}
+use Rattle.sabr_search.specs.questions.FirstSteps.{Leads, tabled_of}
 use Rattle.sabr_search.specs.questions.Task.{SearchTask, IsAsked, Takes}
-use Rattle.sabr_search.specs.questions.FirstSteps.{tabled_of}
 use Rattle.sabr_search.specs.layers.Deadlines.{AreChained, HasDeadline, IsOf}
 use Rattle.sabr_search.specs.layers.Late.{AreSince, IsNoneWithin, IsLeftInTimeBy}
 use Rattle.sabr_search.specs.layers.Picks.{IsPicked}

@@ -4,12 +4,12 @@
 ghost use Rattle.std.specs.Prelude.{◌≡◌, ◌≢◌, ℕ, ◌+◌, ◌*◌, ◌^◌, ◌≤◌, ◌<◌, length, true, false, IsTrue, slice_get, slice_index, slice_index_or, slice_set, Some, None, OnOk, IfOk, [], ◌∷◌};
 ghost use Rattle.sabr_search.specs.questions.Task.{IsTask, never};
 ghost use Rattle.sabr_search.specs.questions.Stops.{StopsOnlyIf};
-ghost use Rattle.sabr_search.specs.questions.Steps.{received};
+ghost use Rattle.sabr_search.specs.questions.Linked.{received};
 ghost use Rattle.sabr_search.specs.questions.Linked.{IsLinkWithin};
 ghost use Rattle.sabr_search.specs.layers.Deadlines.{IsApart, head_of};
 ghost use Rattle.sabr_search.specs.questions.FirstSteps.{AreFirstSteps};
 ghost use Rattle.sabr_search.specs.layers.Settling.{AreReal};
-ghost use Rattle.sabr_search.specs.layers.Late.{InTimeFor, AreGrowing, AreGrown, IsNotedLate, AreLeftInTimeTo, AreLeftInTimeOver, AreLeftInTimeByHead, AreLeftInTimeFrom, AreArrivals};
+ghost use Rattle.sabr_search.specs.layers.Late.{IsInLayer, AreGrowing, AreGrown, IsNotedLate, AreLeftInTimeTo, AreLeftInTimeOver, AreLeftInTimeByHead, AreLeftInTimeFrom, AreArrivals};
 ghost use Rattle.sabr_search.specs.layers.WholeDeadlines.{AreWhole, IsMadeBack};
 
 use crate::backward::deadlines::{Deadline, Deadlines};
@@ -82,7 +82,7 @@ impl<A: Allocator + Copy> Deadlines<A> {
         if rules_out(head.bounds, since, before) {
             return true;
         }
-        node == aim.task.goal() || aim.task.forbidden()[node]
+        !aim.task.is_between(node)
     }
 
     /// Takes one link to the node of an entry of layer `left`, for layer `left + 1`.
@@ -94,10 +94,7 @@ impl<A: Allocator + Copy> Deadlines<A> {
         to: Deadline,
         left: usize,
     ) -> Result<(), NoMemory>
-        requires task { IsTask aim.now.task.now }
-        requires arrivals { length aim.now.since.now ≡ length aim.now.task.now.table }
-        requires bounded { left + 1 < length self.old.ends.items }
-        requires growing { AreGrowing aim.now.task.now left self.old }
+        requires growing { AreGrowing aim.now left self.old }
 
         // The link leads from an open node that isn't the goal to the node of an entry of layer `left`.
         requires link { IsLinkWithin aim.now.task.now from.node to.node from.passes.now from.bounds }
@@ -105,13 +102,12 @@ impl<A: Allocator + Copy> Deadlines<A> {
         requires permitted { slice_index_or aim.now.task.now.forbidden from.node false ≡ false }
         requires other { from.node ≢ aim.now.task.now.goal }
         requires receiver { slice_index_or aim.now.task.now.forbidden to.node false ≡ false }
-        requires given { (b : ℕ) → b < to.before → InTimeFor self.old.entries.items (slice_index self.old.ends.items left) (slice_index self.old.ends.items (left + 1)) to.node b }
+        requires given { IsInLayer left self.old to }
 
         // It takes no more looks than the link has passes.
         requires few { length from.passes.now ≤ looks.old.left }
         ensures looks { looks.old.left ≤ looks.new.left + length from.entry.passes.now }
-        ensures grown { OnOk result (AreGrown aim.now.task.now left self.old self.new) }
-        ensures rises { OnOk result ((k : ℕ) → slice_index self.old.late.items k ≤ slice_index self.new.late.items k) }
+        ensures grown { OnOk result (AreGrown aim.now left self.old self.new) }
         ensures in_time { OnOk result (AreLeftInTimeOver aim.now.task.now aim.now.since.now self.new.late.items from.entry.node from.entry.passes.now to.before) }
     {
         let latest = self.late[from.node];
@@ -142,19 +138,15 @@ impl<A: Allocator + Copy> Deadlines<A> {
         to: Deadline,
         left: usize,
     ) -> Result<(), Stopped>
-        requires task { IsTask aim.now.task.now }
-        requires arrivals { length aim.now.since.now ≡ length aim.now.task.now.table }
-        requires bounded { left + 1 < length self.old.ends.items }
-        requires growing { AreGrowing aim.now.task.now left self.old }
+        requires growing { AreGrowing aim.now left self.old }
 
         // The entry is one of layer `left`.
         requires node { to.node < length aim.now.task.now.table }
         requires receiver { slice_index_or aim.now.task.now.forbidden to.node false ≡ false }
-        requires given { (b : ℕ) → b < to.before → InTimeFor self.old.entries.items (slice_index self.old.ends.items left) (slice_index self.old.ends.items (left + 1)) to.node b }
+        requires given { IsInLayer left self.old to }
         ensures counted { looks.old.left ≤ looks.new.left + received aim.now.task.now to.node }
         ensures stops { StopsOnlyIf result (looks.old.left < received aim.now.task.now to.node) }
-        ensures grown { OnOk result (AreGrown aim.now.task.now left self.old self.new) }
-        ensures rises { OnOk result ((k : ℕ) → slice_index self.old.late.items k ≤ slice_index self.new.late.items k) }
+        ensures grown { OnOk result (AreGrown aim.now left self.old self.new) }
         ensures in_time { OnOk result (AreLeftInTimeTo aim.now.task.now aim.now.since.now self.new.late.items to) }
     {
         let senders = aim.task.senders(to.node);
@@ -179,14 +171,11 @@ impl<A: Allocator + Copy> Deadlines<A> {
         looks: &mut Looks,
         left: usize,
     ) -> Result<(), Stopped>
-        requires task { IsTask aim.now.task.now }
-        requires arrivals { length aim.now.since.now ≡ length aim.now.task.now.table }
-        requires bounded { left + 1 < length self.old.ends.items }
+        requires growing { AreGrowing aim.now left self.old }
         requires apart { IsApart self.old.ends.items self.old.entries.items left }
-        requires growing { AreGrowing aim.now.task.now left self.old }
         ensures counted { looks.old.left ≤ looks.new.left + length aim.now.task.now.plan.contacts }
         ensures stops { StopsOnlyIf result (looks.old.left < length aim.now.task.now.plan.contacts) }
-        ensures grown { OnOk result (AreGrown aim.now.task.now left self.old self.new) }
+        ensures grown { OnOk result (AreGrown aim.now left self.old self.new) }
         ensures in_time { OnOk result (AreLeftInTimeFrom aim.now.task.now aim.now.since.now self.old.entries.items (slice_index self.old.ends.items left) (slice_index self.old.ends.items (left + 1)) self.new.late.items) }
     {
         let first = self.ends[left];

@@ -8,7 +8,7 @@ ghost use Rattle.sabr_search.specs.layers.Late.{IsNoneSooner};
 ghost use Rattle.sabr_search.specs.questions.Linked.{AreLinksAt};
 ghost use Rattle.sabr_search.specs.layers.Deadlines.{IsInTimeWithin};
 ghost use Rattle.sabr_search.specs.layers.WholeDeadlines.{AreDeadEnds, IsDeadEnd, AreWholeDeadlinesOf, IsStepOn, IsWalked, LeadOn, last_visit};
-ghost use Rattle.sabr_search.specs.questions.Ways.{Leads};
+ghost use Rattle.sabr_search.specs.questions.FirstSteps.{Leads};
 ghost use Rattle.sabr_search.specs.questions.Stops.{StopsOnlyIf};
 
 use crate::backward::deadlines::Deadlines;

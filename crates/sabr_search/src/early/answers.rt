@@ -8,11 +8,11 @@
 mod lists;
 
 ghost use Rattle.std.specs.Prelude.{◌≡◌, ◌^◌, ◌≤◌, ◌<◌, [], Some, All, IfSome, IsTrue, length, slice_get, slice_set, false};
-ghost use Rattle.sabr_search.specs.questions.Ways.{Leads};
+ghost use Rattle.sabr_search.specs.questions.FirstSteps.{Leads};
 ghost use Rattle.sabr_search.specs.questions.Task.{IsTask, IsAsked, IsOfRequest, Takes};
 ghost use Rattle.sabr_search.specs.questions.FirstSteps.{tabled_of};
 ghost use Rattle.sabr_search.specs.answers.Asked.{AnswersAt, hops_left};
-ghost use Rattle.sabr_search.specs.answers.Found.{IsFound};
+ghost use Rattle.sabr_search.specs.answers.Answers.{IsFound};
 ghost use Rattle.sabr_search.specs.answers.CachedAnswers.{AllForbidden, Covers, IsAnswerTo, IsAnswer, IsPut, AreAnswers, is_cached_after, most_answers};
 
 use crate::bound::Bound;
@@ -51,7 +51,7 @@ const MAX_PREFIX: usize = 128;
 /// A cached answer that covers a question, but whose way passes a node that the question forbids. The way isn't
 /// followed past that node.
 #[derive(Clone, Copy)]
-pub struct Near<'a> {
+pub struct AlmostAnswer<'a> {
     /// The nodes that its question forbids.
     pub forbidden: &'a [u32],
     /// The first forbidden node that its way passes.
@@ -62,7 +62,7 @@ pub struct Near<'a> {
 #[derive(Clone, Copy)]
 pub struct Recalled<'a> {
     pub place: Option<usize>,
-    pub near: Option<Near<'a>>,
+    pub near: Option<AlmostAnswer<'a>>,
 }
 
 /// What was asked, and the answer.
@@ -100,7 +100,10 @@ pub struct Answers<A: Allocator + Copy = Global> {
 }
 
 /// Of two near answers, the one whose question forbade more nodes, or else the second.
-fn more_forbidden<'a>(first: Option<Near<'a>>, second: Near<'a>) -> Option<Near<'a>> {
+fn more_forbidden<'a>(
+    first: Option<AlmostAnswer<'a>>,
+    second: AlmostAnswer<'a>,
+) -> Option<AlmostAnswer<'a>> {
     if let Some(other) = first
         && second.forbidden.len() < other.forbidden.len()
     {
@@ -109,8 +112,8 @@ fn more_forbidden<'a>(first: Option<Near<'a>>, second: Near<'a>) -> Option<Near<
     Some(second)
 }
 
-/// Returns whether each of these nodes is forbidden. It begins with the last, since prefixes that begin alike differ at
-/// their ends.
+/// Returns whether each of these nodes is forbidden. It tests the last node first, because prefixes that begin alike
+/// differ at their ends.
 fn are_forbidden(flags: &[bool], nodes: &[u32]) -> bool
     ensures { IsTrue result → AllForbidden flags.now nodes.now }
 {
@@ -276,7 +279,7 @@ impl<A: Allocator + Copy> Answers<A> {
     {
         let task = asked.task;
         let (hops, bound) = (asked.hops_left(), asked.bound_left());
-        let mut near: Option<Near<'_>> = None;
+        let mut near: Option<AlmostAnswer<'_>> = None;
         let mut place = self.head(bucket_of(task.start(), task.excluded()));
         for _ in 0..COMPARED {
             let Some(answer) = self.slots.get(place) else {
@@ -291,7 +294,7 @@ impl<A: Allocator + Copy> Answers<A> {
             }
             if let Some(node) = passed {
                 let forbidden = answer.lists.forbidden();
-                near = more_forbidden(near, Near { forbidden, node });
+                near = more_forbidden(near, AlmostAnswer { forbidden, node });
             }
             place = answer.next;
         }
@@ -395,7 +398,7 @@ impl<A: Allocator + Copy> Answers<A> {
         })
     }
 
-    /// Keeps the answer to a question, and returns its place; or leaves it out, if an allocation failed.
+    /// Caches the answer to a question, and returns its place; or leaves it out, if an allocation failed.
     pub fn cache(
         &mut self,
         asked: &Question<'_, '_, '_, A>,

@@ -10,7 +10,7 @@ ghost use Rattle.std.specs.Prelude.{◌≡◌, Some, [], IfOk, IfSome, IsTrue};
 ghost use Rattle.sabr_model.specs.plan.Plan.{TabledPlan};
 ghost use Rattle.sabr_model.specs.routes.Arrival.{RouteRequest};
 ghost use Rattle.sabr_search.specs.answers.Asked.{bound_left, hops_left};
-ghost use Rattle.sabr_search.specs.answers.Found.{IsEnough, IsFound};
+ghost use Rattle.sabr_search.specs.answers.Answers.{IsEnough, IsFound};
 ghost use Rattle.sabr_search.specs.layers.Late.{IsNoneSooner};
 ghost use Rattle.sabr_search.specs.layers.WholeDeadlines.{AreWholeDeadlines, AreWholeDeadlinesOf};
 ghost use Rattle.sabr_search.specs.layers.NodeBounds.{AreSoonFor};
@@ -39,7 +39,7 @@ pub struct WholeDeadlines<A: Allocator + Copy> {
     delivery: Option<u64>,
     /// The layers.
     layers: Deadlines<A>,
-    /// When they are made, and whether they pay.
+    /// When they are made, and whether questions are asked of them.
     budget: WholeBudget,
 }
 
@@ -135,7 +135,7 @@ impl<A: Allocator + Copy> WholeDeadlines<A> {
         }))
     }
 
-    /// The answer to a question by the layers. None if there are none for its floor, if they don't pay just now, if they
+    /// The answer to a question by the layers. None if there are none for its floor, if they aren't to be asked just now, if they
     /// don't decide it up to its bound, or if that might take too many looks or dead ends.
     pub fn answer(
         &mut self,
@@ -150,7 +150,7 @@ impl<A: Allocator + Copy> WholeDeadlines<A> {
         ensures found { IfOk result (λ o. IfSome o (IsFound asked.now.task.now (hops_left asked.now))) }
         ensures enough { IfOk result (λ o. IfSome o (IsEnough (bound_left asked.now))) }
     {
-        if !self.is_for(asked.floor) || !self.budget.takes() {
+        if !self.is_for(asked.floor) || !self.budget.allows() {
             return Ok(None);
         }
         let found = match self.find(walk, asked, looks) {
@@ -161,7 +161,7 @@ impl<A: Allocator + Copy> WholeDeadlines<A> {
         if !found.is_enough(asked.bound_left()) {
             return Ok(None);
         }
-        self.budget.win();
+        self.budget.count_answer();
         Ok(Some(found))
     }
 

@@ -3,9 +3,9 @@
 ghost use Rattle.std.specs.Prelude.{IfOk, IfSome, OnOk};
 ghost use Rattle.sabr_search.specs.questions.Task.{IsTask, IsOfRequest};
 ghost use Rattle.sabr_search.specs.answers.Answers.{narrowed};
-ghost use Rattle.sabr_search.specs.questions.WideTasks.{ForbidsFewer};
+ghost use Rattle.sabr_search.specs.answers.Answers.{ForbidsFewer};
 
-use crate::early::answers::Near;
+use crate::early::answers::AlmostAnswer;
 use crate::prefix_path::closed::forbid_closed;
 use crate::prefix_path::forbidden_nodes::ForbiddenNodes;
 use crate::question::Question;
@@ -31,12 +31,12 @@ pub enum Breadth {
     Near,
 }
 
-/// Wide questions, as long as they pay.
+/// Wide questions, as long as they save more looks than they take.
 #[derive(Drop)]
 pub struct Widening<A: Allocator + Copy = Global> {
-    /// Whether those pay that are near no answer.
+    /// Whether those are asked that are near no answer.
     wide: Throttle,
-    /// Whether those near an answer pay.
+    /// Whether those are asked that are near an answer.
     near: Throttle,
     /// How many questions were searched as they are, and the looks of these searches.
     searched: u64,
@@ -84,7 +84,7 @@ fn forbid_if_forbidden<A: Allocator + Copy>(
 fn forbid_near<A: Allocator + Copy>(
     forbidden: &mut ForbiddenNodes<A>,
     task: &Task<'_, A>,
-    near: Near<'_>,
+    near: AlmostAnswer<'_>,
 ) -> Result<(), NoMemory>
     requires task { IsTask task.now }
     requires fewer { ForbidsFewer task.now forbidden.old }
@@ -112,25 +112,29 @@ impl<A: Allocator + Copy> Widening<A> {
     }
 
     /// Returns whether a wide question is to be asked for this one, to which an answer may be near: it must forbid
-    /// fewer nodes, and such questions must pay.
-    fn pays(&mut self, near: Option<Near<'_>>, asked: &Question<'_, '_, '_, A>) -> bool {
+    /// fewer nodes, and such questions must save looks.
+    fn is_worth(
+        &mut self,
+        near: Option<AlmostAnswer<'_>>,
+        asked: &Question<'_, '_, '_, A>,
+    ) -> bool {
         if asked.prefix.len() < 2 {
             return false;
         }
         let Some(answer) = near else {
-            return self.wide.takes();
+            return self.wide.allows();
         };
         if answer.forbidden.len().saturating_add(1) >= asked.task.forbidden_nodes().len() {
             return false;
         }
-        self.near.takes()
+        self.near.allows()
     }
 
     /// Forbids the nodes of the wide question to ask for this one, to which an answer may be near, and returns which
     /// they are. None if no wide question is to be asked.
     pub fn next(
         &mut self,
-        near: Option<Near<'_>>,
+        near: Option<AlmostAnswer<'_>>,
         asked: &Question<'_, '_, '_, A>,
     ) -> Result<Option<Breadth>, NoMemory>
         requires task { IsTask asked.now.task.now }
@@ -138,7 +142,7 @@ impl<A: Allocator + Copy> Widening<A> {
         ensures fewer { IfOk result (λ o. IfSome o (λ breadth. ForbidsFewer asked.now.task.now self.new.forbidden)) }
         ensures request { IfOk result (λ o. IfSome o (λ breadth. IsOfRequest (narrowed asked.now.task.now self.new.forbidden asked.now.task.now.at))) }
     {
-        if !self.pays(near, asked) {
+        if !self.is_worth(near, asked) {
             return Ok(None);
         }
         forbid_few(&mut self.forbidden, asked.task)?;
@@ -156,19 +160,19 @@ impl<A: Allocator + Copy> Widening<A> {
                 self.searched = self.searched.saturating_add(1);
                 self.looks = self.looks.saturating_add(looks);
             }
-            Breadth::Wide => self.wide.pay(looks),
-            Breadth::Near => self.near.pay(looks),
+            Breadth::Wide => self.wide.count_cost(looks),
+            Breadth::Near => self.near.count_cost(looks),
         }
     }
 
     /// Counts a question that has been answered from the cache. The answer to a wide question has saved the looks of a
     /// search, on average.
-    pub fn count_win(&mut self, breadth: Breadth) {
+    pub fn count_answer(&mut self, breadth: Breadth) {
         let looks = self.looks / self.searched.max(1);
         match breadth {
             Breadth::Own => {}
-            Breadth::Wide => self.wide.win(looks),
-            Breadth::Near => self.near.win(looks),
+            Breadth::Wide => self.wide.count_saved(looks),
+            Breadth::Near => self.near.count_saved(looks),
         }
     }
 }

@@ -1,12 +1,18 @@
-//! The list of arrivals with which a search forward begins: for each node, the second that an arrival there has to
-//! beat.
+//! The arrivals of a search forward: for each node, the second that an arrival there has to beat at first, and what is
+//! news later; and where the first steps come to, and when.
 
-ghost use Rattle.std.specs.Prelude.{◌≡◌, ℕ, ◌^◌, ◌≤◌, ◌<◌, OnOk, true, false, length, slice_index, slice_index_or};
+ghost use Rattle.std.specs.Prelude.{◌≡◌, ◌⊎◌, ℕ, ◌+◌, ◌-◌, ◌^◌, ◌≤◌, ◌<◌, min, Some, OnOk, true, false, length, slice_get, slice_index, slice_index_or};
 ghost use Rattle.sabr_search.specs.questions.Task.{IsTask, never};
-ghost use Rattle.sabr_search.specs.layers.Made.{AreOpened};
+ghost use Rattle.sabr_search.specs.layers.Lists.{AreOpened};
+ghost use Rattle.sabr_search.specs.layers.Settling.{AreReal};
+ghost use Rattle.sabr_search.specs.questions.FirstSteps.{AreFirstSteps};
+ghost use Rattle.sabr_search.specs.questions.Linked.{degree};
+ghost use Rattle.sabr_search.specs.questions.Stops.{StopsOnlyIf};
 
+use crate::stopped::Stopped;
 use crate::task::Task;
-use crate::visit::NEVER;
+use crate::visit::{NEVER, Visit, seconds_of};
+use sabr_index::Looks;
 use sabr_model::NoMemory;
 use std::alloc::Allocator;
 
@@ -40,7 +46,7 @@ fn close_arrival<A: Allocator + Copy>(arrival: &mut Vec<u64, A>, forbidden: &[bo
 
 /// Fills the list of arrivals: 0 for a forbidden node, which no arrival beats, and for each other node the first second
 /// that is too late there. The start has the second at which the search starts.
-pub fn open_nodes<A: Allocator + Copy>(
+pub fn initial_arrivals<A: Allocator + Copy>(
     arrival: &mut Vec<u64, A>,
     task: &Task<'_, A>,
     late: &[u64],
@@ -56,4 +62,61 @@ pub fn open_nodes<A: Allocator + Copy>(
     }
     arrival[task.start()] = task.at();
     Ok(())
+}
+
+/// Returns the second before which an arrival at a node is news. From that second on, an arrival is no sooner than a
+/// known one, or no way from it delivers before `delivery`, by what the goal costs from there. At the goal, which has
+/// no arrival before `delivery`, that alone counts. The list of costs may be empty.
+#[inline(always)]
+pub fn news_before(arrival: &[u64], costs: &[u64], node: usize, delivery: u64) -> u64
+    requires { node < length arrival.now }
+    ensures { result ≡ min (delivery - slice_index costs.now node) (slice_index arrival.now node) }
+{
+    delivery
+        .saturating_sub(seconds_of(costs, node))
+        .min(arrival[node])
+}
+
+/// Adds a node and when it is reached, if it is reached at all.
+fn put_step<A: Allocator + Copy>(first: &mut Vec<Visit, A>, step: Visit) -> Result<(), NoMemory>
+    ensures kept { OnOk result ((k : ℕ) (s : Visit) → slice_get first.old.items k ≡ Some s → slice_get first.new.items k ≡ Some s) }
+    ensures put { OnOk result (step.at < never → (k : ℕ) × (slice_get first.new.items k ≡ Some step)) }
+    ensures only { OnOk result ((k : ℕ) (s : Visit) → slice_get first.new.items k ≡ Some s → (slice_get first.old.items k ≡ Some s) ⊎ ((step ≡ s) × (step.at < never))) }
+{
+    if step.at == NEVER {
+        return Ok(());
+    }
+    first.push(step)?;
+    Ok(())
+}
+
+impl<'a, A: Allocator + Copy> Task<'a, A> {
+    /// Gathers where the first steps come to, and when.
+    pub fn first_steps(&self, looks: &mut Looks, first: &mut Vec<Visit, A>) -> Result<(), Stopped>
+        requires task { IsTask self.now }
+        ensures counted { looks.old.left ≤ looks.new.left + degree self.now self.now.start }
+        ensures stops { StopsOnlyIf result (looks.old.left < degree self.now self.now.start) }
+        ensures inside { OnOk result ((k : ℕ) (s : Visit) → slice_get first.new.items k ≡ Some s → s.node < length self.now.table) }
+        ensures real { OnOk result (AreReal self.now first.new.items) }
+        ensures all { OnOk result (AreFirstSteps self.now first.new.items) }
+    {
+        let from = Visit {
+            node: self.start(),
+            at: self.at(),
+        };
+        first.clear();
+        let links = self.links(from.node);
+        for place in 0..links.links.len() {
+            let link = self.link(links, from.node, place);
+            if link.passes.len() as u64 > looks.left() {
+                return Err(Stopped::NoLooks);
+            }
+            if self.forbidden()[link.to] {
+                continue;
+            }
+            let at = self.arrive_over(looks, link, from.at, NEVER);
+            put_step(first, Visit { node: link.to, at })?;
+        }
+        Ok(())
+    }
 }

@@ -2,15 +2,14 @@
 
 ghost use Rattle.std.specs.Prelude.{◌≡◌, ◌≢◌, ◌⊎◌, IsTrue, min, ℕ, [], ◌∷◌, ◌+◌, ◌*◌, ◌^◌, ◌≤◌, ◌<◌, length, take, slice_set, slice_index, slice_index_or, true, false, OnOk, IfOk};
 ghost use Rattle.sabr_search.specs.questions.Task.{IsTask, Takes, never, latest_arrival};
-ghost use Rattle.sabr_search.specs.questions.Steps.{degree};
+ghost use Rattle.sabr_search.specs.questions.Linked.{degree};
 ghost use Rattle.sabr_search.specs.questions.Stops.{StopsOnlyIf};
 ghost use Rattle.sabr_search.specs.questions.Linked.{IsLinkWithin, HasNumber};
 ghost use Rattle.sabr_search.specs.layers.Lists.{IsPlaced, StayLinked, IsLayer, AddsGiven, AreLists, AreLowered, IsKnown, AreSources, GivenAt, GivenFrom, IsKnownFrom, IsBroughtTo};
 ghost use Rattle.sabr_search.specs.questions.FirstSteps.{IsNoneBefore};
-ghost use Rattle.sabr_search.specs.layers.Made.{AreOpened, IsMade};
+ghost use Rattle.sabr_search.specs.layers.Lists.{AreOpened, IsMade};
 
-use crate::forward::arrivals::open_nodes;
-use crate::forward::news::news_before;
+use crate::forward::arrivals::{initial_arrivals, news_before};
 use crate::found::Best;
 use crate::links::over_link::{WalkedLink, rules_out};
 use crate::stopped::Stopped;
@@ -128,17 +127,20 @@ impl<A: Allocator + Copy> Layers<A> {
         ensures known { IfOk result (λ b. (n w x : ℕ) → Takes task.now n from.node from.at w x → IsKnown task.now.goal self.new.arrival.items b w x) }
     {
         let links = task.links(from.node);
-        let mut least = best;
+        let mut earliest = best;
         for place in 0..links.links.len() {
             let link = &links.links[place];
             if rules_out(link.bounds, from.at, self.arrival[link.receiver as usize]) {
                 continue;
             }
             let link = task.link(links, from.node, place);
-            let layer = Layer { begin, best: least };
-            least = self.take_link(task, looks, from.at, link, layer)?;
+            let layer = Layer {
+                begin,
+                best: earliest,
+            };
+            earliest = self.take_link(task, looks, from.at, link, layer)?;
         }
-        Ok(least)
+        Ok(earliest)
     }
 
     /// Takes every contact of every node of the last layer, whose entries are those from `first` to before `begin`.
@@ -161,12 +163,12 @@ impl<A: Allocator + Copy> Layers<A> {
         ensures lowered { IfOk result (λ b. AreLowered task.now begin (GivenFrom task.now self.old.reached.items first begin) self.old best self.new b) }
         ensures known { IfOk result (λ b. IsKnownFrom task.now self.old.reached.items first begin self.new.arrival.items b) }
     {
-        let mut least = best;
+        let mut earliest = best;
         for place in first..begin {
             let from = self.reached[place];
-            least = self.take_all(task, looks, from, begin, least)?;
+            earliest = self.take_all(task, looks, from, begin, earliest)?;
         }
-        Ok(least)
+        Ok(earliest)
     }
 
     /// Takes every link to the goal from an open node that is reached, as the last layer. Returns the earliest delivery
@@ -182,11 +184,11 @@ impl<A: Allocator + Copy> Layers<A> {
     {
         let goal = task.goal();
         let senders = task.senders(goal);
-        let mut least = best;
+        let mut earliest = best;
         for place in 0..senders.len() {
             let head = senders.head(place);
             let at = self.arrival[head.node];
-            if rules_out(head.bounds, at, least) {
+            if rules_out(head.bounds, at, earliest) {
                 continue;
             }
             if task.forbidden()[head.node] {
@@ -199,9 +201,9 @@ impl<A: Allocator + Copy> Layers<A> {
                 passes: from.passes,
                 bounds: from.bounds,
             };
-            least = task.arrive_over(looks, link, at, least);
+            earliest = task.arrive_over(looks, link, at, earliest);
         }
-        least
+        earliest
     }
 
     /// Makes layer 0: the start alone.
@@ -210,7 +212,7 @@ impl<A: Allocator + Copy> Layers<A> {
         ensures reached { OnOk result (self.new.reached.items ≡ record { node = task.now.start; at = task.now.at } ∷ []) }
         ensures lists { OnOk result (AreLists task.now.forbidden task.now.goal task.now.at 1 self.new.arrival.items self.new.place.items self.new.reached.items) }
     {
-        open_nodes(&mut self.arrival, task, &[])?;
+        initial_arrivals(&mut self.arrival, task, &[])?;
         self.place.clear();
         self.place.resize(task.forbidden().len(), 0)?;
         self.reached.clear();

@@ -5,12 +5,11 @@ ghost use Rattle.sabr_search.specs.questions.Task.{IsTask, Takes, latest_arrival
 ghost use Rattle.sabr_search.specs.questions.Stops.{StopsOnlyIf};
 ghost use Rattle.sabr_search.specs.questions.Linked.{AreLinksAt, IsLinkWithin, HasNumber};
 ghost use Rattle.sabr_search.specs.layers.Lists.{IsKnown};
-ghost use Rattle.sabr_search.specs.layers.Made.{AreOpened};
+ghost use Rattle.sabr_search.specs.layers.Lists.{AreOpened};
 ghost use Rattle.sabr_search.specs.questions.FirstSteps.{AreFirstSteps};
 ghost use Rattle.sabr_search.specs.layers.Settling.{IsBound, AreReal, IsReached, StaySettling, StaySettled, IsKnownOver, IsFallen, AreSettledTaken};
 
-use crate::forward::arrivals::open_nodes;
-use crate::forward::news::news_before;
+use crate::forward::arrivals::{initial_arrivals, news_before};
 use crate::found::Best;
 use crate::links::over_link::{WalkedLink, rules_out};
 use crate::queue::Queue;
@@ -82,7 +81,7 @@ impl<A: Allocator + Copy> Settling<A> {
         ensures queue { OnOk result (self.new.queue ≡ []) }
     {
         let nodes = forward.task.forbidden().len();
-        open_nodes(&mut self.arrival, forward.task, forward.late)?;
+        initial_arrivals(&mut self.arrival, forward.task, forward.late)?;
         self.hops.resize(nodes, 0)?;
         self.settled.clear();
         self.settled.resize(nodes, false)?;
@@ -161,8 +160,8 @@ impl<A: Allocator + Copy> Settling<A> {
         if at >= before {
             return Ok(best);
         }
-        let least = self.reach(forward, event, Visit { node: to, at }, best)?;
-        Ok(least)
+        let earliest = self.reach(forward, event, Visit { node: to, at }, best)?;
+        Ok(earliest)
     }
 
     /// Settles a node that is reached at the event, and takes every contact of it. Returns the first delivery so far.
@@ -191,16 +190,16 @@ impl<A: Allocator + Copy> Settling<A> {
         ensures pushes { OnOk result (length self.new.queue + looks.new.left ≤ length self.old.queue + looks.old.left) }
     {
         self.settled[event.node] = true;
-        let mut least = best;
+        let mut earliest = best;
         for place in 0..links.links.len() {
             let link = &links.links[place];
             if rules_out(link.bounds, event.at, self.arrival[link.receiver as usize]) {
                 continue;
             }
             let link = forward.task.link(links, event.node, place);
-            least = self.take_link(forward, looks, event, link, least)?;
+            earliest = self.take_link(forward, looks, event, link, earliest)?;
         }
-        Ok(least)
+        Ok(earliest)
     }
 
     /// Settles the start, from where its first steps come to. Returns the first delivery among them.

@@ -35,7 +35,7 @@ impl Finger {
         if !rising || behind == 0 {
             return 1;
         }
-        let more = row_behind(numbers, self.place, number, behind);
+        let more = row_after(numbers, self.place, number, behind);
         self.place = self.place.saturating_add(more);
         more + 1
     }
@@ -102,7 +102,7 @@ fn is_outside(numbers: &[u32], number: u32) -> bool
 }
 
 /// Returns true if each number is greater than the one before it. It compares all of them, several at a time.
-pub fn rises(numbers: &[u32]) -> bool
+pub fn is_increasing(numbers: &[u32]) -> bool
     ensures { IsTrue result → IsStrictlyIncreasing numbers.now }
 {
     let mut rising = true;
@@ -115,7 +115,7 @@ pub fn rises(numbers: &[u32]) -> bool
 /// Returns how many of the numbers after this one stand one by one in a rising list from a place on: at least half of
 /// them, and at most `most`.
 #[inline(never)]
-fn row_behind(numbers: &[u32], place: usize, number: u32, most: u32) -> usize
+fn row_after(numbers: &[u32], place: usize, number: u32, most: u32) -> usize
     requires { IsStrictlyIncreasing numbers.now }
     ensures some { (j : ℕ) → j < result → has (number + 1 + j) numbers.now ≡ true }
     ensures limit { result ≤ most }

@@ -6,7 +6,7 @@ ghost use Rattle.sabr_search.specs.layers.Picks.{IsAtMost, IsStepOver};
 ghost use Rattle.sabr_search.specs.questions.Linked.{IsLinkWithin, HasNumber};
 
 use crate::links::finger::Finger;
-use crate::links::over_link::{WalkedLink, comes_late, first_open, rules_out};
+use crate::links::over_link::{WalkedLink, comes_late, first_unended, rules_out};
 use crate::task::Task;
 use crate::visit::Step;
 use sabr_index::Looks;
@@ -51,7 +51,7 @@ impl<'a, A: Allocator + Copy> Task<'a, A> {
         let passes = link.passes;
         let mut chosen = least;
         let mut finger = Finger::new();
-        let mut place = first_open(passes, at);
+        let mut place = first_unended(passes, at);
         while place < passes.len() {
             let pass = passes[place].look(looks);
             if is_at_most(chosen, pass.pass().least_number_after) {

@@ -4,7 +4,7 @@ ghost use Rattle.std.specs.Prelude.{◌≡◌, ◌⊎◌, ℕ, ◌+◌, ◌^◌,
 ghost use Rattle.sabr_index.specs.declared.link.Pass.{Pass};
 ghost use Rattle.sabr_model.specs.routes.Hops.{IsSmall};
 ghost use Rattle.sabr_search.specs.questions.Task.{IsTask, Takes};
-ghost use Rattle.sabr_search.specs.questions.Steps.{IsHopAt};
+ghost use Rattle.sabr_search.specs.questions.Linked.{IsHopAt};
 ghost use Rattle.sabr_index.specs.Links.{AreInOrder};
 ghost use Rattle.sabr_search.specs.questions.Linked.{IsPassAt, IsLinkWithin, IsLinkHere, AreLinksAt, HasNumber, IsRuledOut};
 
@@ -46,7 +46,7 @@ pub fn rules_out(bounds: LinkBounds, at: u64, before: u64) -> bool
 
 /// Returns the number of passes at the front of a link that have ended by `at`. Those after them, or the only one, may
 /// have ended as well. A binary search: it compares the bounds that stand beside the passes.
-pub fn first_open(passes: &[Pass], at: u64) -> usize
+pub fn first_unended(passes: &[Pass], at: u64) -> usize
     requires { AreInOrder passes.now }
     ensures within { result ≤ length passes.now }
     ensures ended { (k : ℕ) (x : Pass) → k < result → slice_get passes.now k ≡ Some x → x.end ≤ at }
@@ -85,7 +85,8 @@ impl<'a, A: Allocator + Copy> Task<'a, A> {
         }
     }
 
-    /// Returns the record of a pass that was looked at.
+    /// Returns the hop over a pass whose record was fetched.
+    #[tactic(auto, using(crate::proofs::LinkLemmas::OverLinks::pass_small))]
     pub fn hop_over(&self, to: usize, pass: &Looked<'_>) -> Hop
         requires pass { (node : ℕ) × IsPassAt self.now node to pass.now }
         requires task { IsTask self.now }
@@ -121,9 +122,9 @@ impl<'a, A: Allocator + Copy> Task<'a, A> {
             return before;
         }
         let passes = link.passes;
-        let mut least = before;
+        let mut earliest = before;
         let mut finger = Finger::new();
-        let mut place = first_open(passes, at);
+        let mut place = first_unended(passes, at);
         while place < passes.len() {
             let pass = passes[place].look(looks);
             let excluded = self.excluded_from(link.from, &pass, &mut finger);
@@ -131,18 +132,18 @@ impl<'a, A: Allocator + Copy> Task<'a, A> {
                 place += excluded.min(passes.len() - place);
                 continue;
             }
-            if comes_late(&pass, at, least) {
-                return least;
+            if comes_late(&pass, at, earliest) {
+                return earliest;
             }
             let hop = self.hop_over(link.to, &pass);
-            if let Some(arrival) = self.arrive_before(at, &hop, least) {
+            if let Some(arrival) = self.arrive_before(at, &hop, earliest) {
                 if arrives_no_sooner(link.bounds.soonest, link.bounds.least_light, at, arrival) {
                     return arrival;
                 }
-                least = arrival;
+                earliest = arrival;
             }
             place += 1;
         }
-        least
+        earliest
     }
 }

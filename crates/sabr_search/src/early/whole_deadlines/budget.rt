@@ -1,4 +1,4 @@
-//! When layers for one delivery are made, and whether they pay.
+//! When layers for one delivery are made, and whether questions are asked of them.
 
 use crate::throttle::Throttle;
 
@@ -77,12 +77,12 @@ impl WholeBudget {
     }
 
     /// Returns true if a question is to be asked of the layers.
-    pub fn takes(&mut self) -> bool {
-        self.tries.takes()
+    pub fn allows(&mut self) -> bool {
+        self.tries.allows()
     }
 
     /// Counts a question that they answered.
-    pub fn win(&mut self) {
-        self.tries.win(1);
+    pub fn count_answer(&mut self) {
+        self.tries.count_saved(1);
     }
 }

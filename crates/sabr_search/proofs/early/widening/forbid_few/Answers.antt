@@ -4,8 +4,7 @@ use Rattle.std.proofs.lemmas.Option.{slice_get-get_or}
 use Rattle.std.proofs.lemmas.Grind.{common_steps}
 use Rattle.sabr_search.specs.questions.Task.{SearchTask, IsTask, IsOfRequest, is_closed}
 use Rattle.sabr_search.specs.questions.PrefixPath.{AreForbidden}
-use Rattle.sabr_search.specs.answers.Answers.{narrowed}
-use Rattle.sabr_search.specs.questions.WideTasks.{ForbidsFewer}
+use Rattle.sabr_search.specs.answers.Answers.{narrowed, ForbidsFewer}
 use Rattle.sabr_search.proofs.ForwardLemmas.Queues.{flag_here, flag_other, flag_many}
 use Rattle.sabr_search.proofs.early.widening.forbid_few.Goals as goal
 

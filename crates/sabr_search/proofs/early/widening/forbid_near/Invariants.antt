@@ -1,6 +1,5 @@
 use Rattle.sabr_search.specs.questions.Task.{IsOfRequest}
-use Rattle.sabr_search.specs.answers.Answers.{narrowed}
-use Rattle.sabr_search.specs.questions.WideTasks.{ForbidsFewer}
+use Rattle.sabr_search.specs.answers.Answers.{narrowed, ForbidsFewer}
 use Rattle.sabr_search.proofs.early.widening.forbid_near.Given as goal
 
 abbrev pub invariant-loop-node : goal.invariant-loop-node

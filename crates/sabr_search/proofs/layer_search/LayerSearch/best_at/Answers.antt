@@ -1,10 +1,7 @@
 use Rattle.std.proofs.Common.{◌≡◌, ℕ, ◌+◌, ◌-◌, ◌*◌, ◌≤◌, length, Some, subst, sym, arith}
 use Rattle.std.proofs.Math.Nat.{mul-le-mul_right}
 use Rattle.sabr_search.proofs.AnswerLemmas.Law.{way_early}
-use Rattle.sabr_search.proofs.AnswerLemmas.BoundedWays.{beyond_within}
-use Rattle.sabr_search.proofs.AnswerLemmas.Stops.{stops_by}
-use Rattle.sabr_search.proofs.AnswerLemmas.UpTo.{same_up_to, early_bound, least_stopped}
-use Rattle.sabr_search.proofs.AnswerLemmas.WholeDeadlines.{picked_is}
+use Rattle.sabr_search.proofs.AnswerLemmas.BoundedWays.{beyond_within, stops_by, same_up_to, early_bound, least_stopped, picked_is}
 use Rattle.sabr_search.specs.layers.WholeDeadlines.{IsDeadEnd, AreWholeDeadlinesOf, IsMadeBack, LeadOn}
 use Rattle.sabr_search.proofs.layer_search.LayerSearch.best_at.Given.{Over}
 use Rattle.sabr_search.proofs.layer_search.LayerSearch.best_at.Goals.{After-begin}

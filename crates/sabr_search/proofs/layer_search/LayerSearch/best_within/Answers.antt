@@ -1,6 +1,5 @@
 use Rattle.std.proofs.Common.{arith}
-use Rattle.sabr_search.proofs.AnswerLemmas.UpTo.{any_up_to, none_by}
-use Rattle.sabr_search.proofs.AnswerLemmas.Stops.{stops_weaker}
+use Rattle.sabr_search.proofs.AnswerLemmas.BoundedWays.{any_up_to, none_by, stops_weaker}
 use Rattle.sabr_search.proofs.layer_search.LayerSearch.best_within.Goals as goal
 
 pub returns-in_default-clause-found : goal.returns-in_default-clause-found

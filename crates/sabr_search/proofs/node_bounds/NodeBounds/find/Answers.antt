@@ -6,8 +6,8 @@ use Rattle.std.specs.declared.result.Result.TheVariants.{Ok, Err}
 use Rattle.sabr_search.specs.questions.FirstSteps.{tabled_of}
 use Rattle.sabr_search.specs.questions.Task.{never}
 use Rattle.sabr_search.specs.layers.NodeBounds.{AreCostsFor, AreLateFor, AreSoonFor}
-use Rattle.sabr_search.proofs.AnswerLemmas.Soonest.{none_soon}
-use Rattle.sabr_search.proofs.BackwardLemmas.LastSeconds.{no_costs, none_late, whole_task}
+use Rattle.sabr_search.proofs.AnswerLemmas.Answered.{none_soon}
+use Rattle.sabr_search.proofs.BackwardLemmas.Relaxing.{no_costs, none_late, whole_task}
 use Rattle.sabr_search.proofs.node_bounds.NodeBounds.find.Goals as goal
 
 -- what holds of what was found, and of an empty list, holds of what is known
@@ -41,6 +41,6 @@ pub returns : goal.returns
 returns g c = record {
   late = rw c.unwrap_or-late.ensures (known_is c.latest_by-2.result (λ v. AreLateFor (tabled_of c.args.task.now) c.args.task.now.request never v.items) _ c.latest_by-2.ensures.late (none_late (tabled_of c.args.task.now) c.args.task.now.request never _ (omega arith) c.new-2.ensures.items));
   late_until = c.requires.node_bounds.late_until;
-  costs = rw c.unwrap_or-2.ensures (known_is c.costs_of.result (λ v. AreCostsFor (tabled_of c.args.task.now) c.args.task.now.request v.items) _ c.costs_of.ensures.costs (no_costs (tabled_of c.args.task.now) c.args.task.now.request _ c.new-4.ensures.items));
+  costs = rw c.unwrap_or-2.ensures (known_is c.costs_of.result (λ v. AreCostsFor (tabled_of c.args.task.now) c.args.task.now.request v.0.items) _ c.costs_of.ensures.costs (no_costs (tabled_of c.args.task.now) c.args.task.now.request _ c.new-4.ensures.items));
   soon = rw c.unwrap_or-soon.ensures (known_is c.soonest_of.result (λ v. AreSoonFor (tabled_of c.args.task.now) c.args.task.now.request v.items) _ c.soonest_of.ensures.soon (none_soon (tabled_of c.args.task.now) c.args.task.now.request _ c.new-3.ensures.items));
 }

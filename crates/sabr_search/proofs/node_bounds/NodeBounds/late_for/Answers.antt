@@ -1,5 +1,5 @@
 use Rattle.std.proofs.Common.{arith}
-use Rattle.sabr_search.proofs.BackwardLemmas.LastSeconds.{late_before}
+use Rattle.sabr_search.proofs.BackwardLemmas.Relaxing.{late_before}
 use Rattle.sabr_search.proofs.node_bounds.NodeBounds.late_for.Goals as goal
 
 pub returns-then-not-is_empty : goal.returns-then-not-is_empty

@@ -1,6 +1,6 @@
 use Rattle.std.proofs.Common.{arith}
-use Rattle.sabr_search.proofs.BackwardLemmas.LastSeconds.{none_late, no_costs}
-use Rattle.sabr_search.proofs.AnswerLemmas.Soonest.{none_soon}
+use Rattle.sabr_search.proofs.BackwardLemmas.Relaxing.{none_late, no_costs}
+use Rattle.sabr_search.proofs.AnswerLemmas.Answered.{none_soon}
 use Rattle.sabr_search.proofs.node_bounds.NodeBounds.new.Goals as goal
 
 pub returns : goal.returns

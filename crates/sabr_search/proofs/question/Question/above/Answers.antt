@@ -1,8 +1,7 @@
 use Rattle.std.proofs.Common.{None, length, arith}
 use Rattle.sabr_search.specs.answers.Asked.{bound_left, hops_left}
-use Rattle.sabr_search.proofs.WayLemmas.Bounds.{still_above}
+use Rattle.sabr_search.proofs.AnswerLemmas.BoundedWays.{still_above, none_beyond}
 use Rattle.sabr_search.proofs.AnswerLemmas.Answered.{answered_is_least, beyond_is}
-use Rattle.sabr_search.proofs.AnswerLemmas.BoundedWays.{none_beyond}
 use Rattle.sabr_search.proofs.question.Question.above.Goals as goal
 
 pub returns-then-is_none-clause-sought : goal.returns-then-is_none-clause-sought

@@ -2,7 +2,7 @@ use Rattle.std.specs.declared.cmp.Reverse.{Reverse}
 use Rattle.std.proofs.Common.{ℕ}
 use Rattle.std.proofs.lemmas.List.Sorted.{IsPermutation-map}
 use Rattle.sabr_search.specs.layers.Events.{event_of}
-use Rattle.sabr_search.proofs.ForwardLemmas.Keys.{earliest_of_least}
+use Rattle.sabr_search.proofs.ForwardLemmas.Forward.{earliest_of_least}
 use Rattle.sabr_search.proofs.queue.Queue.pop.Goals as goal
 
 pub returns-clause-moved : goal.returns-clause-moved

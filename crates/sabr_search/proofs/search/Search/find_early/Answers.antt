@@ -1,4 +1,4 @@
-use Rattle.sabr_search.proofs.AnswerLemmas.Around.{of_request}
+use Rattle.sabr_search.proofs.AnswerLemmas.Answered.{of_request}
 use Rattle.sabr_search.proofs.search.Search.find_early.Goals as goal
 
 pub next-requires-clause-request : goal.next-requires-clause-request

@@ -1,8 +1,6 @@
 use Rattle.std.proofs.Common.{arith}
 use Rattle.sabr_search.proofs.WayLemmas.Prefixes.{prefix_facts}
-use Rattle.sabr_search.proofs.AnswerLemmas.Around.{of_request}
-use Rattle.sabr_search.proofs.AnswerLemmas.Soonest.{stop_of, soon_after}
-use Rattle.sabr_search.proofs.AnswerLemmas.Answered.{left_free, layers_within, passes_within, search_fits}
+use Rattle.sabr_search.proofs.AnswerLemmas.Answered.{of_request, stop_of, soon_after, left_free, layers_within, passes_within, search_fits}
 use Rattle.sabr_search.proofs.AnswerLemmas.CachedAnswers.{found_at, holds_at}
 use Rattle.sabr_search.proofs.search.Search.find_route.Goals as goal
 

@@ -4,10 +4,9 @@ use Rattle.sabr_search.specs.declared.bound.Bound.{Bound}
 use Rattle.sabr_search.specs.questions.Bounded.{is_up_to}
 use Rattle.sabr_search.proofs.WayLemmas.EarliestSeconds.{arrivals_lowered}
 use Rattle.sabr_search.specs.answers.Asked.{hops_left}
-use Rattle.sabr_search.proofs.AnswerLemmas.Around.{bounds_of_nodes}
-use Rattle.sabr_search.proofs.AnswerLemmas.UpTo.{any_up_to, none_by}
+use Rattle.sabr_search.proofs.AnswerLemmas.Answered.{bounds_of_nodes}
+use Rattle.sabr_search.proofs.AnswerLemmas.BoundedWays.{any_up_to, none_by, stops_by, stops_weaker}
 use Rattle.std.proofs.lemmas.Result.{IfOk-weaker}
-use Rattle.sabr_search.proofs.AnswerLemmas.Stops.{stops_by, stops_weaker}
 use Rattle.sabr_search.proofs.search.Search.run.Goals as goal
 
 pub run-requires-clause-bound : goal.run-requires-clause-bound

@@ -1,5 +1,5 @@
 use Rattle.sabr_search.proofs.WayLemmas.Prefixes.{prefix_facts}
-use Rattle.sabr_search.proofs.AnswerLemmas.Soonest.{stop_of, soon_after}
+use Rattle.sabr_search.proofs.AnswerLemmas.Answered.{stop_of, soon_after}
 use Rattle.sabr_search.proofs.search.Search.run_wide.Goals as goal
 
 pub run-requires-clause-request : goal.run-requires-clause-request

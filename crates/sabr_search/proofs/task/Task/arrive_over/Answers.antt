@@ -14,14 +14,14 @@ returns-then-rules_out-clause-full g c = λ n w b has s.
 
 pub loop-place-init : goal.loop-place-init
 loop-place-init g c = record {
-  within = c.first_open-place.ensures.within;
+  within = c.first_unended-place.ensures.within;
   counted = omega arith;
   looked = omega arith;
   some_looks = λ less. absurd (omega (arith, less));
   later = omega (arith, c.rules_out.ensures.early c.if-rules_out.false);
   upper = omega arith;
   sound = λ less. absurd (omega (arith, less));
-  full = λ k x w b less at s. absurd (none_ended c.args.self.now c.requires.task c.args.link.from c.args.link.to c.args.link.passes.now c.requires.link.0 c.args.at k x w b at (c.first_open-place.ensures.ended k x less at) s);
+  full = λ k x w b less at s. absurd (none_ended c.args.self.now c.requires.task c.args.link.from c.args.link.to c.args.link.passes.now c.requires.link.0 c.args.at k x w b at (c.first_unended-place.ensures.ended k x less at) s);
 }
 
 pub returns-then-comes_late-clause-full : goal.returns-then-comes_late-clause-full
@@ -35,7 +35,7 @@ returns-then-comes_late-clause-full g c = λ n w b has s.
     elim (cases_lt has.0 i) [
       | inl before ↦ c.loop-place.invariant.full has.0 has.1 w b before has.2 step
       | inr behind ↦
-          late_over task c.requires.task c.args.link.from c.args.link.to passes c.requires.link.0 c.args.at c.loop-place.least i pass here
+          late_over task c.requires.task c.args.link.from c.args.link.to passes c.requires.link.0 c.args.at c.loop-place.earliest i pass here
           (c.comes_late.ensures c.if-comes_late.true) has.0 has.1 w b behind has.2 step
     ]
 
@@ -84,7 +84,7 @@ loop-place-preserved g c =
     elim c.match-arrive_before.branch [
       | in-Some+else-arrives_no_sooner z ↦
           (let got = z.in-Some.ensures.some in
-          rw z.least-is (record {
+          rw z.earliest-is (record {
             within = omega (arith, c.loop-place-test.true);
             counted = omega (arith, so_far.counted, c.look-pass.ensures.counted);
             looked = omega (arith, so_far.looked, c.look-pass.ensures.counted);
@@ -101,7 +101,7 @@ loop-place-preserved g c =
             ];
           }))
       | in_default z ↦
-          rw z.least-is (record {
+          rw z.earliest-is (record {
             within = omega (arith, c.loop-place-test.true);
             counted = omega (arith, so_far.counted, c.look-pass.ensures.counted);
             looked = omega (arith, so_far.looked, c.look-pass.ensures.counted);

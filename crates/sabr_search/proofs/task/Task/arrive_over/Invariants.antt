@@ -8,11 +8,11 @@ invariant-loop-place g l = record {
   within : l.place ≤ length l.passes;
   counted : l.fn.looks.left ≤ l.looks.left + l.place;
   looked : l.looks.left ≤ l.fn.looks.left;
-  some_looks : l.least < l.before → l.looks.left < l.fn.looks.left;
-  later : l.at ≤ l.least;
-  upper : l.least ≤ l.before;
-  sound : l.least < l.before → slice_index_or l.self.forbidden l.link.to false ≡ false → (n : ℕ) × Takes l.self n l.link.from l.at l.link.to l.least;
-  full : (k : ℕ) (x : Pass) (w b : ℕ) → k < l.place → slice_get l.passes k ≡ Some x → Takes l.self x.number l.link.from l.at w b → l.least ≤ b;
+  some_looks : l.earliest < l.before → l.looks.left < l.fn.looks.left;
+  later : l.at ≤ l.earliest;
+  upper : l.earliest ≤ l.before;
+  sound : l.earliest < l.before → slice_index_or l.self.forbidden l.link.to false ≡ false → (n : ℕ) × Takes l.self n l.link.from l.at l.link.to l.earliest;
+  full : (k : ℕ) (x : Pass) (w b : ℕ) → k < l.place → slice_get l.passes k ≡ Some x → Takes l.self x.number l.link.from l.at w b → l.earliest ≤ b;
 }
 
 abbrev pub decreases-loop-place : goal.decreases-loop-place

@@ -11,13 +11,13 @@ returns-then-rules_out-clause-full g c = λ n w b has s less.
 
 pub loop-place-init : goal.loop-place-init
 loop-place-init g c = record {
-  within = c.first_open-place.ensures.within;
+  within = c.first_unended-place.ensures.within;
   counted = omega arith;
   looked = omega arith;
   some_looks = inl refl;
   lower = λ n h. h;
   sound = inl refl;
-  full = λ k x w b less at s early. absurd (none_ended c.args.self.now c.requires.task c.args.link.from c.args.link.to c.args.link.passes.now c.requires.link.0 c.args.at k x w b at (c.first_open-place.ensures.ended k x less at) s);
+  full = λ k x w b less at s early. absurd (none_ended c.args.self.now c.requires.task c.args.link.from c.args.link.to c.args.link.passes.now c.requires.link.0 c.args.at k x w b at (c.first_unended-place.ensures.ended k x less at) s);
 }
 
 pub returns-then-comes_late-clause-full : goal.returns-then-comes_late-clause-full

@@ -12,6 +12,11 @@ loop-left-init g c =
       linked = rw (first.entries, first.linked) (linked_first _);
     }
 
+pub next_back-requires-clause-growing : goal.next_back-requires-clause-growing
+next_back-requires-clause-growing g c =
+    let made = c.loop-left.invariant.made in
+    record { task = c.requires.task; arrivals = c.requires.arrivals.flags; bounded = omega (arith, made.many); lists = made.lists; linked = c.loop-left.invariant.linked }
+
 pub next_back-requires-clause-apart : goal.next_back-requires-clause-apart
 next_back-requires-clause-apart g c = λ p q e f. c.loop-left.invariant.made.apart c.loop-left.left p q e f (omega arith)
 

@@ -4,9 +4,8 @@ use Rattle.sabr_search.specs.declared.visit.Visit.{Visit}
 use Rattle.sabr_search.proofs.ForwardLemmas.LayerEntries.{read_at}
 use Rattle.sabr_search.proofs.ForwardLemmas.MadeLayers.{spent_more, spent_fewer, none_more}
 use Rattle.sabr_search.proofs.BackwardLemmas.LateMade.{back_first, late_next, linked_first, met_by, unmet_by}
-use Rattle.sabr_search.proofs.BackwardLemmas.LateLayers.{are_met, own_dead}
-use Rattle.sabr_search.proofs.BackwardLemmas.Whole.{before_last}
-use Rattle.sabr_search.proofs.AnswerLemmas.Stops.{stops_by}
+use Rattle.sabr_search.proofs.BackwardLemmas.Whole.{are_met, own_dead, before_last}
+use Rattle.sabr_search.proofs.AnswerLemmas.BoundedWays.{stops_by}
 use Rattle.sabr_search.proofs.backward.deadlines.Deadlines.make_back.Goals as goal
 
 pub loop-left-init : goal.loop-left-init
@@ -25,6 +24,11 @@ pub is_met-requires : goal.is_met-requires
 is_met-requires g c = λ k s at.
     let step = (c.requires.real k s at).1 in
     omega (arith, slice_get_within c.args.aim.now.task.now.table s.node step.contact.to step.receiver, c.loop-left.invariant.made.layers.lists.many)
+
+pub next_back-requires-clause-growing : goal.next_back-requires-clause-growing
+next_back-requires-clause-growing g c =
+    let made = c.loop-left.invariant.made.layers in
+    record { task = c.requires.task; arrivals = c.requires.arrivals.flags; bounded = omega (arith, made.many); lists = made.lists; linked = c.loop-left.invariant.linked }
 
 pub next_back-requires-clause-apart : goal.next_back-requires-clause-apart
 next_back-requires-clause-apart g c = λ p q e f. c.loop-left.invariant.made.layers.apart c.loop-left.left p q e f (omega arith)

@@ -1,13 +1,13 @@
 use Rattle.std.proofs.Common.{◌≡◌, ◌+◌, ◌<◌, ◌≤◌, ℕ, inl, inr, Some, length, slice_get, slice_index, slice_index_or, false, refl, sym, ap, ◌∙◌, arith}
-use Rattle.sabr_search.specs.questions.Steps.{received}
+use Rattle.sabr_search.specs.questions.Linked.{received}
 use Rattle.sabr_search.specs.layers.Late.{InTimeFor}
 use Rattle.sabr_search.proofs.ForwardLemmas.LayerEntries.{late_between, received_by_all, entry_read, received_next, received_within, received_at_most, read_at}
 use Rattle.sabr_search.proofs.ForwardLemmas.Forward.{last_or_before}
 use Rattle.sabr_search.proofs.BackwardLemmas.LateLists.{in_time_kept, left_rises}
-use Rattle.sabr_search.proofs.BackwardLemmas.LateNoted.{grown_more, grown_none}
+use Rattle.sabr_search.proofs.WholeLemmas.Chained.{grown_more, grown_none}
 use Rattle.sabr_search.proofs.BackwardLemmas.LateMade.{open_entry}
 use Rattle.sabr_search.proofs.WayLemmas.RoutesAndWays.{same_some}
-use Rattle.sabr_search.proofs.AnswerLemmas.Stops.{stops_by}
+use Rattle.sabr_search.proofs.AnswerLemmas.BoundedWays.{stops_by}
 use Rattle.sabr_search.proofs.backward.deadlines.Deadlines.next_back.Given.{Over}
 use Rattle.sabr_search.proofs.backward.deadlines.Deadlines.next_back.Goals.{After-index-to}
 use Rattle.sabr_search.proofs.backward.deadlines.Deadlines.next_back.Goals as goal
@@ -17,8 +17,8 @@ read : (g : Over) (c : After-index-to g) → (c.index-first.result.now ≡ slice
 read g c =
     let old = c.args.self.now in
     let so_far = c.loop-place.invariant in
-    let begin : c.index-begin.result.now ≡ slice_index old.ends.items (c.args.left + 1) = read_at old.ends.items (c.args.left + 1) c.index-begin.result.now c.requires.bounded c.index-begin.ensures in (
-      read_at old.ends.items c.args.left c.index-first.result.now (omega (arith, c.requires.bounded)) c.index-first.ensures,
+    let begin : c.index-begin.result.now ≡ slice_index old.ends.items (c.args.left + 1) = read_at old.ends.items (c.args.left + 1) c.index-begin.result.now c.requires.growing.bounded c.index-begin.ensures in (
+      read_at old.ends.items c.args.left c.index-first.result.now (omega (arith, c.requires.growing.bounded)) c.index-first.ensures,
       begin,
       entry_read c.loop-place.self.entries.items old.entries.items (slice_index old.ends.items (c.args.left + 1)) c.loop-place.place c.index-to.result.now so_far.grown.before (omega (arith, begin, c.loop-place-test.true)) (rw so_far.grown.ends at so_far.grown.growing.lists.begins) c.index-to.ensures,
     )
@@ -36,7 +36,7 @@ within g c =
 
 -- and its node is open
 open_node : (g : Over) (c : After-index-to g) → (c.index-to.result.now.node < length c.args.aim.now.task.now.table) × (slice_index_or c.args.aim.now.task.now.forbidden c.index-to.result.now.node false ≡ false)
-open_node g c = open_entry c.args.aim.now.task.now c.requires.task _ _ _ _ c.args.self.now.entries.items c.requires.growing.lists c.loop-place.place c.index-to.result.now (read g c).2
+open_node g c = open_entry c.args.aim.now.task.now c.requires.growing.task _ _ _ _ c.args.self.now.entries.items c.requires.growing.lists c.loop-place.place c.index-to.result.now (read g c).2
 
 pub take_senders-requires-clause-node : goal.take_senders-requires-clause-node
 take_senders-requires-clause-node g c = (open_node g (goal.at.take_senders-requires-clause-node g c).After-index-to).0
@@ -48,11 +48,8 @@ pub loop-place-init : goal.loop-place-init
 loop-place-init g c = record {
   grown = grown_none _ _ _ c.requires.growing;
   counted = omega arith;
-  in_time = λ p e n u t b above below. absurd (omega (arith, above, below, read_at c.args.self.now.ends.items c.args.left c.index-first.result.now (omega (arith, c.requires.bounded)) c.index-first.ensures));
+  in_time = λ p e n u t b above below. absurd (omega (arith, above, below, read_at c.args.self.now.ends.items c.args.left c.index-first.result.now (omega (arith, c.requires.growing.bounded)) c.index-first.ensures));
 }
-
-pub take_senders-requires-clause-bounded : goal.take_senders-requires-clause-bounded
-take_senders-requires-clause-bounded g c = rw c.loop-place.invariant.grown.ends c.requires.bounded
 
 pub take_senders-requires-clause-given : goal.take_senders-requires-clause-given
 take_senders-requires-clause-given g c = λ b less.
@@ -75,7 +72,7 @@ loop-place-preserved g c =
       grown = grown_more _ _ _ _ _ so_far.grown one.grown;
       counted = omega (arith, c.take_senders.ensures.counted, so_far.counted, received_here);
       in_time = λ p e n u t b above below here s less. elim (last_or_before p place below) [
-        | inl before ↦ left_rises task c.args.aim.now.since.now _ _ u t one.rises (so_far.in_time p e n u t b above before here s less)
+        | inl before ↦ left_rises task c.args.aim.now.since.now _ _ u t one.grown.rises (so_far.in_time p e n u t b above before here s less)
         | inr same ↦
             (let entry : e ≡ to = same_some (sym here ∙ ap (slice_get old.entries.items) same ∙ read.2) in
             one.in_time n u t b (rw entry at s) (rw entry at less))
@@ -95,5 +92,5 @@ returns-clause-counted g c = omega (arith, c.loop-place.invariant.counted, recei
 
 pub returns-clause-in_time : goal.returns-clause-in_time
 returns-clause-in_time g c = λ p e n u t b above below here s less.
-    let begin = read_at c.args.self.now.ends.items (c.args.left + 1) c.index-begin.result.now c.requires.bounded c.index-begin.ensures in
+    let begin = read_at c.args.self.now.ends.items (c.args.left + 1) c.index-begin.result.now c.requires.growing.bounded c.index-begin.ensures in
     c.loop-place.invariant.in_time p e n u t b above (omega (arith, begin, c.loop-place-test.false)) here s less

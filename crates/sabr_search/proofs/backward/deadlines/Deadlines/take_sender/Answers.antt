@@ -1,7 +1,8 @@
 use Rattle.std.proofs.Common.{◌≡◌, ◌+◌, slice_index, arith}
 use Rattle.sabr_search.proofs.ForwardLemmas.LayerEntries.{read_at}
 use Rattle.sabr_search.proofs.BackwardLemmas.LateLists.{sound_back}
-use Rattle.sabr_search.proofs.BackwardLemmas.LateNoted.{AreNoted, grown_none, head_within, late_noted}
+use Rattle.sabr_search.proofs.BackwardLemmas.Relaxing.{late_rises}
+use Rattle.sabr_search.proofs.WholeLemmas.Chained.{AreNoted, grown_none, head_within, late_noted}
 use Rattle.sabr_search.specs.declared.backward.deadlines.Deadlines.{Deadlines}
 use Rattle.sabr_search.specs.layers.Deadlines.{head_of}
 use Rattle.sabr_search.specs.layers.Late.{IsNotedLate}
@@ -26,9 +27,9 @@ noted g c new how =
     let task = c.args.aim.now.task.now in
     let own = c.args.self.now in
     let latest = read_at own.late.items c.args.from.node c.index-latest.result.now (omega (arith, c.requires.node, c.requires.growing.lists.many)) c.index-latest.ensures in
-    let begin : c.index-begin.result.now ≡ slice_index own.ends.items (c.args.left + 1) = read_at own.ends.items (c.args.left + 1) c.index-begin.result.now c.requires.bounded c.index-begin.ensures in
+    let begin : c.index-begin.result.now ≡ slice_index own.ends.items (c.args.left + 1) = read_at own.ends.items (c.args.left + 1) c.index-begin.result.now c.requires.growing.bounded c.index-begin.ensures in
     late_noted task _ _ own new c.requires.growing.lists c.requires.growing.linked c.args.from.node c.leave_over-last.result c.requires.node c.requires.permitted c.requires.other (omega (arith, latest, c.max.ensures, c.if-last-max.false))
-    (sound_back task c.requires.task c.args.from.node c.args.to.node c.index-latest.result.now c.leave_over-last.result c.args.to.before _ _ own.entries.items (λ t from less. c.leave_over-last.ensures.sound t from less) (omega (arith, c.max.ensures, c.if-last-max.false)) c.requires.receiver c.requires.given)
+    (sound_back task c.requires.growing.task c.args.from.node c.args.to.node c.index-latest.result.now c.leave_over-last.result c.args.to.before _ _ own.entries.items (λ t from less. c.leave_over-last.ensures.sound t from less) (omega (arith, c.max.ensures, c.if-last-max.false)) c.requires.receiver c.requires.given)
     (rw begin at how)
 
 pub returns-then-last-max-clause-grown : goal.returns-then-last-max-clause-grown
@@ -38,8 +39,16 @@ pub returns-clause-grown : goal.returns-clause-grown
 returns-clause-grown g c =
     let new = c.in_ok-note_late.ensures in
     let noted = noted g (goal.at.returns-clause-grown g c).After-index-begin c.note_late.new.self new.noted in
+    let latest = read_at c.args.self.now.late.items c.args.from.node c.index-latest.result.now (omega (arith, c.requires.node, c.requires.growing.lists.many)) c.index-latest.ensures in
     record {
-      growing = record { lists = rw (c.note_late.ensures.ends, new.late) noted.lists; linked = noted.linked };
+      growing = record {
+        task = c.requires.growing.task;
+        arrivals = c.requires.growing.arrivals;
+        bounded = rw c.note_late.ensures.ends c.requires.growing.bounded;
+        lists = rw (c.note_late.ensures.ends, new.late) noted.lists;
+        linked = noted.linked;
+      };
+      rises = rw new.late (late_rises c.args.self.now.late.items c.args.from.node c.leave_over-last.result (omega (arith, c.requires.node, c.requires.growing.lists.many)) (omega (arith, latest, c.max.ensures, c.if-last-max.false)));
       ends = c.note_late.ensures.ends;
       before = noted.kept;
     }

@@ -2,11 +2,11 @@ use Rattle.std.proofs.Common.{◌≡◌, ◌+◌, length, slice_index, sym, ap, 
 use Rattle.sabr_index.specs.Links.{SentLink}
 use Rattle.std.proofs.lemmas.Option.{slice_get_within}
 use Rattle.sabr_search.specs.layers.Late.{AreLeftInTimeOver}
-use Rattle.sabr_search.proofs.BackwardLemmas.LastSeconds.{each_until}
+use Rattle.sabr_search.proofs.BackwardLemmas.Relaxing.{each_until}
 use Rattle.sabr_search.proofs.BackwardLemmas.LateLists.{in_time_kept, left_rises}
-use Rattle.sabr_search.proofs.BackwardLemmas.LateNoted.{grown_more, grown_none}
+use Rattle.sabr_search.proofs.WholeLemmas.Chained.{grown_more, grown_none}
 use Rattle.sabr_search.proofs.LinkLemmas.Linking.{passes_within}
-use Rattle.sabr_search.proofs.LinkLemmas.StepLists.{sum_taken_le}
+use Rattle.sabr_search.proofs.LinkLemmas.PlanFacts.{sum_taken_le}
 use Rattle.sabr_search.proofs.backward.deadlines.Deadlines.take_senders.Given.{Over}
 use Rattle.sabr_search.proofs.backward.deadlines.Deadlines.take_senders.Goals.{After-at-from}
 use Rattle.sabr_search.proofs.backward.deadlines.Deadlines.take_senders.Goals as goal
@@ -19,12 +19,8 @@ pub loop-place-init : goal.loop-place-init
 loop-place-init g c = record {
   grown = grown_none _ _ _ c.requires.growing;
   counted = omega arith;
-  rises = λ k. omega arith;
   in_time = λ j s less. absurd (omega (arith, less));
 }
-
-pub take_sender-requires-clause-bounded : goal.take_sender-requires-clause-bounded
-take_sender-requires-clause-bounded g c = rw c.loop-place.invariant.grown.ends c.requires.bounded
 
 pub take_sender-requires-clause-given : goal.take_sender-requires-clause-given
 take_sender-requires-clause-given g c = λ b less.
@@ -53,7 +49,6 @@ loop-place-preserved-then-brings_nothing g c =
     record {
       grown = so_far.grown;
       counted = omega (arith, so_far.counted, (passes_within c.args.aim.now.task.now c.args.to.node c.senders-senders.result c.senders-senders.ensures c.loop-place.place _ here.1).0);
-      rises = so_far.rises;
       in_time = each_until (λ (s : SentLink). AreLeftInTimeOver c.args.aim.now.task.now c.args.aim.now.since.now c.loop-place.self.late.items s.sender s.passes c.args.to.before) c.senders-senders.result c.loop-place.place _ here.1 so_far.in_time
           (c.brings_nothing.ensures.in_time c.if-brings_nothing.true c.args.to.node here.0 (link, here.2));
     }
@@ -66,9 +61,8 @@ loop-place-preserved g c =
     record {
       grown = grown_more _ _ _ _ _ so_far.grown one.grown;
       counted = omega (arith, so_far.counted, c.take_sender.ensures.looks, (passes_within task c.args.to.node c.senders-senders.result c.senders-senders.ensures c.loop-place.place _ c.at-from.ensures.link).0);
-      rises = λ k. omega (arith, so_far.rises k, one.rises k);
       in_time = each_until (λ (s : SentLink). AreLeftInTimeOver task c.args.aim.now.since.now c.take_sender.new.self.late.items s.sender s.passes c.args.to.before) c.senders-senders.result c.loop-place.place _ c.at-from.ensures.link
-          (λ j s less at n t w b has step by. left_rises task c.args.aim.now.since.now _ _ s.sender t one.rises (so_far.in_time j s less at n t w b has step by))
+          (λ j s less at n t w b has step by. left_rises task c.args.aim.now.since.now _ _ s.sender t one.grown.rises (so_far.in_time j s less at n t w b has step by))
           one.in_time;
     }
 

@@ -6,8 +6,7 @@ use Rattle.sabr_search.proofs.backward.deadlines.Deadlines.take_senders.Given as
 
 abbrev pub invariant-loop-place : goal.invariant-loop-place
 invariant-loop-place g l = record {
-  grown : AreGrown l.aim.task.now l.left l.fn.self l.self;
+  grown : AreGrown l.aim l.left l.fn.self l.self;
   counted : l.fn.looks.left ≤ l.looks.left + sum_by (λ s. length s.passes) (take l.place l.senders);
-  rises : (k : ℕ) → slice_index l.fn.self.late.items k ≤ slice_index l.self.late.items k;
   in_time : (j : ℕ) (s : SentLink) → j < l.place → slice_get l.senders j ≡ Some s → AreLeftInTimeOver l.aim.task.now l.aim.since.now l.self.late.items s.sender s.passes l.to.before;
 }

@@ -1,6 +1,6 @@
 use Rattle.std.proofs.Common.{◌<◌, length, arith}
 use Rattle.std.proofs.lemmas.Bool.{leb-true}
-use Rattle.sabr_search.proofs.WholeLemmas.DeadEnds.{start_late}
+use Rattle.sabr_search.proofs.WholeLemmas.Leaves.{start_late}
 use Rattle.sabr_search.proofs.WholeLemmas.Walks.{level_nodes, some_end}
 use Rattle.sabr_search.proofs.backward.walk.Walk.is_late.Given.{Over}
 use Rattle.sabr_search.proofs.backward.walk.Walk.is_late.Goals.{After-start-start}

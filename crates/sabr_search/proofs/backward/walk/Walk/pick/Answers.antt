@@ -3,7 +3,7 @@ use Rattle.std.proofs.lemmas.List.Elements.{All-push}
 use Rattle.sabr_search.specs.declared.backward.walk.DeadEnd.{DeadEnd}
 use Rattle.sabr_search.specs.declared.visit.Visit.{Visit}
 use Rattle.sabr_search.specs.questions.Task.{Takes}
-use Rattle.sabr_search.specs.questions.Ways.{Leads}
+use Rattle.sabr_search.specs.questions.FirstSteps.{Leads}
 use Rattle.sabr_search.specs.layers.WholeDeadlines.{AreDeadEnds, IsDeadEnd, IsStepOn, last_visit}
 use Rattle.sabr_search.specs.layers.Picks.{IsPicked}
 use Rattle.sabr_search.proofs.WholeLemmas.Walks.{AreStepsOn, degree_at_most, leads_more, start_of, numbers_of, visit_empty, steps_more, steps_fewer, steps_way, steps_inside, steps_picked, not_there}

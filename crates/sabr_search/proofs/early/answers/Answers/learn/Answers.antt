@@ -1,4 +1,4 @@
-use Rattle.sabr_search.proofs.AnswerLemmas.Around.{of_request}
+use Rattle.sabr_search.proofs.AnswerLemmas.Answered.{of_request}
 use Rattle.sabr_search.proofs.early.answers.Answers.learn.Goals as goal
 
 pub cache-requires-clause-request : goal.cache-requires-clause-request

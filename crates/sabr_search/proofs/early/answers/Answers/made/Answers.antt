@@ -1,5 +1,5 @@
 use Rattle.sabr_search.specs.answers.Asked.{hops_left}
-use Rattle.sabr_search.specs.answers.Found.{IsFoundWith}
+use Rattle.sabr_search.specs.answers.Answers.{IsFoundWith}
 use Rattle.sabr_search.proofs.AnswerLemmas.CachedAnswers.{kept_is}
 use Rattle.sabr_search.proofs.early.answers.Answers.made.Goals as goal
 use Rattle.sabr_search.proofs.early.answers.Answers.made.Goals.{in-Way, in-Beyond}

@@ -1,10 +1,8 @@
 use Rattle.std.proofs.Common.{◌-◌, ◌∙◌, arith}
 use Rattle.sabr_search.specs.answers.Asked.{hops_left}
 use Rattle.sabr_search.proofs.AnswerLemmas.Answered.{left_less}
-use Rattle.sabr_search.proofs.AnswerLemmas.BoundedWays.{beyond_within}
-use Rattle.sabr_search.proofs.AnswerLemmas.WholeDeadlines.{dead_beyond, dead_fewer, picked_is}
-use Rattle.sabr_search.proofs.WholeLemmas.DeadEnds.{dead_none}
-use Rattle.sabr_search.proofs.WholeLemmas.Leaves.{level_fewer}
+use Rattle.sabr_search.proofs.AnswerLemmas.BoundedWays.{beyond_within, dead_beyond, dead_fewer, picked_is}
+use Rattle.sabr_search.proofs.WholeLemmas.Leaves.{dead_none, level_fewer}
 use Rattle.sabr_search.proofs.early.whole_deadlines.WholeDeadlines.find.Goals as goal
 use Rattle.sabr_search.proofs.early.whole_deadlines.WholeDeadlines.find.Goals.{then-most-hops, else-most-hops}
 

@@ -1,7 +1,6 @@
 use Rattle.std.proofs.Common.{[], length, ap, arith}
 use Rattle.sabr_search.proofs.WayLemmas.Prefixes.{prefix_facts}
-use Rattle.sabr_search.proofs.AnswerLemmas.Around.{of_request}
-use Rattle.sabr_search.proofs.AnswerLemmas.Soonest.{stop_of, soon_after}
+use Rattle.sabr_search.proofs.AnswerLemmas.Answered.{of_request, stop_of, soon_after}
 use Rattle.sabr_search.proofs.WholeLemmas.Leaves.{of_each}
 use Rattle.sabr_search.proofs.early.whole_deadlines.WholeDeadlines.make.Goals as goal
 

@@ -4,7 +4,7 @@ use Rattle.std.proofs.lemmas.Option.{slice_get_within}
 use Rattle.sabr_index.specs.Links.{SentLink}
 use Rattle.sabr_search.specs.questions.Task.{SearchTask, Takes}
 use Rattle.sabr_search.specs.questions.Linked.{HasNumber}
-use Rattle.sabr_search.proofs.BackwardLemmas.LastSeconds.{each_until}
+use Rattle.sabr_search.proofs.BackwardLemmas.Relaxing.{each_until}
 use Rattle.sabr_search.proofs.ForwardLemmas.LayerEntries.{read_at, received_all}
 use Rattle.sabr_search.proofs.LinkLemmas.Linking.{passes_within}
 use Rattle.sabr_search.proofs.LinkLemmas.OverLinks.{ruled_out}
@@ -13,7 +13,7 @@ use Rattle.sabr_search.proofs.forward.layers.Layers.last_layer.Goals as goal
 
 -- what is known of one link to the goal
 abbrev IsKnownOf : SearchTask → ℕ → List ℕ → ℕ → SentLink → Type 0
-IsKnownOf task to arrival least s = (n b : ℕ) → HasNumber s.passes n → Takes task n s.sender (slice_index arrival s.sender) to b → slice_index_or task.forbidden s.sender false ≡ false → least ≤ b
+IsKnownOf task to arrival earliest s = (n b : ℕ) → HasNumber s.passes n → Takes task n s.sender (slice_index arrival s.sender) to b → slice_index_or task.forbidden s.sender false ≡ false → earliest ≤ b
 
 pub loop-place-preserved-then-rules_out : goal.loop-place-preserved-then-rules_out
 loop-place-preserved-then-rules_out g c =
@@ -28,8 +28,8 @@ loop-place-preserved-then-rules_out g c =
     record {
       counted = omega (arith, so_far.counted, (passes_within task to c.senders-senders.result c.senders-senders.ensures c.loop-place.place _ here.1).0);
       lower = so_far.lower;
-      known = each_until (IsKnownOf task to arrival c.loop-place.least) c.senders-senders.result c.loop-place.place _ here.1 so_far.known
-          (λ n b has s open'. ruled_out task c.requires.task u to here.0 link c.head-head.result.bounds here.2 c.index-at.result.now c.loop-place.least (c.rules_out.ensures.late c.if-rules_out.true) n (slice_index arrival u) to b has (omega (arith, at)) s);
+      known = each_until (IsKnownOf task to arrival c.loop-place.earliest) c.senders-senders.result c.loop-place.place _ here.1 so_far.known
+          (λ n b has s open'. ruled_out task c.requires.task u to here.0 link c.head-head.result.bounds here.2 c.index-at.result.now c.loop-place.earliest (c.rules_out.ensures.late c.if-rules_out.true) n (slice_index arrival u) to b has (omega (arith, at)) s);
       found = so_far.found;
     }
 
@@ -43,13 +43,13 @@ loop-place-preserved-then-forbidden-head g c =
     record {
       counted = omega (arith, so_far.counted, (passes_within task to c.senders-senders.result c.senders-senders.ensures c.loop-place.place _ here.1).0);
       lower = so_far.lower;
-      known = each_until (IsKnownOf task to arrival c.loop-place.least) c.senders-senders.result c.loop-place.place _ here.1 so_far.known
+      known = each_until (IsKnownOf task to arrival c.loop-place.earliest) c.senders-senders.result c.loop-place.place _ here.1 so_far.known
           (λ n b has s open'. absurd (both_ways (slice_index_or task.forbidden c.head-head.result.node false) open' (subst (λ xs. slice_index_or xs c.head-head.result.node false ≡ true) c.forbidden.ensures c.if-forbidden-head.true)));
       found = so_far.found;
     }
 
-pub arrive_over-least-requires-clause-few : goal.arrive_over-least-requires-clause-few
-arrive_over-least-requires-clause-few g c =
+pub arrive_over-earliest-requires-clause-few : goal.arrive_over-earliest-requires-clause-few
+arrive_over-earliest-requires-clause-few g c =
     let task = c.args.task.now in
     let to = c.goal-goal.result in
     omega (arith, c.requires.few, c.loop-place.invariant.counted, (passes_within task to c.senders-senders.result c.senders-senders.ensures c.loop-place.place _ c.at-from.ensures.link).1, received_all task to)
@@ -60,7 +60,7 @@ loop-place-preserved g c =
     let to = c.goal-goal.result in
     let arrival = c.args.self.now.arrival.items in
     let so_far = c.loop-place.invariant in
-    let over = c.arrive_over-least.ensures in
+    let over = c.arrive_over-earliest.ensures in
     let u = c.at-from.result.node in
     let here = c.at-from.ensures.link in
     let node : u ≡ c.head-head.result.node = ap (λ (s : SentLink). s.sender) (same_some (sym here ∙ c.head-head.ensures.1)) in
@@ -68,15 +68,15 @@ loop-place-preserved g c =
     record {
       counted = omega (arith, so_far.counted, over.looks, (passes_within task to c.senders-senders.result c.senders-senders.ensures c.loop-place.place _ here).0);
       lower = omega (arith, over.upper, so_far.lower);
-      known = each_until (IsKnownOf task to arrival c.arrive_over-least.result) c.senders-senders.result c.loop-place.place _ here
+      known = each_until (IsKnownOf task to arrival c.arrive_over-earliest.result) c.senders-senders.result c.loop-place.place _ here
           (λ j s less there n b has step open'. omega (arith, over.upper, so_far.known j s less there n b has step open'))
           (λ n b has s open'. over.full n to b has (rw (← at) at s));
-      found = elim (cases_lt c.arrive_over-least.result c.loop-place.least) [
-        | inr more ↦ (let same : c.arrive_over-least.result ≡ c.loop-place.least = omega (arith, more, over.upper) in rw same so_far.found)
+      found = elim (cases_lt c.arrive_over-earliest.result c.loop-place.earliest) [
+        | inr more ↦ (let same : c.arrive_over-earliest.result ≡ c.loop-place.earliest = omega (arith, more, over.upper) in rw same so_far.found)
         | inl less ↦
             (let step = over.sound less (ap (λ k. slice_index_or task.forbidden k false) c.goal-goal.ensures ∙ c.requires.task.goal_open) in
             let open' : slice_index_or task.forbidden c.head-head.result.node false ≡ false = subst (λ xs. slice_index_or xs c.head-head.result.node false ≡ false) c.forbidden.ensures c.if-forbidden-head.false in
-            inr (u, step.0, subst (λ k. slice_index_or task.forbidden k false ≡ false) (sym node) open', subst (λ t. Takes task step.0 u t task.goal c.arrive_over-least.result) at (subst (λ k. Takes task step.0 u c.index-at.result.now k c.arrive_over-least.result) c.goal-goal.ensures step.1)))
+            inr (u, step.0, subst (λ k. slice_index_or task.forbidden k false ≡ false) (sym node) open', subst (λ t. Takes task step.0 u t task.goal c.arrive_over-earliest.result) at (subst (λ k. Takes task step.0 u c.index-at.result.now k c.arrive_over-earliest.result) c.goal-goal.ensures step.1)))
       ];
     }
 

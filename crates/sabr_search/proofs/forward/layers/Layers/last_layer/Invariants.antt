@@ -9,7 +9,7 @@ use Rattle.sabr_search.proofs.forward.layers.Layers.last_layer.Given as goal
 abbrev pub invariant-loop-place : goal.invariant-loop-place
 invariant-loop-place g l = record {
   counted : l.fn.looks.left ≤ l.looks.left + sum_by (λ s. length s.passes) (take l.place l.senders);
-  lower : l.least ≤ l.best;
-  known : (j : ℕ) (s : SentLink) → j < l.place → slice_get l.senders j ≡ Some s → (n b : ℕ) → HasNumber s.passes n → Takes l.task n s.sender (slice_index l.self.arrival.items s.sender) l.goal b → slice_index_or l.task.forbidden s.sender false ≡ false → l.least ≤ b;
-  found : (l.least ≡ l.best) ⊎ IsBroughtTo l.task l.self.arrival.items l.least;
+  lower : l.earliest ≤ l.best;
+  known : (j : ℕ) (s : SentLink) → j < l.place → slice_get l.senders j ≡ Some s → (n b : ℕ) → HasNumber s.passes n → Takes l.task n s.sender (slice_index l.self.arrival.items s.sender) l.goal b → slice_index_or l.task.forbidden s.sender false ≡ false → l.earliest ≤ b;
+  found : (l.earliest ≡ l.best) ⊎ IsBroughtTo l.task l.self.arrival.items l.earliest;
 }

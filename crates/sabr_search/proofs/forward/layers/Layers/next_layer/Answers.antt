@@ -1,6 +1,6 @@
 use Rattle.std.proofs.Common.{◌≡◌, ◌+◌, ◌≤◌, ℕ, inl, inr, Some, length, slice_get, sym, ap, ◌∙◌, arith}
 use Rattle.sabr_search.specs.questions.Task.{Takes}
-use Rattle.sabr_search.specs.questions.Steps.{degree}
+use Rattle.sabr_search.specs.questions.Linked.{degree}
 use Rattle.sabr_search.specs.layers.Lists.{GivenFrom}
 use Rattle.sabr_search.proofs.ForwardLemmas.Forward.{lowered_more, known_lower, last_or_before}
 use Rattle.sabr_search.proofs.ForwardLemmas.LayerEntries.{nodes_between, sent_by_all, entry_read, sent_next, sent_at_most}
@@ -24,8 +24,8 @@ within g c = omega (arith, more g c, sent_at_most c.args.task.now (nodes_between
 pub take_all-requires-clause-few : goal.take_all-requires-clause-few
 take_all-requires-clause-few g c = omega (arith, c.requires.few, c.loop-place.invariant.counted, within g (goal.at.take_all-requires-clause-few g c).After-index-from)
 
-pub returns-in_err-least-clause-looks : goal.returns-in_err-least-clause-looks
-returns-in_err-least-clause-looks g c = omega (arith, c.take_all.ensures.looks, c.loop-place.invariant.counted, within g (goal.at.returns-in_err-least-clause-looks g c).After-index-from)
+pub returns-in_err-earliest-clause-looks : goal.returns-in_err-earliest-clause-looks
+returns-in_err-earliest-clause-looks g c = omega (arith, c.take_all.ensures.looks, c.loop-place.invariant.counted, within g (goal.at.returns-in_err-earliest-clause-looks g c).After-index-from)
 
 pub loop-place-preserved : goal.loop-place-preserved
 loop-place-preserved g c =
@@ -37,14 +37,14 @@ loop-place-preserved g c =
     let so_far = c.loop-place.invariant in
     let le : c.args.first ≤ place = omega arith in
     let at = read g here in
-    let gained = c.in_ok-least.ensures.lowered in
+    let gained = c.in_ok-earliest.ensures.lowered in
     record {
       counted = omega (arith, c.take_all.ensures.looks, so_far.counted, more g here);
       lowered = lowered_more task.forbidden task.goal task.at c.args.begin (GivenFrom task old.reached.items c.args.first c.args.begin) (λ w x. (n : ℕ) × Takes task n from.node from.at w x) _ _ _ _ _ _ _ _ _ _ _
           (λ w x given. (place, from, given.0, le, c.loop-place-test.true, at, given.1)) so_far.lowered gained;
       known = λ p e n w x above below here s. elim (last_or_before p place below) [
         | inl before ↦ known_lower task.goal _ _ _ _ w x gained.lowered gained.lower (so_far.known p e n w x above before here s)
-        | inr same ↦ (let entry : e ≡ from = (let q : Some e ≡ Some from = sym here ∙ ap (slice_get old.reached.items) same ∙ at in cc (q)) in c.in_ok-least.ensures.known n w x (rw entry at s))
+        | inr same ↦ (let entry : e ≡ from = (let q : Some e ≡ Some from = sym here ∙ ap (slice_get old.reached.items) same ∙ at in cc (q)) in c.in_ok-earliest.ensures.known n w x (rw entry at s))
       ];
     }
 

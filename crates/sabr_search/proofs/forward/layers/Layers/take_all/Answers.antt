@@ -29,7 +29,7 @@ loop-place-preserved-then-rules_out g c =
         | inl before ↦ so_far.known j x n w b before at has s
         | inr same ↦
             (let is = same_some (sym at ∙ ap (slice_get c.links-links.result.links.now) same ∙ here) in
-            known_skipped task c.requires.task c.args.from.node c.args.from.at _ _ so_far.links c.loop-place.self.arrival.items c.loop-place.least
+            known_skipped task c.requires.task c.args.from.node c.args.from.at _ _ so_far.links c.loop-place.self.arrival.items c.loop-place.earliest
             (omega (arith, goal_late)) j x at (rw is (rw known at (c.rules_out.ensures.late c.if-rules_out.true))) n w b has s)
       ];
     }
@@ -40,8 +40,8 @@ take_link-requires-clause-few g c =
     let here = c.link-link.ensures.here in
     omega (arith, so_far.placed c.loop-place.place here.link (omega arith) here.here, (in_place _ _ _ _ so_far.links _ _ _ here).few, so_far.links.few, c.requires.few)
 
-pub returns-in_err-least-clause-looks : goal.returns-in_err-least-clause-looks
-returns-in_err-least-clause-looks g c =
+pub returns-in_err-earliest-clause-looks : goal.returns-in_err-earliest-clause-looks
+returns-in_err-earliest-clause-looks g c =
     let so_far = c.loop-place.invariant in
     let here = c.link-link.ensures.here in
     omega (arith, so_far.placed c.loop-place.place here.link (omega arith) here.here, c.take_link.ensures.looks, (in_place _ _ _ _ so_far.links _ _ _ here).few, so_far.links.few)
@@ -55,7 +55,7 @@ loop-place-preserved g c =
     let here = c.link-link.ensures.here in
     let link = in_place _ _ _ _ so_far.links _ _ _ here in
     let own = so_far.placed c.loop-place.place here.link (omega arith) here.here in
-    let gained = rw c.link-link.ensures.from at c.in_ok-least.ensures.lowered in
+    let gained = rw c.link-link.ensures.from at c.in_ok-earliest.ensures.lowered in
     record {
       links = so_far.links;
       counted = omega (arith, own, c.take_link.ensures.looks, link.few);
@@ -63,7 +63,7 @@ loop-place-preserved g c =
       lowered = lowered_more task.forbidden task.goal task.at c.args.begin (λ w x. (n : ℕ) × Takes task n u t w x) _ _ _ _ _ _ _ _ _ _ _ _ (λ w x given. given) so_far.lowered gained;
       known = λ j x n w b less at has s. elim (last_or_before j c.loop-place.place less) [
         | inl before ↦ known_lower task.goal _ _ _ _ w b gained.lowered gained.lower (so_far.known j x n w b before at has s)
-        | inr same ↦ (rw c.link-link.ensures.from at c.in_ok-least.ensures.known) n w b (link.own j x n at same has) s
+        | inr same ↦ (rw c.link-link.ensures.from at c.in_ok-earliest.ensures.known) n w b (link.own j x n at same has) s
       ];
     }
 

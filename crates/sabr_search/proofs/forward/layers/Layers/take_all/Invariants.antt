@@ -11,6 +11,6 @@ invariant-loop-place g l = record {
   links : AreLinksAt l.task l.from.node l.links.links.now l.links.passes.now;
   counted : l.fn.looks.left ≤ l.looks.left + length l.links.passes.now;
   placed : (k : ℕ) (x : Link) → l.place ≤ k → slice_get l.links.links.now k ≡ Some x → l.fn.looks.left ≤ l.looks.left + x.first;
-  lowered : IsLowered l.task.forbidden l.task.goal l.task.at l.begin (λ w x. (n : ℕ) × Takes l.task n l.from.node l.from.at w x) l.fn.self.arrival.items l.fn.self.reached.items l.best l.self.arrival.items l.self.place.items l.self.reached.items l.least;
-  known : (j : ℕ) (x : Link) (n w b : ℕ) → j < l.place → slice_get l.links.links.now j ≡ Some x → HasNumber (passes_over l.links.passes.now x) n → Takes l.task n l.from.node l.from.at w b → IsKnown l.task.goal l.self.arrival.items l.least w b;
+  lowered : IsLowered l.task.forbidden l.task.goal l.task.at l.begin (λ w x. (n : ℕ) × Takes l.task n l.from.node l.from.at w x) l.fn.self.arrival.items l.fn.self.reached.items l.best l.self.arrival.items l.self.place.items l.self.reached.items l.earliest;
+  known : (j : ℕ) (x : Link) (n w b : ℕ) → j < l.place → slice_get l.links.links.now j ≡ Some x → HasNumber (passes_over l.links.passes.now x) n → Takes l.task n l.from.node l.from.at w b → IsKnown l.task.goal l.self.arrival.items l.earliest w b;
 }

@@ -3,7 +3,7 @@ use Rattle.std.proofs.lemmas.List.Sorted.{length_permutation}
 use Rattle.sabr_search.proofs.ForwardLemmas.Queues.{head_inside, waits_later, queue_stale}
 use Rattle.sabr_search.proofs.ForwardLemmas.FirstWays.{start_sent, next_most, next_state, next_counted, next_settled, settled_stale, reached_found, read_flag}
 use Rattle.sabr_search.proofs.ForwardLemmas.LayerEntries.{read_at}
-use Rattle.sabr_search.proofs.AnswerLemmas.Stops.{stops_by}
+use Rattle.sabr_search.proofs.AnswerLemmas.BoundedWays.{stops_by}
 use Rattle.sabr_search.proofs.WholeLemmas.Walks.{degree_at_most}
 use Rattle.sabr_search.proofs.forward.settling.Settling.run.Goals as goal
 

@@ -29,7 +29,7 @@ loop-place-preserved-then-rules_out g c =
         | inl before ↦ so_far.known j x n w b before at has s
         | inr same ↦
             (let is = same_some (sym at ∙ ap (slice_get c.args.links.links.now) same ∙ here) in
-            known_skipped task c.requires.task c.args.event.node c.args.event.at _ _ so_far.links c.loop-place.self.arrival.items (c.loop-place.least.delivery - slice_index c.args.forward.now.costs.now w)
+            known_skipped task c.requires.task c.args.event.node c.args.event.at _ _ so_far.links c.loop-place.self.arrival.items (c.loop-place.earliest.delivery - slice_index c.args.forward.now.costs.now w)
             (omega (arith, so_far.state.goal_late)) j x at (rw is (rw known at (c.rules_out.ensures.late c.if-rules_out.true))) n w b has s)
       ];
       pushes = so_far.pushes;
@@ -41,8 +41,8 @@ take_link-requires-clause-few g c =
     let here = c.link-link.ensures.here in
     omega (arith, so_far.placed c.loop-place.place here.link (omega arith) here.here, (in_place _ _ _ _ so_far.links _ _ _ here).few, c.requires.few)
 
-pub returns-in_err-least-clause-looks : goal.returns-in_err-least-clause-looks
-returns-in_err-least-clause-looks g c =
+pub returns-in_err-earliest-clause-looks : goal.returns-in_err-earliest-clause-looks
+returns-in_err-earliest-clause-looks g c =
     let so_far = c.loop-place.invariant in
     let here = c.link-link.ensures.here in
     omega (arith, so_far.placed c.loop-place.place here.link (omega arith) here.here, c.take_link.ensures.looks, (in_place _ _ _ _ so_far.links _ _ _ here).few)
@@ -54,19 +54,19 @@ loop-place-preserved g c =
     let here = c.link-link.ensures.here in
     let link = in_place _ _ _ _ so_far.links _ _ _ here in
     let own = so_far.placed c.loop-place.place here.link (omega arith) here.here in
-    let gained = rw so_far.settled at c.in_ok-least.ensures.fallen in
+    let gained = rw so_far.settled at c.in_ok-earliest.ensures.fallen in
     record {
       links = so_far.links;
       settled = ap (λ v. v.items) c.take_link.ensures.settled ∙ so_far.settled;
       counted = omega (arith, own, c.take_link.ensures.looks, link.few);
       placed = λ k x from at. omega (arith, own, c.take_link.ensures.looks, link.later k x (omega (arith, from)) at);
-      state = rw so_far.settled at c.in_ok-least.ensures.state;
+      state = rw so_far.settled at c.in_ok-earliest.ensures.state;
       fallen = fallen_more _ _ _ _ _ _ _ so_far.fallen gained;
       known = λ j x n w b less at has s. elim (last_or_before j c.loop-place.place less) [
         | inl before ↦ known_lower task.goal _ _ _ _ w b gained.lowered (omega (arith, gained.lower)) (so_far.known j x n w b before at has s)
-        | inr same ↦ (rw c.link-link.ensures.from at c.in_ok-least.ensures.known) n w b (link.own j x n at same has) s
+        | inr same ↦ (rw c.link-link.ensures.from at c.in_ok-earliest.ensures.known) n w b (link.own j x n at same has) s
       ];
-      pushes = omega (arith, so_far.pushes, c.in_ok-least.ensures.pushes);
+      pushes = omega (arith, so_far.pushes, c.in_ok-earliest.ensures.pushes);
     }
 
 pub returns-clause-taken : goal.returns-clause-taken
@@ -74,7 +74,7 @@ returns-clause-taken g c =
     let task = c.args.forward.now.task.now in
     let u = c.args.event.node in
     let t = c.args.event.at in
-    taken_settled task _ _ u t _ c.args.best _ c.loop-place.least c.requires.reached c.requires.taken c.loop-place.invariant.fallen
+    taken_settled task _ _ u t _ c.args.best _ c.loop-place.earliest c.requires.reached c.requires.taken c.loop-place.invariant.fallen
     (λ n w x s.
     (let on = c.loop-place.invariant.links.whole n t w x s in
     c.loop-place.invariant.known on.0 on.1 n w x (omega (arith, slice_get_within c.args.links.links.now on.0 on.1 on.2, c.loop-place-test.false)) on.2 on.3 s))

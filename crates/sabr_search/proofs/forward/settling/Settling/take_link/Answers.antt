@@ -17,4 +17,4 @@ returns-clause-known g c = λ n w x has s.
     let u = c.args.link.from in
     let t = c.args.event.at in
     let over = over_pass task c.requires.task u c.args.link.to t has.1 w x (c.requires.link.0.each has.0 has.1 has.2) (step_over task c.args.link.passes.now n u t w x has s) in
-    rw over.receiver (known_later task.goal _ _ c.args.link.to c.arrive_over-at.result x (c.arrive_over-at.ensures.full n w x has s) c.in_ok-least.ensures.known)
+    rw over.receiver (known_later task.goal _ _ c.args.link.to c.arrive_over-at.result x (c.arrive_over-at.ensures.full n w x has s) c.in_ok-earliest.ensures.known)

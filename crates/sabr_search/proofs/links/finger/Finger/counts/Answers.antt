@@ -26,5 +26,5 @@ returns-clause-some c = λ j less.
           ap (λ m. has m numbers) here ∙ sym (has_from_iff c.finds.result numbers n c.finds.ensures) ∙ c.if-not-finds.false
       | inr further ↦
           let there : n + j ≡ n + 1 + (j - 1) = omega (arith, further) in
-          ap (λ m. has m numbers) there ∙ c.row_behind-more.ensures.some (j - 1) (omega (arith, less, further))
+          ap (λ m. has m numbers) there ∙ c.row_after-more.ensures.some (j - 1) (omega (arith, less, further))
     ]
