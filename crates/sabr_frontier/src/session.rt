@@ -23,8 +23,8 @@ use std::marker::Model;
 /// A listing of the routes of a plan for a request, as far as they were given. It keeps the parts that are left (Yen,
 /// Lawler), each with its best route.
 ///
-/// Contracts see the plan, the request, the state, the states that `back` leads to, the latest first, the count of
-/// searches, their looks, and the finder's calls.
+/// Contracts see the plan, the request, the state, and the states that `back` leads to, the latest first. They also see
+/// how many searches were made, how many records these fetched, and the finder's calls.
 #[derive(Drop)]
 pub struct Session<'p, B: BestOf<A>, A: Allocator + Copy = Global> {
     /// What finds the parts' best routes.
@@ -104,8 +104,8 @@ impl<'p, B: BestOf<A>, A: Allocator + Copy> Session<'p, B, A> {
     ///
     /// # Errors
     ///
-    /// [`NoMemory`] if an allocation failed. All is shown as before, and the same call can be made again. It took no
-    /// more searches than the page would have.
+    /// [`NoMemory`] if an allocation failed. The session is as it was before, and the same call can be made again. The
+    /// failed call made at most as many searches as the whole page.
     pub fn page(&mut self, count: u32) -> Result<Vec<Route<A>, A>, NoMemory>
         requires { count ≤ most_routes }
 

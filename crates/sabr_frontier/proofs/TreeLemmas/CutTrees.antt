@@ -112,7 +112,7 @@ module _ {A : Type 0} where
   cut_carries k all u t x (inl same) e = same
   cut_carries k all u t x (inr w) e = (let none : t.route ≡ None = ap (λ (n : Node A). n.route) w.2 in absurd cc)
 
--- ---- the least that is carried
+-- ---- the best of the carried routes
 
 -- what is above a lesser one is above
 above_lesser : (x y z : RouteRecord) → is_lt (by_record z y) ≡ true → is_lt (by_record z x) ≡ false → is_lt (by_record y x) ≡ false
