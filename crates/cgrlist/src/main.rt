@@ -1,7 +1,7 @@
 //! The program `cgrlist`: lists the routes of a contact plan, best first.
 #![tactic(auto)]
 
-use commands::{Disk, Failure, run_words, tell};
+use commands::{Disk, Failure, report_failure, run_words};
 use sabr_model::Device;
 use std::alloc::Global;
 use std::env;
@@ -17,9 +17,9 @@ fn main(rt: HostRuntime) -> ExitCode {
                 let mut files = Disk::new(&rt);
                 run_words(rt.alloc(), words.as_slice(), &mut files, &mut out, &mut err)
             }
-            Err(failure) => tell(&mut err, failure),
+            Err(failure) => report_failure(&mut err, failure),
         },
-        Err(failure) => tell(&mut err, failure),
+        Err(failure) => report_failure(&mut err, failure),
     };
     ExitCode::from(status.number())
 }

@@ -1,3 +1,3 @@
 pub mod WordLemmas
-pub mod TextLemmas
+pub mod Explained
 pub mod RunLemmas

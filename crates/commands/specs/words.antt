@@ -1,5 +1,4 @@
 -- What the words of the command line say.
-pub mod Lists
 pub mod Values
 pub mod CommandLine
 pub mod Lines

@@ -9,12 +9,11 @@ ghost use Rattle.clap.specs.Matches.{found_of};
 ghost use Rattle.commands.specs.declared.command.CommandName.TheVariants as command;
 ghost use Rattle.commands.specs.runs.Calls.{RunsCheck, RunsExplain, RunsFirst, RunsFollow, RunsMany, RunsNext, RunsVerify, StopsBefore};
 
-use crate::failure::Failure;
+use crate::failure::{Failure, Status};
 use crate::files::{
     FileSystem, keep_if_done, make_session, open_file, open_plan, open_session, session_out,
 };
 use crate::runs::{run_check, run_explain, run_first, run_follow, run_many, run_next, run_verify};
-use crate::status::Status;
 use crate::words::{LISTS, REQUESTS, explain_values, first_values, page_count};
 use clap::ArgMatches;
 use sabr_model::{Device, Write};

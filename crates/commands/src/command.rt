@@ -7,9 +7,8 @@ ghost use Rattle.commands.specs.words.CommandLine.{command_text, rules_for, word
 ghost use Rattle.commands.specs.words.Values.{command_named};
 
 use crate::calls::{check, explain, first, follow, many, next, verify};
-use crate::failure::Failure;
+use crate::failure::{Failure, Status};
 use crate::files::FileSystem;
-use crate::status::Status;
 use crate::words::{
     AT, AVOID, CONTACTS, COUNT, FROM, LISTS, MARGIN_PPM, MAX_HOPS, PLAN, REQUESTS, SESSION,
     SESSION_OUT, TO, Word,

@@ -1,10 +1,9 @@
-//! Why a run ended early.
+//! How a run ended, and why it ended early.
 
 ghost use Rattle.std.specs.Prelude.{◌≡◌};
+ghost use Rattle.commands.specs.texts.Messages.{status_of, failure_of_plan, failure_of_lines, failure_of_session, failure_of_value, number_of};
 ghost use Rattle.commands.specs.declared.failure.Failure.TheVariants as failure;
-ghost use Rattle.commands.specs.texts.Messages.{status_of, failure_of_plan, failure_of_lines, failure_of_session, failure_of_value};
 
-use crate::status::Status;
 use crate::words::{LineForm, LineKind, LinesFault, ValueFault, ValueName};
 use sabr_model::{NoMemory, WriteFault};
 use sabr_plan::{PlanFault, PlanKind};
@@ -147,5 +146,41 @@ impl From<NoMemory> for Failure {
 
     fn from(_refused: NoMemory) -> Failure {
         Failure::NoMemory
+    }
+}
+
+/// How a run of the program ended.
+#[derive(Clone, Copy, Debug, PartialEq, Eq)]
+pub enum Status {
+    /// The run did what was asked of it.
+    Done,
+    /// The answer is no: contacts that are no route, or a session that isn't one of the plan's.
+    No,
+    /// The words of the command line were refused.
+    Usage,
+    /// The plan was refused.
+    Plan,
+    /// The session was refused.
+    Session,
+    /// Input or output failed.
+    Io,
+    /// An allocation failed.
+    Memory,
+}
+
+impl Status {
+    /// The program's exit status, from 0 to 6.
+    pub fn number(self) -> u8
+        ensures { result ≡ number_of self }
+    {
+        match self {
+            Status::Done => 0,
+            Status::No => 1,
+            Status::Usage => 2,
+            Status::Plan => 3,
+            Status::Session => 4,
+            Status::Io => 5,
+            Status::Memory => 6,
+        }
     }
 }

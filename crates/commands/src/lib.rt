@@ -14,7 +14,7 @@
 //! [`Disk`] is the system's.
 //!
 //! **Errors.** A [`Failure`] is the first reason why a run ended early: a bad value, a file, a bad line, a reader, a
-//! writer or memory. It has a message on standard error, which [`tell`] writes, and a [`Status`].
+//! writer or memory. It has a message on standard error, which [`report_failure`] writes, and a [`Status`].
 //!
 //! **Theorems.** [`runs_in_turn`] and [`calls_in_turn`] show that runs and calls in turn print the list of all routes
 //! page by page, and [`many_answers_as_first`] and [`follow_answers_as_explain`] that each answer is that of a run of
@@ -38,12 +38,11 @@ mod headline;
 mod program;
 mod rows;
 mod runs;
-mod status;
 mod texts;
 mod words;
 
 pub use command::CommandName;
-pub use failure::Failure;
+pub use failure::{Failure, Status};
 pub use files::{Disk, DiskRemover, FileSystem, Remover};
 pub use headline::{
     calls_in_turn, every_run, follow_answers_as_explain, many_answers_as_first, next_goes_on,
@@ -52,6 +51,5 @@ pub use headline::{
 pub use program::run_words;
 pub use rows::explanations_of_plan_a;
 pub use runs::{run_check, run_explain, run_first, run_follow, run_many, run_next, run_verify};
-pub use status::Status;
-pub use texts::tell;
+pub use texts::report_failure;
 pub use words::{RequestTexts, ValueFault, ValueName, ValueTexts, Values, read_values, values_in};

@@ -3,14 +3,13 @@
 ghost use Rattle.std.specs.Prelude.{◌≢◌, IsTrue, is_some, map};
 ghost use Rattle.clap.specs.Simple.{subcommand_rows_of};
 ghost use Rattle.clap.specs.Values.{kind_of};
-ghost use Rattle.commands.specs.runs.Program.{EndsNamed, EndsWords, TellsRefusal, named_in};
-ghost use Rattle.commands.specs.texts.Messages.{TellsText};
+ghost use Rattle.commands.specs.runs.Program.{EndsNamed, EndsWords, ReportsRefusal, named_in};
+ghost use Rattle.commands.specs.texts.Messages.{WritesMessage};
 
 use crate::command::command_named;
-use crate::failure::Failure;
+use crate::failure::{Failure, Status};
 use crate::files::FileSystem;
-use crate::status::Status;
-use crate::texts::tell;
+use crate::texts::report_failure;
 use crate::words::parsed;
 use clap::error::ErrorKind;
 use clap::{ArgMatches, Error};
@@ -41,20 +40,20 @@ pub fn run_words<'w, D: FileSystem<'w>, O: Write, E: Write>(
 
 /// Writes a text for the user. A failure of `err` changes nothing else.
 fn tell_text<E: Write>(text: &str, err: &mut E)
-    ensures { TellsText (E.output err.old) text.now (E.output err.new) }
+    ensures { WritesMessage (E.output err.old) text.now (E.output err.new) }
 {
     let _ = write_text(err, text.as_bytes());
 }
 
 /// Reports why the words were refused, or writes the help that they ask for.
 fn tell_usage<E: Write>(alloc: Global, refusal: &Error, err: &mut E) -> Status
-    ensures { TellsRefusal (kind_of refusal.now ≢ ErrorKind.OutOfMemory) (E.output err.old) (E.output err.new) result }
+    ensures { ReportsRefusal (kind_of refusal.now ≢ ErrorKind.OutOfMemory) (E.output err.old) (E.output err.new) result }
 {
     if refusal.kind() == ErrorKind::OutOfMemory {
-        return tell(err, Failure::NoMemory);
+        return report_failure(err, Failure::NoMemory);
     }
     let Ok(text) = refusal.to_string(alloc) else {
-        return tell(err, Failure::NoMemory);
+        return report_failure(err, Failure::NoMemory);
     };
     tell_text(text.as_str(), err);
     Status::Usage
@@ -79,6 +78,6 @@ fn run_command<'w, D: FileSystem<'w>, O: Write, E: Write>(
     };
     match command.run(alloc, words, files, out, err) {
         Ok(status) => status,
-        Err(failure) => tell(err, failure),
+        Err(failure) => report_failure(err, failure),
     }
 }

@@ -2,11 +2,11 @@
 
 ghost use Rattle.std.specs.Prelude.{◌≡◌, [], ◌∷◌, ◌++◌, codes};
 ghost use Rattle.sabr_model.specs.Rows.{plan_a, plan_a_darker, plan_ending, from_1_to_3, within_hops, avoiding};
-ghost use Rattle.commands.specs.texts.Explanation.{refused_at, explanation_text};
+ghost use Rattle.commands.specs.texts.PlanTexts.{refused_at, explanation_text};
 ghost use Rattle.commands.specs.texts.ExplanationRows.{first_hop, second_hop, route_of_both};
 
 /// Shows the explanation of a route over plan A, and of lists with one fault each.
-#[tactic(auto, unfolding(crate::specs::texts::Explanation::explanation_text))]
+#[tactic(auto, unfolding(crate::specs::texts::PlanTexts::explanation_text))]
 pub fn explanations_of_plan_a()
     ensures route { explanation_text plan_a from_1_to_3 (1 ∷ 2 ∷ []) ≡ first_hop ++ (second_hop ++ route_of_both) }
     ensures empty { explanation_text plan_a from_1_to_3 [] ≡ codes "refused: Empty\n" }

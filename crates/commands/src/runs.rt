@@ -2,7 +2,6 @@
 
 mod answering;
 mod check;
-mod ending;
 mod explain;
 mod first;
 mod lines;

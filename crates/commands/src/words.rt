@@ -2,19 +2,15 @@
 
 mod command_line;
 mod lines;
-mod lines_fault;
-mod lists;
 mod pieces;
 mod request_line;
 mod request_words;
 mod table;
 mod value_fault;
-mod value_texts;
 mod values;
 
 pub use command_line::parsed;
-pub use lines::{LineForm, read_lines};
-pub use lines_fault::{LineKind, LinesFault};
+pub use lines::{LineForm, LineKind, LinesFault, read_lines};
 pub use pieces::first_line;
 pub use request_line::{Listed, list_in, request_in};
 pub use request_words::RequestTexts;
@@ -23,5 +19,6 @@ pub use table::{
     SESSION_OUT, TO, Word,
 };
 pub use value_fault::{ValueFault, ValueName};
-pub use value_texts::ValueTexts;
-pub use values::{Values, explain_values, first_values, page_count, read_values, values_in};
+pub use values::{
+    ValueTexts, Values, explain_values, first_values, page_count, read_values, values_in,
+};

@@ -8,23 +8,23 @@ use Rattle.sabr_plan.specs.Reading.{plan_of}
 use Rattle.sabr_plan.specs.declared.fault.PlanFault.{PlanFault}
 use Rattle.commands.specs.declared.command.CommandName.TheVariants as command
 use Rattle.commands.specs.declared.failure.Failure.{Failure}
-use Rattle.commands.specs.declared.status.Status.{Status}
-use Rattle.commands.specs.declared.status.Status.TheVariants as status
+use Rattle.commands.specs.declared.failure.Status.{Status}
+use Rattle.commands.specs.declared.failure.Status.TheVariants as status
 use Rattle.commands.specs.texts.Messages.{number_of, status_at}
 use Rattle.commands.specs.runs.SessionRuns.{WritesFirstPage, report_from}
 use Rattle.commands.specs.words.Values.{ValuesRead, values_in}
 use Rattle.commands.proofs.RunLemmas.RunsInTurn.{never_done}
 use Rattle.webcgrlist.specs.declared.asked.Asked.{Asked}
 use Rattle.webcgrlist.specs.declared.call.Run.TheVariants.{Command}
-use Rattle.webcgrlist.specs.Answers.{IsPut, all_fit, status_told}
+use Rattle.webcgrlist.specs.Answers.{IsPut, all_fit, host_status}
 use Rattle.webcgrlist.specs.Asked.{values_asked}
 use Rattle.webcgrlist.specs.Calls.{EndsCall, RunsRead}
 use Rattle.webcgrlist.specs.FirstLists.{FirstLists}
 use Rattle.webcgrlist.specs.Runs.{ReadsText, RunsFirst, WritersSeen, in_memory}
 
 -- a text in memory of which a plan was read is that of the plan
-plan_told : (text rest given : List ℕ) (ended : Bool) (p : TabledPlan) → ReadsPlan (in_memory text [] false) (Ok p) (in_memory rest given ended) → plan_of text true ≡ Ok p.plan
-plan_told text rest given ended p reads = elim reads.told [
+plan_is_read : (text rest given : List ℕ) (ended : Bool) (p : TabledPlan) → ReadsPlan (in_memory text [] false) (Ok p) (in_memory rest given ended) → plan_of text true ≡ Ok p.plan
+plan_is_read text rest given ended p reads = elim reads.told [
   | inl (end, fine, answer) ↦
       let all : text ≡ reads.given = reads.gives.1 ∙ ap (λ w. reads.given ++ w) end.1 ∙ append-nil reads.given in
       ap (λ w. plan_of w true) all ∙ answer
@@ -33,15 +33,15 @@ plan_told text rest given ended p reads = elim reads.told [
 ]
 
 -- the number 0 is that of a run that is done, and whose texts fit
-done_told : (fit : Bool) (ended : Status) → 0 ≡ number_of (status_told fit ended) → (fit ≡ true) × (ended ≡ status.Done)
-done_told false ended e = absurd cc
-done_told true status.Done e = (refl, refl)
-done_told true status.No e = absurd cc
-done_told true status.Usage e = absurd cc
-done_told true status.Plan e = absurd cc
-done_told true status.Session e = absurd cc
-done_told true status.Io e = absurd cc
-done_told true status.Memory e = absurd cc
+done_returned : (fit : Bool) (ended : Status) → 0 ≡ number_of (host_status fit ended) → (fit ≡ true) × (ended ≡ status.Done)
+done_returned false ended e = absurd cc
+done_returned true status.Done e = (refl, refl)
+done_returned true status.No e = absurd cc
+done_returned true status.Usage e = absurd cc
+done_returned true status.Plan e = absurd cc
+done_returned true status.Session e = absurd cc
+done_returned true status.Io e = absurd cc
+done_returned true status.Memory e = absurd cc
 
 -- a run that is done wrote the report of the first page
 report_written : (planned : Result TabledPlan PlanFault) (r : RouteRequest) (keep : Bool) (count : ℕ) (end : Result (Unit {0}) Failure) (old new old₁ new₁ : Output)
@@ -57,7 +57,7 @@ module _ (a : Asked) (before after : WritersSeen) (ended : Status) (r : RouteReq
   listed run =
       let (p, is, report) = report_written run.planned r a.keep count run.end before.report after.report before.session after.session (sym run.ends ∙ done) none run.does in
       let read = subst (λ w. ReadsText a.plan.now (λ old new. ReadsPlan old w new)) is run.reads in
-      (p.plan, plan_told a.plan.now read.rest read.given read.ended p read.reads, report)
+      (p.plan, plan_is_read a.plan.now read.rest read.given read.ended p read.reads, report)
 
   read : (values : ValuesRead) → values.request ≡ Some r → values.count ≡ Some count → RunsRead command.First a (Ok values) before after ended
       → (p : ContactPlan) × (plan_of a.plan.now true ≡ Ok p) × (after.report.taken ≡ report_from p r 0 count)
@@ -72,7 +72,7 @@ module _ (a : Asked) (before after : WritersSeen) (ended : Status) (r : RouteReq
 
 pub first_lists : FirstLists
 first_lists a old new values r count given asked counted answers =
-    let (fit, done) = done_told (all_fit new) answers.ended answers.told in
+    let (fit, done) = done_returned (all_fit new) answers.ended answers.returned in
     let w = answers.writes in
     let (p, is, report) = called a w.before w.after answers.ended r count done w.unwritten.report values given asked counted w.ends in
     (p, is, subst (λ text. IsPut text old.report.buffer.now new.report.buffer.now new.report.length) report w.report, fit)

@@ -11,11 +11,10 @@ use Rattle.commands.specs.declared.command.CommandName.TheVariants as command
 use Rattle.commands.specs.declared.failure.Failure.{Failure}
 use Rattle.commands.specs.declared.failure.Failure.TheVariants as failure
 use Rattle.commands.specs.declared.runs.answering.AnswerKind.{AnswerKind}
-use Rattle.commands.specs.declared.status.Status.{Status}
+use Rattle.commands.specs.declared.failure.Status.{Status}
 use Rattle.commands.specs.declared.words.value_fault.ValueFault.{ValueFault}
-use Rattle.commands.specs.texts.CheckText.{WritesCheck}
-use Rattle.commands.specs.texts.Explanation.{WritesExplanation}
-use Rattle.commands.specs.texts.Messages.{TellsEnd, TellsText, message_text}
+use Rattle.commands.specs.texts.PlanTexts.{WritesCheck, WritesExplanation}
+use Rattle.commands.specs.texts.Messages.{ReportsEnd, WritesMessage, message_text}
 use Rattle.commands.specs.runs.Many.{WritesAnswers}
 use Rattle.commands.specs.runs.SessionRuns.{LeavesSession, WritesAnswer, WritesFirstPage, WritesNextPage, WritesPage}
 use Rattle.commands.specs.words.Values.{ValuesRead}
@@ -48,13 +47,13 @@ all old new text (takes, fine) = (text, takes)
 part : (old new : Output) (text : List ℕ) → WrittenInPart old text new → Grows old new
 part old new text ((front, whole, takes), fails) = (front, takes)
 
-told : (old new : Output) (text : List ℕ) → TellsText old text new → Grows old new
-told old new text (inl h) = all old new text h
-told old new text (inr h) = part old new text h
+message_grows : (old new : Output) (text : List ℕ) → WritesMessage old text new → Grows old new
+message_grows old new text (inl h) = all old new text h
+message_grows old new text (inr h) = part old new text h
 
-ended : {A : Type 0} (end : Result A Failure) (old new : Output) → TellsEnd end old new → Grows old new
+ended : {A : Type 0} (end : Result A Failure) (old new : Output) → ReportsEnd end old new → Grows old new
 ended (Ok a) old new h = kept old new h
-ended (Err f) old new h = told old new (message_text f) h
+ended (Err f) old new h = message_grows old new (message_text f) h
 
 module _ (old new old₁ new₁ : Output) where
   left : (keep : Bool) (p : ContactPlan) (x : _) → LeavesSession keep p x old₁ new₁ → Grows old₁ new₁
@@ -81,7 +80,7 @@ module _ (old new : Output) where
   verified : (planned : Result TabledPlan PlanFault) (answer : _) (end : Result Bool Failure) → WritesAnswer planned answer end old new → Grows old new
   verified (Err fault) answer end (e, same) = kept old new same
   verified (Ok p) (Err fault) end (e, same) = kept old new same
-  verified (Ok p) (Ok answer) (Ok told) (e, (h, flushed)) = all old new _ h
+  verified (Ok p) (Ok answer) (Ok yes) (e, (h, flushed)) = all old new _ h
   verified (Ok p) (Ok answer) (Err failure.Write) h = part old new _ h
   verified (Ok p) (Ok answer) (Err f) h = absurd h
 
@@ -119,15 +118,15 @@ module _ (a : Asked) (old new : WritersSeen) (ends : Status) where
   both : {A : Type 0} {status : Result A Failure → Status} {Does : Result TabledPlan PlanFault → Result A Failure → Type 0}
       → RunsOver a.plan.now status Does old.message new.message ends
       → ((planned : Result TabledPlan PlanFault) (end : Result A Failure) → Does planned end → Grows old.report new.report × Grows old.session new.session) → Grow old new
-  both h grows = let (report, session) = grows h.planned h.end h.does in record { report = report; session = session; message = ended h.end old.message new.message h.tells }
+  both h grows = let (report, session) = grows h.planned h.end h.does in record { report = report; session = session; message = ended h.end old.message new.message h.reports }
 
   one : {A : Type 0} {status : Result A Failure → Status} {Does : Result TabledPlan PlanFault → Result A Failure → Type 0}
       → RunsOver a.plan.now status Does old.message new.message ends × (new.session ≡ old.session)
       → ((planned : Result TabledPlan PlanFault) (end : Result A Failure) → Does planned end → Grows old.report new.report) → Grow old new
-  one (h, same) grows = record { report = grows h.planned h.end h.does; session = kept old.session new.session same; message = ended h.end old.message new.message h.tells }
+  one (h, same) grows = record { report = grows h.planned h.end h.does; session = kept old.session new.session same; message = ended h.end old.message new.message h.reports }
 
   stopped : (why : Failure) → StopsBefore why old new ends → Grow old new
-  stopped why h = record { report = kept old.report new.report h.no_report; session = kept old.session new.session h.no_session; message = told old.message new.message (message_text why) h.tells }
+  stopped why h = record { report = kept old.report new.report h.no_report; session = kept old.session new.session h.no_session; message = message_grows old.message new.message (message_text why) h.reports }
 
   commanded : (name : CommandName) (values : ValuesRead) → RunsCommand name a values old new ends → Grow old new
   commanded command.First values h = with_value values.request h (λ r h. with_value values.count h (λ count h. both h (λ planned end does. first old.report new.report old.session new.session planned r a.keep count end does)))

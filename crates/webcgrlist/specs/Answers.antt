@@ -1,7 +1,7 @@
 -- What the host gets of a call.
 use Rattle.std.specs.Prelude.{◌≡◌, ℕ, nat_le, ◌&&◌, Bool, true, false, List, [], length}
-use Rattle.commands.specs.declared.status.Status.{Status}
-use Rattle.commands.specs.declared.status.Status.TheVariants as status
+use Rattle.commands.specs.declared.failure.Status.{Status}
+use Rattle.commands.specs.declared.failure.Status.TheVariants as status
 use Rattle.commands.specs.texts.Messages.{number_of}
 use Rattle.host.specs.Buffers.{put_over}
 use Rattle.webcgrlist.specs.declared.asked.Asked.{Asked}
@@ -23,8 +23,8 @@ abbrev pub texts_of : Outputs → Texts
 texts_of o = record { report = o.report.buffer.now; session = o.session.buffer.now; message = o.message.buffer.now }
 
 -- the lengths that they hold
-abbrev pub told_by : Outputs → Lengths
-told_by o = record { report = o.report.length; session = o.session.length; message = o.message.length }
+abbrev pub lengths_in : Outputs → Lengths
+lengths_in o = record { report = o.report.length; session = o.session.length; message = o.message.length }
 
 -- nothing was written yet
 pub record IsUnwritten (w : WritersSeen) : Type 0 where
@@ -35,7 +35,7 @@ pub record IsUnwritten (w : WritersSeen) : Type 0 where
 -- a text was put to the front of a buffer, as far as there was room, and its length was set
 pub record IsPut (text old new : List ℕ) (number : ℕ) : Type 0 where
   pub buffer : new ≡ put_over old text
-  pub told : number ≡ length text
+  pub counted : number ≡ length text
 
 -- what a call leaves in three buffers: it ended so over writers to which nothing was written before, and each text that
 -- was written is put over its buffer
@@ -57,13 +57,13 @@ abbrev pub all_fit : Outputs → Bool
 all_fit o = fits o.report && fits o.session && fits o.message
 
 -- the status that the host gets: that of memory, if a text doesn't fit into its buffer, or a writer failed
-abbrev pub status_told : Bool → Status → Status
-status_told false ended = status.Memory
-status_told true status.Io = status.Memory
-status_told true ended = ended
+abbrev pub host_status : Bool → Status → Status
+host_status false ended = status.Memory
+host_status true status.Io = status.Memory
+host_status true ended = ended
 
 -- what the host gets of a call: its texts, and the number of its status
 pub record Answers (run : Run) (a : Asked) (old new : Outputs) (result : ℕ) : Type 0 where
   pub ended : Status
-  pub writes : Writes run a (texts_of old) (texts_of new) (told_by new) ended
-  pub told : result ≡ number_of (status_told (all_fit new) ended)
+  pub writes : Writes run a (texts_of old) (texts_of new) (lengths_in new) ended
+  pub returned : result ≡ number_of (host_status (all_fit new) ended)

@@ -4,9 +4,9 @@ use Rattle.commands.specs.declared.command.CommandName.{CommandName}
 use Rattle.commands.specs.declared.command.CommandName.TheVariants as command
 use Rattle.commands.specs.declared.failure.Failure.{Failure}
 use Rattle.commands.specs.declared.failure.Failure.TheVariants as failure
-use Rattle.commands.specs.declared.status.Status.{Status}
+use Rattle.commands.specs.declared.failure.Status.{Status}
 use Rattle.commands.specs.declared.words.value_fault.ValueFault.{ValueFault}
-use Rattle.commands.specs.texts.Messages.{TellsText, failure_of_value, message_text, status_of}
+use Rattle.commands.specs.texts.Messages.{WritesMessage, failure_of_value, message_text, status_of}
 use Rattle.commands.specs.words.Values.{ValuesRead, values_in}
 use Rattle.webcgrlist.specs.declared.asked.Asked.{Asked}
 use Rattle.webcgrlist.specs.declared.call.Run.{Run}
@@ -18,7 +18,7 @@ use Rattle.webcgrlist.specs.Runs.{RunsCanonical, RunsCheck, RunsExplain, RunsFir
 pub record StopsBefore (why : Failure) (old new : WritersSeen) (ended : Status) : Type 0 where
   pub no_report : new.report ≡ old.report
   pub no_session : new.session ≡ old.session
-  pub tells : TellsText old.message (message_text why) new.message
+  pub reports : WritesMessage old.message (message_text why) new.message
   pub ends : ended ≡ status_of why
 
 -- the run of a command with these values

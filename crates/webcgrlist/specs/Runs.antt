@@ -6,12 +6,11 @@ use Rattle.sabr_model.specs.routes.Arrival.{RouteRequest}
 use Rattle.sabr_plan.specs.PlanRead.{ReadsPlan}
 use Rattle.sabr_plan.specs.declared.fault.PlanFault.{PlanFault}
 use Rattle.commands.specs.declared.failure.Failure.{Failure}
-use Rattle.commands.specs.declared.status.Status.{Status}
+use Rattle.commands.specs.declared.failure.Status.{Status}
 use Rattle.commands.specs.declared.runs.answering.AnswerKind.{AnswerKind}
 use Rattle.commands.specs.declared.runs.answering.AnswerKind.TheVariants.{FirstRoutes, Explanation}
-use Rattle.commands.specs.texts.CheckText.{WritesCheck}
-use Rattle.commands.specs.texts.Explanation.{WritesExplanation}
-use Rattle.commands.specs.texts.Messages.{TellsEnd, status_at, status_of_answer}
+use Rattle.commands.specs.texts.PlanTexts.{WritesCheck, WritesExplanation}
+use Rattle.commands.specs.texts.Messages.{ReportsEnd, status_at, status_of_answer}
 use Rattle.commands.specs.runs.Many.{ReadsLinesOver, WritesAnswers, form_of}
 use Rattle.commands.specs.runs.SessionRuns.{ReadsOldSession, VerifiesOldSession, WritesAnswer, WritesFirstPage, WritesNextPage, place_of}
 use Rattle.webcgrlist.specs.declared.asked.Asked.{Asked}
@@ -44,7 +43,7 @@ pub record RunsOver {A : Type 0} (plan : List ℕ) (status : Result A Failure �
   pub end : Result A Failure
   pub reads : ReadsText plan (λ old new. ReadsPlan old planned new)
   pub does : Does planned end
-  pub tells : TellsEnd end message message₁
+  pub reports : ReportsEnd end message message₁
   pub ends : ended ≡ status end
 
 -- what it does if it reads another text: what is read there, and what it writes over that

@@ -1,7 +1,7 @@
 //! What the host gets of a call.
 
 ghost use Rattle.std.specs.Prelude.{◌≡◌};
-ghost use Rattle.webcgrlist.specs.Answers.{Answers, Writes, all_fit, status_told, texts_of, told_by};
+ghost use Rattle.webcgrlist.specs.Answers.{Answers, Writes, all_fit, host_status, texts_of, lengths_in};
 ghost use Rattle.webcgrlist.specs.Lent.{ComesBack};
 
 use crate::call::Call;
@@ -39,7 +39,7 @@ fn write_outputs(
     call: Call<'_, '_>,
     outputs: &mut Outputs<'_, '_, '_>,
 ) -> Status
-    ensures texts { Writes call.entry.run call.entry.asked.now (texts_of outputs.old) (texts_of outputs.new) (told_by outputs.new) result }
+    ensures texts { Writes call.entry.run call.entry.asked.now (texts_of outputs.old) (texts_of outputs.new) (lengths_in outputs.new) result }
     ensures memory { ComesBack memory.old memory.new }
 {
     let Outputs {
@@ -64,8 +64,8 @@ fn all_fit(outputs: &Outputs<'_, '_, '_>) -> bool
 }
 
 /// The status that the host gets: that of memory, if a text doesn't fit into its buffer, or a writer failed.
-fn status_told(fit: bool, ended: Status) -> Status
-    ensures { result ≡ status_told fit ended }
+fn host_status(fit: bool, ended: Status) -> Status
+    ensures { result ≡ host_status fit ended }
 {
     if !fit || ended == Status::Io {
         return Status::Memory;
@@ -79,5 +79,5 @@ pub fn answer(memory: &mut Region, call: Call<'_, '_>, outputs: &mut Outputs<'_,
     ensures memory { ComesBack memory.old memory.new }
 {
     let ended = write_outputs(memory, call, outputs);
-    status_told(all_fit(outputs), ended).number() as u32
+    host_status(all_fit(outputs), ended).number() as u32
 }

@@ -5,10 +5,10 @@ ghost use Rattle.sabr_model.specs.plan.Plan.{TabledPlan};
 ghost use Rattle.sabr_plan.specs.PlanRead.{ReadsPlan};
 ghost use Rattle.sabr_plan.specs.declared.fault.PlanFault.{PlanFault};
 ghost use Rattle.commands.specs.declared.failure.Failure.{Failure};
-ghost use Rattle.commands.specs.texts.Messages.{TellsEnd, status_at};
+ghost use Rattle.commands.specs.texts.Messages.{ReportsEnd, status_at};
 ghost use Rattle.webcgrlist.specs.Canonical.{WritesCanonical};
 
-use commands::{Failure, Status, tell};
+use commands::{Failure, Status, report_failure};
 use sabr_model::{Read, Write};
 use sabr_plan::{canonical, read_plan};
 use std::alloc::Allocator;
@@ -42,11 +42,11 @@ pub fn run_canonical<P: Read, O: Write, E: Write, A: Allocator + Copy>(
     ensures { (planned : Result TabledPlan PlanFault) × ((end : Result (Unit {0}) Failure)
         × ReadsPlan (P.input plan.old) planned (P.input plan.new)
         × WritesCanonical planned end (O.output out.old) (O.output out.new)
-        × TellsEnd end (E.output err.old) (E.output err.new)
+        × ReportsEnd end (E.output err.old) (E.output err.new)
         × (result ≡ status_at end)) }
 {
     match read_and_write(alloc, plan, out) {
         Ok(()) => Status::Done,
-        Err(failure) => tell(err, failure),
+        Err(failure) => report_failure(err, failure),
     }
 }

@@ -9,7 +9,7 @@ use crate::call::Call;
 use crate::run::run_call;
 use crate::writers::Writers;
 use bumpalo::Bump;
-use commands::{Failure, Status, tell};
+use commands::{Failure, Status, report_failure};
 use host::{LentMemory, Region};
 use sabr_model::Write;
 use std::mem::replace;
@@ -28,7 +28,7 @@ fn run_in_arena<O: Write, S: Write, E: Write>(
 {
     match Bump::try_with_capacity(lent, size.saturating_sub(FOOTER)) {
         Ok(arena) => run_call(&arena, call, to),
-        Err(_refused) => tell(to.message, Failure::NoMemory),
+        Err(_refused) => report_failure(to.message, Failure::NoMemory),
     }
 }
 

@@ -9,7 +9,7 @@ use crate::asked::Asked;
 use crate::call::{Call, Run};
 use crate::runs::{check, explain, first, follow, list_canonical, many, next, verify};
 use crate::writers::Writers;
-use commands::{CommandName, Status, tell, values_in};
+use commands::{CommandName, Status, report_failure, values_in};
 use sabr_model::Write;
 use std::alloc::Allocator;
 
@@ -24,7 +24,7 @@ fn run_command<O: Write, S: Write, E: Write, A: Allocator + Copy>(
 {
     let values = match values_in(alloc, command, &asked.values()) {
         Ok(values) => values,
-        Err(fault) => return tell(to.message, fault.into()),
+        Err(fault) => return report_failure(to.message, fault.into()),
     };
     match command {
         CommandName::First => first(alloc, asked, values, to),

@@ -15,9 +15,8 @@ use Rattle.sabr_session.specs.declared.session_fault.SessionFault.{SessionFault}
 use Rattle.commands.specs.declared.command.CommandName.{CommandName}
 use Rattle.commands.specs.declared.command.CommandName.TheVariants as command
 use Rattle.commands.specs.declared.failure.Failure.{Failure}
-use Rattle.commands.specs.declared.status.Status.TheVariants as status
-use Rattle.commands.specs.runs.Files.{LeavesFile}
-use Rattle.commands.specs.runs.Calls.{IsMadeWhereKept, RunsCommand}
+use Rattle.commands.specs.declared.failure.Status.TheVariants as status
+use Rattle.commands.specs.runs.Calls.{LeavesFile, IsMadeWhereKept, RunsCommand}
 use Rattle.commands.specs.texts.Messages.{status_at}
 use Rattle.commands.specs.runs.SessionRuns.{WritesFirstPage, WritesNextPage, WritesPage, place_of, text_over, place_after, report_from}
 use Rattle.commands.specs.runs.RunsInTurn.{Run, IsDone, IsFirst, IsNext, AreNext, ArePages, asked_of, text_left}
@@ -102,7 +101,7 @@ last_report (Ok t) (Ok s) count (Ok u) out out₁ session session₁ done w = re
 -- the command that the words name ran, over what they give it
 ran : (name : CommandName) (Has : Found → Type 0) (files : Files) (c : Call) → Asks name c.words Has → IsDoneCall files c
     → (found : Found) × Has found × RunsCommand name (over files) found [] c.left c.out c.out₁ c.err c.err₁ status.Done
-ran name Has files c (named, has) (inl unread) = elim unread.0 [ inl (text, faults, tells, ends) ↦ absurd cc | inr (tells, ends) ↦ absurd cc ]
+ran name Has files c (named, has) (inl unread) = elim unread.0 [ inl (text, faults, reports, ends) ↦ absurd cc | inr (reports, ends) ↦ absurd cc ]
 ran name Has files c (named, has) (inr read) =
     let n = read.1 in
     let is : Some n.name ≡ Some name = sym n.named ∙ named in

@@ -1,6 +1,6 @@
 -- Answers to lines, one after the other.
-use Rattle.std.proofs.Common.{◌≡◌, ℕ, ◌+◌, Bool, true, false, cond, List, [], ◌∷◌, ◌++◌, map, append_assoc, append-nil, refl, sym, ap, subst, ◌∙◌, None, Result, Ok, Err}
-use Rattle.sabr_model.specs.Devices.{Output, TakesNone, Written, WrittenInPart}
+use Rattle.std.proofs.Common.{◌≡◌, ℕ, ◌+◌, Bool, true, false, cond, List, [], ◌∷◌, ◌++◌, map, append_assoc, append-nil, refl, sym, ap, subst, ◌∙◌, None, Result, Ok, Err, inl, inr}
+use Rattle.sabr_model.specs.Devices.{Output, TakesNone, Written, WrittenInPart, Input, IsTextOf, TakesAll}
 use Rattle.sabr_model.specs.plan.Plan.{ContactPlan, IsPlan, TabledPlan}
 use Rattle.sabr_model.specs.routes.Arrival.{RouteRequest}
 use Rattle.sabr_model.specs.routes.Record.{RouteRecord, record_of}
@@ -11,22 +11,30 @@ use Rattle.sabr_frontier.specs.session.LastPage.{IsLastPage, LastSeen}
 use Rattle.sabr_model.specs.declared.fault.NoMemory.{NoMemory}
 use Rattle.sabr_model.specs.routes.Asking.{IsRequest}
 use Rattle.sabr_session.specs.ReportText.{HasSpelledTimes, report_text}
-use Rattle.commands.proofs.TextLemmas.SpelledTimes.{records_spelled}
+use Rattle.commands.proofs.Explained.{records_spelled}
 use Rattle.sabr_model.proofs.ListLemmas.WrittenTexts.{Takes-kept, Written-nil, Written-append, WrittenInPart-after, WrittenInPart-more}
-use Rattle.commands.specs.declared.words.lines_fault.LineKind.{LineKind}
-use Rattle.commands.specs.declared.words.lines_fault.LineKind.TheVariants.{BadLine}
-use Rattle.commands.specs.declared.words.lines_fault.LinesFault.{LinesFault}
+use Rattle.commands.specs.declared.words.lines.LineKind.{LineKind}
+use Rattle.commands.specs.declared.words.lines.LineKind.TheVariants.{BadLine}
+use Rattle.commands.specs.declared.words.lines.LinesFault.{LinesFault}
 use Rattle.commands.specs.declared.words.lines.LineForm.{LineForm}
 use Rattle.commands.specs.declared.runs.answering.AnswerKind.{AnswerKind}
-use Rattle.commands.specs.words.Lines.{Asked, HasLines, AskedLine, asked_at, asked_in, fault_of, lines_in, most_lines, put_first, asked_from}
-use Rattle.commands.specs.runs.Many.{IsFirstPage, LeavesAnswer, LeavesAnswers, StopsAtLine, WritesAll, WritesAnswers, answer_text, answers_text, form_of, has_broken}
-use Rattle.commands.specs.texts.Messages.{failure_of_lines}
-use Rattle.commands.specs.runs.SessionRuns.{next_report, report_from}
-use Rattle.commands.proofs.RunLemmas.PageTexts.{flush_failed, report_of_page}
-use Rattle.commands.proofs.RunLemmas.SessionPages.{first_report_is}
+use Rattle.commands.specs.words.Lines.{Asked, HasLines, AskedLine, asked_at, asked_in, fault_of, lines_in, most_lines, put_first, asked_from, ReadsLines, asked_by}
+use Rattle.commands.specs.runs.Many.{IsFirstPage, LeavesAnswer, LeavesAnswers, StopsAtLine, WritesAll, WritesAnswers, answer_text, answers_text, form_of, has_broken, ReadsLinesOver, body_text, heading}
+use Rattle.commands.specs.runs.RunsInTurn.{IsFirstReport, IsExplained, IsReport, AreReports, IsMany, AnswersAsAlone, ManyAnswersAsFirst, FollowAnswersAsExplain, reports_of}
+use Rattle.commands.specs.texts.Messages.{failure_of_lines, status_at}
+use Rattle.commands.specs.runs.SessionRuns.{next_report, report_from, WritesFirstPage, WritesPage}
+use Rattle.commands.proofs.RunLemmas.PageTexts.{flush_failed, report_of_page, first_report_is}
 use Rattle.std.specs.Prelude.{All, IfOk, IsTrue, is_some, nat_lt}
 use Rattle.commands.specs.declared.failure.Failure.{Failure}
+use Rattle.sabr_model.proofs.ListLemmas.ReadTexts.{begins_with}
+use Rattle.sabr_plan.specs.Reading.{plan_of}
+use Rattle.sabr_plan.specs.PlanRead.{ReadsPlan}
+use Rattle.sabr_plan.specs.declared.fault.PlanFault.{PlanFault}
+use Rattle.commands.specs.declared.runs.answering.AnswerKind.TheVariants.{FirstRoutes, Explanation}
+use Rattle.commands.specs.texts.PlanTexts.{WritesExplanation, explanation_text}
+use Rattle.commands.proofs.RunLemmas.RunsInTurn.{never_done, plan_read, taken}
 use Rattle.commands.specs.declared.failure.Failure.TheVariants as failure
+use Rattle.commands.specs.declared.failure.Status.TheVariants as status
 
 -- the answers to some lines, and then to others
 answers_then : (p : ContactPlan) (kind : AnswerKind) (xs ys : List AskedLine) → answers_text p (xs ++ ys) kind ≡ answers_text p xs kind ++ answers_text p ys kind
@@ -212,3 +220,82 @@ all_flushed p xs kind (Err failure.NoMemory) a b c e left kept fails mark = (
   mark,
 )
 all_flushed p xs kind (Err _) a b c e left kept fails mark = absurd left
+
+-- ---- one run over many lines writes what runs of their own for each of them report
+
+-- of a reader that has the text of lines, these are read
+lines_are : (form : LineForm) (text : List ℕ) (xs ys : List AskedLine) (reader reader₁ : Input) → asked_by form text ≡ Ok xs → IsTextOf reader text reader₁ → ReadsLines form reader (Ok ys) reader₁ → ys ≡ xs
+lines_are form text xs ys reader reader₁ spelled has h = elim h.answered [
+  | inl bad ↦ absurd bad
+  | inr (fine, inl (end, answer)) ↦
+      let all = (begins_with reader reader₁ text h.given has h.gives).all end in
+      let asks : asked_by form text ≡ Ok ys = subst (λ b. asked_by form b ≡ Ok ys) all answer in
+      cc
+  | inr (fine, inr answer) ↦
+      let more = begins_with reader reader₁ text h.given has h.gives in
+      let asks : asked_by form text ≡ Ok ys = subst (λ b. asked_by form b ≡ Ok ys) more.parts (answer more.rest) in
+      cc
+]
+
+module _ (plan : List ℕ) (p : ContactPlan) (spelled : plan_of plan true ≡ Ok p) where
+  -- a first run that is done reports the first page
+  page_taken : (q : ContactPlan) (keep : Bool) (written report : List ℕ) (place : RouteRequest × State) (end : Result (Unit {0}) Failure) (out out₁ session session₁ : Output) → status_at end ≡ status.Done
+      → TakesAll out report out₁ → WritesPage keep q written place end out out₁ session session₁ → report ≡ written
+  page_taken q keep written report place (Err f) out out₁ session session₁ done takes w = absurd (never_done f done)
+  page_taken q keep written report place (Ok u) out out₁ session session₁ done takes w = taken out written report out₁ w.0.0 takes
+
+  first_reported : (r : RouteRequest) (count : ℕ) (report : List ℕ) (x : IsFirstReport plan r count report) (planned : Result TabledPlan PlanFault) → ReadsPlan x.alone.reader planned x.alone.reader₁
+      → WritesFirstPage planned r x.keep count x.end x.alone.out x.alone.out₁ x.session x.session₁ → report ≡ report_from p r 0 count
+  first_reported r count report x (Err fault) reads w = absurd (never_done _ (sym (ap status_at w.0) ∙ x.done))
+  first_reported r count report x (Ok t) reads w =
+      let y = x.alone in
+      subst (λ q. report ≡ report_from q r 0 count) (plan_read plan p y.reader t y.reader₁ spelled y.has reads)
+      (page_taken t.plan x.keep (report_from t.plan r 0 count) report _ x.end y.out y.out₁ x.session x.session₁ x.done y.takes w)
+
+  -- an explain run that answers writes the explanation
+  explanation_reported : (r : RouteRequest) (contacts report : List ℕ) (x : IsExplained plan r contacts report) (planned : Result TabledPlan PlanFault) → ReadsPlan x.alone.reader planned x.alone.reader₁
+      → WritesExplanation planned r contacts (Ok x.answer) x.alone.out x.alone.out₁ → report ≡ explanation_text p r contacts
+  explanation_reported r contacts report x (Err fault) reads w = cc (w.0)
+  explanation_reported r contacts report x (Ok t) reads w =
+      let y = x.alone in
+      subst (λ q. report ≡ explanation_text q r contacts) (plan_read plan p y.reader t y.reader₁ spelled y.has reads)
+      (taken y.out (explanation_text t.plan r contacts) report y.out₁ w.1.0 y.takes)
+
+  report_is : (kind : AnswerKind) (x : AskedLine) (report : List ℕ) → IsReport plan kind x report → report ≡ body_text p kind x
+  report_is (FirstRoutes count) x report is = first_reported x.asked.request count report is is.alone.planned is.alone.reads is.writes
+  report_is Explanation x report is = explanation_reported x.asked.request x.asked.contacts report is is.alone.planned is.alone.reads is.writes
+
+  module _ (kind : AnswerKind) where
+    -- the answers are these reports, each after its line
+    reports_are : (xs : List AskedLine) (reports : List (List ℕ)) → AreReports plan kind xs reports → answers_text p xs kind ≡ reports_of kind xs reports
+    reports_are [] [] are = refl
+    reports_are [] (report ∷ reports) bad = absurd bad
+    reports_are (x ∷ xs) [] bad = absurd bad
+    reports_are (x ∷ xs) (report ∷ reports) (is, others) =
+        ap (λ t. (heading kind x.line ++ t) ++ answers_text p xs kind) (sym (report_is kind x report is))
+        ∙ ap (λ t. (heading kind x.line ++ report) ++ t) (reports_are xs reports others)
+
+    module _ (text : List ℕ) (xs : List AskedLine) (bytes : List ℕ) (many : IsMany plan text kind bytes) (requests : asked_by (form_of kind) text ≡ Ok xs) where
+      all_taken : (q : ContactPlan) (ys : List AskedLine) (end : Result (Unit {0}) Failure) → status_at end ≡ status.Done → WritesAll q ys kind end many.alone.out many.alone.out₁ → bytes ≡ answers_text q ys kind
+      all_taken q ys (Err f) done w = absurd (never_done f done)
+      all_taken q ys (Ok u) done w = taken many.alone.out (answers_text q ys kind) bytes many.alone.out₁ w.0 many.alone.takes
+
+      answers_are : (planned : Result TabledPlan PlanFault) (requested : Result (List AskedLine) LinesFault) → ReadsPlan many.alone.reader planned many.alone.reader₁
+          → ReadsLinesOver (form_of kind) planned many.asked requested many.asked₁ → WritesAnswers planned requested kind many.end many.alone.out many.alone.out₁ → bytes ≡ answers_text p xs kind
+      answers_are (Err fault) requested reads asked w = absurd (never_done _ (sym (ap status_at w.0) ∙ many.done))
+      answers_are (Ok t) (Err fault) reads asked w = absurd (never_done _ (sym (ap status_at w.0) ∙ many.done))
+      answers_are (Ok t) (Ok ys) reads asked w =
+          let same = lines_are (form_of kind) text xs ys many.asked many.asked₁ requests many.asks asked in
+          subst (λ q. bytes ≡ answers_text q xs kind) (plan_read plan p many.alone.reader t many.alone.reader₁ spelled many.alone.has reads)
+          (subst (λ zs. bytes ≡ answers_text t.plan zs kind) same (all_taken t.plan ys many.end many.done w))
+
+answers_as_alone : (kind : AnswerKind) → AnswersAsAlone kind
+answers_as_alone kind plan text p xs bytes reports spelled requests many are =
+    answers_are plan p spelled kind text xs bytes many requests many.alone.planned many.requested many.alone.reads many.reads_asked many.writes
+    ∙ reports_are plan p spelled kind xs reports are
+
+pub many_answers_as_first : ManyAnswersAsFirst
+many_answers_as_first count = answers_as_alone (FirstRoutes count)
+
+pub follow_answers_as_explain : FollowAnswersAsExplain
+follow_answers_as_explain = answers_as_alone Explanation

@@ -24,7 +24,7 @@ use Rattle.commands.specs.declared.failure.Failure.{Failure}
 use Rattle.commands.specs.declared.failure.Failure.TheVariants as failure
 use Rattle.commands.specs.texts.Messages.{failure_of_session}
 use Rattle.commands.specs.runs.SessionRuns.{WritesNextPage, WritesPage, next_report, report_after, place_of, place_after, report_from}
-use Rattle.commands.specs.runs.NextPage.{KeepsPlace, WritesPageFrom, NextGoesOn}
+use Rattle.commands.specs.runs.RunsInTurn.{KeepsPlace, WritesPageFrom, NextGoesOn}
 use Rattle.sabr_session.proofs.PlaceLemmas.Pages.{next_within}
 use Rattle.commands.proofs.RunLemmas.RunsFollow.{text_begins}
 

@@ -13,12 +13,11 @@ use Rattle.sabr_plan.proofs.SpelledPlans.{plan_is}
 use Rattle.sabr_session.specs.SessionText.{session_text}
 use Rattle.commands.specs.declared.failure.Failure.{Failure}
 use Rattle.commands.specs.declared.failure.Failure.TheVariants as failure
-use Rattle.commands.specs.declared.status.Status.TheVariants as status
+use Rattle.commands.specs.declared.failure.Status.TheVariants as status
 use Rattle.commands.specs.texts.Messages.{status_of, status_at}
 use Rattle.commands.specs.runs.SessionRuns.{ReadsOldSession, WritesFirstPage, WritesNextPage, place_of, place_after, report_from}
 use Rattle.commands.specs.runs.EveryRun.{IsAt, from_text}
-use Rattle.commands.specs.runs.NextPage.{WritesPageFrom, GoesOnFrom}
-use Rattle.commands.specs.runs.RunsInTurn.{Run, IsDone, IsFirst, IsNext, AreNext, IsPage, ArePages, RunsInTurn, asked_of, text_left, pages_given, GoOnFrom, RunsGoOn}
+use Rattle.commands.specs.runs.RunsInTurn.{WritesPageFrom, GoesOnFrom, Run, IsDone, IsFirst, IsNext, AreNext, IsPage, ArePages, RunsInTurn, asked_of, text_left, pages_given, GoOnFrom, RunsGoOn}
 use Rattle.sabr_session.proofs.PlaceLemmas.Pages.{next_within, pages_joined}
 use Rattle.commands.proofs.RunLemmas.NextPages.{place_kept, next_goes_on}
 

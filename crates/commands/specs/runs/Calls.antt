@@ -1,5 +1,6 @@
--- What a call of a command leaves: over the files that its words name, the run of their values.
-use Rattle.std.specs.Prelude.{◌≡◌, ℕ, ◌⊎◌, IsTrue, List, is_some, Result, Ok, Err}
+-- What a contract sees of the files of a system, and what a call of a command leaves: over the files that its words
+-- name, the run of their values.
+use Rattle.std.specs.Prelude.{◌≡◌, ℕ, ◌⊎◌, IsTrue, List, is_some, Result, Ok, Err, false, [], ◌∷◌}
 use Rattle.std.specs.declared.option.Option.{Option}
 use Rattle.std.specs.declared.option.Option.TheVariants.{Some, None}
 use Rattle.clap.specs.Matches.{first_value}
@@ -10,20 +11,68 @@ use Rattle.sabr_model.specs.routes.Arrival.{RouteRequest}
 use Rattle.sabr_plan.specs.PlanRead.{ReadsPlan}
 use Rattle.sabr_plan.specs.declared.fault.PlanFault.{PlanFault}
 use Rattle.commands.specs.declared.command.CommandName.{CommandName}
-use Rattle.commands.specs.declared.command.CommandName.TheVariants as command
 use Rattle.commands.specs.declared.failure.Failure.{Failure}
-use Rattle.commands.specs.declared.failure.Failure.TheVariants as failure
-use Rattle.commands.specs.declared.status.Status.{Status}
+use Rattle.commands.specs.declared.failure.Status.{Status}
 use Rattle.commands.specs.declared.runs.answering.AnswerKind.{AnswerKind}
 use Rattle.commands.specs.declared.runs.answering.AnswerKind.TheVariants.{FirstRoutes, Explanation}
 use Rattle.commands.specs.declared.words.value_fault.ValueFault.{ValueFault}
-use Rattle.commands.specs.texts.CheckText.{WritesCheck}
-use Rattle.commands.specs.texts.Explanation.{WritesExplanation}
-use Rattle.commands.specs.texts.Messages.{failure_of_value, TellsEnd, status_at, status_of_answer}
+use Rattle.commands.specs.texts.PlanTexts.{WritesCheck, WritesExplanation}
+use Rattle.commands.specs.texts.Messages.{failure_of_value, ReportsEnd, status_at, status_of_answer}
 use Rattle.commands.specs.words.Values.{ValuesRead, values_of, has_contacts, has_session, path_under, plan_word, session_word, requests_word, lists_word, session_out_word}
-use Rattle.commands.specs.runs.Files.{FileRules, Left, LeavesFile}
 use Rattle.commands.specs.runs.Many.{ReadsLinesOver, WritesAnswers, form_of}
 use Rattle.commands.specs.runs.SessionRuns.{ReadsOldSession, VerifiesOldSession, WritesAnswer, WritesFirstPage, WritesNextPage, place_of}
+use Rattle.commands.specs.declared.command.CommandName.TheVariants as command
+use Rattle.commands.specs.declared.failure.Failure.TheVariants as failure
+use Rattle.commands.specs.declared.failure.Status.TheVariants as status
+
+-- ---- files: which can be opened and made where, and which made ones are left
+
+-- what a path names in a system: how a file that is opened there reads; how one that is made there takes, at first; and
+-- whether the calls that open a file there, make one there, or remove one from there fail; and whether the last one
+-- succeeds
+pub record FileRules : Type 1 where
+  pub opened : List ℕ → Input → Type 0
+  pub unopened : List ℕ → Type 0
+  pub made : List ℕ → Output → Type 0
+  pub unmade : List ℕ → Type 0
+  pub unremoved : List ℕ → Type 0
+  pub removed : List ℕ → Type 0
+
+-- the files that a system made and didn't remove, the last one first: the path of each, and what its writer shows
+abbrev pub Left : Type 0
+Left = List (List ℕ × Output)
+
+-- what the writer of a new file shows, into which nothing was written
+abbrev pub unwritten : Output
+unwritten = record { contents = Some []; taken = []; failures = 0; flushed = false }
+
+-- a file was made at this path, and takes as x
+abbrev pub Makes : FileRules → List ℕ → Output → Left → Left → Type 0
+Makes rules path x old new = rules.made path x × (new ≡ (path, unwritten) ∷ old)
+
+-- the file that was made last stays, whose writer shows x
+abbrev pub Keeps : Output → Left → Left → Type 0
+Keeps x [] new = new ≡ []
+Keeps x (file ∷ others) new = new ≡ (file.0, x) ∷ others
+
+-- it is removed, or that fails and it stays
+abbrev pub Removes : FileRules → Output → Left → Left → Type 0
+Removes rules x [] new = new ≡ []
+Removes rules x (file ∷ others) new = (rules.removed file.0 × (new ≡ others)) ⊎ (rules.unremoved file.0 × (new ≡ (file.0, x) ∷ others))
+
+-- it stays if the run is done that wrote it, and else is removed
+abbrev pub KeepsIfDone : FileRules → Status → Output → Left → Left → Type 0
+KeepsIfDone rules status.Done x old new = Keeps x old new
+KeepsIfDone rules _ x old new = Removes rules x old new
+
+-- what is left after a run: the file of the session that it wrote, whose writer shows x, if it is done. If it isn't, that
+-- file was removed, unless that failed. No other file is made or removed.
+abbrev pub LeavesFile : FileRules → Option (List ℕ) → Status → Output → Left → Left → Type 0
+LeavesFile rules None ended x old new = new ≡ old
+LeavesFile rules (Some path) status.Done x old new = new ≡ (path, x) ∷ old
+LeavesFile rules (Some path) _ x old new = (rules.removed path × (new ≡ old)) ⊎ (rules.unremoved path × (new ≡ (path, x) ∷ old))
+
+-- ---- calls
 
 -- where the words keep the session after a page, if they do
 abbrev pub kept_path : CommandName → Found → Option (List ℕ)
@@ -45,7 +94,7 @@ pub record RunsOver {A : Type 0} (rules : FileRules) (found : Found) (status : R
   pub opens : rules.opened (path_under found plan_word) plan
   pub reads : ReadsPlan plan planned plan₁
   pub does : Does planned end
-  pub tells : TellsEnd end err err₁
+  pub reports : ReportsEnd end err err₁
   pub ends : ended ≡ status end
 
 -- what it does if it reads another file of the words: what is read there, and what it writes over that

@@ -13,10 +13,10 @@ use Rattle.sabr_plan.specs.Reading.{plan_of}
 use Rattle.sabr_session.specs.SessionText.{session_text}
 use Rattle.commands.specs.declared.command.CommandName.{CommandName}
 use Rattle.commands.specs.declared.command.CommandName.TheVariants as command
-use Rattle.commands.specs.declared.status.Status.TheVariants as status
+use Rattle.commands.specs.declared.failure.Status.TheVariants as status
 use Rattle.commands.specs.words.CommandLine.{given_by}
 use Rattle.commands.specs.words.Values.{values_of, path_under, plan_word, session_word, session_out_word}
-use Rattle.commands.specs.runs.Files.{FileRules, Left}
+use Rattle.commands.specs.runs.Calls.{FileRules, Left}
 use Rattle.commands.specs.runs.SessionRuns.{place_after, report_from}
 use Rattle.commands.specs.runs.Program.{EndsWords, named_in, rows_in}
 

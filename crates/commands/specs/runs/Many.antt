@@ -8,7 +8,7 @@ use Rattle.sabr_plan.specs.declared.fault.PlanFault.{PlanFault}
 use Rattle.sabr_frontier.specs.listing.Listing.{most_routes}
 use Rattle.sabr_frontier.specs.session.LastPage.{LastSeen}
 use Rattle.sabr_session.specs.ReportText.{HasSpelledTimes, report_text}
-use Rattle.commands.specs.declared.words.lines_fault.LinesFault.{LinesFault}
+use Rattle.commands.specs.declared.words.lines.LinesFault.{LinesFault}
 use Rattle.commands.specs.declared.failure.Failure.{Failure}
 use Rattle.commands.specs.declared.failure.Failure.TheVariants as failure
 use Rattle.commands.specs.declared.words.lines.LineForm.{LineForm}
@@ -16,7 +16,7 @@ use Rattle.commands.specs.declared.words.lines.LineForm.TheVariants.{Requests, L
 use Rattle.commands.specs.declared.runs.answering.AnswerKind.{AnswerKind}
 use Rattle.commands.specs.declared.runs.answering.AnswerKind.TheVariants.{FirstRoutes, Explanation}
 use Rattle.commands.specs.texts.Messages.{failure_of_plan, failure_of_lines}
-use Rattle.commands.specs.texts.Explanation.{explanation_text}
+use Rattle.commands.specs.texts.PlanTexts.{explanation_text}
 use Rattle.commands.specs.words.Lines.{AskedLine, ReadsLines}
 use Rattle.commands.specs.runs.SessionRuns.{report_from}
 

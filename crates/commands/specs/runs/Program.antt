@@ -9,13 +9,12 @@ use Rattle.sabr_model.specs.Devices.{Output}
 use Rattle.commands.specs.declared.command.CommandName.{CommandName}
 use Rattle.commands.specs.declared.failure.Failure.{Failure}
 use Rattle.commands.specs.declared.failure.Failure.TheVariants as failure
-use Rattle.commands.specs.declared.status.Status.{Status}
-use Rattle.commands.specs.declared.status.Status.TheVariants as status
-use Rattle.commands.specs.texts.Messages.{TellsText, message_text, status_of}
+use Rattle.commands.specs.declared.failure.Status.{Status}
+use Rattle.commands.specs.declared.failure.Status.TheVariants as status
+use Rattle.commands.specs.texts.Messages.{WritesMessage, message_text, status_of}
 use Rattle.commands.specs.words.CommandLine.{given_by, program_app}
 use Rattle.commands.specs.words.Values.{command_named}
-use Rattle.commands.specs.runs.Files.{FileRules, Left}
-use Rattle.commands.specs.runs.Calls.{RunsCommand, StopsBefore}
+use Rattle.commands.specs.runs.Calls.{FileRules, Left, RunsCommand, StopsBefore}
 
 -- a subcommand's name, with what was given under the names of its words
 abbrev pub Given : Type 0
@@ -35,7 +34,7 @@ pub record EndsBefore (rules : FileRules) (name : CommandName) (found : Found) (
   pub stops : StopsBefore rules name found why
   pub writes_nothing : out₁ ≡ out
   pub makes_nothing : left₁ ≡ left
-  pub tells : TellsText err (message_text why) err₁
+  pub reports : WritesMessage err (message_text why) err₁
   pub ends : ended ≡ status_of why
 
 -- the command that was named was run over what was given to it, or it ended before its run
@@ -47,14 +46,14 @@ pub record EndsNamed (rules : FileRules) (given : Given) (left left₁ : Left) (
   pub does : RunsCommand name rules found left left₁ out out₁ err err₁ ended ⊎ EndsBefore rules name found left left₁ out out₁ err err₁ ended
 
 -- the words were refused: for this reason, and then a text is written and the status is Usage; or memory was
-abbrev pub TellsRefusal : Type 0 → Output → Output → Status → Type 0
-TellsRefusal Why err err₁ ended =
-    ((text : List ℕ) × Why × TellsText err text err₁ × (ended ≡ status.Usage))
-    ⊎ (TellsText err (message_text failure.NoMemory) err₁ × (ended ≡ status.Memory))
+abbrev pub ReportsRefusal : Type 0 → Output → Output → Status → Type 0
+ReportsRefusal Why err err₁ ended =
+    ((text : List ℕ) × Why × WritesMessage err text err₁ × (ended ≡ status.Usage))
+    ⊎ (WritesMessage err (message_text failure.NoMemory) err₁ × (ended ≡ status.Memory))
 
 -- what the program leaves over these words: if they have a fault or ask for help, and clap's own account names the
 -- kinds, or if memory for them was refused, no command is begun; else the command that they name ended
 abbrev pub EndsWords : FileRules → List (List ℕ) → Left → Left → Output → Output → Output → Output → Status → Type 0
 EndsWords rules words left left₁ out out₁ err err₁ ended =
-    (TellsRefusal (fault_of program_app words ≢ []) err err₁ ended × (out₁ ≡ out) × (left₁ ≡ left))
+    (ReportsRefusal (fault_of program_app words ≢ []) err err₁ ended × (out₁ ≡ out) × (left₁ ≡ left))
     ⊎ ((fault_of program_app words ≡ []) × EndsNamed rules (given_by words) left left₁ out out₁ err err₁ ended)

@@ -1,8 +1,9 @@
 -- Runs of the program in turn: a first run, and then next runs, each over the session text that the one before wrote;
--- and next runs from any session text of a place, at last one that keeps no session.
-use Rattle.std.specs.Prelude.{◌≡◌, ℕ, ◌+◌, Bool, true, false, List, [], ◌∷◌, ◌++◌, Result, Ok}
+-- next runs from any session text of a place, at last one that keeps no session; and one run over many lines, beside runs
+-- of their own.
+use Rattle.std.specs.Prelude.{◌≡◌, ℕ, ◌+◌, Bool, true, false, List, [], ◌∷◌, ◌++◌, Result, Ok, IsTrue, ◌⊎◌, Err, IfOk}
 use Rattle.sabr_model.specs.Devices.{Input, Output, IsTextOf, TakesAll}
-use Rattle.sabr_model.specs.plan.Plan.{ContactPlan, TabledPlan}
+use Rattle.sabr_model.specs.plan.Plan.{ContactPlan, TabledPlan, IsPlan}
 use Rattle.sabr_model.specs.routes.Arrival.{RouteRequest}
 use Rattle.sabr_model.specs.routes.Asking.{IsRequest}
 use Rattle.sabr_model.specs.routes.Listing.{page_of}
@@ -13,10 +14,19 @@ use Rattle.sabr_frontier.specs.session.Session.{Seen}
 use Rattle.sabr_session.specs.SessionText.{session_text}
 use Rattle.sabr_session.specs.declared.session_fault.SessionFault.{SessionFault}
 use Rattle.commands.specs.declared.failure.Failure.{Failure}
-use Rattle.commands.specs.declared.status.Status.TheVariants as status
 use Rattle.commands.specs.texts.Messages.{status_at}
-use Rattle.commands.specs.runs.SessionRuns.{ReadsOldSession, WritesFirstPage, WritesNextPage, place_after, place_of, report_from}
+use Rattle.commands.specs.runs.SessionRuns.{ReadsOldSession, WritesFirstPage, WritesNextPage, place_after, place_of, report_from, WritesPage}
 use Rattle.commands.specs.runs.EveryRun.{IsAt, from_text}
+use Rattle.sabr_frontier.specs.listing.Listing.{state_at}
+use Rattle.sabr_session.specs.Verifying.{IsSessionText}
+use Rattle.commands.specs.declared.runs.answering.AnswerKind.{AnswerKind}
+use Rattle.commands.specs.declared.runs.answering.AnswerKind.TheVariants.{FirstRoutes, Explanation}
+use Rattle.commands.specs.declared.words.lines.LinesFault.{LinesFault}
+use Rattle.commands.specs.texts.PlanTexts.{WritesExplanation}
+use Rattle.commands.specs.words.Lines.{AskedLine, asked_by}
+use Rattle.commands.specs.runs.Many.{ReadsLinesOver, WritesAnswers, form_of, heading}
+use Rattle.commands.specs.declared.failure.Status.TheVariants as status
+use Rattle.commands.specs.declared.failure.Failure.TheVariants as failure
 
 -- a run: how many routes it is asked for, and the texts that its writers take
 pub record Run : Type 0 where
@@ -109,3 +119,87 @@ abbrev pub RunsGoOn : Type 0
 RunsGoOn =
     (plan text : List ℕ) (p : ContactPlan) (r : RouteRequest) (i : ℕ) (runs : List Run) → plan_of plan true ≡ Ok p
     → IsAt p r i (from_text text) → AreNext plan text runs → GoOnFrom plan text p r i runs
+
+-- ---- what a run `next` leaves over the session text of a place of the listing
+
+-- if a run ended well and wrote its session, that is the text of place i, from which a run can go on
+abbrev pub KeepsPlace : Bool → ContactPlan → RouteRequest → ℕ → Result (Unit {0}) Failure → Type 0
+KeepsPlace keep p r i end = IfOk end (λ _. IsTrue keep → IsAt p r i (from_text (session_text p r i)))
+
+-- what a run leaves that lists the page from place i on: its report, and the session of the place after it
+abbrev pub WritesPageFrom : Bool → ContactPlan → RouteRequest → ℕ → ℕ → Result (Unit {0}) Failure → Output → Output → Output → Output → Type 0
+WritesPageFrom keep p r i count end old new old₁ new₁ =
+    WritesPage keep p (report_from p r i count) (r, state_at p r (place_after p r i count)) end old new old₁ new₁ × KeepsPlace keep p r (place_after p r i count) end
+
+-- a reader's text is these bytes: for any bytes read of it, a next run leaves the page from place i on; or the
+-- reader failed, and nothing is written
+abbrev pub GoesOnFrom : TabledPlan → RouteRequest → ℕ → List ℕ → Type 0
+GoesOnFrom p r i bytes =
+    (reader : Input) (resumed : Result Seen SessionFault) (reader₁ : Input) → IsTextOf reader bytes reader₁ → ReadsOldSession (Ok p) reader resumed reader₁
+    → (keep : Bool) (count : ℕ) (end : Result (Unit {0}) Failure) (old new old₁ new₁ : Output) → WritesNextPage (Ok p) (place_of resumed) keep count end old new old₁ new₁
+    → WritesPageFrom keep p.plan r i count end old new old₁ new₁
+    ⊎ ((reader₁.failures ≡ reader.failures + 1) × (end ≡ Err failure.SessionRead) × (new ≡ old) × (new₁ ≡ old₁))
+
+-- over every accepted plan, from every session text of a place
+abbrev pub NextGoesOn : Type 0
+NextGoesOn = (p : TabledPlan) (bytes : List ℕ) → IsPlan p.plan → (text : IsSessionText p.plan bytes) → GoesOnFrom p text.request text.place bytes
+
+-- ---- many lines answered in one run, beside a run of its own for each of them
+
+-- a run that is over a reader of this text of lines, too, did what was asked of it, and wrote these bytes
+pub record IsMany (plan text : List ℕ) (kind : AnswerKind) (bytes : List ℕ) : Type 0 where
+  pub alone : IsAlone plan bytes
+  pub asked : Input
+  pub requested : Result (List AskedLine) LinesFault
+  pub asked₁ : Input
+  pub asks : IsTextOf asked text asked₁
+  pub reads_asked : ReadsLinesOver (form_of kind) alone.planned asked requested asked₁
+  pub end : Result (Unit {0}) Failure
+  pub done : status_at end ≡ status.Done
+  pub writes : WritesAnswers alone.planned requested kind end alone.out alone.out₁
+
+-- a run is a first one for this request, with this count, that ends with status 0; it keeps its session or not
+pub record IsFirstReport (plan : List ℕ) (r : RouteRequest) (count : ℕ) (report : List ℕ) : Type 0 where
+  pub alone : IsAlone plan report
+  pub keep : Bool
+  pub end : Result (Unit {0}) Failure
+  pub done : status_at end ≡ status.Done
+  pub session : Output
+  pub session₁ : Output
+  pub writes : WritesFirstPage alone.planned r keep count end alone.out alone.out₁ session session₁
+
+-- it is an explain run of these contacts for this request that ends with an answer, and so with status 0 or 1
+pub record IsExplained (plan : List ℕ) (r : RouteRequest) (contacts report : List ℕ) : Type 0 where
+  pub alone : IsAlone plan report
+  pub answer : Bool
+  pub writes : WritesExplanation alone.planned r contacts (Ok answer) alone.out alone.out₁
+
+-- the report of a run of its own for what a line asks
+abbrev pub IsReport : List ℕ → AnswerKind → AskedLine → List ℕ → Type 0
+IsReport plan (FirstRoutes count) x report = IsFirstReport plan x.asked.request count report
+IsReport plan Explanation x report = IsExplained plan x.asked.request x.asked.contacts report
+
+-- the reports of such runs over the plan, one for each line
+abbrev pub AreReports : List ℕ → AnswerKind → List AskedLine → List (List ℕ) → Type 0
+AreReports plan kind [] [] = Unit {0}
+AreReports plan kind (x ∷ xs) (report ∷ reports) = IsReport plan kind x report × AreReports plan kind xs reports
+AreReports plan kind _ _ = ⊥
+
+-- the lines, each after a word and with its report after it
+abbrev pub reports_of : AnswerKind → List AskedLine → List (List ℕ) → List ℕ
+reports_of kind (x ∷ xs) (report ∷ reports) = (heading kind x.line ++ report) ++ reports_of kind xs reports
+reports_of kind _ _ = []
+
+-- over the texts of a plan and of lines, that run writes these reports, each after its line
+abbrev pub AnswersAsAlone : AnswerKind → Type 0
+AnswersAsAlone kind =
+    (plan text : List ℕ) (p : ContactPlan) (xs : List AskedLine) (bytes : List ℕ) (reports : List (List ℕ))
+    → plan_of plan true ≡ Ok p → asked_by (form_of kind) text ≡ Ok xs → IsMany plan text kind bytes → AreReports plan kind xs reports → bytes ≡ reports_of kind xs reports
+
+-- a run `many` writes what first runs report
+abbrev pub ManyAnswersAsFirst : Type 0
+ManyAnswersAsFirst = (count : ℕ) → AnswersAsAlone (FirstRoutes count)
+
+-- a run `follow` writes what explain runs report
+abbrev pub FollowAnswersAsExplain : Type 0
+FollowAnswersAsExplain = AnswersAsAlone Explanation

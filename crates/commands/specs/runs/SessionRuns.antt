@@ -100,7 +100,7 @@ answer_line answer = if answer then codes "yes\n" else codes "no\n"
 -- writer failed; nothing if the session's reader failed or memory was refused
 abbrev pub WritesVerified : Result Bool SessionFault → Result Bool Failure → Output → Output → Type 0
 WritesVerified (Err fault) end old new = (end ≡ Err (failure_of_session fault)) × (new ≡ old)
-WritesVerified (Ok answer) (Ok told) old new = (told ≡ answer) × WrittenAndFlushed old (answer_line answer) new
+WritesVerified (Ok answer) (Ok verified) old new = (verified ≡ answer) × WrittenAndFlushed old (answer_line answer) new
 WritesVerified (Ok answer) (Err failure.Write) old new = WrittenInPart old (answer_line answer) new
 WritesVerified (Ok answer) (Err _) old new = ⊥
 

@@ -2,7 +2,7 @@
 use Rattle.std.specs.Prelude.{ℕ, ◌+◌, List, [], ◌∷◌}
 use Rattle.sabr_model.specs.Rows.{begin, contact_of, summary}
 use Rattle.sabr_session.specs.ReportText.{route_line}
-use Rattle.commands.specs.texts.Explanation.{hop_line}
+use Rattle.commands.specs.texts.PlanTexts.{hop_line}
 
 -- contact 1, sent at once
 abbrev pub first_hop : List ℕ

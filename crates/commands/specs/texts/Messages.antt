@@ -8,16 +8,16 @@ use Rattle.sabr_plan.specs.declared.fault.PlanKind.TheVariants.{LineTooLong, Bad
 use Rattle.sabr_plan.specs.declared.fault.PlanFault.{PlanFault}
 use Rattle.sabr_session.specs.declared.session_fault.SessionFault.{SessionFault}
 use Rattle.sabr_session.specs.declared.session_fault.SessionFault.TheVariants as session
-use Rattle.commands.specs.declared.status.Status.{Status}
-use Rattle.commands.specs.declared.status.Status.TheVariants as status
+use Rattle.commands.specs.declared.failure.Status.{Status}
+use Rattle.commands.specs.declared.failure.Status.TheVariants as status
 use Rattle.commands.specs.declared.failure.Failure.{Failure}
 use Rattle.commands.specs.declared.failure.Failure.TheVariants as failure
 use Rattle.commands.specs.declared.words.value_fault.ValueFault.{ValueFault}
 use Rattle.commands.specs.declared.words.value_fault.ValueFault.TheVariants as value
-use Rattle.commands.specs.declared.words.lines_fault.LineKind.{LineKind}
-use Rattle.commands.specs.declared.words.lines_fault.LineKind.TheVariants as request
-use Rattle.commands.specs.declared.words.lines_fault.LinesFault.{LinesFault}
-use Rattle.commands.specs.declared.words.lines_fault.LinesFault.TheVariants as requests
+use Rattle.commands.specs.declared.words.lines.LineKind.{LineKind}
+use Rattle.commands.specs.declared.words.lines.LineKind.TheVariants as request
+use Rattle.commands.specs.declared.words.lines.LinesFault.{LinesFault}
+use Rattle.commands.specs.declared.words.lines.LinesFault.TheVariants as requests
 use Rattle.commands.specs.declared.words.lines.LineForm.{LineForm}
 use Rattle.commands.specs.declared.words.lines.LineForm.TheVariants.{Requests, Lists}
 use Rattle.commands.specs.words.Values.{name_text}
@@ -158,8 +158,8 @@ number_of status.Io = 5
 number_of status.Memory = 6
 
 -- the text was taken, or a beginning of it by a writer that failed
-abbrev pub TellsText : Output → List ℕ → Output → Type 0
-TellsText old text new = Written old text new ⊎ WrittenInPart old text new
+abbrev pub WritesMessage : Output → List ℕ → Output → Type 0
+WritesMessage old text new = Written old text new ⊎ WrittenInPart old text new
 
 -- the status of a run that ended so
 abbrev pub status_at : Result (Unit {0}) Failure → Status
@@ -172,6 +172,6 @@ status_of_answer (Ok answer) = if answer then status.Done else status.No
 status_of_answer (Err f) = status_of f
 
 -- no message for a run that did what was asked of it, and else that of its failure
-abbrev pub TellsEnd : {A : Type 0} → Result A Failure → Output → Output → Type 0
-TellsEnd (Ok _) old new = new ≡ old
-TellsEnd (Err f) old new = TellsText old (message_text f) new
+abbrev pub ReportsEnd : {A : Type 0} → Result A Failure → Output → Output → Type 0
+ReportsEnd (Ok _) old new = new ≡ old
+ReportsEnd (Err f) old new = WritesMessage old (message_text f) new

@@ -8,18 +8,17 @@ use Rattle.sabr_model.specs.routes.Arrival.{RouteRequest}
 use Rattle.commands.specs.declared.words.value_fault.ValueName.TheVariants as name
 use Rattle.commands.specs.declared.words.value_fault.ValueFault.{ValueFault}
 use Rattle.commands.specs.declared.words.value_fault.ValueFault.TheVariants as value
-use Rattle.commands.specs.declared.words.lines_fault.LineKind.{LineKind}
-use Rattle.commands.specs.declared.words.lines_fault.LineKind.TheVariants.{BadContacts, BadFrom, BadTo, BadAt, BadMargin, BadHops, BadAvoid, SameNode, BadLine}
-use Rattle.commands.specs.declared.words.lines_fault.LinesFault.{LinesFault}
-use Rattle.commands.specs.declared.words.lines_fault.LinesFault.TheVariants.{Line, Read, NoMemory}
+use Rattle.commands.specs.declared.words.lines.LineKind.{LineKind}
+use Rattle.commands.specs.declared.words.lines.LineKind.TheVariants.{BadContacts, BadFrom, BadTo, BadAt, BadMargin, BadHops, BadAvoid, SameNode, BadLine}
+use Rattle.commands.specs.declared.words.lines.LinesFault.{LinesFault}
+use Rattle.commands.specs.declared.words.lines.LinesFault.TheVariants.{Line, Read, NoMemory}
 use Rattle.commands.specs.declared.words.lines.LineForm.{LineForm}
 use Rattle.commands.specs.declared.words.lines.LineForm.TheVariants.{Requests, Lists}
 use Rattle.commands.specs.declared.words.lines.Judged.{Judged}
 use Rattle.commands.specs.declared.words.request_line.Listed.{Listed}
 use Rattle.sabr_plan.specs.Words.{is_one_line}
 use Rattle.sabr_session.specs.SessionWords.{most_number}
-use Rattle.commands.specs.words.Lists.{numbers_within, pieces_of}
-use Rattle.commands.specs.words.Values.{TextsGiven, and_then, request_words, request_of}
+use Rattle.commands.specs.words.Values.{numbers_within, pieces_of, TextsGiven, and_then, request_words, request_of}
 
 -- what is bad in a line, by the fault of its values; a value that no line has would be no part of a line
 abbrev pub kind_of : ValueFault → LineKind

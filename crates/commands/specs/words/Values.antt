@@ -1,6 +1,6 @@
 -- The words of a command, and the strict reading of their texts. The order in which bad ones are reported is this
 -- project's own.
-use Rattle.std.specs.Prelude.{ℕ, ◌<◌, ◌≤◌, Bool, true, false, not, ◌==◌, List, [], Result, Ok, Err, codes, ok_or, option_and_then, unwrap_or, if◌then◌else◌}
+use Rattle.std.specs.Prelude.{ℕ, ◌<◌, ◌≤◌, Bool, true, false, not, ◌==◌, List, [], Result, Ok, Err, codes, ok_or, option_and_then, unwrap_or, if◌then◌else◌, nat_le, ◌∷◌, length, map}
 use Rattle.std.specs.Str.{bytes_eq}
 use Rattle.std.specs.Option.{option_copied, option_map_or}
 use Rattle.std.specs.declared.option.Option.{Option}
@@ -15,16 +15,47 @@ use Rattle.sabr_frontier.specs.listing.Listing.{most_routes}
 use Rattle.commands.specs.declared.words.value_fault.ValueName.{ValueName}
 use Rattle.commands.specs.declared.words.value_fault.ValueName.TheVariants.{From, To, At, MarginPpm, MaxHops, Avoid, Count, Contacts}
 use Rattle.commands.specs.declared.command.CommandName.{CommandName}
-use Rattle.commands.specs.declared.command.CommandName.TheVariants as command
 use Rattle.commands.specs.declared.words.values.Values.{Values}
 use Rattle.commands.specs.declared.words.request_words.RequestTexts.{RequestTexts}
-use Rattle.commands.specs.declared.words.value_texts.ValueTexts.{ValueTexts}
+use Rattle.commands.specs.declared.words.values.ValueTexts.{ValueTexts}
 use Rattle.commands.specs.declared.words.value_fault.ValueFault.{ValueFault}
 use Rattle.commands.specs.declared.words.value_fault.ValueFault.TheVariants.{Bad, SameNode, BadAvoid}
 use Rattle.sabr_model.specs.declared.request_values.RequestValues.{RequestValues}
-use Rattle.commands.specs.words.Lists.{numbers_within, nodes_listed}
 use Rattle.sabr_plan.specs.Numbers.{number_within}
-use Rattle.sabr_session.specs.SessionWords.{most_number}
+use Rattle.sabr_session.specs.SessionWords.{most_number, all_of, most_avoided}
+use Rattle.std.specs.List.{slice_split}
+use Rattle.commands.specs.declared.command.CommandName.TheVariants as command
+
+-- ---- the pieces of texts, and what the lists of the command line spell
+
+-- the pieces of a text between the bytes of this value
+abbrev pub pieces_of : ℕ → List ℕ → List (List ℕ)
+pieces_of separator text = slice_split (λ b. b == separator) text
+
+-- the pieces of what stands after such a byte, if there is one
+abbrev pub pieces_after : ℕ → Option (List ℕ) → List (List ℕ)
+pieces_after separator None = []
+pieces_after separator (Some text) = pieces_of separator text
+
+-- the first piece, if there is one, and the others
+abbrev pub first_of : List (List ℕ) → Option (List ℕ) × List (List ℕ)
+first_of [] = (None, [])
+first_of (piece ∷ pieces) = (Some piece, pieces)
+
+-- the comma, which separates the numbers of a list
+abbrev pub comma : ℕ
+comma = 44
+
+-- the numbers that a text lists, separated by single commas, each within these bounds
+unfoldable pub numbers_within : ℕ → ℕ → List ℕ → Option (List ℕ)
+numbers_within low high text = all_of (map (number_within low high) (pieces_of comma text))
+
+-- the nodes that a text lists, at most as many as a request avoids
+unfoldable pub nodes_listed : List ℕ → Option (List ℕ)
+nodes_listed text =
+    option_and_then (λ nodes. if nat_le (length nodes) most_avoided then Some nodes else None) (numbers_within 1 18446744073709551615 text)
+
+-- ---- the words of a command
 
 -- the word of the command line that gives a value, without its two dashes
 abbrev pub name_text : ValueName → List ℕ

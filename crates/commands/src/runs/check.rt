@@ -1,20 +1,67 @@
 //! The run that reports what a plan holds.
 
-ghost use Rattle.std.specs.Prelude.{◌≡◌, Result};
+ghost use Rattle.std.specs.Prelude.{◌≡◌, Result, length};
 ghost use Rattle.sabr_model.specs.plan.Plan.{TabledPlan};
 ghost use Rattle.sabr_plan.specs.PlanRead.{ReadsPlan};
 ghost use Rattle.sabr_plan.specs.declared.fault.PlanFault.{PlanFault};
 ghost use Rattle.commands.specs.declared.failure.Failure.{Failure};
-ghost use Rattle.commands.specs.texts.Messages.{TellsEnd, status_at};
-ghost use Rattle.commands.specs.texts.CheckText.{WritesCheck};
+ghost use Rattle.commands.specs.texts.Messages.{ReportsEnd, status_at};
+ghost use Rattle.commands.specs.texts.PlanTexts.{WritesCheck, without_light, check_text};
+ghost use Rattle.sabr_model.specs.Devices.{WritesText};
 
-use crate::failure::Failure;
-use crate::runs::ending::tell_end;
-use crate::status::Status;
-use crate::texts::write_check_text;
-use sabr_model::{Plan, Read, Write};
-use sabr_plan::read_plan;
+use crate::failure::{Failure, Status};
+use crate::texts::{report_end, write_pieces};
+use itoa::Buffer;
+use sabr_model::{Plan, Read, Write, WriteFault};
+use sabr_plan::{digest, read_plan};
+use sabr_session::digest_text;
 use std::alloc::Allocator;
+
+/// Counts the contacts that weren't deleted and have no light time at their start.
+fn without_light<A: Allocator + Copy>(plan: &Plan<A>) -> usize
+    ensures { result ≡ length (without_light plan.now.plan) }
+{
+    plan.contacts()
+        .iter()
+        .filter(|contact| plan.light(contact).is_none())
+        .count()
+}
+
+/// Writes what the plan holds in five lines: the numbers of contacts and of ranges that weren't deleted, of nodes that
+/// send or receive a contact, and of contacts without light time at their start, and then the plan's digest.
+///
+/// It allocates nothing and doesn't flush.
+///
+/// # Errors
+///
+/// [`WriteFault`] if the writer failed. Then a beginning of the text was written.
+#[tactic(auto, unfolding(crate::specs::texts::PlanTexts::check_text))]
+fn write_check_text<W: Write, A: Allocator + Copy>(
+    plan: &Plan<A>,
+    writer: &mut W,
+) -> Result<(), WriteFault>
+    ensures { WritesText (W.output writer.old) (check_text plan.now.plan) result (W.output writer.new) }
+{
+    let mut contacts = Buffer::new();
+    let mut ranges = Buffer::new();
+    let mut nodes = Buffer::new();
+    let mut unlit = Buffer::new();
+    let digits = digest_text(&digest(plan));
+    let pieces: [&[u8]; 11] = [
+        b"contacts ",
+        contacts.format(plan.contacts().len()).as_bytes(),
+        b"\nranges ",
+        ranges.format(plan.ranges().len()).as_bytes(),
+        b"\nnodes ",
+        nodes.format(plan.nodes()).as_bytes(),
+        b"\nwithout light ",
+        unlit.format(without_light(plan)).as_bytes(),
+        b"\ndigest ",
+        &digits,
+        b"\n",
+    ];
+    write_pieces(writer, &pieces)
+}
 
 /// Writes and flushes the text of a check.
 fn write_check<O: Write, A: Allocator + Copy>(plan: &Plan<A>, out: &mut O) -> Result<(), Failure>
@@ -57,9 +104,9 @@ pub fn run_check<P: Read, O: Write, E: Write, A: Allocator + Copy>(
     ensures { (planned : Result TabledPlan PlanFault) × ((end : Result (Unit {0}) Failure)
         × ReadsPlan (P.input plan.old) planned (P.input plan.new)
         × WritesCheck planned end (O.output out.old) (O.output out.new)
-        × TellsEnd end (E.output err.old) (E.output err.new)
+        × ReportsEnd end (E.output err.old) (E.output err.new)
         × (result ≡ status_at end)) }
 {
     let end = read_and_write_check(alloc, plan, out);
-    tell_end(end, err)
+    report_end(end, err)
 }

@@ -5,13 +5,11 @@ ghost use Rattle.sabr_model.specs.plan.Plan.{TabledPlan};
 ghost use Rattle.sabr_plan.specs.PlanRead.{ReadsPlan};
 ghost use Rattle.sabr_plan.specs.declared.fault.PlanFault.{PlanFault};
 ghost use Rattle.commands.specs.declared.failure.Failure.{Failure};
-ghost use Rattle.commands.specs.texts.Messages.{TellsEnd, status_of_answer};
-ghost use Rattle.commands.specs.texts.Explanation.{WritesExplanation};
+ghost use Rattle.commands.specs.texts.Messages.{ReportsEnd, status_of_answer};
+ghost use Rattle.commands.specs.texts.PlanTexts.{WritesExplanation};
 
-use crate::failure::Failure;
-use crate::runs::ending::tell_answer;
-use crate::status::Status;
-use crate::texts::write_explanation;
+use crate::failure::{Failure, Status};
+use crate::texts::{report_answer, write_explanation};
 use sabr_model::{Plan, Read, Request, Write};
 use sabr_plan::read_plan;
 use std::alloc::Allocator;
@@ -67,9 +65,9 @@ pub fn run_explain<P: Read, O: Write, E: Write, A: Allocator + Copy>(
     ensures { (planned : Result TabledPlan PlanFault) × ((end : Result Bool Failure)
         × ReadsPlan (P.input plan.old) planned (P.input plan.new)
         × WritesExplanation planned request contacts.now end (O.output out.old) (O.output out.new)
-        × TellsEnd end (E.output err.old) (E.output err.new)
+        × ReportsEnd end (E.output err.old) (E.output err.new)
         × (result ≡ status_of_answer end)) }
 {
     let end = read_and_explain(alloc, plan, &request, contacts, out);
-    tell_answer(end, err)
+    report_answer(end, err)
 }

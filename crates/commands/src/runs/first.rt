@@ -6,14 +6,13 @@ ghost use Rattle.sabr_plan.specs.PlanRead.{ReadsPlan};
 ghost use Rattle.sabr_plan.specs.declared.fault.PlanFault.{PlanFault};
 ghost use Rattle.sabr_frontier.specs.listing.Listing.{most_routes};
 ghost use Rattle.commands.specs.declared.failure.Failure.{Failure};
-ghost use Rattle.commands.specs.texts.Messages.{TellsEnd, status_at};
+ghost use Rattle.commands.specs.texts.Messages.{ReportsEnd, status_at};
 ghost use Rattle.commands.specs.words.Values.{IsCount};
 ghost use Rattle.commands.specs.runs.SessionRuns.{WritesFirstPage};
 
-use crate::failure::Failure;
-use crate::runs::ending::tell_end;
+use crate::failure::{Failure, Status};
 use crate::runs::pages::{PageWriters, write_page};
-use crate::status::Status;
+use crate::texts::report_end;
 use sabr_frontier::Session;
 use sabr_model::{Read, Request, Write};
 use sabr_plan::{digest, read_plan};
@@ -64,10 +63,10 @@ pub fn run_first<P: Read, O: Write, S: Write, E: Write, A: Allocator + Copy>(
     ensures { (planned : Result TabledPlan PlanFault) × ((end : Result (Unit {0}) Failure)
         × ReadsPlan (P.input plan.old) planned (P.input plan.new)
         × WritesFirstPage planned request keep count end (O.output out.old) (O.output out.new) (S.output session.old) (S.output session.new)
-        × TellsEnd end (E.output err.old) (E.output err.new)
+        × ReportsEnd end (E.output err.old) (E.output err.new)
         × (result ≡ status_at end)) }
 {
     let to = PageWriters { out, session, keep };
     let end = write_first(alloc, plan, request, count, to);
-    tell_end(end, err)
+    report_end(end, err)
 }

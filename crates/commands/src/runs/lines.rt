@@ -7,16 +7,15 @@ ghost use Rattle.sabr_plan.specs.declared.fault.PlanFault.{PlanFault};
 ghost use Rattle.commands.specs.declared.failure.Failure.{Failure};
 ghost use Rattle.commands.specs.declared.runs.answering.AnswerKind.TheVariants.{Explanation, FirstRoutes};
 ghost use Rattle.commands.specs.declared.words.lines.LineForm.TheVariants.{Lists, Requests};
-ghost use Rattle.commands.specs.declared.words.lines_fault.LinesFault.{LinesFault};
-ghost use Rattle.commands.specs.texts.Messages.{TellsEnd, status_at};
+ghost use Rattle.commands.specs.declared.words.lines.LinesFault.{LinesFault};
+ghost use Rattle.commands.specs.texts.Messages.{ReportsEnd, status_at};
 ghost use Rattle.commands.specs.runs.Many.{IsWithin, LeavesAnswers, ReadsLinesOver, WritesAll, WritesAnswers, form_of, has_broken};
 ghost use Rattle.commands.specs.words.Lines.{AskedLine, fault_of, lines_in, asked_from};
 ghost use Rattle.commands.specs.words.Values.{IsCount};
 
-use crate::failure::Failure;
+use crate::failure::{Failure, Status};
 use crate::runs::answering::{AnswerKind, Answering};
-use crate::runs::ending::tell_end;
-use crate::status::Status;
+use crate::texts::report_end;
 use crate::words::{first_line, read_lines};
 use sabr_model::{Plan, Read, Write};
 use sabr_plan::read_plan;
@@ -107,9 +106,10 @@ fn write_answers<P: Read, Q: Read, O: Write, A: Allocator + Copy>(
 /// flushed at the end.
 ///
 /// A failure's message goes to `err`; a failure of `err` changes nothing else. The status is [`Status::Plan`] if the
-/// plan is refused, and then `requests` isn't read; [`Status::Session`] if a line is bad; [`Status::Io`] if a reader or
-/// `out` failed; and [`Status::Memory`] if an allocation failed. If one failed at a request, `out` holds the
-/// answers to those before it, whole and flushed, and no others. If `out` failed, it holds a beginning of the answers.
+/// plan is refused, and then `requests` isn't read; [`Status::Session`] if a line is bad; [`Status::Io`] if `out` or a
+/// reader failed, that of the requests after good lines alone; and [`Status::Memory`] if an allocation failed. If one
+/// failed at a request, `out` holds the answers to those before it, whole and flushed, and no others. If `out` failed, it
+/// holds a beginning of the answers.
 pub fn run_many<P: Read, Q: Read, O: Write, E: Write, A: Allocator + Copy>(
     alloc: A,
     plan: &mut P,
@@ -123,12 +123,12 @@ pub fn run_many<P: Read, Q: Read, O: Write, E: Write, A: Allocator + Copy>(
         × ReadsPlan (P.input plan.old) planned (P.input plan.new)
         × ReadsLinesOver Requests planned (Q.input requests.old) requested (Q.input requests.new)
         × WritesAnswers planned requested (FirstRoutes count) end (O.output out.old) (O.output out.new)
-        × TellsEnd end (E.output err.old) (E.output err.new)
+        × ReportsEnd end (E.output err.old) (E.output err.new)
         × (result ≡ status_at end))) }
 {
     let kind = AnswerKind::FirstRoutes(count);
     let end = write_answers(alloc, plan, kind, requests, out);
-    tell_end(end, err)
+    report_end(end, err)
 }
 
 /// Explains the lists of a text over one plan: reads the plan whole from `plan`, and then the text from `lists`, to its
@@ -137,9 +137,9 @@ pub fn run_many<P: Read, Q: Read, O: Write, E: Write, A: Allocator + Copy>(
 ///
 /// A failure's message goes to `err`; a failure of `err` changes nothing else. The status is [`Status::Done`] whether
 /// or not the lists are routes; [`Status::Plan`] if the plan is refused, and then `lists` isn't read;
-/// [`Status::Session`] if a line is bad; [`Status::Io`] if a reader or `out` failed; and [`Status::Memory`] if an
-/// allocation failed. If one failed at a list, `out` holds the answers to those before it, whole and flushed, and no
-/// others. If `out` failed, it holds a beginning of the answers.
+/// [`Status::Session`] if a line is bad; [`Status::Io`] if `out` or a reader failed, that of the lists after good lines
+/// alone; and [`Status::Memory`] if an allocation failed. If one failed at a list, `out` holds the answers to those
+/// before it, whole and flushed, and no others. If `out` failed, it holds a beginning of the answers.
 pub fn run_follow<P: Read, Q: Read, O: Write, E: Write, A: Allocator + Copy>(
     alloc: A,
     plan: &mut P,
@@ -151,9 +151,9 @@ pub fn run_follow<P: Read, Q: Read, O: Write, E: Write, A: Allocator + Copy>(
         × ReadsPlan (P.input plan.old) planned (P.input plan.new)
         × ReadsLinesOver Lists planned (Q.input lists.old) requested (Q.input lists.new)
         × WritesAnswers planned requested Explanation end (O.output out.old) (O.output out.new)
-        × TellsEnd end (E.output err.old) (E.output err.new)
+        × ReportsEnd end (E.output err.old) (E.output err.new)
         × (result ≡ status_at end))) }
 {
     let end = write_answers(alloc, plan, AnswerKind::Explanation, lists, out);
-    tell_end(end, err)
+    report_end(end, err)
 }

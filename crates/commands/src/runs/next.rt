@@ -8,14 +8,13 @@ ghost use Rattle.sabr_frontier.specs.listing.Listing.{most_routes};
 ghost use Rattle.sabr_frontier.specs.session.Session.{Seen};
 ghost use Rattle.sabr_session.specs.declared.session_fault.SessionFault.{SessionFault};
 ghost use Rattle.commands.specs.declared.failure.Failure.{Failure};
-ghost use Rattle.commands.specs.texts.Messages.{TellsEnd, status_at};
+ghost use Rattle.commands.specs.texts.Messages.{ReportsEnd, status_at};
 ghost use Rattle.commands.specs.words.Values.{IsCount};
 ghost use Rattle.commands.specs.runs.SessionRuns.{ReadsOldSession, WritesNextPage, place_of};
 
-use crate::failure::Failure;
-use crate::runs::ending::tell_end;
+use crate::failure::{Failure, Status};
 use crate::runs::pages::{PageWriters, write_page};
-use crate::status::Status;
+use crate::texts::report_end;
 use sabr_model::{Read, Write};
 use sabr_plan::{digest, read_plan};
 use sabr_search::Settled;
@@ -69,10 +68,10 @@ pub fn run_next<P: Read, I: Read, O: Write, S: Write, E: Write, A: Allocator + C
         × ReadsPlan (P.input plan.old) planned (P.input plan.new)
         × ReadsOldSession planned (I.input old.old) resumed (I.input old.new)
         × WritesNextPage planned (place_of resumed) keep count end (O.output out.old) (O.output out.new) (S.output session.old) (S.output session.new)
-        × TellsEnd end (E.output err.old) (E.output err.new)
+        × ReportsEnd end (E.output err.old) (E.output err.new)
         × (result ≡ status_at end))) }
 {
     let to = PageWriters { out, session, keep };
     let end = write_next(alloc, plan, old, count, to);
-    tell_end(end, err)
+    report_end(end, err)
 }

@@ -6,12 +6,11 @@ ghost use Rattle.sabr_plan.specs.PlanRead.{ReadsPlan};
 ghost use Rattle.sabr_plan.specs.declared.fault.PlanFault.{PlanFault};
 ghost use Rattle.sabr_session.specs.declared.session_fault.SessionFault.{SessionFault};
 ghost use Rattle.commands.specs.declared.failure.Failure.{Failure};
-ghost use Rattle.commands.specs.texts.Messages.{TellsEnd, status_of_answer};
+ghost use Rattle.commands.specs.texts.Messages.{ReportsEnd, status_of_answer};
 ghost use Rattle.commands.specs.runs.SessionRuns.{VerifiesOldSession, WritesAnswer, WritesVerified};
 
-use crate::failure::Failure;
-use crate::runs::ending::tell_answer;
-use crate::status::Status;
+use crate::failure::{Failure, Status};
+use crate::texts::report_answer;
 use sabr_model::{Read, Write, write_text};
 use sabr_plan::{digest, read_plan};
 use sabr_search::Settled;
@@ -77,9 +76,9 @@ pub fn run_verify<P: Read, I: Read, O: Write, E: Write, A: Allocator + Copy>(
         × ReadsPlan (P.input plan.old) planned (P.input plan.new)
         × VerifiesOldSession planned (I.input old.old) verified (I.input old.new)
         × WritesAnswer planned verified end (O.output out.old) (O.output out.new)
-        × TellsEnd end (E.output err.old) (E.output err.new)
+        × ReportsEnd end (E.output err.old) (E.output err.new)
         × (result ≡ status_of_answer end))) }
 {
     let end = read_and_verify(alloc, plan, old, out);
-    tell_answer(end, err)
+    report_answer(end, err)
 }

@@ -1,12 +1,11 @@
-//! Messages on standard error, each a line.
+//! Messages on standard error, each a line, and how a run ends.
 
 ghost use Rattle.std.specs.Prelude.{◌≡◌, map};
 ghost use Rattle.std.specs.List.{concat};
 ghost use Rattle.sabr_model.specs.Devices.{WritesText};
-ghost use Rattle.commands.specs.texts.Messages.{kind_text, line_message, line_kind_text, session_kind_text, session_line, session_message, message_text, status_of, TellsText};
+ghost use Rattle.commands.specs.texts.Messages.{kind_text, line_message, line_kind_text, session_kind_text, session_line, session_message, message_text, status_of, WritesMessage, ReportsEnd, status_at, status_of_answer};
 
-use crate::failure::Failure;
-use crate::status::Status;
+use crate::failure::{Failure, Status};
 use crate::words::LineKind;
 use itoa::Buffer;
 use sabr_model::{Write, WriteFault, write_text};
@@ -177,10 +176,35 @@ fn write_message<W: Write>(writer: &mut W, failure: Failure) -> Result<(), Write
 
 /// Writes the failure's message, and returns its status. If the writer fails, a beginning of the message was written,
 /// and the status is the same.
-pub fn tell<W: Write>(writer: &mut W, failure: Failure) -> Status
+pub fn report_failure<W: Write>(writer: &mut W, failure: Failure) -> Status
     ensures status { result ≡ status_of failure }
-    ensures message { TellsText (W.output writer.old) (message_text failure) (W.output writer.new) }
+    ensures message { WritesMessage (W.output writer.old) (message_text failure) (W.output writer.new) }
 {
     let _ = write_message(writer, failure);
     failure.status()
+}
+
+/// Returns the status of a run that ended so. A failure's message goes to `err`; a failure of `err` changes nothing
+/// else.
+pub fn report_end<E: Write>(end: Result<(), Failure>, err: &mut E) -> Status
+    ensures message { ReportsEnd end (E.output err.old) (E.output err.new) }
+    ensures status { result ≡ status_at end }
+{
+    match end {
+        Ok(()) => Status::Done,
+        Err(failure) => report_failure(err, failure),
+    }
+}
+
+/// Returns the status of a run that ended with yes or no, or failed. A failure's message goes to `err`; a failure of
+/// `err` changes nothing else.
+pub fn report_answer<E: Write>(end: Result<bool, Failure>, err: &mut E) -> Status
+    ensures message { ReportsEnd end (E.output err.old) (E.output err.new) }
+    ensures status { result ≡ status_of_answer end }
+{
+    match end {
+        Ok(true) => Status::Done,
+        Ok(false) => Status::No,
+        Err(failure) => report_end(Err(failure), err),
+    }
 }

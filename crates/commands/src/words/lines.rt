@@ -1,13 +1,13 @@
-//! A text of lines, read to its end or to its first bad line.
+//! A text of requests or of lists, read to its end or to its first bad line, and why it is refused.
 
 ghost use Rattle.std.specs.Prelude.{◌≡◌, ◌≤◌, drop, true, List, Result, MatchResult, IfErr, IfNone, IfOk, Err};
 ghost use Rattle.sabr_plan.specs.Words.{is_one_line};
-ghost use Rattle.commands.specs.words.Lines.{HasLines, IsGoodSoFar, IsJudged, IsRefused, ReadsLines, AskedLine, asked_at, fault_in, fault_of, is_bad_rest, most_bytes, most_lines};
-ghost use Rattle.commands.specs.declared.words.lines_fault.LinesFault.{LinesFault};
+ghost use Rattle.commands.specs.words.Lines.{HasLines, IsGoodSoFar, IsJudged, IsRefused, ReadsLines, AskedLine, asked_at, fault_in, fault_of, is_bad_rest, most_bytes, most_lines, kind_of};
+ghost use Rattle.commands.specs.declared.words.lines.LinesFault.{LinesFault};
 
-use crate::words::lines_fault::{LineKind, LinesFault};
 use crate::words::pieces::ended_line;
 use crate::words::request_line::{MAX_LINE_BYTES, MAX_LIST_BYTES, list_fault, request_in};
+use crate::words::value_fault::{ValueFault, ValueName};
 use sabr_model::{Failed, Read};
 use sabr_plan::line_end;
 use std::alloc::Allocator;
@@ -35,6 +35,62 @@ impl LineForm {
         match self {
             LineForm::Requests => MAX_LINE_BYTES,
             LineForm::Lists => MAX_LIST_BYTES,
+        }
+    }
+}
+
+/// What is bad in a line of requests or of lists. The first that holds is reported: [`BadLine`](LineKind::BadLine),
+/// then the words in their order, then [`SameNode`](LineKind::SameNode), then nodes that can't be avoided.
+#[derive(Clone, Copy, Debug, PartialEq, Eq)]
+pub enum LineKind {
+    /// The contacts of a list are misspelled, or one of them is out of its range.
+    BadContacts,
+    /// The source is misspelled or out of its range.
+    BadFrom,
+    /// The destination is misspelled or out of its range.
+    BadTo,
+    /// The time at which the bundle is at the source is misspelled or out of its range.
+    BadAt,
+    /// The margin on light times is misspelled or out of its range.
+    BadMargin,
+    /// The limit on hops is misspelled or out of its range.
+    BadHops,
+    /// The nodes to avoid are misspelled, aren't strictly ascending, or hold the source or the destination.
+    BadAvoid,
+    /// The source is the destination.
+    SameNode,
+    /// The line is too long, has fewer than three or more than six words, or four to seven with contacts, or comes
+    /// after the last that a text may have.
+    BadLine,
+}
+
+/// Why a text of requests or of lists is refused.
+#[derive(Clone, Copy, Debug, PartialEq, Eq)]
+pub enum LinesFault {
+    /// The line of this number, counted from 1, is bad.
+    Line(u32, LineKind),
+    /// The reader failed.
+    Read,
+    /// An allocation failed.
+    NoMemory,
+}
+
+/// What is bad in a line whose values are refused.
+impl From<ValueFault> for LineKind {
+    ghost from_gives = { λ fault e. e ≡ kind_of fault };
+
+    fn from(fault: ValueFault) -> LineKind {
+        match fault {
+            ValueFault::Bad(ValueName::From) => LineKind::BadFrom,
+            ValueFault::Bad(ValueName::To) => LineKind::BadTo,
+            ValueFault::Bad(ValueName::At) => LineKind::BadAt,
+            ValueFault::Bad(ValueName::MarginPpm) => LineKind::BadMargin,
+            ValueFault::Bad(ValueName::MaxHops) => LineKind::BadHops,
+            ValueFault::Bad(ValueName::Avoid) => LineKind::BadAvoid,
+            ValueFault::Bad(ValueName::Contacts) => LineKind::BadContacts,
+            ValueFault::BadAvoid => LineKind::BadAvoid,
+            ValueFault::SameNode => LineKind::SameNode,
+            ValueFault::Bad(_) | ValueFault::NoMemory => LineKind::BadLine,
         }
     }
 }

@@ -3,13 +3,11 @@
 ghost use Rattle.std.specs.Prelude.{◌≡◌, IfOk};
 ghost use Rattle.std.specs.Option.{option_copied, option_map};
 ghost use Rattle.std.specs.Result.{result_ok};
-ghost use Rattle.commands.specs.words.Lists.{pieces_after, pieces_of};
-ghost use Rattle.commands.specs.words.Values.{texts_given};
+ghost use Rattle.commands.specs.words.Values.{pieces_after, pieces_of, texts_given};
 ghost use Rattle.commands.specs.words.Lines.{fault_of, list_in, list_texts_in, list_texts_of, or_kind, request_by, request_in, seen_list, texts_of, space};
 
-use crate::words::lines_fault::LineKind;
-use crate::words::lists::{are_contacts, contacts_listed};
-use crate::words::pieces::{first_piece, next_word};
+use crate::words::lines::LineKind;
+use crate::words::pieces::{are_contacts, contacts_listed, first_piece, next_word};
 use crate::words::request_words::{RequestTexts, request_of, request_words};
 use crate::words::value_fault::ValueFault;
 use sabr_model::{NoMemory, Numbers, Request};

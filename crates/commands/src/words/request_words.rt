@@ -3,13 +3,12 @@
 ghost use Rattle.std.specs.Prelude.{◌≡◌, ◌≤◌, [], IfOk, IsErrOf};
 ghost use Rattle.std.specs.Option.{option_copied};
 ghost use Rattle.sabr_plan.specs.Times.{time_of};
-ghost use Rattle.commands.specs.words.Lists.{nodes_listed};
+ghost use Rattle.commands.specs.words.Values.{nodes_listed, texts_given, value_of, value_or, limits_of, request_words, request_of, IsInRange};
 ghost use Rattle.sabr_plan.specs.Numbers.{number_within};
-ghost use Rattle.commands.specs.words.Values.{texts_given, value_of, value_or, limits_of, request_words, request_of, IsInRange};
 ghost use Rattle.sabr_model.specs.plan.Plan.{IsNode, last_time};
 ghost use Rattle.sabr_model.specs.routes.Asking.{most_margin};
 
-use crate::words::lists::nodes_listed;
+use crate::words::pieces::nodes_listed;
 use crate::words::value_fault::{ValueFault, ValueName};
 use sabr_model::{MAX_HOPS, MAX_MARGIN, NodeList, Request, RequestValues};
 use sabr_plan::{number_within, parse_time};

@@ -1,21 +1,19 @@
 //! The values of a command, read strictly.
 
-ghost use Rattle.std.specs.Prelude.{◌≡◌, [], None, Some, Ok, Err, IfOk, IfErr, IfSome, IsTrue, IsErrOf, ◌⊎◌, is_some};
+ghost use Rattle.std.specs.Prelude.{◌≡◌, [], None, Some, Ok, Err, IfOk, IfErr, IfSome, IsTrue, IsErrOf, ◌⊎◌, is_some, option_map};
 ghost use Rattle.std.specs.Option.{option_copied};
 ghost use Rattle.clap.specs.Matches.{found_of};
 ghost use Rattle.sabr_frontier.specs.listing.Listing.{most_routes};
 ghost use Rattle.sabr_plan.specs.Numbers.{number_within};
 ghost use Rattle.sabr_session.specs.SessionWords.{most_number};
+ghost use Rattle.commands.specs.words.Values.{numbers_within, command_named, has_request, has_count, has_contacts, seen_values, value_of, values_given, values_in, values_of, IsCount, text_under, texts_given, texts_under, values_under};
 ghost use Rattle.commands.specs.declared.command.CommandName.TheVariants as named;
 ghost use Rattle.commands.specs.declared.words.value_fault.ValueName.TheVariants as word;
-ghost use Rattle.commands.specs.words.Lists.{numbers_within};
-ghost use Rattle.commands.specs.words.Values.{command_named, has_request, has_count, has_contacts, seen_values, value_of, values_given, values_in, values_of, IsCount};
 
 use crate::command::{CommandName, command_named};
-use crate::words::lists::contacts_listed;
-use crate::words::request_words::{number_given, request_of, request_words};
+use crate::words::pieces::contacts_listed;
+use crate::words::request_words::{RequestTexts, number_given, request_of, request_words};
 use crate::words::value_fault::{ValueFault, ValueName};
-use crate::words::value_texts::{ValueTexts, values_under};
 use clap::ArgMatches;
 use sabr_model::{Numbers, Request};
 use std::alloc::{Allocator, Global};
@@ -220,4 +218,51 @@ pub fn read_values<A: Allocator + Copy>(
         unreachable!();
     };
     values_in(alloc, command, &values_under(matches))
+}
+
+/// The texts that are given for the values of a command, wherever they come from. A text that isn't given is `None`.
+/// Those of values that the command doesn't have aren't read.
+#[derive(Clone, Copy)]
+pub struct ValueTexts<'a> {
+    /// For the request.
+    pub request: RequestTexts<'a>,
+    /// For the number of routes.
+    pub count: Option<&'a [u8]>,
+    /// For the contacts to explain.
+    pub contacts: Option<&'a [u8]>,
+}
+
+/// Finds the text that was given under a name of the command line.
+fn text_under<'a>(matches: &ArgMatches<'a>, name: ValueName) -> Option<&'a [u8]>
+    ensures { option_map (λ s. s.now) result ≡ text_under (found_of matches.now) name }
+{
+    match matches.get_str(name.text()) {
+        Some(text) => Some(text.as_bytes()),
+        None => None,
+    }
+}
+
+/// Finds the texts that a command line gives for a request.
+fn texts_under<'a>(matches: &ArgMatches<'a>) -> RequestTexts<'a>
+    ensures { texts_given result ≡ texts_under (found_of matches.now) }
+{
+    RequestTexts {
+        from: text_under(matches, ValueName::From),
+        to: text_under(matches, ValueName::To),
+        at: text_under(matches, ValueName::At),
+        margin_ppm: text_under(matches, ValueName::MarginPpm),
+        max_hops: text_under(matches, ValueName::MaxHops),
+        avoid: text_under(matches, ValueName::Avoid),
+    }
+}
+
+/// Finds the texts that a command line gives for values.
+pub fn values_under<'a>(matches: &ArgMatches<'a>) -> ValueTexts<'a>
+    ensures { values_given result ≡ values_under (found_of matches.now) }
+{
+    ValueTexts {
+        request: texts_under(matches),
+        count: text_under(matches, ValueName::Count),
+        contacts: text_under(matches, ValueName::Contacts),
+    }
 }

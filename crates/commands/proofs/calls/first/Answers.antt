@@ -3,7 +3,7 @@ use Rattle.clap.specs.Matches.{found_of}
 use Rattle.commands.specs.declared.command.CommandName.TheVariants as command
 use Rattle.commands.specs.runs.Calls.{IsMadeWhereKept, kept_path}
 use Rattle.commands.specs.runs.SessionRuns.{WritesFirstPage}
-use Rattle.commands.proofs.RunLemmas.CallLemmas.{leaves_made}
+use Rattle.commands.proofs.RunLemmas.PageTexts.{leaves_made}
 use Rattle.commands.proofs.calls.first.Goals as goal
 
 pub returns-clause-ran : goal.returns-clause-ran
@@ -11,7 +11,7 @@ returns-clause-ran g c =
     let rules = g.D.FileSystem.rules in
     let run = c.run_first-status-2 in
     let is : kept_path command.First (found_of c.args.words.now) ≡ Some c.in-Some.path.now = sym (rw c.in-Some.is at c.session_out.ensures) in
-    let (planned, (end, reads, writes, tells, ends)) = run.ensures in
+    let (planned, (end, reads, writes, reports, ends)) = run.ensures in
     let session = g.D.NewFile.Write.output c.in_ok-new.new in
     let session₁ = g.D.NewFile.Write.output run.new.session in
     record {
@@ -32,7 +32,7 @@ returns-clause-ran g c =
         opens = c.in_ok-plan.ensures.opened;
         reads = reads;
         does = subst (λ kept. WritesFirstPage planned c.in_ok-request.request (is_some kept) c.in_ok-request.count end (g.O.Write.output c.args.out.now) (g.O.Write.output run.new.out) session session₁) (sym is) writes;
-        tells = tells;
+        reports = reports;
         ends = ends;
       };
       leaves = leaves_made rules _ _ _ _ _ _ _ is c.in_ok-new.ensures.made.1 c.keep_if_done.ensures;

@@ -2,7 +2,7 @@ use Rattle.std.proofs.Common.{◌≡◌, inl, inr, sym, ◌∙◌}
 use Rattle.clap.specs.Words.{found_of, subcommand_rows_of}
 use Rattle.commands.specs.runs.Program.{named_in}
 use Rattle.commands.specs.words.Values.{command_named}
-use Rattle.commands.proofs.RunLemmas.CallLemmas.{name_given, named_by}
+use Rattle.commands.proofs.RunLemmas.PageTexts.{name_given, named_by}
 use Rattle.commands.proofs.program.run_command.Goals as goal
 
 pub returns-in-Ok : goal.returns-in-Ok
@@ -32,7 +32,7 @@ returns-in-Err g c =
         stops = c.in-Err.ensures.stopped;
         writes_nothing = out;
         makes_nothing = left;
-        tells = rw err at c.tell.ensures.message;
-        ends = c.tell.ensures.status;
+        reports = rw err at c.report_failure.ensures.message;
+        ends = c.report_failure.ensures.status;
       });
     }

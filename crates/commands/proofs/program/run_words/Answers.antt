@@ -6,7 +6,7 @@ pub returns-in-Err : goal.returns-in-Err
 returns-in-Err g c =
     inl (
       elim c.tell_usage.ensures [
-        | inl (text, other, tells, ends) ↦ inl (text, has_fault c.in-Err.refusal _ c.in-Err.ensures.fault other, tells, ends)
+        | inl (text, other, reports, ends) ↦ inl (text, has_fault c.in-Err.refusal _ c.in-Err.ensures.fault other, reports, ends)
         | inr memory ↦ inr memory
       ],
       refl,

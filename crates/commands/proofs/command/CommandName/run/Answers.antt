@@ -1,4 +1,4 @@
-use Rattle.commands.proofs.RunLemmas.CallLemmas.{with_none_left}
+use Rattle.commands.proofs.RunLemmas.PageTexts.{with_none_left}
 use Rattle.commands.proofs.command.CommandName.run.Goals as goal
 
 pub returns-in-Verify-clause-ran : goal.returns-in-Verify-clause-ran

@@ -2,7 +2,7 @@ use Rattle.std.proofs.Common.{◌≡◌, Option, Some, None, Result, Ok, Err, re
 use Rattle.std.proofs.lemmas.Result.{err_from_is_err_and}
 use Rattle.std.specs.Prelude.{IfOk, IfSome}
 use Rattle.std.specs.Result.{result_ok}
-use Rattle.commands.specs.declared.words.lines_fault.LineKind.{LineKind}
+use Rattle.commands.specs.declared.words.lines.LineKind.{LineKind}
 use Rattle.commands.specs.words.Lines.{Asked, list_in, seen_list}
 use Rattle.commands.proofs.runs.answering.explain.Goals as goal
 

@@ -1,7 +1,7 @@
 use Rattle.std.proofs.Common.{◌≡◌, Ok, refl, ap, sym, ◌∙◌}
 use Rattle.std.proofs.lemmas.Result.{err_from_is_err_and}
 use Rattle.std.specs.Prelude.{is_some}
-use Rattle.commands.proofs.RunLemmas.SessionPages.{first_report_is, first_place}
+use Rattle.commands.proofs.RunLemmas.PageTexts.{first_report_is, first_place}
 use Rattle.commands.proofs.runs.first.write_first.Goals as goal
 use Rattle.commands.proofs.runs.first.write_first.Goals.{then-keep, else-keep}
 

@@ -3,7 +3,7 @@ use Rattle.std.proofs.lemmas.Result.{err_from_is_err_and}
 use Rattle.commands.specs.runs.Many.{form_of}
 use Rattle.commands.specs.texts.Messages.{failure_of_lines}
 use Rattle.commands.specs.words.Lines.{fault_of, lines_in, asked_from}
-use Rattle.commands.specs.declared.words.lines_fault.LinesFault.TheVariants.{NoMemory}
+use Rattle.commands.specs.declared.words.lines.LinesFault.TheVariants.{NoMemory}
 use Rattle.commands.proofs.RunLemmas.ManyAnswers.{not_requested, none_bad, answers_left}
 use Rattle.commands.proofs.runs.lines.write_answers.Goals as goal
 

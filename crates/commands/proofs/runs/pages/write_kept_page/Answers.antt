@@ -4,7 +4,7 @@ use Rattle.std.specs.Prelude.{All}
 use Rattle.sabr_model.specs.plan.Plan.{TabledPlan, IsPlan}
 use Rattle.sabr_model.specs.routes.Asking.{IsRequest}
 use Rattle.sabr_session.specs.ReportText.{HasSpelledTimes}
-use Rattle.commands.proofs.TextLemmas.SpelledTimes.{records_spelled}
+use Rattle.commands.proofs.Explained.{records_spelled}
 use Rattle.commands.proofs.RunLemmas.PageTexts.{left_after_page, report_of_page, text_of_page}
 use Rattle.commands.proofs.runs.pages.write_kept_page.Goals as goal
 

@@ -4,7 +4,7 @@ use Rattle.std.specs.Prelude.{All}
 use Rattle.sabr_model.specs.plan.Plan.{TabledPlan, IsPlan}
 use Rattle.sabr_model.specs.routes.Asking.{IsRequest}
 use Rattle.sabr_session.specs.ReportText.{HasSpelledTimes}
-use Rattle.commands.proofs.TextLemmas.SpelledTimes.{records_spelled}
+use Rattle.commands.proofs.Explained.{records_spelled}
 use Rattle.commands.proofs.RunLemmas.PageTexts.{report_of_page}
 use Rattle.commands.proofs.runs.pages.write_last_page.Goals as goal
 

@@ -2,8 +2,8 @@ use Rattle.std.proofs.Common.{◌∙◌}
 use Rattle.std.proofs.lemmas.Result.{err_from_is_err_and}
 use Rattle.sabr_session.specs.Hops.{ListQuestion, hops_left}
 use Rattle.sabr_session.proofs.TextLemmas.Gathering.{HasPut-append, StopsIn-after, StopsIn-before}
-use Rattle.commands.specs.texts.Explanation.{explanation_text}
-use Rattle.commands.proofs.TextLemmas.Explained.{answered, ending_is, ends_as, ends_in_spelled_time, lines_of}
+use Rattle.commands.specs.texts.PlanTexts.{explanation_text}
+use Rattle.commands.proofs.Explained.{answered, ending_is, ends_as, ends_in_spelled_time, lines_of}
 use Rattle.commands.proofs.texts.explanation.put_explanation.Goals as goal
 
 pub put_ending-requires : goal.put_ending-requires

@@ -1,7 +1,7 @@
 use Rattle.std.proofs.Common.{ap, sym, ◌∙◌}
 use Rattle.std.proofs.lemmas.List.{take_rest}
 use Rattle.sabr_plan.specs.Words.{is_one_line}
-use Rattle.commands.proofs.WordLemmas.JudgedLines.{bad_line, good_line, rest_refused}
+use Rattle.commands.proofs.WordLemmas.TextLines.{bad_line, good_line, rest_refused}
 use Rattle.commands.proofs.words.lines.judge.Goals as goal
 
 pub returns-in-Some-fault_at-clause-refused : goal.returns-in-Some-fault_at-clause-refused

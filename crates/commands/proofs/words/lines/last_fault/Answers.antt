@@ -2,7 +2,7 @@ use Rattle.std.proofs.Common.{◌≡◌, ◌-◌, ◌<◌, length, ap, sym, ◌�
 use Rattle.std.proofs.lemmas.Grind.{common_steps}
 use Rattle.std.proofs.lemmas.List.{take_rest}
 use Rattle.commands.specs.words.Lines.{asked_at, fault_of}
-use Rattle.commands.proofs.WordLemmas.JudgedLines.{last_bad, last_good, none_left}
+use Rattle.commands.proofs.WordLemmas.TextLines.{last_bad, last_good, none_left}
 use Rattle.commands.proofs.words.lines.last_fault.Goals as goal
 
 pub returns-then-is_empty : goal.returns-then-is_empty

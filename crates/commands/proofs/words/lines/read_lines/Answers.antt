@@ -4,9 +4,8 @@ use Rattle.sabr_model.specs.Devices.{Gives}
 use Rattle.sabr_model.proofs.ListLemmas.ReadTexts.{Gives-append, Gives-kept, Gives-nil}
 use Rattle.commands.specs.words.Lines.{IsGoodSoFar, IsJudged, fault_in}
 use Rattle.sabr_plan.specs.Words.{is_one_line}
-use Rattle.commands.specs.declared.words.lines_fault.LinesFault.TheVariants.{Read}
-use Rattle.commands.proofs.WordLemmas.JudgedLines.{judged_on, none_bad_so_far, one_line_on}
-use Rattle.commands.proofs.WordLemmas.LinesRead.{line_refused, reader_failed}
+use Rattle.commands.specs.declared.words.lines.LinesFault.TheVariants.{Read}
+use Rattle.commands.proofs.WordLemmas.TextLines.{judged_on, line_refused, none_bad_so_far, one_line_on, reader_failed}
 use Rattle.commands.proofs.words.lines.read_lines.Goals as goal
 
 pub loop-form-init : goal.loop-form-init

@@ -1,7 +1,7 @@
 use Rattle.std.proofs.Common.{◌+◌, ◌∷◌, List, ℕ, take, sym, ◌∙◌, ap}
 use Rattle.std.proofs.lemmas.List.{take_rest}
 use Rattle.sabr_session.proofs.WordLemmas.SpacedWords.{pieces-at, pieces-one}
-use Rattle.commands.specs.words.Lists.{pieces_of}
+use Rattle.commands.specs.words.Values.{pieces_of}
 use Rattle.commands.proofs.words.pieces.first_piece.Goals as goal
 
 pub returns-in-Some-clause-pieces : goal.returns-in-Some-clause-pieces

@@ -1,7 +1,7 @@
 use Rattle.std.proofs.Common.{ap, sym, ◌∙◌}
 use Rattle.commands.specs.words.Lines.{fault_of}
 use Rattle.commands.specs.words.Values.{texts_given}
-use Rattle.commands.proofs.WordLemmas.ListLines.{fault_after_contacts, fault_at_contacts, not_texts}
+use Rattle.commands.proofs.WordLemmas.RequestWords.{fault_after_contacts, fault_at_contacts, not_texts}
 use Rattle.commands.proofs.words.request_line.list_fault.Goals as goal
 
 pub returns-in_default : goal.returns-in_default

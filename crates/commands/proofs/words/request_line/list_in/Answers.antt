@@ -2,7 +2,7 @@ use Rattle.std.proofs.Common.{ap, sym, ◌∙◌}
 use Rattle.std.specs.Result.{result_ok}
 use Rattle.commands.specs.words.Lines.{after_contacts, or_kind}
 use Rattle.commands.specs.words.Values.{texts_given}
-use Rattle.commands.proofs.WordLemmas.ListLines.{not_contacts, not_texts, with_contacts}
+use Rattle.commands.proofs.WordLemmas.RequestWords.{not_contacts, not_texts, with_contacts}
 use Rattle.commands.proofs.words.request_line.list_in.Goals as goal
 
 pub returns-in_default : goal.returns-in_default

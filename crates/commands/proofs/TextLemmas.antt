@@ -1,3 +1,0 @@
--- Texts, part by part.
-pub mod SpelledTimes
-pub mod Explained

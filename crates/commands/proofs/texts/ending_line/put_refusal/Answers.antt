@@ -1,4 +1,0 @@
-use Rattle.commands.proofs.texts.ending_line.put_refusal.Goals as goal
-
-pub returns : goal.returns
-returns g c = rw (← c.format.ensures.text, ← c.as_bytes.ensures.value) c.put_pieces.ensures
