@@ -11,6 +11,8 @@ import tempfile
 import unittest
 from dataclasses import dataclass, field
 from functools import partial
+from importlib.machinery import SourceFileLoader
+from importlib.util import module_from_spec, spec_from_loader
 from itertools import zip_longest
 from typing import NamedTuple
 
@@ -185,6 +187,14 @@ def seen(act, given):
     around = inspect.getclosurevars(act).nonlocals if inspect.isfunction(act) else {}
     told = [*map(repr, given), *(f"{name} = {value!r}" for name, value in around.items() if not callable(value))]
     return "".join(f"\nof {it[:MOST_SEEN]}" for it in told)
+
+
+def script_of(path):
+    """A script of the repository, such as page/build, as a module of Python."""
+    loader = SourceFileLoader(os.path.basename(path), f"{TOP}/{path}")
+    script = module_from_spec(spec_from_loader(loader.name, loader))
+    loader.exec_module(script)
+    return script
 
 
 def checks_of(part, room, sections):

@@ -3,21 +3,11 @@
 import gzip
 import json
 from importlib import import_module
-from importlib.machinery import SourceFileLoader
-from importlib.util import module_from_spec, spec_from_loader
 
-from checking import TOP, Room, checks_of
+from checking import TOP, Room, checks_of, script_of
 
 CALLS = ("check", "first", "next", "verify", "explain", "many", "follow", "canonical")
 MOST = 175_000  # bytes; the page with it has to stay below 500,000
-
-
-def build_script():
-    """The script page/build as a module of Python."""
-    loader = SourceFileLoader("build", f"{TOP}/page/build")
-    script = module_from_spec(spec_from_loader(loader.name, loader))
-    loader.exec_module(script)
-    return script
 
 
 def refused(act, *given):
@@ -29,7 +19,7 @@ def refused(act, *given):
         return str(failure)
 
 
-build = build_script()
+build = script_of("page/build")
 narrow = import_module("narrow")  # build has made its folder known
 
 

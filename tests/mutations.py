@@ -3,8 +3,11 @@
 import os
 import re
 import shutil
+import sys
 
-from checking import TOP, Room, checks_of
+from checking import TOP, Room, checks_of, script_of
+
+sys.path.insert(0, f"{TOP}/tools")
 
 # A function is proved unless its body has `wrong`, `gone` or `untried`, or it is the first one and the law before it is wrong.
 # With `gone` its proof file names what isn't there, with `untried` its goals weren't tried, and with `false` beside these values
@@ -192,5 +195,25 @@ def what_is_recorded(room):
     yield "over another source all are", "f1 f2 f3 0, f1 f2 f3 3, f2 1", lambda: room.tried()[1]
 
 
+def what_applies(_):
+    """Each text that a mutation of this repository changes stands once in its file, and each mutation changes something."""
+    tool = script_of("tools/mutations")
+    for crate in tool.with_mutations():
+        yield crate, [], lambda: [why for name, text in tool.mutations_of(crate) for why in faults(tool, crate, name, text)]
+
+
+def faults(tool, crate, name, text):
+    """Why a mutation of a crate doesn't apply."""
+    texts, changes = {}, [*tool.changes_of(text)]
+    try:
+        for it in changes:
+            source = texts.get(it.file) or tool.read(f"{TOP}/crates/{crate}/{it.file}")
+            tool.place_of(source, it)
+            texts[it.file] = source.replace(it.old, it.new)
+    except (tool.BadEdit, OSError) as why:
+        return [f"{name}: {why}"]
+    return [] if changes else [f"{name}: it changes nothing"]
+
+
 def checks(_):
-    return checks_of("mutations", Tried(), [trials, what_was_refused_before, what_the_gate_tries, what_is_recorded])
+    return checks_of("mutations", Tried(), [trials, what_was_refused_before, what_the_gate_tries, what_is_recorded, what_applies])
