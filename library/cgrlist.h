@@ -223,7 +223,7 @@ cgrlist_status cgrlist_listing_next(cgrlist_listing *listing, uint32_t count, cg
                                     uint32_t *contacts, size_t contacts_room, cgrlist_page *page);
 /* Takes the last page that gave routes back; NO if there is none. */
 cgrlist_status cgrlist_listing_back(cgrlist_listing *listing);
-cgrlist_status cgrlist_listing_place(cgrlist_listing *listing, cgrlist_place *place);
+cgrlist_status cgrlist_listing_place(const cgrlist_listing *listing, cgrlist_place *place);
 /* The session text of the place: *bytes is its length; ROOM if it doesn't fit (nothing is written then). */
 cgrlist_status cgrlist_listing_text(cgrlist_listing *listing, char *text, size_t room, size_t *bytes);
 void cgrlist_listing_close(cgrlist_listing *listing);

@@ -300,10 +300,11 @@ cgrlist_status cgrlist_listing_back(cgrlist_listing *listing) {
     return listing != NULL ? cgrlist_proved_listing_back(PAGED(listing)) : CGRLIST_NO_LISTING;
 }
 
-cgrlist_status cgrlist_listing_place(cgrlist_listing *listing, cgrlist_place *place) {
+cgrlist_status cgrlist_listing_place(const cgrlist_listing *listing, cgrlist_place *place) {
     cgrlist_place found = {0, false, false};
     if (listing == NULL) return CGRLIST_NO_LISTING;
-    uint32_t status = cgrlist_proved_listing_place(PAGED(listing), &found);
+    CHECK(listing);
+    uint32_t status = cgrlist_proved_listing_place(SEEN(listing->plan), &found);
     if (place != NULL && status == CGRLIST_OK) *place = found;
     return status;
 }

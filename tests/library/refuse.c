@@ -101,6 +101,11 @@ static void call_best_each(answer *a) {
     if (a->status == CGRLIST_OK) a->status = reach.status;
     if (a->status == CGRLIST_OK) a->bytes = reach.delivery;
 }
+static void call_place(answer *a) {
+    cgrlist_place place = {0, false, false};
+    a->status = cgrlist_listing_place(listing, &place);
+    a->bytes = (size_t)place.given;
+}
 static void call_delete_number(answer *a) { a->status = cgrlist_plan_delete_number(plan, 1); }
 static void call_verify(answer *a) { a->status = cgrlist_verify(plan, session_text, session_bytes); }
 static void call_add_contact(answer *a) { a->status = cgrlist_plan_add_contact(plan, 7001, 7002, 5, 9, 1, &a->number); }
@@ -146,7 +151,7 @@ static const struct { const char *name; bool (*before)(void); void (*call)(answe
     {"delete range", an_asked_plan, call_delete_range}, {"renumber", an_asked_plan, call_renumber},
     {"add contacts", an_asked_plan, call_add_contacts}, {"add ranges", an_asked_plan, call_add_ranges},
     {"nodes", a_plan, call_nodes}, {"prepare", a_plan, call_prepare}, {"best each", a_plan, call_best_each},
-    {"delete number", an_asked_plan, call_delete_number},
+    {"delete number", an_asked_plan, call_delete_number}, {"place", a_listing, call_place},
 };
 
 /* ---- Comparing: member by member, since what lies between members may be anything ---- */

@@ -77,14 +77,16 @@ pub record IsPlaceOf (s : Seen) (place : ListingPlace) : Type 0 where
   pub more : place.more ≡ is_some (next_route s.plan.plan s.request s.state)
   pub can_back : IsTrue place.can_back ↔ (0 < length s.former)
 
--- what a call that asks for it gives
-abbrev pub GivesPlace : OpenPlan → Result ListingPlace ℕ → OpenPlan → Type 0
-GivesPlace o (Err e) n = (e ≡ listing_refusal o.listing) × (n ≡ o)
-GivesPlace o (Ok place) n = IfOpen o.listing (λ s. IsPlaceOf s place) × (n ≡ o)
+-- the place of a listing, if one is open
+abbrev pub IsPlaceIn : Option Seen → Option ListingPlace → Type 0
+IsPlaceIn None found = found ≡ None
+IsPlaceIn (Some s) None = ⊥
+IsPlaceIn (Some s) (Some place) = IsPlaceOf s place
 
+-- what a call that asks for it answers
 abbrev pub AnswersPlace : OpenPlan → Option Seen → ℕ → ListingPlace → OpenPlan → Type 0
 AnswersPlace o None status place n = (status ≡ no_listing) × (n ≡ o)
-AnswersPlace o (Some s) status place n = ((status ≡ no_memory) ⊎ ((status ≡ done) × IsPlaceOf s place)) × (n ≡ o)
+AnswersPlace o (Some s) status place n = (status ≡ done) × IsPlaceOf s place × (n ≡ o)
 
 -- the listing before its last page that gave routes, which goes on from there
 abbrev pub IsBefore : Seen → OpenPlan → OpenPlan → Type 0

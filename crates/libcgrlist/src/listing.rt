@@ -6,7 +6,7 @@ ghost use Rattle.sabr_frontier.specs.session.Session.{started};
 ghost use Rattle.sabr_search.specs.questions.Calls.{no_calls};
 ghost use Rattle.libcgrlist.specs.Answers.{UnlessWritten, asked_request, asked_status, page_status};
 ghost use Rattle.libcgrlist.specs.Buffers.{IsPage, buffers};
-ghost use Rattle.libcgrlist.specs.Listings.{AnswersBack, AnswersNext, AnswersPlace, ClosesListing, GivesNext, GivesPlace, GoesBack, IsPlaceOf, OpensListing, TakesUp, goes_on, listing_then, next_records, second_refusal};
+ghost use Rattle.libcgrlist.specs.Listings.{AnswersBack, AnswersNext, AnswersPlace, ClosesListing, GivesNext, GoesBack, OpensListing, TakesUp, goes_on, listing_then, next_records, second_refusal};
 ghost use Rattle.libcgrlist.specs.Open.{Calls, IsWhole};
 ghost use Rattle.libcgrlist.specs.Opened.{listing_of};
 ghost use Rattle.libcgrlist.specs.Standing.{BackActs, LoadedBegin, NextActs, OpenedBegin};
@@ -139,32 +139,6 @@ fn go_back(alloc: Global, opened: &mut Opened) -> Result<bool, u32>
     Ok(gone)
 }
 
-/// Where a session stands.
-fn place_in(session: &Session<'_, Settled<Global>, Global>) -> ListingPlace
-    ensures { IsPlaceOf (listing_of session.now) result }
-{
-    let given = session.emitted() as u64;
-    let more = session.more();
-    let can_back = session.can_back();
-    ListingPlace {
-        given,
-        more,
-        can_back,
-    }
-}
-
-/// Returns where the listing stands.
-fn place_of(alloc: Global, opened: &mut Opened) -> Result<ListingPlace, u32>
-    ensures { GivesPlace opened.old result opened.new }
-{
-    let (links, paused) = take_up(alloc, opened)?;
-    let session = paused.resume(Index::from_links(opened.plan(), links));
-    let place = place_in(&session);
-    let (links, paused) = parted(session);
-    opened.keep(links, paused);
-    Ok(place)
-}
-
 /// Closes the listing, and returns the status.
 fn close_listing(opened: &mut Opened) -> u32
     ensures { ClosesListing opened.old result opened.new }
@@ -252,13 +226,13 @@ pub extern "C" fn cgrlist_listing_place(
     ensures place { Calls handle.old handle.new result (λ o n. AnswersPlace o o.listing result place.new n) }
     ensures kept { result ≢ 0 → place.new ≡ place.old }
 {
-    let found = over_plan!(handle, alloc, opened => place_of(alloc, &mut opened));
+    let found = over_plan!(handle, alloc, opened => opened.place());
     match found {
-        Ok(found) => {
+        Some(found) => {
             *place = found;
             DONE
         }
-        Err(status) => status,
+        None => NO_LISTING,
     }
 }
 

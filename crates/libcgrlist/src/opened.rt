@@ -4,8 +4,10 @@ ghost use Rattle.std.specs.Prelude.{◌≡◌, None, Some, IfOk, IfSome, OnOk, O
 ghost use Rattle.std.specs.Option.{option_map};
 ghost use Rattle.sabr_plan.specs.Canonical.{digest_of};
 ghost use Rattle.sabr_frontier.specs.session.Paused.{IsPausedOver};
+ghost use Rattle.libcgrlist.specs.Listings.{IsPlaceIn};
 ghost use Rattle.libcgrlist.specs.Opened.{AreLinksOf, OpenPlan, contacts_without_light, listing_of, listing_over};
 
+use crate::listing::ListingPlace;
 use sabr_frontier::{PausedSession, Session};
 use sabr_index::{Index, PlanLinks};
 use sabr_model::{AddFault, NoMemory, Plan, Range};
@@ -95,6 +97,25 @@ impl Opened {
         ensures { result ≡ is_some self.now.listing }
     {
         self.listing.is_some()
+    }
+
+    /// Returns where the listing stands, if one is open.
+    pub fn place(&self) -> Option<ListingPlace>
+        ensures { IsPlaceIn self.now.listing result }
+    {
+        match &self.listing {
+            Some(paused) => {
+                let given = paused.emitted() as u64;
+                let more = paused.more();
+                let can_back = paused.can_back();
+                Some(ListingPlace {
+                    given,
+                    more,
+                    can_back,
+                })
+            }
+            None => None,
+        }
     }
 
     /// Takes out the plan's links, or makes them.
