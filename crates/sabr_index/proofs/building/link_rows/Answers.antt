@@ -51,7 +51,7 @@ loop-first-preserved g c =
       filled = c.end_of_row-end.ensures.filled;
       ends = omega (arith, many, c.end_of_row-end.ensures.within);
       alike = subst (All (λ x. x.receiver ≡ l.receiver)) (sym over) alike;
-      kept = subst AreInOrder (sym over) is.kept;
+      kept = subst AreInOrder (sym over) is.ordered;
       in_rows = subst AreInRows (sym over) is.in_rows;
       within = subst (AreWithin l.bounds) (sym over) is.within;
     } in
