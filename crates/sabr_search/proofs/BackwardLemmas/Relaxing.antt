@@ -81,8 +81,8 @@ still_relaxed rule task old new rises w same is n u t b step open' other =
 -- the second of a node rises, and the node waits
 module _ {A : Type 0} (backward : Backward A) (s s' : Relaxation A) (now node last : ℕ) (was : AreRelaxing backward s now)
     (within : node < length backward.task.now.table) (less : slice_index s.seconds.items node < last) (raised : IsRaised node last s s') where
-  abbrev task : SearchTask
-  task = backward.task.now
+  abbrev searched : SearchTask
+  searched = backward.task.now
 
   abbrev event : Visit
   event = record { at = last_at - last; node = node }
@@ -107,7 +107,7 @@ module _ {A : Type 0} (backward : Backward A) (s s' : Relaxation A) (now node la
     many = ap length raised.seconds_are ∙ set_many s.seconds.items node last ∙ was.many;
     hops_many = raised.hops_many ∙ was.hops_many;
     flags = ap length raised.relaxed_is ∙ flags_many s.relaxed.items node false ∙ was.flags;
-    inside = All-permutation (λ (e : Visit). e.node < length task.table) (event ∷ s.queue) s'.queue raised.waits (All-cons (λ (e : Visit). e.node < length task.table) event s.queue within was.inside);
+    inside = All-permutation (λ (e : Visit). e.node < length searched.table) (event ∷ s.queue) s'.queue raised.waits (All-cons (λ (e : Visit). e.node < length searched.table) event s.queue within was.inside);
     waits = λ w w_in off some. elim (cases_eq w node) [
       | inl same ↦ (event, Contains-permutation (event ∷ s.queue) s'.queue event raised.waits (0, omega arith, refl), sym same)
       | inr differ ↦
@@ -116,7 +116,7 @@ module _ {A : Type 0} (backward : Backward A) (s s' : Relaxation A) (now node la
     ];
     over = λ w apart on. elim (cases_eq w node) [
       | inl same ↦ absurd (both_ways (slice_index_or s'.relaxed.items node false) flag_here (rw same at on))
-      | inr differ ↦ still_relaxed backward.rule task s.seconds.items s'.seconds.items raised_later w (raised_other w differ) (was.over w apart (sym (flag_other w differ) ∙ on))
+      | inr differ ↦ still_relaxed backward.rule searched s.seconds.items s'.seconds.items raised_later w (raised_other w differ) (was.over w apart (sym (flag_other w differ) ∙ on))
     ];
   }
 
@@ -143,6 +143,12 @@ each_until P xs place x here so_far own j y less at = elim (last_or_before j pla
   | inr same ↦ subst P (same_some (sym here ∙ ap (slice_get xs) (sym same) ∙ at)) own
 ]
 
+-- a node that waits has a place
+pub next_inside : {A : Type 0} (backward : Backward A) (s : Relaxation A) (e : Visit) (rest : List Visit) → AreRelaxing backward s (length backward.task.now.table) → IsPermutation s.queue (e ∷ rest) → e.node < length backward.task.now.table
+next_inside backward s e rest was moved =
+    let inside : Visit → Type 0 = λ f. f.node < length backward.task.now.table in
+    All-head inside e rest (All-permutation inside s.queue (e ∷ rest) moved was.inside)
+
 -- a node that waits is taken out
 module _ {A : Type 0} (backward : Backward A) (s s' : Relaxation A) (e : Visit) (was : AreRelaxing backward s (length backward.task.now.table)) (moved : IsPermutation s.queue (e ∷ s'.queue))
     (seconds_same : s'.seconds ≡ s.seconds) (hops_same : s'.hops ≡ s.hops) where
@@ -151,9 +157,6 @@ module _ {A : Type 0} (backward : Backward A) (s s' : Relaxation A) (e : Visit) 
 
   all_inside : All (λ (f : Visit). f.node < most) (e ∷ s'.queue)
   all_inside = All-permutation (λ (f : Visit). f.node < most) s.queue (e ∷ s'.queue) moved was.inside
-
-  pub next_inside : e.node < most
-  next_inside = All-head (λ (f : Visit). f.node < most) e s'.queue all_inside
 
   rest_waits : (w : ℕ) → w ≢ e.node → w < most → slice_index_or s.relaxed.items w false ≡ false → 0 < slice_index s.seconds.items w → (x : Visit) × Contains s'.queue x × (x.node ≡ w)
   rest_waits w other w_in off some =
@@ -190,7 +193,7 @@ module _ {A : Type 0} (backward : Backward A) (s s' : Relaxation A) (e : Visit) 
   }
     where
       here : slice_index_or (slice_set s.relaxed.items e.node true) e.node false ≡ true
-      here = (let within : e.node < length s.relaxed.items = omega (arith, next_inside, was.flags) in grind (arith, common_steps, within))
+      here = (let within : e.node < length s.relaxed.items = omega (arith, next_inside backward s e s'.queue was moved, was.flags) in grind (arith, common_steps, within))
 
       past : (w : ℕ) → w ≡ most → slice_index_or (slice_set s.relaxed.items e.node true) w false ≡ true → ⊥
       past w same on = (let far : length (slice_set s.relaxed.items e.node true) ≤ w = omega (arith, flags_many s.relaxed.items e.node true, was.flags, same) in both_ways (slice_index_or (slice_set s.relaxed.items e.node true) w false) (grind (arith, common_steps, far)) on)

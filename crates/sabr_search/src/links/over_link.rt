@@ -86,7 +86,6 @@ impl<'a, A: Allocator + Copy> Task<'a, A> {
     }
 
     /// Returns the hop over a pass whose record was fetched.
-    #[tactic(auto, using(crate::proofs::LinkLemmas::OverLinks::pass_small))]
     pub fn hop_over(&self, to: usize, pass: &Looked<'_>) -> Hop
         requires pass { (node : ℕ) × IsPassAt self.now node to pass.now }
         requires task { IsTask self.now }

@@ -41,6 +41,6 @@ pub returns : goal.returns
 returns g c = record {
   late = rw c.unwrap_or-late.ensures (known_is c.latest_by-2.result (λ v. AreLateFor (tabled_of c.args.task.now) c.args.task.now.request never v.items) _ c.latest_by-2.ensures.late (none_late (tabled_of c.args.task.now) c.args.task.now.request never _ (omega arith) c.new-2.ensures.items));
   late_until = c.requires.node_bounds.late_until;
-  costs = rw c.unwrap_or-2.ensures (known_is c.costs_of.result (λ v. AreCostsFor (tabled_of c.args.task.now) c.args.task.now.request v.0.items) _ c.costs_of.ensures.costs (no_costs (tabled_of c.args.task.now) c.args.task.now.request _ c.new-4.ensures.items));
+  costs = rw c.unwrap_or-costs.ensures (known_is c.costs_of.result (λ v. AreCostsFor (tabled_of c.args.task.now) c.args.task.now.request v.0.items) _ c.costs_of.ensures.costs (no_costs (tabled_of c.args.task.now) c.args.task.now.request _ c.new-4.ensures.items));
   soon = rw c.unwrap_or-soon.ensures (known_is c.soonest_of.result (λ v. AreSoonFor (tabled_of c.args.task.now) c.args.task.now.request v.items) _ c.soonest_of.ensures.soon (none_soon (tabled_of c.args.task.now) c.args.task.now.request _ c.new-3.ensures.items));
 }

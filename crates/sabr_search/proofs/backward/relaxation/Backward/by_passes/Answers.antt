@@ -1,6 +1,5 @@
 use Rattle.std.proofs.Common.{◌≡◌, inl, inr, sym, ◌∙◌, arith}
 use Rattle.std.proofs.lemmas.Bool.{cases_lt}
-use Rattle.sabr_search.proofs.BackwardLemmas.LateLists.{not_start}
 use Rattle.sabr_search.proofs.LinkLemmas.OverLinks.{ruled_out}
 use Rattle.sabr_search.proofs.WayLemmas.RoutesAndWays.{same_some}
 use Rattle.sabr_search.proofs.backward.relaxation.Backward.by_passes.Goals as goal
@@ -22,3 +21,8 @@ pub returns-then-not-is_between : goal.returns-then-not-is_between
 returns-then-not-is_between g c = λ s at n t b has step open' other less.
     let is : s ≡ record { sender = c.head-head.result.node; passes = c.head-head.ensures.0 } = same_some (sym at ∙ c.head-head.ensures.1) in
     absurd (other (rw is (c.is_between.ensures.closed c.if-not-is_between.true (rw is at open'))))
+
+pub returns : goal.returns
+returns g c = λ s at n t b has step open' other less.
+    let is : s ≡ record { sender = c.at-from.result.node; passes = c.at-from.result.passes.now } = same_some (sym at ∙ c.at-from.ensures.link) in
+    c.leave_over.ensures.full n t c.args.to.node b (rw is at has) (rw is at step) less

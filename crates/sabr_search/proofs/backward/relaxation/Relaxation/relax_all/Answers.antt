@@ -9,15 +9,15 @@ loop-init g c = record { relaxing = c.requires.relaxing; rises = λ k. omega ari
 pub index-requires : goal.index-requires
 index-requires g c =
     let was = c.loop.invariant.relaxing in
-    omega (arith, was.flags, next_inside c.args.backward.now c.loop.self _ c.in-Some.event was c.in-Some.ensures.moved refl refl)
+    omega (arith, was.flags, next_inside c.args.backward.now c.loop.self c.in-Some.event _ was c.in-Some.ensures.moved)
 
 pub index_mut-requires : goal.index_mut-requires
 index_mut-requires g c =
     let was = c.loop.invariant.relaxing in
-    omega (arith, was.flags, next_inside c.args.backward.now c.loop.self _ c.in-Some.event was c.in-Some.ensures.moved refl refl)
+    omega (arith, was.flags, next_inside c.args.backward.now c.loop.self c.in-Some.event _ was c.in-Some.ensures.moved)
 
 pub relax_senders-requires-clause-node : goal.relax_senders-requires-clause-node
-relax_senders-requires-clause-node g c = next_inside c.args.backward.now c.loop.self _ c.in-Some.event c.loop.invariant.relaxing c.in-Some.ensures.moved refl refl
+relax_senders-requires-clause-node g c = next_inside c.args.backward.now c.loop.self c.in-Some.event _ c.loop.invariant.relaxing c.in-Some.ensures.moved
 
 pub relax_senders-requires-clause-relaxing : goal.relax_senders-requires-clause-relaxing
 relax_senders-requires-clause-relaxing g c = begun c.args.backward.now c.loop.self _ c.in-Some.event c.loop.invariant.relaxing c.in-Some.ensures.moved refl refl refl
@@ -28,7 +28,7 @@ returns-in_default-clause-relaxed g c = all_relaxed c.args.backward.now c.loop.s
 pub loop-preserved-then-index : goal.loop-preserved-then-index
 loop-preserved-then-index g c =
     let was = c.loop.invariant.relaxing in
-    let within : c.in-Some.event.node < length c.loop.self.relaxed.items = omega (arith, was.flags, next_inside c.args.backward.now c.loop.self _ c.in-Some.event was c.in-Some.ensures.moved refl refl) in
+    let within : c.in-Some.event.node < length c.loop.self.relaxed.items = omega (arith, was.flags, next_inside c.args.backward.now c.loop.self c.in-Some.event _ was c.in-Some.ensures.moved) in
     record { rises = c.loop.invariant.rises; relaxing = skipped c.args.backward.now c.loop.self _ c.in-Some.event was c.in-Some.ensures.moved refl refl refl (sym (read_flag c.loop.self.relaxed.items c.in-Some.event.node c.index.result.now within c.index.ensures) ∙ c.if-index.true) }
 
 pub loop-preserved : goal.loop-preserved

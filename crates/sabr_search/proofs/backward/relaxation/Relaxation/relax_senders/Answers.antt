@@ -72,7 +72,7 @@ loop-place-preserved g c =
     let from : SentLink = record { sender = c.head-from.result.node; passes = c.head-from.ensures.0 } in
     let inside = c.senders-senders.ensures.senders c.loop-place.place from c.head-from.ensures.1 in
     let latest = read_at old.seconds.items from.sender c.index-latest.result.now (omega (arith, inside, so_far.relaxing.many)) c.index-latest.ensures in
-    let less : slice_index old.seconds.items from.sender < c.in_ok-second.value = omega (arith, latest, c.if-second-latest.false) in
+    let less : slice_index old.seconds.items from.sender < c.in_ok-second.second = omega (arith, latest, c.if-second-latest.false) in
     let raised = c.in_ok-raise.ensures in
     let later = raised_later c.args.backward.now old new c.args.node from.sender _ so_far.relaxing inside less raised in
     let here = raised_here c.args.backward.now old new c.args.node from.sender _ so_far.relaxing inside less raised in
