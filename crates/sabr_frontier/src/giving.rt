@@ -4,7 +4,5 @@ mod divide;
 mod give_last;
 mod give_next;
 mod give_page;
-pub mod other_way;
-pub mod route_front;
 pub mod searcher;
 mod smallest_keys;

@@ -4,6 +4,7 @@ pub mod Chains
 pub mod RoutesAndWays
 pub mod Prefixes
 pub mod PartWays
+pub mod Detours
 pub mod Least
 pub mod PrefixPaths
 pub mod Shortness

@@ -6,4 +6,5 @@ pub mod Part
 pub mod FirstSteps
 pub mod Bounded
 pub mod Calls
+pub mod Detours
 pub mod Stops

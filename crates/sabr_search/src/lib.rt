@@ -17,6 +17,7 @@
 mod backward;
 mod best;
 mod bound;
+mod detours;
 mod early;
 mod fitting;
 mod forward;

@@ -12,13 +12,12 @@ use Rattle.sabr_search.specs.declared.bound.Bound.{Bound}
 use Rattle.sabr_frontier.specs.declared.giving.give_next.GivenRoute.{GivenRoute}
 use Rattle.sabr_frontier.specs.declared.tree.Node.{Node}
 use Rattle.sabr_frontier.specs.declared.tree.NodeId.{NodeId}
-use Rattle.sabr_frontier.specs.giving.Detours.{CarriesNoOther, HasLooks}
+use Rattle.sabr_frontier.specs.tree.Left.{CarriesNoOther, HasLooks, others_carry, part_goes_on, some_carry}
 use Rattle.sabr_frontier.specs.listing.State.{Member, PartState, State}
 use Rattle.sabr_frontier.specs.listing.Listing.{next_route, one_step, searches_for, searches_in}
 use Rattle.sabr_frontier.specs.tree.Searching.{Asked, best_for, steps_for}
 use Rattle.sabr_frontier.specs.tree.Best.{best_of}
 use Rattle.sabr_frontier.specs.tree.Cut.{AreCutBy, IsCutTree, ShowsCut, carries_before, count_before}
-use Rattle.sabr_frontier.specs.tree.Left.{others_carry, part_goes_on, some_carry}
 use Rattle.sabr_frontier.specs.tree.Shape.{Shape, numbers_of, part_at, route_at, shown}
 use Rattle.sabr_frontier.specs.tree.Sound.{IsTree}
 use Rattle.sabr_frontier.specs.tree.Giving.{IsNextGiven, divided_with}

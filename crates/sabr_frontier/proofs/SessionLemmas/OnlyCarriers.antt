@@ -12,9 +12,8 @@ use Rattle.sabr_model.specs.routes.Arrival.{RouteRequest}
 use Rattle.sabr_model.specs.routes.Record.{RouteRecord}
 use Rattle.sabr_frontier.specs.declared.tree.Node.{Node}
 use Rattle.sabr_frontier.specs.declared.tree.NodeId.{NodeId}
-use Rattle.sabr_frontier.specs.giving.Detours.{CarriesNoOther}
+use Rattle.sabr_frontier.specs.tree.Left.{CarriesNoOther, others_carry, some_carry}
 use Rattle.sabr_frontier.specs.listing.State.{InPairs, Member, PartState}
-use Rattle.sabr_frontier.specs.tree.Left.{others_carry, some_carry}
 use Rattle.sabr_frontier.specs.tree.Shape.{IsBefore, Shape, numbers_of, part_at, part_of, prefix_of, shown}
 use Rattle.sabr_frontier.specs.tree.Sound.{IsTree}
 use Rattle.sabr_frontier.proofs.ListingLemmas.ListMembers.{Member-map, any_has}

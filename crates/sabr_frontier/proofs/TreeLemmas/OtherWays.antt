@@ -17,7 +17,8 @@ use Rattle.sabr_frontier.specs.declared.tree.Node.{Node}
 use Rattle.sabr_frontier.specs.listing.Formed.{Within}
 use Rattle.sabr_frontier.specs.listing.Rising.{has}
 use Rattle.sabr_frontier.specs.tree.Best.{best_of}
-use Rattle.sabr_frontier.specs.tree.Left.{GoesOtherwise, IsOtherWay, longer_go_on, part_goes_on}
+use Rattle.sabr_search.specs.questions.Detours.{GoesOtherwise, IsOtherWay}
+use Rattle.sabr_frontier.specs.tree.Left.{longer_go_on, part_goes_on}
 use Rattle.sabr_frontier.specs.tree.Sound.{CanExclude}
 use Rattle.sabr_frontier.specs.tree.Giving.{wide_of}
 use Rattle.sabr_frontier.proofs.ListingLemmas.AllRoutes.{has_number, least_none}

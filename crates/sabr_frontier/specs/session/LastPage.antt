@@ -3,7 +3,8 @@ use Rattle.std.specs.Prelude.{◌≡◌, ℕ, ◌+◌, ◌-◌, ◌<◌, ◌≤�
 use Rattle.sabr_model.specs.plan.Plan.{TabledPlan}
 use Rattle.sabr_model.specs.routes.Record.{RouteRecord, record_of}
 use Rattle.sabr_search.specs.questions.Calls.{Calls}
-use Rattle.sabr_frontier.specs.giving.Detours.{HasLooks, detour_looks}
+use Rattle.sabr_search.specs.questions.Detours.{detour_looks}
+use Rattle.sabr_frontier.specs.tree.Left.{HasLooks}
 use Rattle.sabr_frontier.specs.listing.Listing.{next_route}
 use Rattle.sabr_frontier.specs.session.Session.{Seen, next_page, page_searches}
 use Rattle.sabr_frontier.specs.tree.Searching.{GoOn, looks_since}

@@ -1,12 +1,13 @@
 -- What is left once a route is given.
-use Rattle.std.specs.Prelude.{◌≡◌, ℕ, ◌+◌, Bool, false, ◌||◌, IsTrue, List, [], ◌∷◌, ◌++◌, take, drop, Option, is_some}
+use Rattle.std.specs.Prelude.{◌≡◌, ℕ, ◌+◌, ◌≤◌, Bool, false, ◌||◌, List, [], ◌∷◌, ◌++◌, length, take, drop, Option, Some, is_some}
 use Rattle.std.specs.List.{list_any}
-use Rattle.sabr_model.specs.plan.Plan.{ContactPlan, has}
+use Rattle.sabr_model.specs.plan.Plan.{ContactPlan}
 use Rattle.sabr_model.specs.routes.Arrival.{RouteRequest}
 use Rattle.sabr_model.specs.routes.Record.{RouteRecord}
-use Rattle.sabr_model.specs.routes.Route.{is_route}
 use Rattle.sabr_frontier.specs.declared.tree.NodeId.{NodeId}
 use Rattle.sabr_frontier.specs.declared.tree.Node.{Node}
+use Rattle.sabr_frontier.specs.listing.Listing.{next_route}
+use Rattle.sabr_frontier.specs.listing.State.{Member, PartState, State}
 use Rattle.sabr_frontier.specs.tree.Giving.{wide_of}
 
 -- some node carries a route
@@ -26,17 +27,10 @@ longer_go_on best q (y ∷ ys) = is_some (best q (y ∷ [])) || longer_go_on bes
 abbrev pub part_goes_on : {A : Type 0} → (List ℕ → List ℕ → Option RouteRecord) → Node A → List ℕ → Bool
 part_goes_on best n s = is_some (best (take n.length s) (wide_of n s)) || longer_go_on best (take (n.length + 1) s) (drop (n.length + 1) s)
 
--- after front other numbers make a route, the first neither the one that ended it nor an excluded one
-pub record IsOtherWay (p : ContactPlan) (r : RouteRequest) (front : List ℕ) (last : ℕ) (excluded : List ℕ) : Type 0 where
-  pub n : ℕ
-  pub rest : List ℕ
-  pub route : IsTrue (is_route p r (front ++ n ∷ rest))
-  pub other : n ≡ last → ⊥
-  pub free : has n excluded ≡ false
+-- no part of the state carries another route than this one
+abbrev pub CarriesNoOther : State → List ℕ → Type 0
+CarriesNoOther s x = (t : PartState) (y : List ℕ) → Member t s.parts → t.carried ≡ Some y → y ≡ x
 
--- a list of numbers may go on otherwise than by its last one
-pub record GoesOtherwise (p : ContactPlan) (r : RouteRequest) (numbers excluded : List ℕ) : Type 0 where
-  pub front : List ℕ
-  pub last : ℕ
-  pub numbers_are : numbers ≡ front ++ last ∷ []
-  pub way : IsOtherWay p r front last excluded
+-- there was a look at least for each contact of the next route, if no part of the state carries another one
+abbrev pub HasLooks : ℕ → ContactPlan → RouteRequest → State → Type 0
+HasLooks looks p r s = (x : List ℕ) → next_route p r s ≡ Some x → CarriesNoOther s x → length x ≤ looks

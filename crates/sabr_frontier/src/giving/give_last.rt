@@ -4,10 +4,10 @@ ghost use Rattle.std.specs.Prelude.{◌≡◌, ◌+◌, ◌≤◌, ◌<◌, ◌+
 ghost use Rattle.sabr_model.specs.plan.Plan.{IsPlan};
 ghost use Rattle.sabr_model.specs.routes.Route.{is_route};
 ghost use Rattle.sabr_frontier.specs.listing.Listing.{next_route, searches_in};
-ghost use Rattle.sabr_frontier.specs.giving.Detours.{HasLooks, detour_looks};
+ghost use Rattle.sabr_search.specs.questions.Detours.{detour_looks};
+ghost use Rattle.sabr_frontier.specs.tree.Left.{HasLooks, longer_go_on, others_carry, part_goes_on, some_carry};
 ghost use Rattle.sabr_index.specs.Looks.{looks_taken};
 ghost use Rattle.sabr_frontier.specs.tree.Searching.{best_for, records_for, steps_for};
-ghost use Rattle.sabr_frontier.specs.tree.Left.{longer_go_on, others_carry, part_goes_on, some_carry};
 ghost use Rattle.sabr_frontier.specs.tree.Shape.{shape_of, shown};
 ghost use Rattle.sabr_frontier.specs.tree.Sound.{CanExclude, IsTree};
 ghost use Rattle.sabr_frontier.specs.tree.Giving.{OfNode};
@@ -15,7 +15,6 @@ ghost use Rattle.sabr_frontier.specs.tree.Undo.{IsRoomy};
 ghost use Rattle.sabr_search.specs.questions.Bounded.{IsFloor};
 
 use crate::giving::divide::{find_best_after, numbers};
-use crate::giving::other_way::goes_otherwise;
 use crate::giving::searcher::Searcher;
 use crate::tree::change::carry;
 use crate::tree::places::carried;
@@ -90,16 +89,7 @@ fn part_goes_on<B: BestOf<A>, A: Allocator + Copy>(
 {
     searcher.plan().rules_hold();
     looks.left();
-    let request = searcher.request();
-    let excluded = part.excluded.as_slice();
-    if goes_otherwise(
-        searcher.alloc(),
-        searcher.index().counted(),
-        looks,
-        request,
-        route,
-        excluded,
-    )? {
+    if searcher.goes_otherwise(looks, route, part.excluded.as_slice())? {
         return Ok(true);
     }
     let count = part.length;

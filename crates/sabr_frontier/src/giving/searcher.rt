@@ -1,15 +1,16 @@
 //! Finding the best routes of parts, with a finder and its cache.
 
-ghost use Rattle.std.specs.Prelude.{◌≡◌, ◌+◌, IfOk, IsTrue};
+ghost use Rattle.std.specs.Prelude.{◌≡◌, ◌+◌, ◌≤◌, IfOk, IsTrue, length};
 ghost use Rattle.std.specs.List.Sorted.{IsStrictlyIncreasing};
 ghost use Rattle.sabr_model.specs.plan.Plan.{TabledPlan};
-ghost use Rattle.sabr_model.specs.routes.Route.{is_prefix};
+ghost use Rattle.sabr_model.specs.routes.Route.{is_prefix, is_route};
 ghost use Rattle.sabr_search.specs.answers.SearchCache.{IsSearchCache};
 ghost use Rattle.sabr_search.specs.questions.Bounded.{IsFloor};
+ghost use Rattle.sabr_search.specs.questions.Detours.{GoesOtherwise, detour_looks};
 ghost use Rattle.sabr_frontier.specs.tree.Searching.{GoOn, IsAtRest, best_for, looks_since, searching_first};
 ghost use Rattle.sabr_frontier.specs.tree.Best.{bound_in, found_by};
 
-use sabr_index::Index;
+use sabr_index::{Index, Looks};
 use sabr_model::{NoMemory, Plan, Request, Route};
 use sabr_search::{BestOf, Bound, BoundedPart, Excluded, GhostCalls, SearchCache, Sought};
 use std::alloc::{Allocator, Global};
@@ -123,13 +124,6 @@ impl<'p, B: BestOf<A>, A: Allocator + Copy> Searcher<'p, B, A> {
         self.index.plan()
     }
 
-    /// The index of the plan.
-    pub fn index(&self) -> &Index<'p, A>
-        ensures { result.now ≡ self.now.asked.plan }
-    {
-        &self.index
-    }
-
     /// The request.
     pub fn request(&self) -> &Request
         ensures { result.now ≡ self.now.asked.request }
@@ -176,6 +170,26 @@ impl<'p, B: BestOf<A>, A: Allocator + Copy> Searcher<'p, B, A> {
         self.counted_calls.add(looks);
         let sought = found?;
         Ok(up_to(sought, bound))
+    }
+
+    /// Returns true if a route is seen, without a search, to have another ending in place of its last number.
+    pub fn goes_otherwise(
+        &mut self,
+        looks: &mut Looks,
+        route: &[u32],
+        excluded: &[u32],
+    ) -> Result<bool, NoMemory>
+        requires route { IsTrue (is_route self.old.asked.plan.plan self.old.asked.request route.now) }
+        requires few { detour_looks (length route.now) ≤ looks.old.left }
+        ensures yes { IfOk result (λ yes. IsTrue yes → GoesOtherwise self.old.asked.plan.plan self.old.asked.request route.now excluded.now) }
+        ensures most { looks.old.left ≤ looks.new.left + detour_looks (length route.now) }
+        ensures fewer { looks.new.left ≤ looks.old.left }
+        ensures least { IfOk result (λ yes. IsTrue yes → looks.new.left + length route.now ≤ looks.old.left) }
+        ensures same { self.new ≡ self.old }
+    {
+        let rest = &mut self.rest;
+        rest.cache
+            .goes_otherwise(looks, &self.index, &rest.request, route, excluded)
     }
 }
 

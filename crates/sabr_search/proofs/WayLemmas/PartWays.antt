@@ -94,12 +94,11 @@ module _ (task : SearchTask) (prefix : List ℕ) (behind : IsBehind task prefix)
       ap are_different (receivers-cons task.plan n s step.contact step.named)
       ∙ and_from (not (has step.contact.to (receivers task.plan s))) (are_different (receivers task.plan s)) (not_from_false (has step.contact.to (receivers task.plan s)) fresh) others
 
-  -- a way with the fewest hops by then is a route of the part
-  pub way_is_route : IsPrefix task.plan task.request prefix → (s : List ℕ) (d : ℕ) → 0 < length s → Leads (Takes task) task.start task.at s task.goal d
-      → ((ns : List ℕ) (e : ℕ) → length ns < length s → Leads (Takes task) task.start task.at ns task.goal e → d < e)
-      → length prefix + length s ≤ task.request.max_hops
+  -- a way whose receivers are different is a route of the part
+  pub different_way_is_route : IsPrefix task.plan task.request prefix → (s : List ℕ) (d : ℕ) → 0 < length s → Leads (Takes task) task.start task.at s task.goal d
+      → are_different (receivers task.plan s) ≡ true → length prefix + length s ≤ task.request.max_hops
       → IsTrue (is_route task.plan task.request (prefix ++ s)) × (goes_on prefix task.excluded (prefix ++ s) ≡ true) × (arrival_after task.plan task.request task.request.at (prefix ++ s) ≡ Some d)
-  way_is_route facts s d some way fewest short =
+  different_way_is_route facts s d some way differ short =
       let p = task.plan in
       let r = task.request in
       let chain : IsChain task prefix s task.goal d task.at behind.last_node = chain_of_way task prefix (opens_of task prefix behind) s task.start task.at task.goal d behind.last_node behind.stands way in
@@ -110,8 +109,7 @@ module _ (task : SearchTask) (prefix : List ℕ) (behind : IsBehind task prefix)
       arrival_after-append p r r.at prefix s ∙ ap (option_and_then (λ b. arrival_after p r b s)) behind.arrives ∙ chain.after in
       let apart : are_different (r.source ∷ receivers p (prefix ++ s)) ≡ true =
       ap (λ w. are_different (r.source ∷ w)) (receivers-append p prefix s)
-      ∙ different_append (r.source ∷ receivers p prefix) (receivers p s) facts.different
-      (way_differs (length s) d fewest [] s task.start task.at d (refl, refl) way (omega arith) (omega arith))
+      ∙ different_append (r.source ∷ receivers p prefix) (receivers p s) facts.different differ
       (λ x one other. both_ways (has x (r.source ∷ receivers p prefix)) (or_parts (has x (r.source ∷ receivers p prefix)) (has x r.avoided) (chain.open_nodes x other)).0 one) in
       let allowed : list_all (λ n. not (has n r.avoided)) (receivers p (prefix ++ s)) ≡ true =
       all_from (λ n. not (has n r.avoided)) (receivers p (prefix ++ s)) (λ x h.
@@ -125,3 +123,11 @@ module _ (task : SearchTask) (prefix : List ℕ) (behind : IsBehind task prefix)
         | n ∷ z ↦ λ l w. goes_on-append prefix task.excluded n z (w.2.allowed refl)
       ] some way in
       (route_from_facts p r (prefix ++ s) (record { some_hop = omega arith; reaches = reaches; different = apart; in_time = ap is_some after; allowed = allowed; within = omega arith }), first, after)
+
+  -- so is one with the fewest hops by then
+  pub way_is_route : IsPrefix task.plan task.request prefix → (s : List ℕ) (d : ℕ) → 0 < length s → Leads (Takes task) task.start task.at s task.goal d
+      → ((ns : List ℕ) (e : ℕ) → length ns < length s → Leads (Takes task) task.start task.at ns task.goal e → d < e)
+      → length prefix + length s ≤ task.request.max_hops
+      → IsTrue (is_route task.plan task.request (prefix ++ s)) × (goes_on prefix task.excluded (prefix ++ s) ≡ true) × (arrival_after task.plan task.request task.request.at (prefix ++ s) ≡ Some d)
+  way_is_route facts s d some way fewest short =
+      different_way_is_route facts s d some way (way_differs (length s) d fewest [] s task.start task.at d (refl, refl) way (omega arith) (omega arith)) short

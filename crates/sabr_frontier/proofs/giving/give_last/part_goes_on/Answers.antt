@@ -7,22 +7,16 @@ use Rattle.sabr_model.specs.routes.Arrival.{RouteRequest}
 use Rattle.sabr_model.specs.routes.Route.{is_route}
 use Rattle.sabr_model.proofs.RouteLemmas.Paths.{path_facts, route_is_path}
 use Rattle.sabr_search.specs.questions.Bounded.{IsFloor}
-use Rattle.sabr_frontier.specs.giving.Detours.{detour_looks}
+use Rattle.sabr_search.specs.questions.Detours.{detour_looks}
 use Rattle.sabr_frontier.specs.tree.Searching.{best_for}
-use Rattle.sabr_frontier.specs.tree.Left.{GoesOtherwise, longer_go_on, part_goes_on}
+use Rattle.sabr_search.specs.questions.Detours.{GoesOtherwise}
+use Rattle.sabr_frontier.specs.tree.Left.{longer_go_on, part_goes_on}
 use Rattle.sabr_frontier.specs.tree.Giving.{wide_of}
 use Rattle.sabr_frontier.proofs.ListingLemmas.Rising.{Rises-put_in}
 use Rattle.sabr_frontier.proofs.TreeLemmas.Floors.{floor_after, floor_on, floor_wide}
 use Rattle.sabr_frontier.proofs.TreeLemmas.TestBoundaries.{increasing}
 use Rattle.sabr_frontier.proofs.TreeLemmas.OtherWays.{goes_on_otherwise}
 use Rattle.sabr_frontier.proofs.giving.give_last.part_goes_on.Goals as goal
-
-pub goes_otherwise-requires-clause-route : goal.goes_otherwise-requires-clause-route
-goes_otherwise-requires-clause-route g c =
-    let p = c.args.searcher.now.asked.plan in
-    let s = c.args.route.now in
-    subst (λ (t : TabledPlan). IsTrue (is_route t.plan c.request-request.result.now s)) (sym (c.counted.ensures ∙ c.index.ensures))
-    (subst (λ q. IsTrue (is_route p.plan q s)) (sym c.request-request.ensures) c.requires.route)
 
 pub goes_otherwise-requires-clause-few : goal.goes_otherwise-requires-clause-few
 goes_otherwise-requires-clause-few g c =
@@ -65,10 +59,7 @@ returns-then-branch-clause-ok g c =
     let r = c.args.searcher.now.asked.request in
     let s = c.args.route.now in
     let good : IsPlan p.plan = subst (λ (t : TabledPlan). IsPlan t.plan) c.plan.ensures c.rules_hold.ensures in
-    let over : GoesOtherwise p.plan c.request-request.result.now s c.as_slice-excluded.result.now =
-    subst (λ (t : TabledPlan). GoesOtherwise t.plan c.request-request.result.now s c.as_slice-excluded.result.now) (c.counted.ensures ∙ c.index.ensures) (c.in_ok-goes_otherwise.ensures.yes c.if-branch.true) in
-    let of : GoesOtherwise p.plan r s c.as_slice-excluded.result.now = subst (λ q. GoesOtherwise p.plan q s c.as_slice-excluded.result.now) c.request-request.ensures over in
-    let otherwise : GoesOtherwise p.plan r s c.args.part.now.excluded = subst (GoesOtherwise p.plan r s) c.as_slice-excluded.ensures of in
+    let otherwise : GoesOtherwise p.plan r s c.args.part.now.excluded = subst (GoesOtherwise p.plan r s) c.as_slice.ensures (c.in_ok-goes_otherwise.ensures.yes c.if-branch.true) in
     sym (goes_on_otherwise p.plan r good c.args.part.now s c.requires.next otherwise)
 
 pub find_best-requires-clause-floor : goal.find_best-requires-clause-floor

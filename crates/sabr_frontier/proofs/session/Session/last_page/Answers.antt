@@ -1,6 +1,6 @@
 use Rattle.std.proofs.Common.{◌≡◌, ◌-◌, length, drop, ap, sym, subst, ◌∙◌, arith}
 use Rattle.sabr_search.specs.questions.Calls.{Calls}
-use Rattle.sabr_frontier.specs.giving.Detours.{HasLooks}
+use Rattle.sabr_frontier.specs.tree.Left.{HasLooks}
 use Rattle.sabr_frontier.specs.session.LastPage.{IsLastPage, LastSeen}
 use Rattle.sabr_frontier.specs.session.Session.{Seen}
 use Rattle.sabr_frontier.specs.tree.Searching.{Asked, records_for, steps_for}

@@ -6,12 +6,11 @@ use Rattle.sabr_model.specs.routes.Record.{RouteRecord}
 use Rattle.sabr_model.specs.routes.Route.{is_route}
 use Rattle.sabr_frontier.specs.declared.tree.Node.{Node}
 use Rattle.sabr_index.specs.Looks.{looks_taken}
-use Rattle.sabr_frontier.specs.giving.Detours.{CarriesNoOther}
+use Rattle.sabr_frontier.specs.tree.Left.{CarriesNoOther, others_carry, part_goes_on}
 use Rattle.sabr_frontier.proofs.SessionLemmas.OnlyCarriers.{no_others}
 use Rattle.sabr_frontier.specs.listing.Listing.{next_route}
 use Rattle.sabr_frontier.specs.listing.State.{State}
 use Rattle.sabr_frontier.specs.tree.Searching.{Asked, best_for, records_for, steps_for}
-use Rattle.sabr_frontier.specs.tree.Left.{others_carry, part_goes_on}
 use Rattle.sabr_frontier.specs.tree.Shape.{Shape, numbers_of, route_at, shape_of, shown}
 use Rattle.sabr_frontier.specs.tree.Sound.{CanExclude, IsTree}
 use Rattle.sabr_frontier.specs.tree.Winners.{CarriesNone}

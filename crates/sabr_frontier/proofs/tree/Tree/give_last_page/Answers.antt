@@ -3,7 +3,8 @@ use Rattle.std.specs.Prelude.{is_some, Result, IfOk, OnOk, Ok, Err}
 use Rattle.sabr_model.specs.routes.Record.{record_of, RouteRecord}
 use Rattle.sabr_frontier.specs.listing.Listing.{next_route, given_first, one_step, searches_in, steps}
 use Rattle.sabr_frontier.specs.listing.State.{State}
-use Rattle.sabr_frontier.specs.giving.Detours.{HasLooks, detour_looks}
+use Rattle.sabr_search.specs.questions.Detours.{detour_looks}
+use Rattle.sabr_frontier.specs.tree.Left.{HasLooks}
 use Rattle.sabr_index.specs.Looks.{looks_taken}
 use Rattle.sabr_frontier.specs.tree.Searching.{Asked, records_for, steps_for}
 use Rattle.sabr_frontier.specs.tree.Shape.{Shape, shape_of, shown}

@@ -1,4 +1,4 @@
-use Rattle.std.proofs.Common.{◌≡◌, ℕ, ◌+◌, ◌<◌, ◌≤◌, Some, length, take, slice_get, slice_index}
+use Rattle.std.proofs.Common.{◌≡◌, ℕ, ◌+◌, ◌<◌, ◌≤◌, Some, length, take, slice_get}
 use Rattle.std.specs.List.{sum_by}
 use Rattle.sabr_index.specs.Links.{SentLink}
 use Rattle.sabr_search.specs.layers.Late.{AreGrown, AreLeftInTimeOver}

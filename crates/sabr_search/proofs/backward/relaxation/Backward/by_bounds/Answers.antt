@@ -1,5 +1,4 @@
-use Rattle.std.proofs.Common.{◌≡◌, ◌+◌, ◌≤◌, ℕ, Some, min, slice_get, ap, sym, ◌∙◌, arith}
-use Rattle.sabr_index.specs.Links.{SentLink}
+use Rattle.std.proofs.Common.{◌≡◌, ◌≤◌, min, ap, sym, ◌∙◌, arith}
 use Rattle.sabr_model.specs.routes.Arrival.{RouteRequest, cost}
 use Rattle.sabr_search.proofs.WayLemmas.RoutesAndWays.{same_some}
 use Rattle.sabr_search.proofs.BackwardLemmas.Relaxing.{over_bounds, left_before}

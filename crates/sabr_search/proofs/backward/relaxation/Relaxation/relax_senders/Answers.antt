@@ -1,7 +1,7 @@
-use Rattle.std.proofs.Common.{◌≡◌, ◌<◌, length, slice_index, ap, sym, subst, ◌∙◌, arith}
+use Rattle.std.proofs.Common.{◌≡◌, ◌<◌, slice_index, ap, sym, ◌∙◌, arith}
 use Rattle.std.proofs.lemmas.Option.{slice_get_within}
 use Rattle.sabr_index.specs.Links.{SentLink}
-use Rattle.sabr_search.specs.layers.Relaxation.{AreLeftOver, IsLeftBy}
+use Rattle.sabr_search.specs.layers.Relaxation.{AreLeftOver}
 use Rattle.sabr_search.proofs.ForwardLemmas.LayerEntries.{read_at}
 use Rattle.sabr_search.proofs.WayLemmas.RoutesAndWays.{takes_timely}
 use Rattle.sabr_search.proofs.BackwardLemmas.Relaxing.{each_until, left_here, left_more, raised_here, raised_later, raised_other, still_relaxing}

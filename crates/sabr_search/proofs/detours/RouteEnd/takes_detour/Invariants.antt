@@ -1,5 +1,5 @@
 use Rattle.std.proofs.Common.{◌+◌, ◌*◌, ◌≤◌}
-use Rattle.sabr_frontier.proofs.giving.other_way.detours.Given as goal
+use Rattle.sabr_search.proofs.detours.RouteEnd.takes_detour.Given as goal
 
 abbrev pub invariant-loop-place : goal.invariant-loop-place
 invariant-loop-place g l = record {
