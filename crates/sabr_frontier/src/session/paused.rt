@@ -115,8 +115,9 @@ impl<B: BestOf<A>, A: Allocator + Copy> PausedSession<B, A> {
         self.tree.leaves.len() as u128
     }
 
-    /// Returns true if routes are left: some part carries one.
+    /// Returns true if routes are left: some part carries one. The session was paused over a plan.
     pub fn more(&self) -> bool
+        requires { (p : TabledPlan) × IsPausedOver p self.now }
         ensures { (p : TabledPlan) → IsPausedOver p self.now → result ≡ has_more_over p self.now }
     {
         !self.tree.is_empty()
