@@ -21,7 +21,6 @@ pub fn every_run()
 /// Shows that a run `next` over the session text of a place of the list writes the report of the next page, with ranks
 /// that go on from that place, and then the session text of the place after it. If one of its writers fails, that
 /// writer holds a beginning. If an allocation fails or the session's reader fails, nothing is written.
-#[tactic(auto, using(crate::proofs::RunLemmas::NextPages::next_goes_on))]
 pub fn next_goes_on()
     ensures { NextGoesOn }
 {}
@@ -30,7 +29,6 @@ pub fn next_goes_on()
 /// each over the session text that the one before wrote. Over one plan text, the runs that end with
 /// [`Status::Done`](crate::Status::Done) write the reports of the first routes of the list, each from where the one
 /// before ended.
-#[tactic(auto, using(crate::proofs::RunLemmas::RunsInTurn::runs_in_turn))]
 pub fn runs_in_turn()
     ensures { RunsInTurn }
 {}
@@ -41,7 +39,6 @@ pub fn runs_in_turn()
 /// [`Status::Done`](crate::Status::Done) print the reports of the first routes of the list, each from where the one
 /// before ended. At each path they leave the session text of its place. A call `next` that keeps no session may follow
 /// them: it prints the page from there, and leaves no file.
-#[tactic(auto, using(crate::proofs::RunLemmas::CallsInTurn::calls_in_turn))]
 pub fn calls_in_turn()
     ensures { CallsInTurn }
 {}
@@ -49,7 +46,6 @@ pub fn calls_in_turn()
 /// Shows that runs `next` go on page by page from any session text that `verify` accepts, in either version. Their
 /// pages joined are the next routes of the list. The text that the last of them leaves is that of the place after them,
 /// and a run over it that keeps no session reports the page from there.
-#[tactic(auto, using(crate::proofs::RunLemmas::RunsInTurn::runs_go_on))]
 pub fn runs_go_on()
     ensures { RunsGoOn }
 {}
@@ -57,7 +53,6 @@ pub fn runs_go_on()
 /// Shows that a run `many` answers each request as a run `first` does. Over one plan text, if it ends with
 /// [`Status::Done`](crate::Status::Done), it writes for each request in order its line and then the bytes that a run
 /// `first` for that request and count writes as its report, whether that run keeps its session or not.
-#[tactic(auto, using(crate::proofs::RunLemmas::ManyAnswers::many_answers_as_first))]
 pub fn many_answers_as_first()
     ensures { ManyAnswersAsFirst }
 {}
@@ -65,7 +60,6 @@ pub fn many_answers_as_first()
 /// Shows that a run `follow` answers each list as a run `explain` does. Over one plan text, if it ends with
 /// [`Status::Done`](crate::Status::Done), it writes for each list in order its line and then the bytes that a run
 /// `explain` for these contacts and that request writes, if that ends with yes or no.
-#[tactic(auto, using(crate::proofs::RunLemmas::ManyAnswers::follow_answers_as_explain))]
 pub fn follow_answers_as_explain()
     ensures { FollowAnswersAsExplain }
 {}

@@ -16,6 +16,41 @@ use Rattle.sabr_plan.specs.Canonical.{digest_of}
 use Rattle.sabr_session.proofs.TextLemmas.OneAnswer.{is_read_back}
 use Rattle.sabr_session.specs.declared.session_fault.SessionFault.TheVariants as fault
 
+-- The lines of a text that begins with whole lines.
+-- the lines of a text, and those of another
+abbrev pub followed_by : TextLines → TextLines → TextLines
+followed_by t u = record { ended = t.ended ++ u.ended; open_line = u.open_line }
+
+-- the lines with one more byte in front
+abbrev byte_onto : ℕ → Bool → TextLines → TextLines
+byte_onto b is_end t = cond is_end (record { ended = [] ∷ t.ended; open_line = t.open_line }) (before_lines b t)
+
+byte_more : (b : ℕ) (is_end : Bool) (ended : List (List ℕ)) (rest : List ℕ) (whole more : TextLines)
+    → (rest ≡ [] → whole ≡ followed_by (record { ended = ended; open_line = rest }) more)
+    → (byte_onto b is_end (record { ended = ended; open_line = rest })).open_line ≡ []
+    → byte_onto b is_end whole ≡ followed_by (byte_onto b is_end (record { ended = ended; open_line = rest })) more
+byte_more b true ended rest whole more so none = ap (byte_onto b true) (so none)
+byte_more b false [] rest whole more so none = absurd cc
+byte_more b false (line ∷ lines) rest whole more so none = ap (before_lines b) (so none)
+
+-- what follows whole lines begins a line
+pub lines_of-append : (bytes more : List ℕ) → (lines_of bytes).open_line ≡ [] → lines_of (bytes ++ more) ≡ followed_by (lines_of bytes) (lines_of more)
+unfolding lines_of
+lines_of-append [] more none = refl
+lines_of-append (b ∷ bytes) more none = byte_more b (eqb b 10) (lines_of bytes).ended (lines_of bytes).open_line (lines_of (bytes ++ more)) (lines_of more) (lines_of-append bytes more) none
+
+some_line : (b : ℕ) (is_end : Bool) (ended : List (List ℕ)) (rest : List ℕ) → (byte_onto b is_end (record { ended = ended; open_line = rest })).ended ≡ []
+    → (byte_onto b is_end (record { ended = ended; open_line = rest })).open_line ≡ [] → ⊥
+some_line b true ended rest none empty = cc
+some_line b false [] rest none empty = cc
+some_line b false (line ∷ lines) rest none empty = cc
+
+-- a text with no line is empty
+pub no_lines : (bytes : List ℕ) → (lines_of bytes).ended ≡ [] → (lines_of bytes).open_line ≡ [] → bytes ≡ []
+unfolding lines_of
+no_lines [] none empty = refl
+no_lines (b ∷ bytes) none empty = absurd (some_line b (eqb b 10) (lines_of bytes).ended (lines_of bytes).open_line none empty)
+
 -- a text may end after the line `end` alone
 ends_well : (n : ℕ) (line : List ℕ) (s t : Said) → last_line true n line s ≡ Ok t → (7 + s.count < n) × (line ≡ [])
 ends_well n line s t e = by_tests (is_after n s) refl (has_bytes line) refl e
@@ -87,41 +122,6 @@ no_text_begins_another p h begins rest x whole more y one =
     let a = said_well p (said_of p h begins true) y one in
     let b = said_well p (said_of p h (begins ++ rest) true) x whole in
     more (nothing_behind p h begins rest a.0 b.0 a.1 b.1)
-
--- The lines of a text that begins with whole lines.
--- the lines of a text, and those of another
-abbrev pub followed_by : TextLines → TextLines → TextLines
-followed_by t u = record { ended = t.ended ++ u.ended; open_line = u.open_line }
-
--- the lines with one more byte in front
-abbrev byte_onto : ℕ → Bool → TextLines → TextLines
-byte_onto b is_end t = cond is_end (record { ended = [] ∷ t.ended; open_line = t.open_line }) (before_lines b t)
-
-byte_more : (b : ℕ) (is_end : Bool) (ended : List (List ℕ)) (rest : List ℕ) (whole more : TextLines)
-    → (rest ≡ [] → whole ≡ followed_by (record { ended = ended; open_line = rest }) more)
-    → (byte_onto b is_end (record { ended = ended; open_line = rest })).open_line ≡ []
-    → byte_onto b is_end whole ≡ followed_by (byte_onto b is_end (record { ended = ended; open_line = rest })) more
-byte_more b true ended rest whole more so none = ap (byte_onto b true) (so none)
-byte_more b false [] rest whole more so none = absurd cc
-byte_more b false (line ∷ lines) rest whole more so none = ap (before_lines b) (so none)
-
--- what follows whole lines begins a line
-pub lines_of-append : (bytes more : List ℕ) → (lines_of bytes).open_line ≡ [] → lines_of (bytes ++ more) ≡ followed_by (lines_of bytes) (lines_of more)
-unfolding lines_of
-lines_of-append [] more none = refl
-lines_of-append (b ∷ bytes) more none = byte_more b (eqb b 10) (lines_of bytes).ended (lines_of bytes).open_line (lines_of (bytes ++ more)) (lines_of more) (lines_of-append bytes more) none
-
-some_line : (b : ℕ) (is_end : Bool) (ended : List (List ℕ)) (rest : List ℕ) → (byte_onto b is_end (record { ended = ended; open_line = rest })).ended ≡ []
-    → (byte_onto b is_end (record { ended = ended; open_line = rest })).open_line ≡ [] → ⊥
-some_line b true ended rest none empty = cc
-some_line b false [] rest none empty = cc
-some_line b false (line ∷ lines) rest none empty = cc
-
--- a text with no line is empty
-pub no_lines : (bytes : List ℕ) → (lines_of bytes).ended ≡ [] → (lines_of bytes).open_line ≡ [] → bytes ≡ []
-unfolding lines_of
-no_lines [] none empty = refl
-no_lines (b ∷ bytes) none empty = absurd (some_line b (eqb b 10) (lines_of bytes).ended (lines_of bytes).open_line none empty)
 
 -- No proper beginning of a session's text spells a session.
 pub cut_texts_are_refused : CutTextsAreRefused
