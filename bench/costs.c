@@ -174,6 +174,32 @@ static void costs_of_searches(void) {
     COST("first, 1000 routes", 1, (void)0, must(cgrlist_first(plan, &request, 1000, routes, 1000, numbers, ROOM, &page)));
 }
 
+/* A list of as many contacts as a plan takes, in a chain, and half of it. Each hop costs the same if the time is linear. */
+static void costs_of_a_long_list(void) {
+    enum { HOPS = 20000 };
+    static cgrlist_new_contact chain[HOPS];
+    static cgrlist_range links[HOPS];
+    static cgrlist_hop hops[HOPS];
+    cgrlist_request along = {1, HOPS + 1, BEGIN, 0, 0, NULL, 0}, halfway = along;
+    cgrlist_outcome outcome;
+    cgrlist_plan *line;
+    size_t count;
+    halfway.to = HOPS / 2 + 1;
+    for (uint32_t i = 0; i < HOPS; i++) {
+        chain[i] = (cgrlist_new_contact){i + 1, i + 2, BEGIN, BEGIN + 1000000, 1000};
+        links[i] = (cgrlist_range){i + 1, i + 2, BEGIN, BEGIN + 1000000, 1};
+        numbers[i] = i + 1;
+    }
+    must(cgrlist_plan_new(&line));
+    must(cgrlist_plan_add_contacts(line, chain, HOPS, NULL));
+    must(cgrlist_plan_add_ranges(line, links, HOPS, NULL));
+    COST("follow, each of 10000 hops", HOPS / 2, (void)0, must(cgrlist_follow(line, &halfway, numbers, HOPS / 2, &outcome)));
+    COST("follow, each of 20000 hops", HOPS, (void)0, must(cgrlist_follow(line, &along, numbers, HOPS, &outcome)));
+    COST("hops, each of 10000", HOPS / 2, (void)0, must(cgrlist_hops(line, &halfway, numbers, HOPS / 2, hops, HOPS, &count)));
+    COST("hops, each of 20000", HOPS, (void)0, must(cgrlist_hops(line, &along, numbers, HOPS, hops, HOPS, &count)));
+    cgrlist_plan_close(line);
+}
+
 static void costs_of_listings(void) {
     cgrlist_page page;
     cgrlist_place place;
@@ -199,6 +225,7 @@ int main(int argc, char **argv) {
     costs_of_changes(text_of_records());
     costs_of_looks();
     costs_of_searches();
+    costs_of_a_long_list();
     costs_of_listings();
     cgrlist_plan_close(plan);
     return 0;

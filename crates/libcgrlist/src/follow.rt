@@ -1,23 +1,17 @@
 //! Following lists of contacts: the route that they make, and its hops.
 
-ghost use Rattle.std.specs.Prelude.{◌≡◌, ◌++◌, ◌∷◌, [], IfNone, IfSome, IsFalse, IsTrue, None, Some, is_some, length};
-ghost use Rattle.std.specs.Option.{option_map};
-ghost use Rattle.sabr_model.specs.plan.Plan.{contact_named};
-ghost use Rattle.sabr_model.specs.routes.Fault.{fault_at};
-ghost use Rattle.sabr_model.specs.routes.Following.{IsReachedBy};
-ghost use Rattle.sabr_model.specs.routes.Route.{is_path, is_route};
+ghost use Rattle.std.specs.Prelude.{◌≡◌, IsFalse, length};
+ghost use Rattle.sabr_model.specs.routes.Route.{is_route};
 ghost use Rattle.host.specs.Buffers.{put_over};
-ghost use Rattle.sabr_session.specs.Hops.{hop_after};
-ghost use Rattle.libcgrlist.specs.Following.{Follows, GivesHops, hop_row, hops_of, outcome_of, outcome_of_fault, route_status};
+ghost use Rattle.libcgrlist.specs.Following.{Follows, GivesHops, hops_of, outcome_of, outcome_of_fault, route_status};
 ghost use Rattle.libcgrlist.specs.Open.{Calls, IsWhole};
 ghost use Rattle.libcgrlist.specs.Answers.{asked_request};
 
 use crate::best::Asked;
 use crate::handle::{PlanHandle, over_plan};
 use crate::status::{CLOSED, DONE, NO, ROOM, of_request};
-use sabr_model::{
-    HopFault, Plan, Reached, Request, RequestError, RouteSummary, follow, follow_hop,
-};
+use sabr_model::{HopFault, Plan, Request, RequestError};
+use sabr_session::Hops;
 use std::alloc::Global;
 
 /// `cgrlist_outcome`: the record of the route that a list of contacts makes, its times in seconds since
@@ -35,6 +29,28 @@ pub struct Outcome {
     pub place: u64,
     /// The fault; 0 if there is none.
     pub fault: u32,
+}
+
+/// `cgrlist_hop`: who sends to whom over which contact, when the bundle is sent and when it arrives, in seconds since
+/// 1970-01-01T00:00:00Z.
+#[repr(C)]
+#[derive(Clone, Copy)]
+pub struct HopRow {
+    pub from: u64,
+    pub to: u64,
+    pub sent: u64,
+    pub arrival: u64,
+    pub contact: u32,
+}
+
+/// What contacts do over a plan.
+#[derive(Clone, Copy)]
+struct Followed {
+    /// How many hops they have before the first fault.
+    count: usize,
+    /// Whether they make a route.
+    status: u32,
+    outcome: Outcome,
 }
 
 /// Makes the outcome of a fault.
@@ -61,33 +77,50 @@ fn outcome_of_fault(fault: HopFault) -> Outcome
     }
 }
 
-/// Follows contacts over a plan, and gives what they do.
+/// Follows contacts over a plan, once, and gives what they do. Their hops before the first fault are written, as many as
+/// there is room for.
 fn follow_contacts(
     plan: &Plan<Global>,
     request: &Request,
     contacts: &[u32],
-    outcome: &mut Outcome,
-) -> u32
-    ensures status { result ≡ route_status (is_route plan.now.plan request.now contacts.now) }
-    ensures outcome { outcome.new ≡ outcome_of plan.now.plan request.now contacts.now }
+    rows: &mut [HopRow],
+) -> Followed
+    ensures count { result.count ≡ length (hops_of plan.now.plan request.now contacts.now) }
+    ensures rows { rows.new ≡ put_over rows.old (hops_of plan.now.plan request.now contacts.now) }
+    ensures status { result.status ≡ route_status (is_route plan.now.plan request.now contacts.now) }
+    ensures outcome { result.outcome ≡ outcome_of plan.now.plan request.now contacts.now }
 {
-    plan.rules_hold();
-    match follow(plan, request, contacts) {
-        Ok(delivery) => {
-            let summary = RouteSummary::of(plan, contacts);
-            *outcome = Outcome {
+    let mut hops = Hops::new(plan, request, contacts);
+    let mut count = 0;
+    while let Some(hop) = hops.next() {
+        if count < rows.len() {
+            rows[count] = HopRow {
+                from: hop.contact.from,
+                to: hop.contact.to,
+                sent: hop.sent,
+                arrival: hop.arrived,
+                contact: hop.contact.number,
+            };
+        }
+        count += 1;
+    }
+    match hops.ending() {
+        Ok((delivery, summary)) => Followed {
+            count,
+            status: DONE,
+            outcome: Outcome {
                 delivery,
                 until: summary.until,
                 entry: summary.entry,
                 place: 0,
                 fault: 0,
-            };
-            DONE
-        }
-        Err(fault) => {
-            *outcome = outcome_of_fault(fault);
-            NO
-        }
+            },
+        },
+        Err(fault) => Followed {
+            count,
+            status: NO,
+            outcome: outcome_of_fault(fault),
+        },
     }
 }
 
@@ -101,7 +134,11 @@ fn follow_asked(
     ensures { Follows plan.now.plan request contacts.now result outcome.old outcome.new }
 {
     match request {
-        Ok(request) => follow_contacts(plan, &request, contacts, outcome),
+        Ok(request) => {
+            let followed = follow_contacts(plan, &request, contacts, &mut []);
+            *outcome = followed.outcome;
+            followed.status
+        }
         Err(error) => of_request(error),
     }
 }
@@ -124,77 +161,6 @@ pub extern "C" fn cgrlist_follow(
     over_plan!(handle, alloc, opened => follow_asked(opened.plan(), request, contacts, outcome))
 }
 
-/// `cgrlist_hop`: who sends to whom over which contact, when the bundle is sent and when it arrives, in seconds since
-/// 1970-01-01T00:00:00Z.
-#[repr(C)]
-#[derive(Clone, Copy)]
-pub struct HopRow {
-    pub from: u64,
-    pub to: u64,
-    pub sent: u64,
-    pub arrival: u64,
-    pub contact: u32,
-}
-
-/// Returns the hop over the contact of this number, which follows `front`, and where it leads, unless it has a fault.
-/// `here` is where `front` leads.
-fn hop_after(
-    plan: &Plan<Global>,
-    request: &Request,
-    front: &[u32],
-    here: Reached,
-    number: u32,
-) -> Option<(HopRow, Reached)>
-    requires path { IsTrue (is_path plan.now.plan request.now front.now) }
-    requires here { IsReachedBy plan.now.plan request.now front.now here }
-    ensures fault { IfNone result (IsTrue (is_some (fault_at plan.now.plan request.now front.now number))) }
-    ensures good { IfSome result (λ x. fault_at plan.now.plan request.now front.now number ≡ None) }
-    ensures hop { IfSome result (λ x. option_map (λ c. hop_row (hop_after plan.now.plan request.now front.now number c)) (contact_named plan.now.plan number) ≡ Some x.0) }
-    ensures path { IfSome result (λ x. IsTrue (is_path plan.now.plan request.now (front.now ++ number ∷ []))) }
-    ensures reached { IfSome result (λ x. IsReachedBy plan.now.plan request.now (front.now ++ number ∷ []) x.1) }
-{
-    let Ok(there) = follow_hop(plan, request, front, here, number) else {
-        return None;
-    };
-    let Some(contact) = plan.contact(number) else {
-        return None;
-    };
-    let hop = HopRow {
-        from: contact.from,
-        to: contact.to,
-        sent: here.at.max(contact.start),
-        arrival: there.at,
-        contact: contact.number,
-    };
-    Some((hop, there))
-}
-
-/// Writes the hops before the first fault, as many as there is room for, and returns how many there are.
-fn write_hops(
-    plan: &Plan<Global>,
-    request: &Request,
-    contacts: &[u32],
-    hops: &mut [HopRow],
-) -> usize
-    ensures count { result ≡ length (hops_of plan.now.plan request.now contacts.now) }
-    ensures hops { hops.new ≡ put_over hops.old (hops_of plan.now.plan request.now contacts.now) }
-{
-    let mut here = Reached {
-        node: request.from(),
-        at: request.at(),
-    };
-    for (i, number) in contacts.iter().enumerate() {
-        let Some((hop, there)) = hop_after(plan, request, &contacts[..i], here, *number) else {
-            return i;
-        };
-        if i < hops.len() {
-            hops[i] = hop;
-        }
-        here = there;
-    }
-    contacts.len()
-}
-
 /// Gives the hops of the contacts of a request, if it is one, and how many there are.
 fn give_hops(
     plan: &Plan<Global>,
@@ -210,22 +176,12 @@ fn give_hops(
         Ok(request) => request,
         Err(error) => return of_request(error),
     };
-    *count = write_hops(plan, &request, contacts, hops);
-    if *count > hops.len() {
+    let followed = follow_contacts(plan, &request, contacts, hops);
+    *count = followed.count;
+    if followed.count > hops.len() {
         return ROOM;
     }
-    route_status(plan, &request, contacts)
-}
-
-/// Returns the status of a list of contacts: whether it makes a route.
-fn route_status(plan: &Plan<Global>, request: &Request, contacts: &[u32]) -> u32
-    ensures { result ≡ route_status (is_route plan.now.plan request.now contacts.now) }
-{
-    plan.rules_hold();
-    match follow(plan, request, contacts) {
-        Ok(_) => DONE,
-        Err(_) => NO,
-    }
+    followed.status
 }
 
 /// Gives the hops of a list of contacts before its first fault, as many as there is room for, and how many there are.
