@@ -1,4 +1,4 @@
-/* What the calls of the C library cost, over plans of 1000 nodes with half as many ranges as contacts.
+/* What the calls of the C library cost, over plans of 1000 nodes with half as many ranges as contacts, and over a chain.
  *
  *     costs [CONTACTS] [REPEATS]
  *

@@ -4,7 +4,8 @@
  *
  * The plan is read, and one question asked. Then comes, so many times: `best`, a best route, each a minute later than the
  * one before; `change`, a contact deleted, and a best route; `once`, the first 1000 routes; `pages`, the same by
- * pages of 100. `read` reads the plan and asks no question. */
+ * pages of 100; `follow` and `hops`, what the first answer's list of contacts does. `read` reads the plan and asks no
+ * question. */
 #include "cgrlist.h"
 #include <stdio.h>
 #include <stdlib.h>
@@ -51,8 +52,20 @@ static void pages(void) {
     cgrlist_listing_close(listing);
 }
 
+static void follow(void) {
+    cgrlist_outcome outcome;
+    must(cgrlist_follow(plan, &request, contacts, routes->hops, &outcome));
+}
+
+static void hops(void) {
+    static cgrlist_hop given[20000];
+    size_t count;
+    must(cgrlist_hops(plan, &request, contacts, routes->hops, given, sizeof given / sizeof *given, &count));
+}
+
 static const struct { const char *name; void (*call)(void); } CALLS[] = {
-    {"best", best}, {"change", change}, {"once", once}, {"pages", pages}};
+    {"best", best}, {"change", change}, {"once", once}, {"pages", pages},
+    {"follow", follow}, {"hops", hops}};
 
 int main(int argc, char **argv) {
     if (argc != 7) return 2;

@@ -18,7 +18,8 @@ pages         those of `first` for a page and `next` for each further one, 1000 
 memory        the peak memory of a run for one route and for 10000, in MB, and the ratio
 library       those of calls of the C library, which library/build makes, beside `first` and `many`: reading a plan and
               the first question; a best route; a contact deleted and a best route after it; 1000 routes at once, and by
-              pages of 100. What a call takes is the difference of two runs, by the calls that one has more
+              pages of 100; and each hop of following lists of 10000 and 20000. What a call takes is the difference of
+              two runs, by the calls that one has more
 tools         those, and the processor time, of `timetable`, `latest` and `report` that ask the C library in process; with
               callgrind a run takes some fifty times as long
 

@@ -4,10 +4,12 @@ import subprocess
 import tempfile
 
 from plan import second_of, text_of
+from plans import Question
 from running import TOP, instructions
 from tables import print_head, print_row, shown
 
 ASKED = ["relay-mars-20000", "walker-66-5000", "iridium-1-2", "cube-1-2"]
+CHAINS = [10000, 20000]  # the hops of long lists
 
 
 class Counter:
@@ -63,6 +65,25 @@ def compiled(folder, into):
     return path
 
 
+def chained(folder, hops):
+    """A question whose one route takes each contact of a plan in turn."""
+    name, span = f"chain-{hops}", "2030/01/01-00:00:00 2030/02/01-00:00:00"
+    path = os.path.join(folder, f"{name}.txt")
+    with open(path, "w", encoding="ascii") as file:
+        for node in range(1, hops + 1):
+            file.write(f"a contact {span} {node} {node + 1} 1000\na range {span} {node} {node + 1} 1\n")
+    return Question(name, path, "1", str(hops + 1), "2030/01/01-00:00:00")
+
+
+def long_lists(bench, calling, folder):
+    print_head("Following a long list, in instructions for each hop.", ["Plan", "follow", "hops"])
+    for hops in CHAINS:
+        counter = Counter(bench, calling, chained(folder, hops))
+        row = {what: counter.each(what, 2) * 1e6 / hops for what in ("follow", "hops")}
+        print_row([counter.question.name, *(shown(it, 0) for it in row.values())])
+        bench.rows.append({"plan": counter.question.name, **row})
+
+
 def library(bench):
     is_begun = False
     with tempfile.TemporaryDirectory() as folder:
@@ -74,3 +95,5 @@ def library(bench):
             is_begun = True
             print_row([question.name, *(shown(it, 3) for it in row.values())])
             bench.rows.append({"plan": question.name, **row})
+        if not bench.given.only and not bench.given.files:
+            long_lists(bench, calling, folder)
