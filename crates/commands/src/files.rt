@@ -1,4 +1,4 @@
-//! The files of a system, as a trait, and those that the words of a command name.
+//! The trait of a system of files, and the files that a command line names.
 
 mod disk;
 
