@@ -8,13 +8,11 @@ ghost use Rattle.sabr_session.specs.TextLaws.{HasOneAnswer, PiecesAreOneText, Te
 /// order in which they were given. So are the states that it can go back to. If it began at a place of the list, it
 /// stands at the place after their routes. From there its next page has the next routes, says whether more follow, and
 /// leads to the place after them.
-#[tactic(auto, using(crate::proofs::PlaceLemmas::Pages::pages_stand))]
 pub fn pages_stand()
     ensures { PagesStand }
 {}
 
 /// States that the session of a text that [`verify`](crate::verify) accepts stands at the text's place.
-#[tactic(auto, using(crate::proofs::PlaceLemmas::PlacedTexts::texts_are_placed))]
 pub fn texts_are_placed()
     ensures { TextsArePlaced }
 {}
