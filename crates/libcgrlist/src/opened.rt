@@ -167,14 +167,22 @@ impl Opened {
         self.listing.take()
     }
 
+    /// Opens a listing, in place of any other.
+    pub fn keep_listing(&mut self, listing: Paused)
+        requires { IsPausedOver self.old.plan listing }
+        ensures { self.new ≡ record self.old { listing = Some (listing_over self.old.plan listing) } }
+    {
+        self.listing = Some(listing);
+    }
+
     /// Keeps the plan's links, and opens a listing, in place of any other.
     pub fn keep(&mut self, links: PlanLinks<Global>, listing: Paused)
         requires links { AreLinksOf self.old.plan links }
         requires listing { IsPausedOver self.old.plan listing }
         ensures { self.new ≡ record self.old { listing = Some (listing_over self.old.plan listing) } }
     {
-        self.links = Some(links);
-        self.listing = Some(listing);
+        self.keep_links(links);
+        self.keep_listing(listing);
     }
 
     /// The plan's digest, which is made once.

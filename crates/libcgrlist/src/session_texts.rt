@@ -16,7 +16,7 @@ use host::Bytes;
 use sabr_index::Index;
 use sabr_model::{Failed, GhostCount, Write};
 use sabr_search::Settled;
-use sabr_session::{SessionFault, read_session, verify, write_session};
+use sabr_session::{SessionFault, read_paused, verify_over, write_session};
 use std::alloc::Global;
 
 /// A writer that keeps the bytes that it takes. It fails if an allocation does.
@@ -120,7 +120,7 @@ fn line_of(fault: SessionFault) -> u64
     }
 }
 
-/// Opens the listing of a session text, at its place. It runs no search.
+/// Opens the listing of a session text, at its place. It runs no search, and makes no index of the plan.
 fn load_text(alloc: Global, opened: &mut Opened, text: &[u8]) -> Result<(), SessionFault>
     requires { opened.old.listing ≡ None }
     ensures loaded { OnOk result (IsLoaded opened.old text.now opened.new) }
@@ -130,10 +130,8 @@ fn load_text(alloc: Global, opened: &mut Opened, text: &[u8]) -> Result<(), Sess
     let digest = opened.digest();
     let mut reader = Bytes::new(text);
     let finder = Settled::new(alloc);
-    let session = read_session(alloc, &mut reader, opened.plan(), &digest, finder)?;
-    let (paused, index) = session.pause();
-    let links = index.into_links();
-    opened.keep(links, paused);
+    let paused = read_paused(alloc, &mut reader, opened.plan(), &digest, finder)?;
+    opened.keep_listing(paused);
     Ok(())
 }
 
@@ -170,20 +168,19 @@ pub extern "C" fn cgrlist_listing_load(
     over_plan!(handle, alloc, opened => open_text(alloc, &mut opened, text, line))
 }
 
-/// Verifies that bytes are the session text of a place over the plan.
+/// Verifies that bytes are the session text of a place over the plan. The plan's links are kept.
 fn verify_text(alloc: Global, opened: &mut Opened, text: &[u8]) -> Result<bool, SessionFault>
     ensures same { opened.new ≡ opened.old }
     ensures verified { Verifies opened.old.plan.plan text.now result }
 {
     let digest = opened.digest();
+    let links = opened.take_links(alloc)?;
+    let index = Index::from_links(opened.plan(), links);
     let mut reader = Bytes::new(text);
-    verify(
-        alloc,
-        &mut reader,
-        opened.plan(),
-        &digest,
-        Settled::new(alloc),
-    )
+    let finder = Settled::new(alloc);
+    let (verified, index) = verify_over(alloc, &mut reader, index, &digest, finder);
+    opened.keep_links(index.into_links());
+    verified
 }
 
 /// Returns whether a text is the session text of a place in the list of its request over the plan.

@@ -9,6 +9,7 @@ pub mod SessionRead
 pub mod SessionFed
 pub mod SessionLoader
 pub mod SessionGiven
+pub mod PausedTexts
 pub mod TextLaws
 pub mod Verifying
 pub mod SessionPlaces

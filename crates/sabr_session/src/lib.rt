@@ -3,7 +3,7 @@
 //! A [`Session`](sabr_frontier::Session) lists the routes of a request page by page, best first. [`write_session`]
 //! saves one, and [`read_session`] or, chunk by chunk, [`SessionFeed`] reads it again, so that a later run goes on
 //! where an earlier one ended. [`verify`] tests by searches that a saved session is the text after some number of the
-//! best routes. [`write_report`] writes the lines of a page. [`Hops`] follows a list of contacts hop by hop.
+//! best routes. [`read_paused`] and [`verify_over`] do the same for a caller that keeps the plan's index. [`write_report`] writes the lines of a page. [`Hops`] follows a list of contacts hop by hop.
 //!
 //! **Format.** A saved session has the digest of its plan, the request, the number of emitted routes, the last of them,
 //! and the parts of the listing that are left, each with its prefix, its excluded contacts and its best route. Version
@@ -43,10 +43,10 @@ mod writing;
 pub use hex_digest::digest_text;
 pub use hops::{FollowedHop, Hops};
 pub use laws::{law7, one_answer, pages_stand, pieces_are_one_text, texts_are_placed};
-pub use reading::{SessionFeed, read_session};
+pub use reading::{SessionFeed, read_paused, read_session};
 pub use rows::texts_of_plan_a;
 pub use session_fault::SessionFault;
-pub use verifying::verify;
+pub use verifying::{verify, verify_over};
 pub use writing::{
     TextBuffer, put_pieces, put_report, put_route_line, write_report, write_session,
 };

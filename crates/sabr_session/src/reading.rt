@@ -8,4 +8,4 @@ mod session_feed;
 mod session_lines;
 mod words;
 
-pub use session_feed::{SessionFeed, read_session};
+pub use session_feed::{SessionFeed, read_paused, read_session};

@@ -4,8 +4,9 @@ ghost use Rattle.std.specs.Prelude.{◌≡◌};
 ghost use Rattle.sabr_plan.specs.Canonical.{digest_of};
 ghost use Rattle.sabr_session.specs.Verifying.{VerifiesText};
 
-use crate::reading::read_session;
+use crate::reading::read_paused;
 use crate::session_fault::SessionFault;
+use sabr_index::Index;
 use sabr_model::{Plan, Read};
 use sabr_search::BestOf;
 use std::alloc::Allocator;
@@ -16,7 +17,8 @@ use std::alloc::Allocator;
 /// isn't trusted.
 ///
 /// The digest is that of the plan. The result is false as soon as the bytes so far are no prefix of such a text. Then
-/// more of the reader's bytes may have been read. It costs a search for each part, and a pass over the emitted routes.
+/// more of the reader's bytes may have been read. It makes the plan's index first, and costs a search for each part, and
+/// a pass over the emitted routes.
 ///
 /// # Errors
 ///
@@ -32,16 +34,43 @@ pub fn verify<R: Read, B: BestOf<A>, A: Allocator + Copy>(
     requires { digest.now ≡ digest_of plan.now.plan }
     ensures { VerifiesText plan.now.plan (R.input reader.old) result (R.input reader.new) }
 {
+    let index = Index::new(alloc, plan)?;
+    let (verified, _index) = verify_over(alloc, reader, index, digest, finder);
+    verified
+}
+
+/// Verifies bytes as [`verify`] does, over an index of the plan, and gives that back.
+///
+/// # Errors
+///
+/// Those of [`verify`].
+pub fn verify_over<'p, R: Read, B: BestOf<A>, A: Allocator + Copy>(
+    alloc: A,
+    reader: &mut R,
+    index: Index<'p, A>,
+    digest: &[u8; 32],
+    finder: B,
+) -> (Result<bool, SessionFault>, Index<'p, A>)
+    requires { digest.now ≡ digest_of index.plan }
+    ensures verified { VerifiesText index.entry.plan (R.input reader.old) result.0 (R.input reader.new) }
+    ensures index { result.1 ≡ index.entry }
+{
+    let plan = index.plan();
     plan.rules_hold();
-    match read_session(alloc, reader, plan, digest, finder) {
-        Ok(mut session) => match session.certify() {
-            Ok(placed) => Ok(placed),
-            Err(_refused) => Err(SessionFault::NoMemory),
-        },
+    match read_paused(alloc, reader, plan, digest, finder) {
+        Ok(paused) => {
+            let mut session = paused.resume(index);
+            let certified = session.certify();
+            let (_paused, index) = session.pause();
+            match certified {
+                Ok(placed) => (Ok(placed), index),
+                Err(_refused) => (Err(SessionFault::NoMemory), index),
+            }
+        }
         Err(fault) => match fault {
-            SessionFault::Read => Err(SessionFault::Read),
-            SessionFault::NoMemory => Err(SessionFault::NoMemory),
-            _ => Ok(false),
+            SessionFault::Read => (Err(SessionFault::Read), index),
+            SessionFault::NoMemory => (Err(SessionFault::NoMemory), index),
+            _ => (Ok(false), index),
         },
     }
 }

@@ -4,13 +4,17 @@ use Rattle.sabr_model.specs.Devices.{Input, Gives, HasEnded}
 use Rattle.sabr_model.proofs.ListLemmas.ReadTexts.{Gives-nil, Gives-append}
 use Rattle.sabr_model.specs.plan.Plan.{TabledPlan}
 use Rattle.sabr_plan.specs.Canonical.{digest_of}
+use Rattle.sabr_frontier.specs.declared.session.paused.PausedSession.{PausedSession}
+use Rattle.sabr_frontier.specs.listing.Listing.{IsState}
+use Rattle.sabr_frontier.specs.session.Paused.{IsPausedOver, state_of}
 use Rattle.sabr_frontier.specs.session.Session.{Seen}
 use Rattle.sabr_search.specs.questions.Calls.{Calls}
 use Rattle.sabr_session.specs.declared.session_fault.SessionFault.{SessionFault}
 use Rattle.sabr_session.specs.declared.session_fault.SessionFault.TheVariants as fault
 use Rattle.sabr_session.specs.SessionRead.{Said, ComesTo}
 use Rattle.sabr_session.specs.SessionFed.{OpenText, nothing_fed, opened_over, outcome_of, IsRefusedPiece, IsFed, IsFinished}
-use Rattle.sabr_session.specs.SessionGiven.{ReadsSession, said_over}
+use Rattle.sabr_session.specs.SessionGiven.{EndsText, BreaksText, RefusesText, ReadsSession, said_over}
+use Rattle.sabr_session.specs.PausedTexts.{IsFinishedPaused, shown_over}
 use Rattle.sabr_session.proofs.ReadingLemmas.SessionOutcomes.{said_of-outcome, outcome-read}
 use Rattle.sabr_session.proofs.ReadingLemmas.StepsTaken.{text_not_read}
 
@@ -78,12 +82,22 @@ reader_ended plan calls old mid new (Ok t) answer was gives end fine finished = 
   told = inl (end, fine, rw (was.same [] true, ← was.over) finished);
 }
 
--- and the session's finder was called as often as the one handed in
-pub calls_kept : (plan : TabledPlan) (calls : Calls) (old new : Input) (feed : Result OpenText SessionFault) (answer : Result Seen SessionFault)
-    → HasFed plan calls old new feed → IfOk feed (λ t. IfOk answer (λ s. s.calls ≡ t.calls)) → IfOk answer (λ s. s.calls ≡ calls)
-calls_kept plan calls old new (Err f) answer was told = absurd was
-calls_kept plan calls old new (Ok t) (Err f) was told = tt
-calls_kept plan calls old new (Ok t) (Ok s) was told = told ∙ was.counted
+-- the session of such a text was paused over the plan
+pub finished_over : {B A : Type 0} (calls_of : B → Calls) (plan : TabledPlan) (calls : Calls) (old new : Input) (feed : Result OpenText SessionFault) (answer : Result (PausedSession B A) SessionFault)
+    → HasFed plan calls old new feed → IsFinishedPaused calls_of feed answer
+    → IsFinished feed (shown_over calls_of plan answer) × IfOk answer (IsPausedOver plan) × IfOk answer (λ s. calls_of s.searcher.finder ≡ calls) × IfOk answer (λ s. IsState plan.plan s.searcher.request (state_of s))
+finished_over calls_of plan calls old new (Err f) answer was told = absurd was
+finished_over calls_of plan calls old new (Ok t) answer was told = rw (← was.over, ← was.counted) told
+
+-- its index may be refused
+pub no_index : (plan : TabledPlan) (old : Input) (s : Seen) (new : Input) → ReadsSession plan old (Ok s) new → ReadsSession plan old (Err fault.NoMemory) new
+no_index plan old s new reads = record { given = reads.given; gives = reads.gives; told = by_end reads.told }
+  where
+    by_end : EndsText plan old reads.given (Ok s) new ⊎ (BreaksText plan old reads.given (Ok s) new ⊎ RefusesText plan old reads.given (Ok s) new)
+        → EndsText plan old reads.given (Err fault.NoMemory) new ⊎ (BreaksText plan old reads.given (Err fault.NoMemory) new ⊎ RefusesText plan old reads.given (Err fault.NoMemory) new)
+    by_end (inl e) = inl (e.0, e.1, inl refl)
+    by_end (inr (inl bad)) = absurd bad
+    by_end (inr (inr bad)) = absurd bad
 
 -- the fault of a session is Read only if its reader failed
 pub read_failed : (plan : TabledPlan) (old : Input) (answer : Result Seen SessionFault) (new : Input) → ReadsSession plan old answer new → IfErr answer (λ f. f ≡ fault.Read → new.failures ≡ old.failures + 1)
@@ -106,3 +120,8 @@ read_failed plan old (Err f) new reads = λ e.
     not_from given e (Err g) is told =
         let same : f ≡ g = cc in
         text_not_read plan.plan (digest_of plan.plan) given g is (sym same ∙ e)
+
+pub paused_failed : {B A : Type 0} (calls_of : B → Calls) (plan : TabledPlan) (old : Input) (answer : Result (PausedSession B A) SessionFault) (new : Input)
+    → ReadsSession plan old (shown_over calls_of plan answer) new → IfErr answer (λ f. f ≡ fault.Read → new.failures ≡ old.failures + 1)
+paused_failed calls_of plan old (Ok s) new reads = tt
+paused_failed calls_of plan old (Err f) new reads = read_failed plan old (Err f) new reads

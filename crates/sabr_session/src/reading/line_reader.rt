@@ -4,12 +4,14 @@ ghost use Rattle.std.specs.Prelude.{◌≡◌, ◌+◌, ◌<◌, ◌≤◌, [], 
 ghost use Rattle.sabr_plan.specs.Canonical.{digest_of};
 ghost use Rattle.sabr_plan.specs.Words.{is_one_line};
 ghost use Rattle.sabr_frontier.specs.listing.Listing.{IsState};
+ghost use Rattle.sabr_frontier.specs.session.Paused.{IsPausedOver, state_of};
+ghost use Rattle.sabr_session.specs.PausedTexts.{shown_over};
 ghost use Rattle.sabr_session.specs.SessionRead.{misspelled, most_bytes, read_line};
 ghost use Rattle.sabr_session.specs.SessionFed.{GoesOn, IsRefusedFront, IsRefusedPiece, IsSessionFrom, is_bad_front, opened_over, outcome_of, weight, weight_bound, Leaves};
 
 use crate::reading::session_lines::SessionLines;
 use crate::session_fault::SessionFault;
-use sabr_frontier::Session;
+use sabr_frontier::PausedSession;
 use sabr_model::{NoMemory, Plan};
 use sabr_plan::line_end;
 use sabr_search::BestOf;
@@ -152,15 +154,23 @@ impl<'p, B: BestOf<A>, A: Allocator + Copy> LineReader<'p, B, A> {
         Ok(())
     }
 
-    /// Ends the text, and makes its session.
-    pub(crate) fn finish(self) -> Result<Session<'p, B, A>, SessionFault>
-        ensures from { IsSessionFrom self.entry.plan (outcome_of self.entry [] true) result }
-        ensures calls { IfOk result (λ s. s.calls ≡ self.entry.calls) }
-        ensures formed { IfOk result (λ s. IsState s.plan.plan s.request s.state) }
+    /// The allocator, and the plan.
+    pub(crate) fn base(&self) -> (A, &'p Plan<A>)
+        ensures { result.1.now ≡ self.now.plan }
+    {
+        self.lines.base()
+    }
+
+    /// Ends the text, and makes its session, paused.
+    pub(crate) fn finish(self) -> Result<PausedSession<B, A>, SessionFault>
+        ensures from { IsSessionFrom self.entry.plan (outcome_of self.entry [] true) (shown_over B.calls_of self.entry.plan result) }
+        ensures paused { IfOk result (IsPausedOver self.entry.plan) }
+        ensures calls { IfOk result (λ s. B.calls_of s.searcher.finder ≡ self.entry.calls) }
+        ensures formed { IfOk result (λ s. IsState self.entry.plan.plan s.searcher.request (state_of s)) }
     {
         if !self.lines.has_end() {
             return Err(misspelled(self.lines.next_number()));
         }
-        self.lines.into_session()
+        self.lines.into_paused()
     }
 }

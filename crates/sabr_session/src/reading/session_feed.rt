@@ -4,6 +4,8 @@ ghost use Rattle.std.specs.Prelude.{◌≡◌, ◌+◌, ◌<◌, ◌≤◌, leng
 ghost use Rattle.sabr_model.specs.routes.Asking.{IsRequest};
 ghost use Rattle.sabr_plan.specs.Canonical.{digest_of};
 ghost use Rattle.sabr_frontier.specs.listing.Listing.{IsState};
+ghost use Rattle.sabr_frontier.specs.session.Paused.{IsPausedOver, state_of};
+ghost use Rattle.sabr_session.specs.PausedTexts.{IsFinishedPaused, shown_over};
 ghost use Rattle.sabr_session.specs.SessionRead.{most_bytes};
 ghost use Rattle.sabr_session.specs.SessionFed.{IsFed, IsFinished, opened_over, weight_of, weight_bound};
 ghost use Rattle.sabr_session.specs.SessionGiven.{ReadsSession};
@@ -11,7 +13,8 @@ ghost use Rattle.sabr_session.specs.declared.session_fault.SessionFault.TheVaria
 
 use crate::reading::line_reader::LineReader;
 use crate::session_fault::SessionFault;
-use sabr_frontier::Session;
+use sabr_frontier::{PausedSession, Session};
+use sabr_index::Index;
 use sabr_model::{Failed, Plan, Read};
 use sabr_search::BestOf;
 use std::alloc::{Allocator, Global};
@@ -92,9 +95,20 @@ impl<'p, B: BestOf<A>, A: Allocator + Copy> SessionFeed<'p, B, A> {
         ensures formed { IfOk result (λ s. IsState s.plan.plan s.request s.state) }
         ensures accepted { IfOk result (λ s. IsRequest s.request) }
     {
-        let session = self.text?.finish()?;
+        let text = self.text?;
+        let (alloc, plan) = text.base();
+        let paused = text.finish()?;
+        let index = Index::new(alloc, plan)?;
+        let session = paused.resume(index);
         session.request().limits_hold();
         Ok(session)
+    }
+
+    /// Ends the text as [`finish`](SessionFeed::finish) does, but pauses its session: no index of the plan is made.
+    fn finish_paused(self) -> Result<PausedSession<B, A>, SessionFault>
+        ensures { IsFinishedPaused B.calls_of self.entry result }
+    {
+        self.text?.finish()
     }
 
     /// The number of bytes held of the incomplete line.
@@ -134,11 +148,38 @@ pub fn read_session<'p, R: Read, B: BestOf<A>, A: Allocator + Copy>(
     ensures formed { IfOk result (λ s. IsState s.plan.plan s.request s.state) }
     ensures accepted { IfOk result (λ s. IsRequest s.request) }
 {
+    let paused = read_paused(alloc, reader, plan, digest, finder)?;
+    let index = Index::new(alloc, plan)?;
+    let session = paused.resume(index);
+    session.request().limits_hold();
+    Ok(session)
+}
+
+/// Reads the session of a text as [`read_session`] does, but pauses it: no index of the plan is made.
+/// [`PausedSession::resume`] takes one that the caller has.
+///
+/// # Errors
+///
+/// Those of [`read_session`].
+pub fn read_paused<R: Read, B: BestOf<A>, A: Allocator + Copy>(
+    alloc: A,
+    reader: &mut R,
+    plan: &Plan<A>,
+    digest: &[u8; 32],
+    finder: B,
+) -> Result<PausedSession<B, A>, SessionFault>
+    requires { digest.now ≡ digest_of plan.now.plan }
+    ensures read { ReadsSession plan.now (R.input reader.old) (shown_over B.calls_of plan.now result) (R.input reader.new) }
+    ensures failed { IfErr result (λ f. f ≡ fault.Read → (R.input reader.new).failures ≡ (R.input reader.old).failures + 1) }
+    ensures paused { IfOk result (IsPausedOver plan.now) }
+    ensures calls { IfOk result (λ s. B.calls_of s.searcher.finder ≡ B.calls_of finder) }
+    ensures formed { IfOk result (λ s. IsState plan.now.plan s.searcher.request (state_of s)) }
+{
     let mut buffer = [0u8; PIECE_BYTES];
     let mut feed = SessionFeed::new(alloc, plan, digest, finder);
     loop {
         match reader.read(&mut buffer) {
-            Ok(0) => return feed.finish(),
+            Ok(0) => return feed.finish_paused(),
             Ok(count) => feed.feed(&buffer[..count])?,
             Err(Failed) => return Err(SessionFault::Read),
         }

@@ -4,6 +4,8 @@ ghost use Rattle.std.specs.Prelude.{◌≡◌, ◌+◌, ◌<◌, ◌≤◌, true
 ghost use Rattle.std.specs.Str.{bytes_eq};
 ghost use Rattle.hex.specs.Hex.{encode_lower};
 ghost use Rattle.sabr_frontier.specs.listing.Listing.{IsState};
+ghost use Rattle.sabr_frontier.specs.session.Paused.{IsPausedOver, state_of};
+ghost use Rattle.sabr_session.specs.PausedTexts.{shown_over};
 ghost use Rattle.sabr_session.specs.SessionRead.{asked, is_after, line_said, other_said, part_said, request_said};
 ghost use Rattle.sabr_session.specs.SessionFed.{most_lines, opened_over, IsSessionFrom, Leaves};
 
@@ -13,7 +15,7 @@ use crate::reading::first_lines::{
 };
 use crate::reading::part_line::PartLine;
 use crate::session_fault::SessionFault;
-use sabr_frontier::{LoadFault, Loader, Session};
+use sabr_frontier::{LoadFault, Loader, PausedSession};
 use sabr_model::{Numbers, Plan, Request, RequestValues};
 use sabr_search::BestOf;
 use std::alloc::Allocator;
@@ -214,12 +216,20 @@ impl<'p, B: BestOf<A>, A: Allocator + Copy> SessionLines<'p, B, A> {
         }
     }
 
-    /// Returns the session of all lines, after `end`.
-    pub(crate) fn into_session(self) -> Result<Session<'p, B, A>, SessionFault>
+    /// The allocator, and the plan.
+    pub(crate) fn base(&self) -> (A, &'p Plan<A>)
+        ensures { result.1.now ≡ self.now.plan }
+    {
+        (self.alloc, self.plan)
+    }
+
+    /// Returns the session of all lines, paused, after `end`.
+    pub(crate) fn into_paused(self) -> Result<PausedSession<B, A>, SessionFault>
         requires { is_after (self.fed.lines + 1) self.fed.said ≡ true }
-        ensures from { IsSessionFrom self.entry.plan (Ok self.entry.fed.said) result }
-        ensures calls { IfOk result (λ s. s.calls ≡ self.entry.calls) }
-        ensures formed { IfOk result (λ s. IsState s.plan.plan s.request s.state) }
+        ensures from { IsSessionFrom self.entry.plan (Ok self.entry.fed.said) (shown_over B.calls_of self.entry.plan result) }
+        ensures paused { IfOk result (IsPausedOver self.entry.plan) }
+        ensures calls { IfOk result (λ s. B.calls_of s.searcher.finder ≡ self.entry.calls) }
+        ensures formed { IfOk result (λ s. IsState self.entry.plan.plan s.searcher.request (state_of s)) }
     {
         let SessionLines {
             loader,
@@ -228,8 +238,8 @@ impl<'p, B: BestOf<A>, A: Allocator + Copy> SessionLines<'p, B, A> {
             ..
         } = self;
         let Some(loader) = loader else { unreachable!() };
-        match loader.finish(emitted, last.as_slice()) {
-            Ok(session) => Ok(session),
+        match loader.finish_paused(emitted, last.as_slice()) {
+            Ok(paused) => Ok(paused),
             Err(LoadFault::NotClosed) => Err(SessionFault::NotClosed),
             Err(LoadFault::BadCount) => Err(SessionFault::BadCount),
             Err(_) => Err(SessionFault::NoMemory),

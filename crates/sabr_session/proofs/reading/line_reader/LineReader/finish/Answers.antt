@@ -15,4 +15,4 @@ pub returns-clause-from : goal.returns-clause-from
 returns-clause-from g c =
     let i = c.self.inside in
     let s : OpenText = record { plan = i.lines.plan; calls = i.lines.calls; fed = record { lines = i.lines.fed.lines; said = i.lines.fed.said; held = i.held.items } } in
-    rw (← c.self.view_is) (ended_well s c.self.invariant.2 _ (sym c.has_end.ensures ∙ c.if-not-has_end.false) c.self.invariant.1 c.into_session.ensures.from)
+    rw (← c.self.view_is) (ended_well s c.self.invariant.2 _ (sym c.has_end.ensures ∙ c.if-not-has_end.false) c.self.invariant.1 c.into_paused.ensures.from)

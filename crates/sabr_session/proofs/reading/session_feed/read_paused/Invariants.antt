@@ -1,7 +1,7 @@
 use Rattle.std.proofs.Common.{◌≡◌, ◌-◌}
 use Rattle.sabr_session.specs.SessionFed.{weight_of, weight_bound}
 use Rattle.sabr_session.proofs.ReadingLemmas.SessionGivenSoFar.{HasFed}
-use Rattle.sabr_session.proofs.reading.session_feed.read_session.Given as goal
+use Rattle.sabr_session.proofs.reading.session_feed.read_paused.Given as goal
 
 abbrev pub invariant-loop-feed : goal.invariant-loop-feed
 invariant-loop-feed g l = record {
