@@ -179,7 +179,8 @@ fn verify_text(alloc: Global, opened: &mut Opened, text: &[u8]) -> Result<bool, 
     let mut reader = Bytes::new(text);
     let finder = Settled::new(alloc);
     let (verified, index) = verify_over(alloc, &mut reader, index, &digest, finder);
-    opened.keep_links(index.into_links());
+    let links = index.into_links();
+    opened.keep_links(links);
     verified
 }
 
