@@ -80,7 +80,7 @@ module _ (old new : Output) where
   verified : (planned : Result TabledPlan PlanFault) (answer : _) (end : Result Bool Failure) → WritesAnswer planned answer end old new → Grows old new
   verified (Err fault) answer end (e, same) = kept old new same
   verified (Ok p) (Err fault) end (e, same) = kept old new same
-  verified (Ok p) (Ok answer) (Ok yes) (e, (h, flushed)) = all old new _ h
+  verified (Ok p) (Ok answer) (Ok placed) (e, (h, flushed)) = all old new _ h
   verified (Ok p) (Ok answer) (Err failure.Write) h = part old new _ h
   verified (Ok p) (Ok answer) (Err f) h = absurd h
 
