@@ -10,7 +10,7 @@ use Rattle.sabr_model.specs.routes.Arrival.{RouteRequest, arrival_after}
 use Rattle.sabr_model.specs.routes.Asking.{IsRequest}
 use Rattle.sabr_model.specs.routes.Route.{contacts_of, is_route, until_of, entry_of}
 use Rattle.sabr_model.specs.routes.Record.{record_of}
-use Rattle.sabr_frontier.proofs.GivingLemmas.EarlyRoutes.{delivered_early}
+use Rattle.sabr_frontier.proofs.GivingLemmas.KeptKeys.{delivered_early}
 use Rattle.sabr_session.specs.ReportText.{HasSpelledTimes, route_line}
 use Rattle.std.specs.Option.{option_map_or}
 use Rattle.std.specs.declared.option.Option.TheVariants.{Some}

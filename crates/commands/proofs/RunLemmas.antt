@@ -2,6 +2,5 @@
 pub mod PageTexts
 pub mod ManyAnswers
 pub mod RunsFollow
-pub mod NextPages
 pub mod RunsInTurn
 pub mod CallsInTurn

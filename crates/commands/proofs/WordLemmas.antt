@@ -1,5 +1,4 @@
 -- Lists on the command line, the words of commands, and texts of requests and of lists.
 pub mod RequestWords
 pub mod TextLines
-pub mod BuiltWords
 pub mod NamedWords

@@ -12,7 +12,7 @@ use Rattle.sabr_frontier.specs.session.Session.{Seen, next_page, session_over}
 use Rattle.sabr_session.specs.SessionPlaces.{Act, paged, refused, back, no_back, Leaves}
 use Rattle.sabr_session.specs.SessionRead.{IsSessionOf}
 use Rattle.sabr_session.specs.Verifying.{IsSessionText}
-use Rattle.sabr_session.proofs.PlaceLemmas.PlacedTexts.{texts_are_placed}
+use Rattle.sabr_session.proofs.SessionPlaces.{texts_are_placed}
 use Rattle.libcgrlist.specs.Answers.{count_refusal}
 use Rattle.libcgrlist.specs.Listings.{AnswersBackOf, AnswersNext, AnswersPage, IfOpen, listing_after}
 use Rattle.libcgrlist.specs.Opened.{OpenPlan, listing_of}

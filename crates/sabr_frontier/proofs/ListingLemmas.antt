@@ -1,20 +1,11 @@
 -- Parts, states and steps of a listing.
-pub mod Rising
 pub mod NumbersAfter
-pub mod TreeSets
-pub mod Parting
 pub mod ListMembers
 pub mod ClosedTrees
-pub mod Leaves
 pub mod Division
 pub mod NextPlace
-pub mod CertifiedPlaces
 pub mod FormedSteps
 pub mod ExpectedPrefixes
-pub mod GoesOn
-pub mod Paths
 pub mod AllRoutes
 pub mod Lawful
 pub mod NewRoutes
-pub mod PlacesFormed
-pub mod PlacedStates

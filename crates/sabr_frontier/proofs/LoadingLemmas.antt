@@ -1,4 +1,3 @@
 -- A state that is loaded part by part.
-pub mod AnsweredParts
-pub mod CheckedParts
 pub mod GhostWalks
+pub mod LoadedParts

@@ -2,4 +2,3 @@ pub mod listing
 pub mod tree
 pub mod session
 pub mod loading
-pub mod giving

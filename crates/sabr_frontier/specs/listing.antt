@@ -3,10 +3,8 @@ pub mod Rising
 pub mod Tree
 pub mod State
 pub mod Formed
-pub mod Expecting
 pub mod Step
 pub mod Listing
 pub mod Fresh
-pub mod Standing
 pub mod Laws
 pub mod Rows

@@ -2,11 +2,10 @@
 pub mod Winners
 pub mod Shape
 pub mod Undo
-pub mod Index
 pub mod Best
 pub mod Searching
 pub mod Giving
 pub mod Left
-pub mod Cut
 pub mod Sound
-pub mod Prepared
+pub mod PageTrees
+pub mod SmallestKeys

@@ -1,7 +1,7 @@
 //! Laws of the frontier, each the contract of a function that does nothing.
 
 ghost use Rattle.sabr_frontier.specs.listing.Laws.{PartsDivide, StatesAreTold, StepsFollow};
-ghost use Rattle.sabr_frontier.specs.listing.Standing.{PagesGiveNewRoutes};
+ghost use Rattle.sabr_frontier.specs.listing.Fresh.{PagesGiveNewRoutes};
 
 /// States that every route was given or is in exactly one part of the tree of those given, never both.
 pub fn law4()

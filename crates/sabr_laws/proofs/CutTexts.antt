@@ -13,7 +13,7 @@ use Rattle.sabr_session.proofs.TextLemmas.SaidLines.{other_line}
 use Rattle.sabr_session.proofs.WordLemmas.SpelledWords.{other_number}
 use Rattle.sabr_laws.specs.CutTexts.{NoTextBeginsAnother, CutTextsAreRefused}
 use Rattle.sabr_plan.specs.Canonical.{digest_of}
-use Rattle.sabr_session.proofs.TextLemmas.OneAnswer.{is_read_back}
+use Rattle.sabr_session.proofs.TextLemmas.TextsRead.{is_read_back}
 use Rattle.sabr_session.specs.declared.session_fault.SessionFault.TheVariants as fault
 
 -- The lines of a text that begins with whole lines.

@@ -25,7 +25,7 @@ use Rattle.sabr_model.specs.routes.Telling.{summary_of}
 use Rattle.sabr_model.specs.routes.Fault.{fault_at, fault_of, fault_or, first_fault}
 use Rattle.sabr_model.specs.routes.Asking.{IsRequest}
 use Rattle.sabr_plan.specs.Times.{last_spelled}
-use Rattle.sabr_frontier.proofs.GivingLemmas.EarlyRoutes.{arrival_bound}
+use Rattle.sabr_frontier.proofs.GivingLemmas.KeptKeys.{arrival_bound}
 use Rattle.sabr_model.proofs.ListLemmas.Begins.{receivers-append, receivers-cons}
 use Rattle.sabr_model.proofs.PlanLemmas.RangeOrder.{light_of_limit}
 use Rattle.sabr_model.proofs.PlanLemmas.Tabled.{place_one}

@@ -1,5 +1,4 @@
 -- What reading and verifying a session text come to.
-pub mod GoingOn
 pub mod SessionGivenSoFar
 pub mod SessionOutcomes
 pub mod ShortStates

@@ -7,7 +7,6 @@ pub mod SessionLists
 pub mod SessionLines
 pub mod SessionRead
 pub mod SessionFed
-pub mod SessionLoader
 pub mod SessionGiven
 pub mod PausedTexts
 pub mod TextLaws

@@ -8,13 +8,12 @@ use Rattle.sabr_model.specs.routes.Listing.{routes, page_of}
 use Rattle.sabr_plan.specs.Canonical.{digest_of}
 use Rattle.sabr_frontier.specs.listing.State.{State}
 use Rattle.sabr_frontier.specs.listing.Listing.{state_at, steps, next_route}
-use Rattle.sabr_frontier.proofs.ListingLemmas.Lawful.{steps_follow}
-use Rattle.sabr_frontier.proofs.ListingLemmas.PlacesFormed.{state_at_formed}
+use Rattle.sabr_frontier.proofs.ListingLemmas.Lawful.{steps_follow, state_at_formed}
 use Rattle.sabr_session.specs.SessionText.{text_of, HasText, IsUnlimited, session_text, old_session_text}
 use Rattle.sabr_session.specs.SessionRead.{IsSessionOf}
 use Rattle.sabr_session.specs.TextLaws.{IsReadBack}
-use Rattle.sabr_session.proofs.PlaceLemmas.Pages.{next_within, pages_joined}
-use Rattle.sabr_session.proofs.TextLemmas.OneAnswer.{answers_once, is_read_back}
+use Rattle.sabr_session.proofs.SessionPlaces.{next_within, pages_joined}
+use Rattle.sabr_session.proofs.TextLemmas.TextsRead.{answers_once, is_read_back}
 use Rattle.commands.specs.runs.EveryRun.{Event, answered, reread, Beginning, started, from_text, EventsLeadTo, IsAt, BeginsWith, IsRun, asked_for, HaveTexts, FollowsListing, RunsFollow}
 
 module _ (p : ContactPlan) (r : RouteRequest) (good : IsPlan p) (accepted : IsRequest r) where

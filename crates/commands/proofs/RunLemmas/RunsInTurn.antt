@@ -18,8 +18,8 @@ use Rattle.commands.specs.texts.Messages.{status_of, status_at}
 use Rattle.commands.specs.runs.SessionRuns.{ReadsOldSession, WritesFirstPage, WritesNextPage, place_of, place_after, report_from}
 use Rattle.commands.specs.runs.EveryRun.{IsAt, from_text}
 use Rattle.commands.specs.runs.RunsInTurn.{WritesPageFrom, GoesOnFrom, Run, IsDone, IsFirst, IsNext, AreNext, IsPage, ArePages, RunsInTurn, asked_of, text_left, pages_given, GoOnFrom, RunsGoOn}
-use Rattle.sabr_session.proofs.PlaceLemmas.Pages.{next_within, pages_joined}
-use Rattle.commands.proofs.RunLemmas.NextPages.{place_kept, next_goes_on}
+use Rattle.sabr_session.proofs.SessionPlaces.{next_within, pages_joined}
+use Rattle.commands.proofs.RunLemmas.PageTexts.{place_kept, next_goes_on}
 
 -- no failure ends as done
 pub never_done : (f : Failure) → status_of f ≢ status.Done

@@ -1,31 +1,34 @@
 -- The list of all routes and the least of a part, as the frontier uses them.
-use Rattle.std.proofs.Common.{◌≡◌, ℕ, true, false, ◌||◌, not, eqb, List, [], ◌∷◌, refl, sym, ap, ◌∙◌, inl, inr, Some, None}
+use Rattle.std.proofs.Common.{◌≡◌, ℕ, true, false, ◌||◌, not, eqb, List, [], ◌∷◌, refl, sym, ap, ◌∙◌, inl, inr, Some, None, arith, ◌++◌, subst, ◌<◌, length, take, get_or}
 use Rattle.std.specs.Prelude.{Contains}
-use Rattle.std.proofs.lemmas.Bool.{not_from_false}
+use Rattle.std.proofs.lemmas.Bool.{not_from_false, false_from_ne_true}
 use Rattle.std.proofs.lemmas.Bool.Decides.{nat_tests}
-use Rattle.std.proofs.Common.{arith}
 use Rattle.std.specs.Ordering.{nat_cmp, is_eq, is_lt}
 use Rattle.std.specs.declared.cmp.Ordering.{Ordering}
 use Rattle.std.specs.declared.cmp.Ordering.TheVariants.{Less}
 use Rattle.std.specs.List.Sorted.{IsStrictlySortedBy}
 use Rattle.std.specs.Option.{option_map_or}
 use Rattle.sabr_model.specs.plan.Plan.{ContactPlan, IsPlan}
-use Rattle.sabr_model.specs.plan.Plan as plans
 use Rattle.sabr_model.specs.routes.Arrival.{RouteRequest}
-use Rattle.sabr_model.specs.routes.Route.{is_route, by_key}
+use Rattle.sabr_model.specs.routes.Route.{is_route, by_key, is_path, is_prefix}
 use Rattle.sabr_model.specs.routes.Listing.{routes}
 use Rattle.sabr_model.specs.routes.Parts.{number_after, goes_on, least_in}
 use Rattle.sabr_model.proofs.ListLemmas.Members.{IsIn, in_from_Contains, Contains-from_in, all_in}
-use Rattle.sabr_model.proofs.RouteLemmas.Least as model
 use Rattle.sabr_model.proofs.RouteLemmas.Listed.{key_tells}
 use Rattle.sabr_model.proofs.RouteLemmas.RoutesListed.{routes_are_listed}
 use Rattle.sabr_frontier.specs.listing.Rising.{has, Rises}
-use Rattle.sabr_frontier.proofs.ListingLemmas.Rising.{IsExact}
+use Rattle.sabr_frontier.proofs.ListingLemmas.ListMembers.{IsExact}
 use Rattle.sabr_frontier.specs.listing.State.{Member}
 use Rattle.sabr_frontier.specs.listing.Formed.{Within}
 use Rattle.sabr_frontier.proofs.ListingLemmas.Division.{Below-from}
-use Rattle.sabr_search.proofs.WayLemmas.Prefixes.{goes_on_parts, number_after-append}
+use Rattle.sabr_search.proofs.WayLemmas.Prefixes.{goes_on_parts, number_after-append, number_after_some}
 use Rattle.sabr_model.proofs.RouteLemmas.Least.{member_is_route, route_is_member}
+use Rattle.sabr_model.proofs.RouteLemmas.Routes.{empty_route}
+use Rattle.sabr_model.proofs.ListLemmas.Begins.{no_route_begins_another}
+use Rattle.sabr_model.proofs.RouteLemmas.Prefixes.{prefix_is_no_route, beginning_is_prefix, beginning_goes_on}
+use Rattle.sabr_frontier.proofs.TreeLemmas.ListFronts.{number_after-take}
+use Rattle.sabr_model.specs.plan.Plan as plans
+use Rattle.sabr_model.proofs.RouteLemmas.Least as model
 
 -- ---- words for membership and order
 
@@ -87,3 +90,35 @@ module _ (p : ContactPlan) (r : RouteRequest) (good : IsPlan p) where
 
   pub least_none : (q X : List ℕ) → least_in p r q X ≡ None → (t : List ℕ) → is_route p r t ≡ true → Within q X t → ⊥
   least_none q X e t is w = model.least_none p r good q X e t is (within_goes_on q X t w)
+
+-- ---- routes, paths and prefixes, as the frontier needs them
+
+module _ (p : ContactPlan) (r : RouteRequest) where
+  pub route_filled : is_route p r [] ≡ true → ⊥
+  route_filled h = empty_route p r h
+
+  -- no route begins another
+  pub routes_apart : (s t : List ℕ) (x : ℕ) → is_route p r s ≡ true → is_route p r t ≡ true → number_after s t ≡ Some x → ⊥
+  routes_apart s t x one other e =
+      let w = number_after_some s t x e in
+      let none : x ∷ w.0 ≡ [] = no_route_begins_another p r s (x ∷ w.0) one (subst (λ z. is_route p r z ≡ true) w.1 other) in
+      cc
+
+  -- a beginning of a route is a path
+  pub route_chains : (q s : List ℕ) (x : ℕ) → is_route p r s ≡ true → number_after q s ≡ Some x → is_path p r (q ++ x ∷ []) ≡ true
+  route_chains q s x is e =
+      let w = number_after_some q s x e in
+      beginning_goes_on p r q x w.0 (subst (λ z. is_route p r z ≡ true) w.1 is)
+
+  -- and a prefix if the route goes on
+  pub route_fits : (q s : List ℕ) (x : ℕ) → is_route p r s ≡ true → number_after q s ≡ Some x → is_prefix p r q ≡ true
+  route_fits q s x is e =
+      let w = number_after_some q s x e in
+      beginning_is_prefix p r q x w.0 (subst (λ z. is_route p r z ≡ true) w.1 is)
+
+  pub prefix_no_route : (q : List ℕ) → is_prefix p r q ≡ true → is_route p r q ≡ false
+  prefix_no_route q h = false_from_ne_true (is_route p r q) (prefix_is_no_route p r q h)
+
+  -- so is what stands before a place of a route
+  pub beginning_fits : (s : List ℕ) (n : ℕ) → is_route p r s ≡ true → n < length s → is_prefix p r (take n s) ≡ true
+  beginning_fits s n is l = route_fits (take n s) s (get_or s n 0) is (number_after-take s n l)

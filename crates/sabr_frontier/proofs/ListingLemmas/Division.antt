@@ -12,14 +12,12 @@ use Rattle.sabr_frontier.specs.listing.Rising.{has, Below, Rises}
 use Rattle.sabr_frontier.specs.listing.Tree.{numbers_after, prefixes, tree, put_number}
 use Rattle.sabr_frontier.specs.listing.State.{PartState, pair_of, Member}
 use Rattle.sabr_frontier.specs.listing.Step.{same_pair, carried_in, carry}
-use Rattle.sabr_frontier.proofs.ListingLemmas.Rising.{has-put_in, put_again, is_equal, has_itself, same_members, put_in_has}
-use Rattle.sabr_frontier.proofs.ListingLemmas.NumbersAfter.{lists_exact, numbers_exact, number_after-snoc, number_after-compare, number_after-trans, number_after-nil, number_after-same}
-use Rattle.sabr_frontier.proofs.ListingLemmas.TreeSets.{In, Listed, In-first, In-later, In-cases, numbers_after_has, has_numbers_after, Rises-numbers_after, Rises-prefixes, tree_same, prefixes_has, has_prefixes, Listed-within}
-use Rattle.sabr_frontier.proofs.ListingLemmas.ListMembers.{Member-map, Member-map_cases, Member-append_left, Member-append_right, Member-append_cases, Below-member, Less-apart, map_map, map_back}
-use Rattle.sabr_frontier.proofs.ListingLemmas.ClosedTrees.{tree_has, In_Member, Member_In}
+use Rattle.sabr_frontier.proofs.ListingLemmas.ListMembers.{has-put_in, put_again, is_equal, has_itself, same_members, put_in_has, Member-map, Member-map_cases, Member-append_left, Member-append_right, Member-append_cases, Below-member, Less-apart, map_map, map_back}
+use Rattle.sabr_frontier.proofs.ListingLemmas.NumbersAfter.{lists_exact, numbers_exact, number_after-snoc, number_after-compare, number_after-trans, number_after-nil, number_after-same, number_after-longer}
+use Rattle.sabr_frontier.proofs.ListingLemmas.ClosedTrees.{In, Listed, In-first, In-later, In-cases, numbers_after_has, has_numbers_after, Rises-numbers_after, Rises-prefixes, tree_same, prefixes_has, has_prefixes, Listed-within, tree_has, In_Member, Member_In, prefixes_of_tree, not_empty}
 use Rattle.sabr_search.proofs.WayLemmas.Prefixes.{number_after_some}
 use Rattle.std.specs.Cmp.{both_ways, IsTotalOrder}
-use Rattle.sabr_frontier.proofs.ListingLemmas.Leaves.{prefixes_of_tree, not_empty}
+use Rattle.sabr_frontier.specs.listing.Formed.{Within}
 
 -- ---- the order of lists and their proper_beginnings
 
@@ -358,3 +356,58 @@ module _ (route : List ℕ → Bool) (least : List ℕ → List ℕ → Option (
     pub divided_set : new ≡ map (carry route least old) (tree (put_in by_numbers taken S))
     divided_set = sym (map_back key part_at new (λ t m. (each_made t m).1)) ∙ ap (map part_at) keys_same ∙ sym (map_map (λ q. (q, numbers_after q (taken ∷ S))) (carry route least old) (prefixes (taken ∷ S)))
         ∙ ap (map (carry route least old)) (tree_same (taken ∷ S) (put_in by_numbers taken S) (λ q. sym (has-put_in nat_list_cmp_total q taken S)))
+
+-- ---- every route is one of S or in exactly one part of the tree of S
+
+module _ (route : List ℕ → Bool) (apart : (s t : List ℕ) (x : ℕ) → route s ≡ true → route t ≡ true → number_after s t ≡ Some x → ⊥) (S : List (List ℕ)) (routes : (s : List ℕ) → In s S → route s ≡ true) (r : List ℕ) (is : route r ≡ true) where
+  -- a route that is taken is in no part
+  pub taken_in_none : In r S → (p : List ℕ) → Within p (numbers_after p S) r → ⊥
+  taken_in_none h p w = true≢false (sym (has_numbers_after w.0 p r S h w.1) ∙ w.2)
+
+  -- it is in no two parts
+  pub in_one_part : (p q : List ℕ) → Listed S p → Listed S q → Within p (numbers_after p S) r → Within q (numbers_after q S) r → p ≡ q
+  in_one_part p q lp lq wp wq = elim (number_after-compare p q r wp.0 wq.0 wp.1 wq.1) [
+    | inl e ↦ e
+    | inr t ↦ elim t [
+      | inl u ↦ absurd (true≢false (sym (earlier_excludes S p q wp.0 lq u) ∙ wp.2))
+      | inr u ↦ absurd (true≢false (sym (earlier_excludes S q p wq.0 lp u) ∙ wq.2))
+    ]
+  ]
+
+  module _ (fresh : has by_numbers r S ≡ false) where
+    Placed : Type 0
+    Placed = (q : List ℕ) × (Listed S q) × (Within q (numbers_after q S) r)
+
+    placed_here : (rest p : List ℕ) (x : ℕ) → r ≡ p ++ x ∷ rest → Listed S p → has nat_cmp x (numbers_after p S) ≡ false → Placed
+    unfolding Placed
+    placed_here rest p x e l f = (p, l, (x, ap (number_after p) e ∙ number_after-snoc p rest x, f))
+
+    -- down along r from a listed beginning: the first number that isn't excluded ends the walk
+    walk : (rest p : List ℕ) (x : ℕ) → r ≡ p ++ x ∷ rest → Listed S p → Placed
+    walk [] p x e l = elim (cases_Bool (has nat_cmp x (numbers_after p S))) [
+      | inl t ↦
+          let w = numbers_after_has x p S t in
+          elim (number_after-longer p w.0 x w.2) [
+            | inl whole ↦ absurd (true≢false (sym (ap (λ z. has by_numbers z S) (e ∙ sym whole) ∙ w.1) ∙ fresh))
+            | inr more ↦ absurd (apart r w.0 more.0 is (routes w.0 w.1) (ap (λ z. number_after z w.0) e ∙ more.1))
+          ]
+      | inr f ↦ placed_here [] p x e l f
+    ]
+    walk (z ∷ rest) p x e l = elim (cases_Bool (has nat_cmp x (numbers_after p S))) [
+      | inl t ↦
+          let w = numbers_after_has x p S t in
+          let e' = e ∙ sym (append_assoc p (x ∷ []) (z ∷ rest)) in
+          elim (number_after-longer p w.0 x w.2) [
+            | inl whole ↦ absurd (apart w.0 r z (routes w.0 w.1) is (ap (λ y. number_after y r) whole ∙ ap (number_after (p ++ x ∷ [])) e' ∙ number_after-snoc (p ++ x ∷ []) rest z))
+            | inr more ↦ walk rest (p ++ x ∷ []) z e' (inr (w.0, more.0, w.1, more.1))
+          ]
+      | inr f ↦ placed_here (z ∷ rest) p x e l f
+    ]
+
+    -- a route that isn't taken is in a part
+    pub in_some_part : (r ≡ [] → ⊥) → (q : List ℕ) × (Listed S q) × (Within q (numbers_after q S) r)
+    unfolding Placed
+    in_some_part filled = elim r as (λ r'. r ≡ r' → (q : List ℕ) × (Listed S q) × (Within q (numbers_after q S) r)) [
+      | [] ↦ λ e. absurd (filled e)
+      | x ∷ rest ↦ λ e. walk rest [] x e (inl refl)
+    ] refl

@@ -9,10 +9,9 @@ use Rattle.sabr_model.specs.Order.{by_numbers}
 use Rattle.sabr_frontier.specs.listing.Rising.{has, Rises}
 use Rattle.sabr_frontier.specs.listing.State.{Member, InPairs}
 use Rattle.sabr_frontier.specs.listing.Formed.{IsClosed, InOrder}
-use Rattle.sabr_frontier.specs.listing.Expecting.{onward, IsGood, Expects}
+use Rattle.sabr_frontier.specs.loading.Partial.{onward, IsGood, Expects}
 use Rattle.sabr_frontier.proofs.ListingLemmas.ListMembers.{Member-map, Member-map_cases, Member-filter, Member-filter_cases, Member-append_left, Member-append_right, Member-append_cases, Below-member, Less-apart, pairs_two}
-use Rattle.sabr_frontier.proofs.ListingLemmas.ClosedTrees.{Number_has, has_Number}
-use Rattle.sabr_frontier.proofs.ListingLemmas.Leaves.{Pairs}
+use Rattle.sabr_frontier.proofs.ListingLemmas.ClosedTrees.{Number_has, has_Number, Pairs}
 use Rattle.sabr_frontier.proofs.ListingLemmas.Division.{begins_less}
 
 module _ (route chain : List ℕ → Bool) where

@@ -10,14 +10,10 @@ use Rattle.sabr_frontier.specs.listing.Tree.{prefixes, set_of, tree}
 use Rattle.sabr_frontier.specs.listing.State.{PartState, State, pair_of, Member, leaves}
 use Rattle.sabr_frontier.specs.listing.Formed.{IsClosed, Within, InOrder, IsWellFormed}
 use Rattle.sabr_frontier.specs.listing.Step.{carried_in, carry, parts_after, given, full, state_of}
-use Rattle.sabr_frontier.proofs.ListingLemmas.Rising.{same_members, length-put_in, Rises-put_in}
+use Rattle.sabr_frontier.proofs.ListingLemmas.ListMembers.{same_members, length-put_in, Rises-put_in, Member-map_cases, Member-map, map_back}
 use Rattle.sabr_frontier.proofs.ListingLemmas.NumbersAfter.{lists_exact}
-use Rattle.sabr_frontier.proofs.ListingLemmas.TreeSets.{In, In-put_in, put_in-In, Rises-numbers_after, Rises-prefixes}
-use Rattle.sabr_frontier.proofs.ListingLemmas.ListMembers.{Member-map_cases, Member-map, map_back}
-use Rattle.sabr_frontier.proofs.ListingLemmas.ClosedTrees.{tree_has, leaves_has, Rises-leaves, Rises-set_of, set_of_has, has_set_of, tree_closed, leaves-tree}
-use Rattle.sabr_frontier.proofs.ListingLemmas.Parting.{taken_in_none}
-use Rattle.sabr_frontier.proofs.ListingLemmas.Leaves.{closed_tree, prefixes_of_tree}
-use Rattle.sabr_frontier.proofs.ListingLemmas.Division.{carried_cases}
+use Rattle.sabr_frontier.proofs.ListingLemmas.ClosedTrees.{In, In-put_in, put_in-In, Rises-numbers_after, Rises-prefixes, tree_has, leaves_has, Rises-leaves, Rises-set_of, set_of_has, has_set_of, tree_closed, leaves-tree, closed_tree, prefixes_of_tree}
+use Rattle.sabr_frontier.proofs.ListingLemmas.Division.{taken_in_none, carried_cases}
 use Rattle.std.specs.Cmp.{both_ways}
 
 tree_in_order : (S : List (List ℕ)) → InOrder (tree S)

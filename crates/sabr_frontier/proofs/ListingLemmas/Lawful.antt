@@ -1,32 +1,34 @@
--- The laws of the frontier, from what holds for any notion of route.
-use Rattle.std.proofs.Common.{◌≡◌, ℕ, zero, suc, ◌+◌, ◌<◌, ◌≤◌, Bool, true, ltb, List, [], ◌∷◌, ◌++◌, map, take, drop, length, sym, ap, subst, ◌∙◌, ◌⊎◌, inl, inr, arith, Some, None}
+-- The laws of the frontier, from what holds for any notion of route, and the states of places.
+use Rattle.std.proofs.Common.{◌≡◌, ℕ, zero, suc, ◌+◌, ◌<◌, ◌≤◌, Bool, true, ltb, List, [], ◌∷◌, ◌++◌, map, take, drop, length, sym, ap, subst, ◌∙◌, ◌⊎◌, inl, inr, arith, Some, None, false}
 use Rattle.std.specs.Prelude.{is_some, slice_get}
 use Rattle.std.proofs.lemmas.Bool.{false_from_ne_true, lt-ltb, cases_Bool, le-ltb, cases_lt}
 use Rattle.sabr_model.specs.Order.{by_numbers}
 use Rattle.sabr_model.specs.plan.Plan.{ContactPlan, IsPlan}
 use Rattle.sabr_model.specs.routes.Arrival.{RouteRequest}
-use Rattle.sabr_model.specs.routes.Route.{is_route, is_path, is_prefix}
-use Rattle.sabr_model.specs.routes.Listing.{routes}
+use Rattle.sabr_model.specs.routes.Route.{is_route, is_path, is_prefix, by_key, before}
+use Rattle.sabr_model.specs.routes.Listing.{routes, page_of}
 use Rattle.sabr_model.specs.routes.Parts.{goes_on, least_in}
-use Rattle.sabr_frontier.specs.listing.Rising.{has}
+use Rattle.sabr_frontier.specs.listing.Rising.{has, Rises}
 use Rattle.sabr_frontier.specs.listing.Tree.{tree, numbers_after}
-use Rattle.sabr_frontier.specs.listing.State.{pair_of}
+use Rattle.sabr_frontier.specs.listing.State.{pair_of, PartState, Member, last_of, State}
 use Rattle.sabr_frontier.specs.listing.Formed.{Within}
-use Rattle.sabr_frontier.specs.listing.Step.{state_of, given}
-use Rattle.sabr_frontier.specs.listing.Listing.{state_at, next_route, one_step, given_first, steps}
-use Rattle.sabr_frontier.specs.listing.Laws.{PartsDivide, StatesAreTold, StepsFollow}
-use Rattle.sabr_frontier.proofs.ListingLemmas.TreeSets.{In}
-use Rattle.sabr_frontier.proofs.ListingLemmas.ClosedTrees.{In_Member, Member_In, tree_has, has_tree}
-use Rattle.sabr_frontier.proofs.ListingLemmas.Parting.{in_some_part, in_one_part, taken_in_none}
-use Rattle.sabr_frontier.proofs.ListingLemmas.Leaves.{closed_tree}
-use Rattle.sabr_frontier.proofs.ListingLemmas.NextPlace.{next_is, step_is, none_left}
-use Rattle.sabr_frontier.proofs.ListingLemmas.CertifiedPlaces.{verified}
-use Rattle.sabr_frontier.proofs.ListingLemmas.Paths.{route_filled, routes_apart}
-use Rattle.sabr_frontier.proofs.ListingLemmas.AllRoutes.{within_goes_on, goes_on_within, member_of, contains_of}
+use Rattle.sabr_frontier.specs.listing.Step.{state_of, given, full}
+use Rattle.sabr_frontier.specs.listing.Listing.{state_at, next_route, one_step, given_first, steps, leaves_in, IsState}
+use Rattle.sabr_frontier.specs.listing.Laws.{PartsDivide, StatesAreTold, StepsFollow, CarriesLeast, LeavesComeFirst}
+use Rattle.sabr_frontier.proofs.ListingLemmas.ClosedTrees.{In, In_Member, Member_In, tree_has, has_tree, set_of_has, closed_tree}
+use Rattle.sabr_frontier.proofs.ListingLemmas.Division.{in_some_part, in_one_part, taken_in_none, Rises-parts, RiseInTurn}
+use Rattle.sabr_frontier.proofs.ListingLemmas.NextPlace.{next_is, step_is, none_left, not_less_itself, carried_outside, leaves_of_parts, verified, last_largest}
+use Rattle.sabr_frontier.proofs.ListingLemmas.AllRoutes.{route_filled, routes_apart, within_goes_on, goes_on_within, member_of, contains_of, by_key_exact, routes_rise, routes_complete}
 use Rattle.sabr_frontier.proofs.SessionLemmas.Pages.{steps_stop, steps_go, steps_none}
-use Rattle.std.proofs.lemmas.List.{drop_all, take_all, take-append-drop}
+use Rattle.std.proofs.lemmas.List.{drop_all, take_all, take-append-drop, length-take, length-take-le}
 use Rattle.sabr_frontier.proofs.TreeLemmas.ModifiedPlaces.{within_get}
 use Rattle.std.specs.Option.{option_map}
+use Rattle.std.specs.Ordering.{is_lt}
+use Rattle.std.specs.declared.cmp.Ordering.TheVariants.{Less}
+use Rattle.sabr_model.proofs.RouteLemmas.Listed.{key_total}
+use Rattle.sabr_frontier.proofs.ListingLemmas.ListMembers.{turned, Member-map_cases, Member-append_left, Member-append_cases}
+use Rattle.sabr_frontier.proofs.ListingLemmas.NewRoutes.{new_routes}
+use Rattle.sabr_frontier.proofs.TreeLemmas.SoundSteps.{first_formed}
 
 -- ---- how the parts divide the routes
 
@@ -115,3 +117,77 @@ steps_follow p r good = record {
   carries = λ i _. carries_at p r good i;
   pages = λ i k _. pages_at p r good k i;
 }
+
+-- ---- what holds of the state of a place: each part carries its least, and the routes given come first
+
+pub placed_least : (p : ContactPlan) (r : RouteRequest) (i : ℕ) → CarriesLeast p r (state_at p r i)
+unfolding state_at
+placed_least p r i t m =
+    let w = Member-map_cases (full (least_in p r)) t (tree (take i (routes p r))) m in
+    let P : PartState → Type 0 = λ u. u.carried ≡ least_in p r u.prefix u.excluded in
+    subst P (sym w.1) (λ j. least_in p r w.0.0 w.0.1)
+
+module _ (p : ContactPlan) (r : RouteRequest) (good : IsPlan p) (i : ℕ) where
+  abbrev all : List (List ℕ)
+  all = routes p r
+
+  abbrev A : List (List ℕ)
+  A = take i all
+
+  within : (s : List ℕ) → Member s A → Member s all
+  within s m = subst (Member s) (take-append-drop i all) (Member-append_left s A (drop i all) m)
+
+  rises : RiseInTurn (by_key p r) A (drop i all)
+  rises = Rises-parts (key_total p r) A (drop i all) (subst (Rises (by_key p r)) (sym (take-append-drop i all)) (routes_rise p r good))
+
+  -- a leaf is one of the routes given
+  given_leaf : (l : List ℕ) → Member l (leaves_in p r (state_at p r i)) → Member l A
+  unfolding state_at
+  given_leaf l m = Member_In l A (set_of_has l A (subst (In l) (leaves_of_parts p r good A within) (In_Member l (leaves_in p r (state_at p r i)) m)))
+
+  -- none of a list that rises is above its last
+  top : (B : List (List ℕ)) → Rises (by_key p r) B → (l : List ℕ) → Member l B → before p r (last_of B) l ≡ false
+  top [] h l m = absurd m
+  top (b ∷ B) h l m = elim (last_largest (key_total p r) (by_key_exact p r) b B h l m) [
+    | inl e ↦ ap (before p r (last_of (b ∷ B))) e ∙ not_less_itself (key_total p r) (by_key_exact p r) (last_of (b ∷ B))
+    | inr e ↦ ap is_lt (turned (key_total p r) l (last_of (b ∷ B)) Less e)
+  ]
+
+  to_last : (l : List ℕ) → Member l (leaves_in p r (state_at p r i)) → before p r (state_at p r i).last l ≡ false
+  unfolding state_at
+  to_last l m = top A rises.0 l (given_leaf l m)
+
+  to_carried : (l : List ℕ) (t : PartState) (c : List ℕ) → Member l (leaves_in p r (state_at p r i)) → Member t (state_at p r i).parts → t.carried ≡ Some c → before p r l c ≡ true
+  unfolding state_at
+  to_carried l t c m n e =
+      let out = carried_outside p r good A within t c n e in
+      elim (Member-append_cases c A (drop i all) (subst (Member c) (sym (take-append-drop i all)) (routes_complete p r good c out.0))) [
+        | inl k ↦ absurd (out.1 (In_Member c A k))
+        | inr k ↦ ap is_lt (rises.2 l c (given_leaf l m) k)
+      ]
+
+  pub placed_first : LeavesComeFirst p r (state_at p r i)
+  placed_first = record { to_last = to_last; to_carried = to_carried }
+
+-- ---- the state of each place in the list of all routes is well formed, and counts the routes before the place
+
+module _ (p : ContactPlan) (r : RouteRequest) where
+  -- how many routes it counts
+  pub emitted_at : (i : ℕ) → i ≤ length (routes p r) → (state_at p r i).emitted ≡ i
+  unfolding state_at
+  emitted_at i h = length-take-le i (routes p r) h
+
+  -- a state that is that of the place which it counts, counts no more routes than there are
+  pub place_within : (s : State) → s ≡ state_at p r s.emitted → s.emitted ≤ length (routes p r)
+  unfolding state_at
+  place_within s e =
+      let count : s.emitted ≡ length (take s.emitted (routes p r)) = ap (λ (t : State). t.emitted) e in
+      omega (arith, length-take s.emitted (routes p r))
+
+  pub state_at_formed : IsPlan p → (i : ℕ) → i ≤ length (routes p r) → IsState p r (state_at p r i)
+  state_at_formed good i h =
+      let page = page_of p r 0 i in
+      let go : steps p r i (state_at p r 0) ≡ (page, state_at p r (0 + length page)) = (steps_follow p r good).pages 0 i (omega arith) in
+      let here : 0 + length page ≡ i = omega (arith, length-take-le i (routes p r) h) in
+      let there : (steps p r i (state_at p r 0)).1 ≡ state_at p r i = ap (λ (z : List (List ℕ) × State). z.1) go ∙ ap (state_at p r) here in
+      subst (IsState p r) there (new_routes p r good i (state_at p r 0) (first_formed p r good)).formed

@@ -1,12 +1,17 @@
 -- What holds of the number that follows a beginning.
-use Rattle.std.proofs.Common.{◌≡◌, ℕ, true, false, cond, ◌==◌, List, [], ◌∷◌, ◌++◌, sym, ap, subst, refl, ◌∙◌, ◌⊎◌, inl, inr, Some, None, append_assoc}
-use Rattle.std.proofs.lemmas.Bool.{eq-eqb, eqb-true}
+use Rattle.std.proofs.Common.{◌≡◌, ℕ, true, false, cond, ◌==◌, List, [], ◌∷◌, ◌++◌, sym, ap, subst, refl, ◌∙◌, ◌⊎◌, inl, inr, Some, None, append_assoc, not, length, take, drop}
+use Rattle.std.proofs.lemmas.Bool.{eq-eqb, eqb-true, false_from_ne_true}
 use Rattle.std.specs.Ordering.{nat_cmp}
 use Rattle.std.specs.FinMap.{slice_cmp-IsAntisymmetric, nat_cmp-IsAntisymmetric}
 use Rattle.sabr_model.specs.Order.{by_numbers}
-use Rattle.sabr_model.specs.routes.Parts.{number_after}
-use Rattle.sabr_frontier.proofs.ListingLemmas.Rising.{IsExact}
-use Rattle.sabr_search.proofs.WayLemmas.Prefixes.{number_after_some, number_after-append}
+use Rattle.sabr_model.specs.routes.Parts.{number_after, goes_on}
+use Rattle.sabr_frontier.proofs.ListingLemmas.ListMembers.{IsExact}
+use Rattle.sabr_search.proofs.WayLemmas.Prefixes.{number_after_some, number_after-append, goes_on_parts}
+use Rattle.std.specs.Prelude.{slice_get}
+use Rattle.std.specs.Option.{option_map_or}
+use Rattle.std.proofs.lemmas.List.{take-append-drop, append_cancel_left}
+use Rattle.sabr_model.specs.plan.Plan.{has}
+use Rattle.std.proofs.Math.Seq.{take-append_seam}
 
 pub lists_exact : IsExact by_numbers
 lists_exact = slice_cmp-IsAntisymmetric nat_cmp-IsAntisymmetric
@@ -79,3 +84,27 @@ number_after-of_snoc (a ∷ p) (b ∷ q) x y e =
       | inl t ↦ inl (λ i. h.0 i ∷ t.0 i, t.1)
       | inr t ↦ inr (subst (λ z. number_after (a ∷ p) (z ∷ q) ≡ Some x) h.0 (number_after-same a x p q t))
     ]
+
+-- ---- how a list goes on after a prefix, read from its front and the rest
+
+whole : (p s rest : List ℕ) → take (length p) s ≡ p → rest ≡ drop (length p) s → s ≡ p ++ rest
+whole p s rest e d = sym (take-append-drop (length p) s) ∙ (λ i. e i ++ sym d i)
+
+-- nothing after the prefix
+pub ends_there : (p X s rest : List ℕ) → take (length p) s ≡ p → rest ≡ drop (length p) s → slice_get rest 0 ≡ None → goes_on p X s ≡ false
+ends_there p X s [] e d n = false_from_ne_true (goes_on p X s) (λ h.
+    let w = goes_on_parts p X s h in
+    let more : [] ≡ w.0 ∷ w.1 = append_cancel_left p [] (w.0 ∷ w.1) (sym (whole p s [] e d) ∙ w.2) in
+    cc)
+ends_there p X s (y ∷ rest) e d n = absurd cc
+
+-- a number after it
+pub goes_there : (p X s rest : List ℕ) (x : ℕ) → take (length p) s ≡ p → rest ≡ drop (length p) s → Some x ≡ slice_get rest 0 → not (has x X) ≡ goes_on p X s
+goes_there p X s [] x e d n = absurd cc
+goes_there p X s (y ∷ rest) x e d n =
+    let same : x ≡ y = cc in
+    sym (ap (λ o. option_map_or (λ n. not (has n X)) o false) (ap (number_after p) (whole p s (y ∷ rest) e d) ∙ number_after-snoc p rest y ∙ ap Some (sym same)))
+
+-- another front
+pub begins_otherwise : (p X s : List ℕ) → (take (length p) s ≡ p → ⊥) → goes_on p X s ≡ false
+begins_otherwise p X s ne = false_from_ne_true (goes_on p X s) (λ h. let w = goes_on_parts p X s h in ne (ap (take (length p)) w.2 ∙ take-append_seam p (w.0 ∷ w.1)))

@@ -1,15 +1,15 @@
 -- Whether a route is left once the least one that a node carries is given.
-use Rattle.std.proofs.Common.{◌≡◌, ℕ, List, [], ◌∷◌, ◌++◌, ◌||◌, arith, ap, sym, refl, ◌∙◌, zero, suc, ◌+◌, true, false, length, map, take, drop, Option, Some, None, true≢false}
+use Rattle.std.proofs.Common.{◌≡◌, ℕ, List, [], ◌∷◌, ◌++◌, ◌||◌, arith, ap, sym, refl, ◌∙◌, zero, suc, ◌+◌, true, false, length, map, take, drop, Option, Some, None, true≢false, ◌<◌, inl, inr, subst, ◌≤◌, ltb, length-append, append_assoc, append-nil}
 use Rattle.std.proofs.lemmas.Option.{slice_get_within}
-use Rattle.std.specs.Prelude.{is_some, slice_get}
+use Rattle.std.specs.Prelude.{is_some, slice_get, slice_index}
 use Rattle.sabr_model.specs.plan.Plan.{IsPlan, ContactPlan}
 use Rattle.sabr_model.specs.routes.Record.{RouteRecord, record_of}
 use Rattle.sabr_frontier.specs.declared.tree.Node.{Node}
 use Rattle.sabr_frontier.specs.listing.Listing.{next_route, given_first, steps}
-use Rattle.sabr_frontier.specs.listing.State.{State}
-use Rattle.sabr_frontier.specs.tree.Left.{others_carry, part_goes_on, longer_go_on, some_carry}
-use Rattle.sabr_frontier.specs.tree.Shape.{Shape, numbers_of, shown, part_at, part_of, route_of}
-use Rattle.sabr_frontier.specs.tree.Sound.{IsTree}
+use Rattle.sabr_frontier.specs.listing.State.{State, InPairs, Member, PartState}
+use Rattle.sabr_frontier.specs.tree.Left.{others_carry, part_goes_on, longer_go_on, some_carry, CarriesNoOther}
+use Rattle.sabr_frontier.specs.tree.Shape.{Shape, numbers_of, shown, part_at, part_of, route_of, IsBefore, prefix_of}
+use Rattle.sabr_frontier.specs.tree.Sound.{IsTree, CanExclude}
 use Rattle.sabr_frontier.specs.tree.Winners.{CarriesNone, IsBestOf}
 use Rattle.sabr_frontier.proofs.SessionLemmas.Pages.{steps_go, steps_none, nothing_carried, IsGiven, given_by}
 use Rattle.std.proofs.lemmas.List.Folds.{list_any-append}
@@ -21,10 +21,25 @@ use Rattle.sabr_frontier.specs.declared.tree.NodeId.{NodeId}
 use Rattle.sabr_frontier.specs.tree.Best.{best_of}
 use Rattle.sabr_frontier.specs.tree.Giving.{fresh_nodes, widened, wide_of, divided_with}
 use Rattle.sabr_frontier.specs.tree.Undo.{modify}
-use Rattle.sabr_frontier.proofs.ListingLemmas.AllRoutes.{by_key_exact}
-use Rattle.sabr_frontier.proofs.ListingLemmas.ListMembers.{Member-map, any_has, none_has}
+use Rattle.sabr_frontier.proofs.ListingLemmas.AllRoutes.{by_key_exact, has_number, least_none}
+use Rattle.sabr_frontier.proofs.ListingLemmas.ListMembers.{Member-map, any_has, none_has, put_in_cases}
 use Rattle.sabr_frontier.proofs.ListingLemmas.NextPlace.{least_carried_below}
 use Rattle.sabr_frontier.proofs.TreeLemmas.ModifiedPlaces.{Member_get, get_Member}
+use Rattle.std.proofs.lemmas.Bool.{or_cases, or_left, or_right, false_from_ne_true, ltb-true, ltb-false}
+use Rattle.std.proofs.lemmas.Cmp.{tied_itself, nat_list_cmp_total}
+use Rattle.std.specs.declared.cmp.Ordering.TheVariants.{Less, Equal}
+use Rattle.sabr_model.specs.Order.{by_numbers, put_in}
+use Rattle.sabr_frontier.proofs.TreeLemmas.CarryingNodes.{index_order, part_is, same_prefix}
+use Rattle.std.proofs.lemmas.List.{drop-append-le, take-append-le, take-append-drop}
+use Rattle.std.proofs.Math.Seq.{take-append_seam, get_or-append_seam}
+use Rattle.std.specs.Ordering.{nat_cmp}
+use Rattle.std.specs.Cmp.{nat_cmp_total}
+use Rattle.sabr_model.specs.routes.Parts.{least_in, number_after}
+use Rattle.sabr_model.specs.routes.Route.{is_route}
+use Rattle.sabr_frontier.specs.listing.Formed.{Within}
+use Rattle.sabr_frontier.specs.listing.Rising.{has}
+use Rattle.sabr_search.specs.questions.Detours.{GoesOtherwise, IsOtherWay}
+use Rattle.sabr_frontier.proofs.ListingLemmas.NumbersAfter.{number_after-snoc, numbers_exact}
 
 -- a list of nodes of which one was changed
 carry_changed : {A : Type 0} (f : Node A → Node A) (nodes : List (Node A)) (i : ℕ) (n : Node A) → slice_get nodes i ≡ Some n
@@ -107,3 +122,139 @@ module _ {A : Type 0} (p : ContactPlan) (r : RouteRequest) (good : IsPlan p) (t 
       ∙ (λ i. carry_changed (widened wide found) t.nodes id.0 n stands i || carry_fresh A (best_of p r) (length t.leaves) q rest i)
       ∙ ap (λ k. some_carry (take id.0 t.nodes) || some_carry (drop k t.nodes) || is_some found || longer_go_on (best_of p r) q rest) after
       ∙ or_assoc (others_carry t.nodes id) (is_some found) (longer_go_on (best_of p r) q rest)
+
+-- ---- a node whose route is the only one that the parts of a state carry
+
+-- ---- places in the front of a list, and behind it
+
+get_taken : {X : Type 0} (i j : ℕ) (xs : List X) (x : X) → slice_get (take i xs) j ≡ Some x → (slice_get xs j ≡ Some x) × (j < i)
+get_taken zero j xs x e = absurd cc
+get_taken (suc i) j [] x e = absurd cc
+get_taken (suc i) zero (y ∷ xs) x e = (e, omega arith)
+get_taken (suc i) (suc j) (y ∷ xs) x e = let w = get_taken i j xs x e in (w.0, (let l = w.1 in omega (arith, l)))
+
+get_behind : {X : Type 0} (i j k : ℕ) (xs : List X) (x : X) → k ≡ i + j → slice_get (drop i xs) j ≡ Some x → slice_get xs k ≡ Some x
+get_behind zero j k xs x at e = (let same : k ≡ j = omega (arith, at) in ap (slice_get xs) same) ∙ e
+get_behind (suc i) j k [] x at e = absurd cc
+get_behind (suc i) j zero (y ∷ xs) x at e = absurd (omega (arith, at))
+get_behind (suc i) j (suc k) (y ∷ xs) x at e = get_behind i j k xs x (omega (arith, at)) e
+
+-- two members of a list in pairs, neither of which stands so to the other, are one
+one_member : {X : Type 0} (Q : X → X → Type 0) (xs : List X) (a b : X) → InPairs Q xs → Member a xs → Member b xs → (Q a b → ⊥) → (Q b a → ⊥) → a ≡ b
+one_member Q [] a b h m k f g = absurd m
+one_member Q (x ∷ xs) a b h (inl e) (inl d) f g = e ∙ sym d
+one_member Q (x ∷ xs) a b h (inl e) (inr k) f g = absurd (f (subst (λ z. Q z b) (sym e) (h.0 b k)))
+one_member Q (x ∷ xs) a b h (inr m) (inl d) f g = absurd (g (subst (λ z. Q z a) (sym d) (h.0 a m)))
+one_member Q (x ∷ xs) a b h (inr m) (inr k) f g = one_member Q xs a b h.1 m k f g
+
+-- ---- a node of a sound tree that carries a route
+
+module _ {A : Type 0} (p : ContactPlan) (r : RouteRequest) (t : Shape A) (is : IsTree p r t) (id : NodeId) (n : Node A) (x : RouteRecord) (stands : slice_get t.nodes id.0 ≡ Some n) (carries : n.route ≡ Some x) where
+  -- two parts of one prefix: neither is before the other
+  tied : (a b : NodeId) → (part_at t.leaves t.nodes a).prefix ≡ prefix_of t.leaves n → (part_at t.leaves t.nodes b).prefix ≡ prefix_of t.leaves n → IsBefore t.leaves t.nodes a b → ⊥
+  tied a b first second before =
+      let q = prefix_of t.leaves n in
+      let less : by_numbers q q ≡ Less = sym (λ i. by_numbers (first i) (second i)) ∙ before in
+      let both : Equal ≡ Less = sym (tied_itself nat_list_cmp_total q) ∙ less in
+      cc
+
+  -- no other node carries its contacts
+  same_place : (j : ℕ) (m : Node A) (y : RouteRecord) → slice_get t.nodes j ≡ Some m → m.route ≡ Some y → y.contacts ≡ x.contacts → j ≡ id.0
+  same_place j m y at e same =
+      let other : NodeId = record { 0 = j } in
+      let listed = is.listed other (slice_get_within t.nodes j m at) in
+      let there = Member-map (part_at t.leaves t.nodes) other t.index listed in
+      let carried : (part_at t.leaves t.nodes other).carried ≡ Some x.contacts = ap (λ o. (part_of t.leaves o).carried) at ∙ ap (option_map numbers_of) e ∙ ap Some same in
+      let prefix = same_prefix p r t is id n x stands carries (part_at t.leaves t.nodes other) there carried in
+      let own = ap (λ (u : PartState). u.prefix) (part_is p r t is id n x stands carries) in
+      let here = is.listed id (slice_get_within t.nodes id.0 n stands) in
+      ap (λ (z : NodeId). z.0) (one_member (IsBefore t.leaves t.nodes) t.index other id (index_order p r t is) listed here (tied other id prefix own) (tied id other own prefix))
+
+  module _ (only : CarriesNoOther (shown t) x.contacts) where
+    no_place : (j : ℕ) (m : Node A) → slice_get t.nodes j ≡ Some m → is_some m.route ≡ true → j ≡ id.0
+    no_place j m at some =
+        let y = some_route m.route some in
+        let other : NodeId = record { 0 = j } in
+        let there = Member-map (part_at t.leaves t.nodes) other t.index (is.listed other (slice_get_within t.nodes j m at)) in
+        let carried : (part_at t.leaves t.nodes other).carried ≡ Some y.0.contacts = ap (λ o. (part_of t.leaves o).carried) at ∙ ap (option_map numbers_of) y.1 in
+        same_place j m y.0 at y.1 (only (part_at t.leaves t.nodes other) y.0.contacts there carried)
+
+    pub no_others : others_carry t.nodes id ≡ false
+    no_others = elim (others_carry t.nodes id) as (λ b. others_carry t.nodes id ≡ b → b ≡ false) [
+      | false ↦ λ _. refl
+      | true ↦ λ e. absurd (elim (or_cases (some_carry (take id.0 t.nodes)) (some_carry (drop (id.0 + 1) t.nodes)) e) [
+        | inl before ↦
+            let w = any_has (λ (k : Node A). is_some k.route) (take id.0 t.nodes) before in
+            let at = Member_get w.0 (take id.0 t.nodes) w.1 in
+            let there = get_taken id.0 at.0 t.nodes w.0 at.1 in
+            let less = there.1 in
+            let same = no_place at.0 w.0 there.0 w.2 in
+            omega (arith, less, same)
+        | inr behind ↦
+            let w = any_has (λ (k : Node A). is_some k.route) (drop (id.0 + 1) t.nodes) behind in
+            let at = Member_get w.0 (drop (id.0 + 1) t.nodes) w.1 in
+            let same = no_place (id.0 + 1 + at.0) w.0 (get_behind (id.0 + 1) at.0 (id.0 + 1 + at.0) t.nodes w.0 refl at.1) w.2 in
+            omega (arith, same)
+      ])
+    ] refl
+
+-- ---- a route that may go on otherwise than by its last number isn't the only one that is left
+
+-- the last beginning of a list goes on
+longer_at_end : (best : List ℕ → List ℕ → Option RouteRecord) (q zs : List ℕ) (y : ℕ) → is_some (best (q ++ zs) (y ∷ [])) ≡ true → longer_go_on best q (zs ++ y ∷ []) ≡ true
+longer_at_end best q [] y e = or_left (is_some (best q (y ∷ []))) false (subst (λ l. is_some (best l (y ∷ [])) ≡ true) (append-nil q) e)
+longer_at_end best q (z ∷ zs) y e =
+    or_right (is_some (best q (z ∷ []))) (longer_go_on best (q ++ z ∷ []) (zs ++ y ∷ []))
+    (longer_at_end best (q ++ z ∷ []) zs y (subst (λ l. is_some (best l (y ∷ [])) ≡ true) (sym (append_assoc q (z ∷ []) zs)) e))
+
+-- a number that is neither of these is none of the numbers with one more
+absent_with : (m x : ℕ) (xs : List ℕ) → (m ≡ x → ⊥) → has nat_cmp m xs ≡ false → has nat_cmp m (put_in nat_cmp x xs) ≡ false
+absent_with m x xs other free =
+    false_from_ne_true (has nat_cmp m (put_in nat_cmp x xs)) (λ h. elim (put_in_cases nat_cmp_total numbers_exact m x xs h) [ inl same ↦ other same | inr there ↦ true≢false (sym there ∙ free) ])
+
+module _ (p : ContactPlan) (r : RouteRequest) (good : IsPlan p) where
+  -- a part that has a route has a least one
+  some_best : (q X t : List ℕ) → is_route p r t ≡ true → Within q X t → is_some (best_of p r q X) ≡ true
+  unfolding best_of
+  some_best q X t is w = elim (least_in p r q X) as (λ o. least_in p r q X ≡ o → is_some (option_map (record_of p r) o) ≡ true) [
+    | None ↦ λ e. absurd (least_none p r good q X e t is w)
+    | Some s ↦ λ e. refl
+  ] refl
+
+  module _ {A : Type 0} (n : Node A) (front : List ℕ) (last : ℕ) (way : IsOtherWay p r front last n.excluded) where
+    free : has nat_cmp way.n n.excluded ≡ false
+    free = sym (has_number way.n n.excluded) ∙ way.free
+
+    -- the part itself has a route that goes on otherwise
+    here : n.length ≡ length front → is_some (best_of p r (take n.length (front ++ last ∷ [])) (wide_of n (front ++ last ∷ []))) ≡ true
+    here e =
+        let prefix : take n.length (front ++ last ∷ []) ≡ front = ap (λ k. take k (front ++ last ∷ [])) e ∙ take-append_seam front (last ∷ []) in
+        let next : slice_index (front ++ last ∷ []) n.length ≡ last = ap (slice_index (front ++ last ∷ [])) e ∙ get_or-append_seam front last [] 0 in
+        let absent : has nat_cmp way.n (wide_of n (front ++ last ∷ [])) ≡ false = ap (λ x. has nat_cmp way.n (put_in nat_cmp x n.excluded)) next ∙ absent_with way.n last n.excluded way.other free in
+        some_best (take n.length (front ++ last ∷ [])) (wide_of n (front ++ last ∷ [])) (front ++ way.n ∷ way.rest) way.route
+        (way.n, subst (λ q. number_after q (front ++ way.n ∷ way.rest) ≡ Some way.n) (sym prefix) (number_after-snoc front way.rest way.n), absent)
+
+    -- the numbers before the last one have such a route
+    further : n.length < length front → longer_go_on (best_of p r) (take (n.length + 1) (front ++ last ∷ [])) (drop (n.length + 1) (front ++ last ∷ [])) ≡ true
+    further less =
+        let k = n.length + 1 in
+        let within : k ≤ length front = omega (arith, less) in
+        let ends : is_some (best_of p r (take k front ++ drop k front) (last ∷ [])) ≡ true =
+        subst (λ q. is_some (best_of p r q (last ∷ [])) ≡ true) (sym (take-append-drop k front))
+        (some_best front (last ∷ []) (front ++ way.n ∷ way.rest) way.route (way.n, number_after-snoc front way.rest way.n, absent_with way.n last [] way.other refl)) in
+        rw (take-append-le k front (last ∷ []) within, drop-append-le k front (last ∷ []) within) (longer_at_end (best_of p r) (take k front) (drop k front) last ends)
+
+    ended : n.length < length (front ++ last ∷ []) → part_goes_on (best_of p r) n (front ++ last ∷ []) ≡ true
+    ended less =
+        let a = is_some (best_of p r (take n.length (front ++ last ∷ [])) (wide_of n (front ++ last ∷ []))) in
+        let b = longer_go_on (best_of p r) (take (n.length + 1) (front ++ last ∷ [])) (drop (n.length + 1) (front ++ last ∷ [])) in
+        let many = length-append front (last ∷ []) in
+        elim (ltb n.length (length front)) as (λ t. ltb n.length (length front) ≡ t → (a || b) ≡ true) [
+          | true ↦ λ e. or_right a b (further (ltb-true n.length (length front) e))
+          | false ↦ λ e. let most = ltb-false n.length (length front) e in or_left a b (here (omega (arith, many, most, less)))
+        ] refl
+
+  pub goes_on_otherwise : {A : Type 0} (n : Node A) (s : List ℕ) → CanExclude n s → GoesOtherwise p r s n.excluded → part_goes_on (best_of p r) n s ≡ true
+  goes_on_otherwise n s next e =
+      subst (λ z. part_goes_on (best_of p r) n z ≡ true) (sym e.numbers_are)
+      (ended n e.front e.last e.way (subst (λ z. n.length < length z) e.numbers_are next.longer))

@@ -19,7 +19,7 @@ use Rattle.sabr_frontier.specs.tree.Giving.{IsNextGiven, fresh_nodes, divided_wi
 use Rattle.sabr_frontier.specs.tree.Winners.{CarriesNone, CarriesSome, IsBestOf, IsNext}
 use Rattle.sabr_frontier.specs.tree.Sound.{IsTree}
 use Rattle.sabr_frontier.specs.session.Session.{IsSoundFor, IsSound, tree_before, former_of}
-use Rattle.sabr_frontier.proofs.TreeLemmas.CarryingNodes.{IsKnown, searches_are, carried_at, inside, next_is, record_is}
+use Rattle.sabr_frontier.proofs.TreeLemmas.CarryingNodes.{IsKnown, searches_are, carried_at, inside, next_is, record_is, shown_divided}
 use Rattle.std.specs.Option.{option_map}
 use Rattle.sabr_model.specs.routes.Route.{is_route}
 use Rattle.sabr_model.specs.routes.Parts.{least_in}
@@ -30,7 +30,6 @@ use Rattle.sabr_frontier.proofs.ListingLemmas.NextPlace.{least_carried_none}
 use Rattle.sabr_frontier.proofs.ListingLemmas.AllRoutes.{by_key_exact}
 use Rattle.sabr_frontier.proofs.TreeLemmas.ListFronts.{length_fresh}
 use Rattle.sabr_frontier.proofs.TreeLemmas.SlotWinners.{standing_at}
-use Rattle.sabr_frontier.proofs.TreeLemmas.DividedStates.{shown_divided}
 use Rattle.sabr_frontier.proofs.TreeLemmas.SoundSteps.{tree_divided, undone_divided, can_undo}
 use Rattle.sabr_frontier.specs.listing.Step.{given}
 

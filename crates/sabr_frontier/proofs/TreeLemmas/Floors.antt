@@ -1,28 +1,40 @@
--- Seconds before which no route delivers of the parts that a given route makes.
-use Rattle.std.proofs.Common.{◌≡◌, Bool, inl, inr, ℕ, zero, suc, ◌+◌, ◌-◌, ◌<◌, ◌≤◌, ◌++◌, List, [], ◌∷◌, Some, length, take, slice_index, true, false, true≢false, refl, ap, sym, subst, ◌∙◌, arith, append_assoc}
+-- Seconds before which no route of a part is delivered, and trees and answers that were searched up to a bound.
+use Rattle.std.proofs.Common.{◌≡◌, Bool, inl, inr, ℕ, zero, suc, ◌+◌, ◌-◌, ◌<◌, ◌≤◌, ◌++◌, List, [], ◌∷◌, Some, length, take, slice_index, true, false, true≢false, refl, ap, sym, subst, ◌∙◌, arith, append_assoc, Option, drop, None, cond, ◌&&◌}
 use Rattle.std.proofs.lemmas.Grind.{common_steps}
 use Rattle.std.proofs.lemmas.Bool.{and_parts, and_from, or_parts, cases_lt}
 use Rattle.std.proofs.lemmas.Bool.Decides.{nat_tests}
 use Rattle.std.specs.Cmp.{nat_cmp_total}
 use Rattle.std.specs.Option.{option_map}
-use Rattle.std.specs.Prelude.{IsTrue, IsFalse}
+use Rattle.std.specs.Prelude.{IsTrue, IsFalse, slice_get}
 use Rattle.std.specs.Ordering.{nat_cmp, is_eq, is_lt}
 use Rattle.sabr_model.specs.Order.{by_numbers, put_in}
 use Rattle.sabr_model.specs.plan.Plan.{ContactPlan, IsPlan}
 use Rattle.sabr_model.specs.routes.Arrival.{RouteRequest}
 use Rattle.sabr_model.specs.routes.Parts.{goes_on, least_in}
-use Rattle.sabr_model.specs.routes.Record.{RouteRecord}
+use Rattle.sabr_model.specs.routes.Record.{RouteRecord, record_of}
 use Rattle.sabr_model.specs.routes.Route.{delivery_of, is_route}
 use Rattle.sabr_model.proofs.RouteLemmas.Least.{least_some}
-use Rattle.sabr_search.specs.questions.Bounded.{IsFloor}
+use Rattle.sabr_search.specs.questions.Bounded.{IsFloor, IsSought, IsWhole}
 use Rattle.sabr_search.proofs.WayLemmas.Prefixes.{goes_on-append, goes_on_parts}
 use Rattle.sabr_frontier.specs.listing.Rising.{has}
 use Rattle.sabr_frontier.specs.tree.Searching.{Asked}
-use Rattle.sabr_frontier.specs.tree.Best.{best_of}
-use Rattle.sabr_frontier.specs.tree.Shape.{numbers_of}
+use Rattle.sabr_frontier.specs.tree.Best.{best_of, best_up_to, bound_in, found_by, up_to}
+use Rattle.sabr_frontier.specs.tree.Shape.{numbers_of, Shape, front_of, prefix_of}
 use Rattle.sabr_frontier.proofs.ListingLemmas.AllRoutes.{has_number}
-use Rattle.sabr_frontier.proofs.ListingLemmas.Rising.{has-put_in}
-use Rattle.sabr_frontier.proofs.TreeLemmas.DividedStates.{best_numbers, told_back}
+use Rattle.sabr_frontier.proofs.ListingLemmas.ListMembers.{has-put_in, Member-append_cases}
+use Rattle.sabr_frontier.proofs.TreeLemmas.CarryingNodes.{best_numbers, told_back, IsKnown, cut, prefix_stable}
+use Rattle.std.proofs.lemmas.List.{take-append-drop}
+use Rattle.std.proofs.Math.Seq.{take-append_seam}
+use Rattle.sabr_frontier.specs.declared.tree.Node.{Node}
+use Rattle.sabr_frontier.specs.declared.tree.NodeId.{NodeId}
+use Rattle.sabr_frontier.specs.listing.State.{Member}
+use Rattle.sabr_frontier.specs.tree.Sound.{IsTree, CarriesOnlyLeast}
+use Rattle.sabr_frontier.specs.tree.Giving.{fresh_nodes, wide_of, widened, divided_with}
+use Rattle.sabr_frontier.specs.tree.Undo.{modify}
+use Rattle.sabr_frontier.proofs.TreeLemmas.ModifiedPlaces.{get_at_end, get_Member, modify_cases}
+use Rattle.sabr_search.specs.declared.bound.Bound.{Bound}
+use Rattle.sabr_search.specs.declared.bound.Sought.{Sought}
+use Rattle.sabr_search.specs.declared.bound.Sought.TheVariants.{Route, None as NoRoute, Beyond}
 
 -- ---- which routes go on
 
@@ -102,3 +114,82 @@ floor_least p r good q X x best t inside =
 pub floor_when : (p : ContactPlan) (r : RouteRequest) → IsPlan p → (q X : List ℕ) (x : RouteRecord) (searched : Bool) (d : ℕ) → (IsTrue searched → d ≡ x.delivery) → (IsFalse searched → d ≡ 0) → (IsTrue searched → best_of p r q X ≡ Some x) → IsFloor p r q X d
 floor_when p r good q X x true d told other best t inside = omega (arith, told refl, floor_least p r good q X x (best refl) t inside)
 floor_when p r good q X x false d told other best t inside = omega (arith, other refl)
+
+-- ---- trees that searches made: each carried route is the least of its part
+
+module _ {A : Type 0} (p : ContactPlan) (r : RouteRequest) where
+  -- the new nodes
+  fresh_least : (leaves : List RouteRecord) (leaf : ℕ) (x : RouteRecord) → slice_get leaves leaf ≡ Some x → (q rest : List ℕ) → x.contacts ≡ q ++ rest → (m : Node A) (y : RouteRecord) → Member m (fresh_nodes (best_of p r) leaf q rest) → m.route ≡ Some y
+      → best_of p r (prefix_of leaves m) m.excluded ≡ Some y
+  fresh_least leaves leaf x is q [] e m y none carries = absurd none
+  fresh_least leaves leaf x is q (z ∷ rest) e m y (inl same) carries =
+      let new : Node A = record { leaf = leaf; length = length q; excluded = z ∷ []; route = best_of p r q (z ∷ []) } in
+      let prefix : prefix_of leaves new ≡ q = ap (λ o. front_of o (length q)) is ∙ ap (take (length q)) e ∙ take-append_seam q (z ∷ rest) in
+      subst (λ (k : Node A). k.route ≡ Some y → best_of p r (prefix_of leaves k) k.excluded ≡ Some y) (sym same) (λ c. ap (λ w. best_of p r w (z ∷ [])) prefix ∙ c) carries
+  fresh_least leaves leaf x is q (z ∷ rest) e m y (inr more) carries = fresh_least leaves leaf x is (q ++ z ∷ []) rest (e ∙ sym (append_assoc q (z ∷ []) rest)) m y more carries
+
+  -- a tree whose route is given
+  module _ (t : Shape A) (tree : IsTree p r t) (node : NodeId) (n : Node A) (x : RouteRecord) (stands : slice_get t.nodes node.0 ≡ Some n) (carries : n.route ≡ Some x) where
+    abbrev s : List ℕ
+    s = x.contacts
+
+    abbrev wide : List ℕ
+    wide = wide_of n s
+
+    abbrev found : Option RouteRecord
+    found = best_of p r (take n.length s) wide
+
+    stays : (m : Node A) → Member m t.nodes → prefix_of (t.leaves ++ x ∷ []) m ≡ prefix_of t.leaves m
+    stays m inside = prefix_stable t.leaves (x ∷ []) m (tree.lent m inside)
+
+    changed : (k : Node A) → k ≡ n → (y : RouteRecord) → found ≡ Some y → best_of p r (prefix_of (t.leaves ++ x ∷ []) (widened wide found k)) wide ≡ Some y
+    changed k same y c =
+        let front : take n.length s ≡ prefix_of t.leaves n = (cut p r t tree node n x stands carries).2.front in
+        let prefix = ap (λ (z : Node A). prefix_of (t.leaves ++ x ∷ []) z) same ∙ stays n (get_Member t.nodes node.0 n stands) ∙ sym front in
+        ap (λ w. best_of p r w wide) prefix ∙ c
+
+    pub divided_least : CarriesOnlyLeast p r t → CarriesOnlyLeast p r (divided_with (best_of p r) t node n x)
+    divided_least least m y inside carried = elim (Member-append_cases m (modify (widened wide found) t.nodes node.0) (fresh_nodes (best_of p r) (length t.leaves) (take (n.length + 1) s) (drop (n.length + 1) s)) inside) [
+      | inr new ↦ fresh_least (t.leaves ++ x ∷ []) (length t.leaves) x (get_at_end t.leaves [] x) (take (n.length + 1) s) (drop (n.length + 1) s) (sym (take-append-drop (n.length + 1) s)) m y new carried
+      | inl former ↦ elim (modify_cases (widened wide found) t.nodes node.0 m former) [
+        | inl kept ↦ ap (λ w. best_of p r w m.excluded) (stays m kept) ∙ least m y kept carried
+        | inr w ↦
+            let same : w.0 ≡ n = (let e : Some w.0 ≡ Some n = sym w.1 ∙ stands in cc (e)) in
+            subst (λ (k : Node A). k.route ≡ Some y → best_of p r (prefix_of (t.leaves ++ x ∷ []) k) k.excluded ≡ Some y) (sym w.2) (changed w.0 same y) carried
+      ]
+    ]
+
+-- no route of the part of the node that is known delivers before the tree's second for the route that it carries
+pub floor_known : {A : Type 0} (a : Asked) (t : Shape A) (id : NodeId) (w : RouteRecord) → IsKnown a t id w → IsPlan a.plan.plan → IsTree a.plan.plan a.request t → (copy : List ℕ) → copy ≡ w.contacts → (d : ℕ)
+    → (IsTrue t.is_searched → d ≡ w.delivery) → (IsFalse t.is_searched → d ≡ 0) → (n : Node A) → slice_get t.nodes id.0 ≡ Some n → IsFloor a.plan.plan a.request (take n.length copy) n.excluded d
+floor_known {A} a t id w k good tree copy e d told other m stands =
+    let p = a.plan.plan in
+    let r = a.request in
+    let x = k.route in
+    let same : m ≡ k.part = (let both : Some m ≡ Some k.part = sym stands ∙ k.stands in cc (both)) in
+    let contacts : copy ≡ x.contacts = e ∙ ap numbers_of k.copied in
+    let front : take k.part.length x.contacts ≡ prefix_of t.leaves k.part = (cut p r t tree id k.part x k.stands k.carries).2.front in
+    let floor : IsFloor p r (prefix_of t.leaves k.part) k.part.excluded d =
+    floor_when p r good (prefix_of t.leaves k.part) k.part.excluded x t.is_searched d (λ s. told s ∙ ap (λ (z : RouteRecord). z.delivery) k.copied) other (λ s. tree.least s k.part x (get_Member t.nodes id.0 k.part k.stands) k.carries) in
+    subst (λ (n : Node A). IsFloor p r (take n.length copy) n.excluded d) (sym same) (subst (λ z. IsFloor p r (take k.part.length z) k.part.excluded d) (sym contacts) (subst (λ q. IsFloor p r q k.part.excluded d) (sym front) floor))
+
+-- ---- what of an answer is up to a bound is the part's least route if that is
+
+found_best : {A : Type 0} (p : ContactPlan) (r : RouteRequest) → IsPlan p → (b : Bound) (q X : List ℕ) (sought : Sought A) → IsSought p r q X b sought → found_by sought (Some b) ≡ best_up_to p r (Some b) q X
+unfolding best_of
+found_best p r good b q X (Route x) h = ap (up_to b) h
+found_best p r good b q X NoRoute h = ap (up_to b) h
+found_best p r good b q X Beyond h = elim (least_in p r q X) as (λ o. least_in p r q X ≡ o → None ≡ up_to b (option_map (record_of p r) o)) [
+  | None ↦ λ _. refl
+  | Some s ↦ λ e.
+      let w = least_some p r good q X s e in
+      sym (ap (λ c. cond c (Some (record_of p r s)) None) (h s (λ i. w.0 i && w.1 i)))
+] refl
+
+-- so it is without a bound
+pub found_by_best : {A : Type 0} (p : ContactPlan) (r : RouteRequest) → IsPlan p → (o : Option Bound) (q X : List ℕ) (sought : Sought A) → IsSought p r q X (bound_in o) sought → IsWhole (bound_in o) sought → found_by sought o ≡ best_up_to p r o q X
+unfolding best_of
+found_by_best p r good (Some b) q X sought h whole = found_best p r good b q X sought h
+found_by_best p r good None q X (Route x) h whole = h
+found_by_best p r good None q X NoRoute h whole = h
+found_by_best p r good None q X Beyond h whole = absurd (true≢false whole)

@@ -13,7 +13,7 @@ use Rattle.sabr_frontier.specs.declared.tree.NodeId.{NodeId}
 use Rattle.sabr_frontier.specs.declared.tree.Node.{Node}
 use Rattle.sabr_frontier.specs.tree.Shape.{route_at}
 use Rattle.sabr_frontier.specs.tree.Winners.{route_of, winner_at, is_lesser, IsNoGreater, IsBestOf, IsFirst, CarriesNone, IsLesser, IsWinner, IsWon, AreWinners, low, high, IsAbove, AreOthersWinners, IsRising, IsBeside}
-use Rattle.sabr_frontier.proofs.ListingLemmas.Rising.{turned, less_from_test}
+use Rattle.sabr_frontier.proofs.ListingLemmas.ListMembers.{turned, less_from_test}
 
 -- ---- what a node carries
 

@@ -1,28 +1,73 @@
--- What a loader has gathered: nodes with their prefixes, leaves, and the prefixes that are expected.
-use Rattle.std.specs.Prelude.{◌≡◌, ℕ, ◌+◌, ◌<◌, ◌≤◌, Bool, true, false, ◌==◌, ◌&&◌, ◌⊎◌, not, List, [], ◌∷◌, ◌++◌, map, filter, flat_map, vec_len, vec_capacity, reverse, length, Option, Some, None, if◌then◌else◌}
-use Rattle.std.specs.Option.{option_map, option_map_or}
-use Rattle.std.specs.Ordering.{nat_cmp}
-use Rattle.sabr_frontier.specs.listing.Rising.{has}
-use Rattle.sabr_model.specs.Order.{same_numbers}
+-- What a loader has gathered: nodes with their prefixes and where these lead, leaves, and the prefixes that are expected.
+use Rattle.std.specs.Prelude.{◌≡◌, ℕ, ◌≤◌, IsTrue, List, [], ◌∷◌, ◌++◌, length, take, Bool, true, not, ◌⊎◌, map, filter, ◌+◌, ◌<◌, false, ◌==◌, ◌&&◌, flat_map, vec_len, vec_capacity, reverse, Option, Some, None, if◌then◌else◌}
 use Rattle.sabr_model.specs.plan.Plan.{ContactPlan, TabledPlan, IsPlan}
 use Rattle.sabr_model.specs.routes.Arrival.{RouteRequest}
-use Rattle.sabr_model.specs.routes.Asking.{IsRequest}
 use Rattle.sabr_model.specs.routes.Route.{is_path, is_route}
+use Rattle.sabr_model.specs.routes.Following.{IsReachedBy}
+use Rattle.sabr_model.specs.routes.Telling.{summary_of}
+use Rattle.sabr_frontier.specs.declared.loader.leading.Lead.{Lead}
+use Rattle.sabr_frontier.specs.declared.loader.leading.ExpectedPrefix.{ExpectedPrefix}
+use Rattle.sabr_frontier.specs.listing.State.{Member, InPairs, PartState, pair_of, leaves_of}
+use Rattle.std.specs.Ordering.{nat_cmp}
+use Rattle.sabr_frontier.specs.listing.Rising.{has}
+use Rattle.std.specs.Option.{option_map, option_map_or}
+use Rattle.sabr_model.specs.Order.{same_numbers}
+use Rattle.sabr_model.specs.routes.Asking.{IsRequest}
 use Rattle.sabr_model.specs.routes.Record.{RouteRecord, record_of}
 use Rattle.sabr_search.specs.questions.Calls.{Calls}
 use Rattle.sabr_frontier.specs.declared.tree.Node.{Node}
 use Rattle.sabr_frontier.specs.declared.loader.partial_tree.PartialTree.{PartialTree}
 use Rattle.sabr_frontier.specs.declared.loader.check.Checked.{Checked}
-use Rattle.sabr_frontier.specs.declared.loader.leading.ExpectedPrefix.{ExpectedPrefix}
-use Rattle.sabr_frontier.specs.listing.State.{PartState, pair_of, Member, leaves_of}
 use Rattle.sabr_frontier.specs.listing.Formed.{InOrder, Within}
-use Rattle.sabr_frontier.specs.listing.Expecting.{onward, IsGood, Expects}
 use Rattle.sabr_frontier.specs.tree.Shape.{Shape, given_at, numbers_of}
 use Rattle.sabr_frontier.specs.tree.Undo.{last_item, front}
 use Rattle.sabr_frontier.specs.tree.Giving.{ids_from}
 use Rattle.sabr_frontier.specs.tree.Searching.{Asked}
-use Rattle.sabr_frontier.specs.loading.Leading.{AreExpected, AreSteps, expected_prefix, step_of}
 use Rattle.sabr_frontier.specs.loading.Loading.{Loaded}
+
+-- ---- where the prefixes of parts lead
+
+-- the prefix is a path that leads there, and this is its record
+pub record IsLead (p : ContactPlan) (r : RouteRequest) (q : List ℕ) (lead : Lead) : Type 0 where
+  pub path : IsTrue (is_path p r q)
+  pub reached : IsReachedBy p r q lead.here
+  pub summary : lead.summary ≡ summary_of p q
+
+-- what is expected after a part: a beginning of the part's prefix of the length that is kept, and one more number
+abbrev pub expected_prefix : List ℕ → ExpectedPrefix → List ℕ
+expected_prefix last o = take o.length last ++ o.number ∷ []
+
+-- each leads where the list says; none takes more of the prefix than it has, or than those after it do
+pub record AreExpected (p : ContactPlan) (r : RouteRequest) (last : List ℕ) (os : List ExpectedPrefix) : Type 0 where
+  pub leads : (o : ExpectedPrefix) → Member o os → IsLead p r (expected_prefix last o) o.lead
+  pub within : (o : ExpectedPrefix) → Member o os → o.length ≤ length last
+  pub nested : InPairs (λ a b. a.length ≤ b.length) os
+
+-- the prefix and one more number
+abbrev pub step_of : List ℕ → ExpectedPrefix → List ℕ
+step_of q o = q ++ o.number ∷ []
+
+-- each takes the whole prefix, and leads where the list says
+abbrev pub AreSteps : ContactPlan → RouteRequest → List ℕ → List ExpectedPrefix → Type 0
+AreSteps p r q os = (o : ExpectedPrefix) → Member o os → (o.length ≡ length q) × IsLead p r (step_of q o) o.lead
+
+-- ---- pairs in order that answer, one after another, the prefixes that are expected
+
+module _ (route path : List ℕ → Bool) where
+  -- the prefixes that a pair asks for: those with an excluded number that make no route
+  abbrev pub onward : List ℕ × List ℕ → List (List ℕ)
+  onward e = filter (λ q. not (route q)) (map (λ x. e.0 ++ x ∷ []) e.1)
+
+  -- the pair excludes a number, unless its prefix is empty, and each excluded number makes a path
+  pub record IsGood (e : List ℕ × List ℕ) : Type 0 where
+    pub busy : (e.0 ≡ []) ⊎ ((x : ℕ) × (has nat_cmp x e.1 ≡ true))
+    pub chains : (x : ℕ) → has nat_cmp x e.1 ≡ true → path (e.0 ++ x ∷ []) ≡ true
+
+  -- the pairs lead from the first expected prefixes to the second, the least first in both: each is good, answers the
+  -- least and asks for what goes on from it
+  abbrev pub Expects : List (List ℕ) → List (List ℕ × List ℕ) → List (List ℕ) → Type 0
+  Expects os [] end = os ≡ end
+  Expects os (e ∷ T) end = (rest : List (List ℕ)) × (os ≡ e.0 ∷ rest) × IsGood e × Expects (onward e ++ rest) T end
 
 -- a partial tree without its capacities; the least of the expected prefixes is the last
 pub record PartialShape (A : Type 0) : Type 0 where

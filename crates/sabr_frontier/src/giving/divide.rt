@@ -8,7 +8,7 @@ ghost use Rattle.sabr_frontier.specs.listing.Rising.{Rises};
 ghost use Rattle.sabr_frontier.specs.tree.Undo.{modify, including};
 ghost use Rattle.sabr_frontier.specs.tree.Giving.{OfNode, fresh_after, fresh_node, fresh_nodes, wide_of};
 ghost use Rattle.sabr_frontier.specs.tree.Sound.{CanExclude};
-ghost use Rattle.sabr_frontier.specs.tree.Prepared.{excluding, parted};
+ghost use Rattle.sabr_frontier.specs.tree.PageTrees.{excluding, parted};
 ghost use Rattle.sabr_search.specs.questions.Bounded.{IsFloor};
 
 use crate::giving::searcher::Searcher;
@@ -48,7 +48,7 @@ pub struct Division<A: Allocator + Copy> {
 
 /// Finds the best route that begins with the first `count` numbers of a route and takes another number next. None
 /// that goes on after these delivers before the second `floor`.
-#[tactic(auto, using(crate::proofs::ListingLemmas::Paths::beginning_fits, crate::proofs::TreeLemmas::Floors::floor_one))]
+#[tactic(auto, using(crate::proofs::ListingLemmas::AllRoutes::beginning_fits, crate::proofs::TreeLemmas::Floors::floor_one))]
 pub fn find_best_after<B: BestOf<A>, A: Allocator + Copy>(
     searcher: &mut Searcher<'_, B, A>,
     route: &[u32],
@@ -156,7 +156,7 @@ fn exclude_next<A: Allocator + Copy>(
 /// Divides the part of a node by a route of it, which is then a leaf: the node excludes one number more, and the new
 /// parts come after the others, for which there is room. It takes one search for the node itself, and one for each new
 /// part.
-#[tactic(auto, using(crate::proofs::ListingLemmas::Paths::beginning_fits, crate::proofs::TreeLemmas::ModifiedPlaces::get_there, crate::proofs::TreeLemmas::TestBoundaries::increasing))]
+#[tactic(auto, using(crate::proofs::ListingLemmas::AllRoutes::beginning_fits, crate::proofs::TreeLemmas::ModifiedPlaces::get_there, crate::proofs::TreeLemmas::ListFronts::increasing))]
 pub fn divide<B: BestOf<A>, A: Allocator + Copy>(
     searcher: &mut Searcher<'_, B, A>,
     nodes: &mut Vec<Node<A>, A>,

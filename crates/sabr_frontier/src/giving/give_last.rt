@@ -68,7 +68,7 @@ fn longer_go_on<B: BestOf<A>, A: Allocator + Copy>(
 
 /// Returns true if a node's part has a route besides the one that it carries. It takes no search if that one is
 /// seen to go on otherwise than by its last number, and else at most the searches that dividing the part would.
-#[tactic(auto, using(crate::proofs::ListingLemmas::Paths::beginning_fits))]
+#[tactic(auto, using(crate::proofs::ListingLemmas::AllRoutes::beginning_fits))]
 fn part_goes_on<B: BestOf<A>, A: Allocator + Copy>(
     searcher: &mut Searcher<'_, B, A>,
     part: &Node<A>,

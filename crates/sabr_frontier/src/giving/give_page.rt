@@ -3,11 +3,11 @@
 ghost use Rattle.std.specs.Prelude.{◌≡◌, ℕ, ◌+◌, ◌*◌, ◌<◌, ◌≤◌, ◌++◌, drop, length, IfOk, OnOk, OnErr};
 ghost use Rattle.sabr_model.specs.plan.Plan.{IsPlan};
 ghost use Rattle.sabr_model.specs.routes.Asking.{IsRequest, most_hops};
-ghost use Rattle.sabr_frontier.specs.giving.SmallestKeys.{AreNoted, CarryKeys, carried_keys, keys_of};
+ghost use Rattle.sabr_frontier.specs.tree.SmallestKeys.{AreNoted, CarryKeys, carried_keys, keys_of};
 ghost use Rattle.sabr_frontier.specs.listing.Listing.{most_routes, searches_in};
 ghost use Rattle.sabr_frontier.specs.session.Session.{IsSound, tree_before};
 ghost use Rattle.sabr_frontier.specs.tree.Searching.{records_for, steps_for};
-ghost use Rattle.sabr_frontier.specs.tree.Cut.{ShowsCut};
+ghost use Rattle.sabr_frontier.specs.tree.PageTrees.{ShowsCut};
 ghost use Rattle.sabr_frontier.specs.tree.Shape.{shape_of, shown};
 ghost use Rattle.sabr_frontier.specs.tree.Giving.{OfNode};
 ghost use Rattle.sabr_frontier.specs.tree.Undo.{IsRoomy};

@@ -2,7 +2,7 @@
 
 ghost use Rattle.std.specs.Prelude.{◌≡◌, ◌≤◌, ◌∷◌, [], Some, OnOk, length};
 ghost use Rattle.sabr_model.specs.routes.Record.{RouteRecord};
-ghost use Rattle.sabr_frontier.specs.giving.SmallestKeys.{AreNoted, CarryKeys, FitsKey, IsBoundOf, carried_keys, key_of, keys_of};
+ghost use Rattle.sabr_frontier.specs.tree.SmallestKeys.{AreNoted, CarryKeys, FitsKey, IsBoundOf, carried_keys, key_of, keys_of};
 
 use crate::tree::Node;
 use sabr_model::{NoMemory, Route};
@@ -35,7 +35,7 @@ pub struct SmallestKeys<A: Allocator + Copy> {
 impl<A: Allocator + Copy> Model for SmallestKeys<A> {
     ghost use Rattle.std.specs.Prelude.{◌≤◌, length};
     ghost use Rattle.std.specs.BinaryHeap.{heap_items, IsHeap};
-    ghost use Rattle.sabr_frontier.specs.giving.SmallestKeys.{SeenKeys};
+    ghost use Rattle.sabr_frontier.specs.tree.SmallestKeys.{SeenKeys};
 
     ghost Value = { SeenKeys };
 

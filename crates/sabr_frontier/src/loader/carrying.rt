@@ -8,7 +8,7 @@ ghost use Rattle.sabr_model.specs.routes.Parts.{goes_on};
 ghost use Rattle.sabr_model.specs.routes.Record.{record_of};
 ghost use Rattle.sabr_model.specs.routes.Route.{is_route};
 ghost use Rattle.sabr_model.specs.routes.Telling.{summary_of};
-ghost use Rattle.sabr_frontier.specs.loading.Leading.{IsLead};
+ghost use Rattle.sabr_frontier.specs.loading.Partial.{IsLead};
 ghost use Rattle.sabr_frontier.specs.loading.Loading.{IsCarryFault, may_carry};
 ghost use Rattle.sabr_frontier.specs.listing.State.{part_with};
 

@@ -3,8 +3,7 @@
 ghost use Rattle.std.specs.Prelude.{◌≡◌, true, ◌∷◌, ◌++◌, [], map, IfOk, IfSome, IfNone};
 ghost use Rattle.sabr_model.specs.routes.Route.{is_path};
 ghost use Rattle.sabr_frontier.specs.tree.Searching.{asked_of};
-ghost use Rattle.sabr_frontier.specs.loading.Leading.{AreSteps, IsLead, step_of};
-ghost use Rattle.sabr_frontier.specs.loading.Partial.{AllGoOn, IsChecked, leaves_with, onward_with};
+ghost use Rattle.sabr_frontier.specs.loading.Partial.{AllGoOn, AreSteps, IsChecked, IsLead, leaves_with, onward_with, step_of};
 
 use crate::lists::longer;
 use crate::loader::leading::{ExpectedPrefix, Lead};

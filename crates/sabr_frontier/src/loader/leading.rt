@@ -3,7 +3,7 @@
 ghost use Rattle.std.specs.Prelude.{◌≡◌, ◌≤◌, ◌∷◌, ◌++◌, [], length, take, IfSome, IfNone, IsTrue, IsFalse};
 ghost use Rattle.sabr_model.specs.routes.Route.{is_path};
 ghost use Rattle.sabr_model.specs.routes.Telling.{summary_of};
-ghost use Rattle.sabr_frontier.specs.loading.Leading.{IsLead, expected_prefix};
+ghost use Rattle.sabr_frontier.specs.loading.Partial.{IsLead, expected_prefix};
 
 use sabr_model::{Plan, Reached, Request, RouteSummary, follow_hop};
 use std::alloc::Allocator;

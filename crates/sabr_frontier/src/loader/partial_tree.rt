@@ -6,8 +6,7 @@ ghost use Rattle.sabr_model.specs.Order.{numbers_before};
 ghost use Rattle.sabr_frontier.specs.tree.Shape.{shape_of};
 ghost use Rattle.sabr_frontier.specs.tree.Undo.{IsIndexed, IsRoomy, front, last_item};
 ghost use Rattle.sabr_frontier.specs.loading.Loading.{comes_after, rise_strictly};
-ghost use Rattle.sabr_frontier.specs.loading.Leading.{AreExpected, IsLead};
-ghost use Rattle.sabr_frontier.specs.loading.Partial.{HasPlaces, IsGiven, IsLastPlace, IsTakenIn, IsVerdict, answered_by, partial_shape_of, is_expected, is_complete, last_prefix, loaded_tree, nothing_yet, parts_in, with_node};
+ghost use Rattle.sabr_frontier.specs.loading.Partial.{AreExpected, HasPlaces, IsGiven, IsLastPlace, IsLead, IsTakenIn, IsVerdict, answered_by, is_complete, is_expected, last_prefix, loaded_tree, nothing_yet, partial_shape_of, parts_in, with_node};
 
 use crate::loader::check::{Checked, check};
 use crate::loader::ghost_lists::GhostLists;

@@ -5,7 +5,7 @@ ghost use Rattle.sabr_model.specs.routes.Record.{RouteRecord};
 ghost use Rattle.sabr_frontier.specs.tree.Shape.{shape_of, route_at};
 ghost use Rattle.sabr_frontier.specs.tree.Undo.{IsRoomy, IsSpacious, modify, HasRoom};
 ghost use Rattle.sabr_frontier.specs.tree.Winners.{AreOthersWinners, CarriesNone, CarriesSome, IsFirst};
-ghost use Rattle.sabr_frontier.specs.tree.Prepared.{carrying, given_by};
+ghost use Rattle.sabr_frontier.specs.tree.PageTrees.{carrying, given_by};
 
 use crate::tree::places::carried;
 use crate::tree::winners::{fill, renew};

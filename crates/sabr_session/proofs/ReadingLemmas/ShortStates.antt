@@ -27,15 +27,13 @@ use Rattle.sabr_frontier.specs.listing.Tree.{set_of}
 use Rattle.sabr_frontier.specs.listing.State.{PartState, State, pair_of, Member, leaves_of, leaves}
 use Rattle.sabr_frontier.specs.listing.Listing.{IsState}
 use Rattle.sabr_frontier.proofs.ListingLemmas.ClosedTrees.{Number_has, leaves_has}
-use Rattle.sabr_frontier.proofs.ListingLemmas.AllRoutes.{within_goes_on}
+use Rattle.sabr_frontier.proofs.ListingLemmas.AllRoutes.{within_goes_on, route_filled}
 use Rattle.sabr_frontier.proofs.ListingLemmas.ListMembers.{Member-map}
-use Rattle.sabr_frontier.proofs.ListingLemmas.Paths.{route_filled}
 use Rattle.sabr_session.specs.SessionText.{HasText}
 use Rattle.sabr_session.specs.SessionRead.{rise_strictly}
 use Rattle.sabr_session.specs.SessionWords.{most_number}
 use Rattle.sabr_session.proofs.WordLemmas.SpelledWords.{AreWithin}
-use Rattle.sabr_session.proofs.TextLemmas.SpelledHead.{IsContactList}
-use Rattle.sabr_session.proofs.TextLemmas.SpelledParts.{PartIsTellable, IsPartOf, ArePartsOf}
+use Rattle.sabr_session.proofs.TextLemmas.SpelledLines.{IsContactList, PartIsTellable, IsPartOf, ArePartsOf}
 
 -- what a text says of a state
 pub record StateIsTellable (p : ContactPlan) (r : RouteRequest) (s : State) : Type 0 where

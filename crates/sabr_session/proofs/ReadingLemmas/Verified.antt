@@ -8,7 +8,7 @@ use Rattle.sabr_plan.specs.Canonical.{digest_of}
 use Rattle.sabr_frontier.specs.listing.State.{State}
 use Rattle.sabr_frontier.specs.listing.Listing.{IsState, state_at}
 use Rattle.sabr_frontier.specs.session.Session.{Seen}
-use Rattle.sabr_frontier.proofs.ListingLemmas.PlacesFormed.{emitted_at, place_within, state_at_formed}
+use Rattle.sabr_frontier.proofs.ListingLemmas.Lawful.{emitted_at, place_within, state_at_formed}
 use Rattle.sabr_session.specs.SessionText.{HasText}
 use Rattle.sabr_session.specs.SessionRead.{Said, said_of, state_of, ComesTo, IsSessionOf}
 use Rattle.sabr_session.specs.SessionGiven.{ReadsSession, EndsText, BreaksText, RefusesText}
@@ -16,7 +16,7 @@ use Rattle.sabr_session.specs.Verifying.{IsSessionText, EndsVerified, BreaksVeri
 use Rattle.sabr_session.proofs.ReadingLemmas.SessionGivenSoFar.{read_failed}
 use Rattle.sabr_session.specs.declared.session_fault.SessionFault.{SessionFault}
 use Rattle.sabr_session.specs.declared.session_fault.SessionFault.TheVariants.{Read, NoMemory}
-use Rattle.sabr_session.proofs.TextLemmas.OneAnswer.{is_read_back}
+use Rattle.sabr_session.proofs.TextLemmas.TextsRead.{is_read_back}
 use Rattle.sabr_session.proofs.TextLemmas.TextsTold.{IsTextOf, text_told}
 
 module _ (p : ContactPlan) (good : IsPlan p) where

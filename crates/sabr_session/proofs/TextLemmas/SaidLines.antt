@@ -7,7 +7,7 @@ use Rattle.sabr_session.specs.SessionLines.{header_of, digest_named, emitted_of,
 use Rattle.sabr_session.specs.SessionRead.{Said, misspelled, same_plan, spelled_at, line_said, other_said, request_said, asked, digest_said}
 use Rattle.sabr_session.specs.declared.session_fault.SessionFault.{SessionFault}
 use Rattle.sabr_session.specs.declared.reading.first_lines.Version.{Version}
-use Rattle.sabr_session.proofs.WordLemmas.SpelledWords.{other_number}
+use Rattle.sabr_session.proofs.WordLemmas.SpelledWords.{other_number, joined, words-joined, number_told, list_told, list_has_word, slash_joined}
 use Rattle.std.proofs.lemmas.Option.{cond_some}
 use Rattle.std.specs.Str.{bytes_eq}
 use Rattle.std.proofs.lemmas.List.{take-append-drop}
@@ -26,7 +26,6 @@ use Rattle.sabr_model.specs.declared.request_values.RequestValues.{RequestValues
 use Rattle.sabr_session.specs.declared.session_fault.SessionFault.TheVariants.{OtherPlan, BadRequest}
 use Rattle.sabr_session.proofs.ReadingLemmas.StepsTaken.{and_then_some, map_some, and_then_ok, spelled_at_ok}
 use Rattle.sabr_plan.proofs.SpelledNumbers.{number_within-range}
-use Rattle.sabr_session.proofs.WordLemmas.WordsTold.{joined, words-joined, number_told, list_told, list_has_word, slash_joined}
 
 -- what a line was found to say, and the result that was made of it
 pub spelled : {A : Type 0} {o x : Option A} {r s : Result A SessionFault} (n : ℕ) → o ≡ x → r ≡ ok_or o (misspelled n) → r ≡ s → spelled_at n x ≡ s

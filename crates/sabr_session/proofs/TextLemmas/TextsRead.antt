@@ -1,30 +1,36 @@
--- A text of a request and a state is read to exactly that request and state.
-use Rattle.std.proofs.Common.{◌≡◌, ℕ, ◌+◌, ◌≤◌, true, ltb, List, [], ◌∷◌, ◌++◌, map, length, refl, sym, ap, subst, ◌∙◌, arith, append-nil, append_assoc, length-append, decimal, codes, Ok}
+-- A text of a request and a state is read to exactly that request and state, piece by piece, and to nothing else.
+use Rattle.std.proofs.Common.{◌≡◌, ℕ, ◌+◌, ◌≤◌, true, ltb, List, [], ◌∷◌, ◌++◌, map, length, refl, sym, ap, subst, ◌∙◌, arith, append-nil, append_assoc, length-append, decimal, codes, Ok, ◌≢◌, Bool, false, ◌⊎◌, inl, inr, Result, Err, IfOk, eqb}
 use Rattle.std.proofs.lemmas.Bool.{lt-ltb}
 use Rattle.std.specs.List.{concat, flat_map}
 use Rattle.std.proofs.lemmas.Fmt.{length-decimal-le_wide}
-use Rattle.std.proofs.lemmas.List.{length-map}
+use Rattle.std.proofs.lemmas.List.{length-map, append_cancel_left}
 use Rattle.hex.specs.Hex.{encode_lower}
-use Rattle.sabr_model.specs.plan.Plan.{ContactPlan}
+use Rattle.sabr_model.specs.plan.Plan.{ContactPlan, TabledPlan, IsPlan}
 use Rattle.sabr_model.specs.routes.Arrival.{RouteRequest}
 use Rattle.sabr_model.specs.routes.Asking.{IsRequest}
 use Rattle.sabr_plan.specs.Canonical.{canonical_text, digest_of}
 use Rattle.sabr_plan.specs.Steps.{and_then}
 use Rattle.sabr_plan.specs.Times.{time_text_of}
-use Rattle.sabr_plan.specs.Words.{TextLines, is_one_line, lines_of}
+use Rattle.sabr_plan.specs.Words.{TextLines, is_one_line, lines_of, before_lines}
 use Rattle.sabr_frontier.specs.listing.State.{PartState, State}
 use Rattle.sabr_frontier.specs.listing.Listing.{IsState}
 use Rattle.sabr_session.specs.SessionText.{list_text, part_line, plan_line, request_line, old_request_line, state_lines, text_of, old_text_of, HasText, IsUnlimited}
-use Rattle.sabr_session.specs.SessionRead.{Said, nothing_said, line_said, read_lines, last_line, said_of, ComesTo, IsSessionOf}
+use Rattle.sabr_session.specs.SessionRead.{Said, nothing_said, line_said, read_lines, last_line, said_of, ComesTo, IsSessionOf, Judges}
 use Rattle.sabr_session.specs.declared.reading.first_lines.Version.{Version}
 use Rattle.sabr_session.specs.declared.reading.first_lines.Version.TheVariants.{One, Two}
 use Rattle.sabr_plan.proofs.SpelledNumbers.{same_text}
 use Rattle.sabr_session.proofs.WordLemmas.SpelledWords.{decimal_is_word, digest_length, digest_word}
-use Rattle.sabr_session.proofs.TextLemmas.SpelledHead.{joined, AreLines, lines_of-joined, lf_after, concat_line, length-concat, word_line, list_line, list_length, nodes_length, accepted_nodes, accepted_few, time_word, digest_read, emitted_read, count_read, last_read, request_text, old_request_text, request_read, old_request_read, asked_is, old_asked_is}
-use Rattle.sabr_session.proofs.TextLemmas.SpelledParts.{part_pieces, spelled_part, part_line_is, ArePartsOf, read_on, parts_read}
-use Rattle.sabr_session.proofs.ReadingLemmas.ShortStates.{StateIsTellable}
+use Rattle.sabr_session.proofs.TextLemmas.SpelledLines.{joined, AreLines, lines_of-joined, lf_after, concat_line, length-concat, word_line, list_line, list_length, nodes_length, accepted_nodes, accepted_few, time_word, digest_read, emitted_read, count_read, last_read, request_text, old_request_text, request_read, old_request_read, asked_is, old_asked_is, part_pieces, spelled_part, part_line_is, ArePartsOf, read_on, parts_read}
+use Rattle.sabr_session.proofs.ReadingLemmas.ShortStates.{StateIsTellable, state_is_tellable}
 use Rattle.sabr_plan.proofs.Held.{one_line-append}
 use Rattle.sabr_session.specs.SessionWords.{most_number}
+use Rattle.sabr_frontier.specs.session.Session.{Seen}
+use Rattle.sabr_session.specs.SessionFed.{OpenText, opened_over, outcome_of, IsFed, IsFinished, IsSessionFrom}
+use Rattle.sabr_session.specs.SessionGiven.{said_over}
+use Rattle.sabr_session.specs.TextLaws.{AreFed, bytes_of, IsAnswerSoFar, PiecesAreOneText, CanBeTold, IsReadBack, AreApart}
+use Rattle.sabr_session.specs.declared.session_fault.SessionFault.{SessionFault}
+use Rattle.sabr_session.proofs.ReadingLemmas.SessionOutcomes.{said_of-outcome}
+use Rattle.sabr_session.specs.declared.session_fault.SessionFault.TheVariants as fault
 
 -- ---- the lines of a text
 
@@ -240,3 +246,159 @@ module _ (p : ContactPlan) (r : RouteRequest) (s : State) (told : IsRequest r) (
       ∙ read_on p (digest_of p) 3 s₁ (asked_so One) request (state_words s) (old_request_length r told) (rw (old_request_read r told, old_asked_is r told free) refl)
       ∙ state_read One
       )
+
+-- ---- what pieces of a session text come to, fed one after the other, and the lines of bytes that others follow
+
+-- the lines of a text, and those that begin with its open line
+abbrev followed_by : TextLines → TextLines → TextLines
+followed_by t u = record { ended = t.ended ++ u.ended; open_line = u.open_line }
+
+byte_before : (b : ℕ) → eqb b 10 ≡ false → (ended : List (List ℕ)) (rest more : List ℕ)
+    → before_lines b (followed_by (record { ended = ended; open_line = rest }) (lines_of (rest ++ more)))
+    ≡ followed_by (before_lines b (record { ended = ended; open_line = rest })) (lines_of ((before_lines b (record { ended = ended; open_line = rest })).open_line ++ more))
+unfolding lines_of
+byte_before b other [] rest more = rw other refl
+byte_before b other (line ∷ lines) rest more = refl
+
+byte_more : (b : ℕ) (bytes more : List ℕ) (lf : Bool) → eqb b 10 ≡ lf → lines_of (bytes ++ more) ≡ followed_by (lines_of bytes) (lines_of ((lines_of bytes).open_line ++ more))
+    → lines_of ((b ∷ bytes) ++ more) ≡ followed_by (lines_of (b ∷ bytes)) (lines_of ((lines_of (b ∷ bytes)).open_line ++ more))
+unfolding lines_of
+byte_more b bytes more true is so = rw (is, so) refl
+byte_more b bytes more false is so = rw (is, so) (byte_before b is (lines_of bytes).ended (lines_of bytes).open_line more)
+
+lines_of-append : (bytes more : List ℕ) → lines_of (bytes ++ more) ≡ followed_by (lines_of bytes) (lines_of ((lines_of bytes).open_line ++ more))
+unfolding lines_of
+lines_of-append [] more = refl
+lines_of-append (b ∷ bytes) more = byte_more b bytes more (eqb b 10) refl (lines_of-append bytes more)
+
+-- what follows goes on with the open line
+pub open_line-append : (bytes more : List ℕ) → (lines_of (bytes ++ more)).open_line ≡ (lines_of ((lines_of bytes).open_line ++ more)).open_line
+open_line-append bytes more = ap (λ (t : TextLines). t.open_line) (lines_of-append bytes more)
+
+-- after these bytes, what was fed comes to what they come to
+abbrev SoFar : TabledPlan → List ℕ → Result OpenText SessionFault → Type 0
+SoFar plan bytes (Ok t) = (t.plan ≡ plan) × ((more : List ℕ) (ended : Bool) → said_over plan (bytes ++ more) ended ≡ outcome_of t more ended) × (t.fed.held ≡ (lines_of bytes).open_line)
+SoFar plan bytes (Err f) = (f ≡ fault.NoMemory) ⊎ ((f ≢ fault.Read) × ((more : List ℕ) (ended : Bool) → said_over plan (bytes ++ more) ended ≡ Err f))
+
+module _ (plan : TabledPlan) where
+  after_all : (bytes : List ℕ) (ended : Bool) → said_over plan bytes ended ≡ said_over plan (bytes ++ []) ended
+  after_all bytes ended = ap (λ b. said_over plan b ended) (sym (append-nil bytes))
+
+  regrouped : (bytes piece more : List ℕ) (ended : Bool) → said_over plan ((bytes ++ piece) ++ more) ended ≡ said_over plan (bytes ++ (piece ++ more)) ended
+  regrouped bytes piece more ended = ap (λ b. said_over plan b ended) (append_assoc bytes piece more)
+
+  -- one more piece
+  piece_fed : (bytes piece : List ℕ) (old new : Result OpenText SessionFault) (answer : Result (Unit {0}) SessionFault) → SoFar plan bytes old → IsFed old piece answer new → SoFar plan (bytes ++ piece) new × IsAnswerSoFar plan (bytes ++ piece) answer
+  piece_fed bytes piece (Ok t) (Ok s) (Ok u) so fed =
+      let same : (more : List ℕ) (ended : Bool) → said_over plan ((bytes ++ piece) ++ more) ended ≡ outcome_of s more ended = λ more ended. regrouped bytes piece more ended ∙ so.1 (piece ++ more) ended ∙ fed.same more ended in
+      let held : s.fed.held ≡ (lines_of (bytes ++ piece)).open_line = fed.held ∙ ap (λ b. (lines_of (b ++ piece)).open_line) so.2 ∙ sym (open_line-append bytes piece) in
+      ((fed.plan ∙ so.0, same, held), after_all (bytes ++ piece) false ∙ same [] false ∙ fed.fine)
+  piece_fed bytes piece (Ok t) (Err g) (Ok u) so fed = absurd fed
+  piece_fed bytes piece (Ok t) (Ok s) (Err f) so fed = absurd cc
+  piece_fed bytes piece (Ok t) (Err g) (Err f) so fed = by_refusal fed.1
+    where
+      by_refusal : (f ≡ fault.NoMemory) ⊎ ((f ≢ fault.Read) × ((more : List ℕ) (ended : Bool) → outcome_of t (piece ++ more) ended ≡ Err f)) → SoFar plan (bytes ++ piece) (Err g) × IsAnswerSoFar plan (bytes ++ piece) (Err f)
+      by_refusal (inl memory) = let same : g ≡ f = (let e = fed.0 in cc) in (inl (same ∙ memory), inl memory)
+      by_refusal (inr (other, refused)) =
+          let same : g ≡ f = (let e = fed.0 in cc) in
+          let all : (more : List ℕ) (ended : Bool) → said_over plan ((bytes ++ piece) ++ more) ended ≡ Err f = λ more ended. regrouped bytes piece more ended ∙ so.1 (piece ++ more) ended ∙ refused more ended in
+          (inr (rw same other, rw same all), inr (other, after_all (bytes ++ piece) false ∙ all [] false))
+  piece_fed bytes piece (Err g) new (Ok u) so fed = absurd fed
+  piece_fed bytes piece (Err g) (Ok s) (Err f) so fed = absurd cc
+  piece_fed bytes piece (Err g) (Err e) (Err f) so fed = by_refusal so
+    where
+      by_refusal : SoFar plan bytes (Err g) → SoFar plan (bytes ++ piece) (Err e) × IsAnswerSoFar plan (bytes ++ piece) (Err f)
+      by_refusal (inl memory) = let same : e ≡ g = (let is = fed.1 in cc) in (inl (same ∙ memory), inl (fed.0 ∙ memory))
+      by_refusal (inr (other, refused)) =
+          let same : e ≡ g = (let is = fed.1 in cc) in
+          let all : (more : List ℕ) (ended : Bool) → said_over plan ((bytes ++ piece) ++ more) ended ≡ Err g = λ more ended. regrouped bytes piece more ended ∙ refused (piece ++ more) ended in
+          (inr (rw same other, rw same all), inr (rw fed.0 other, after_all (bytes ++ piece) false ∙ rw fed.0 (all [] false)))
+
+  -- one piece after the other
+  all_fed : (bytes : List ℕ) (fed : List (List ℕ × Result (Unit {0}) SessionFault)) (old new : Result OpenText SessionFault) → SoFar plan bytes old → AreFed old fed new → SoFar plan (bytes ++ bytes_of fed) new
+  all_fed bytes [] old new so are = rw (append-nil bytes, are) so
+  all_fed bytes (f ∷ fed) old new so (mid, first, rest) =
+      rw (← append_assoc bytes f.0 (bytes_of fed)) (all_fed (bytes ++ f.0) fed mid new (piece_fed bytes f.0 old mid f.1 so first).0 rest)
+
+  -- what is held
+  held_so : (bytes : List ℕ) (old : Result OpenText SessionFault) → SoFar plan bytes old → IfOk old (λ t. t.fed.held ≡ (lines_of bytes).open_line)
+  held_so bytes (Ok t) so = so.2
+  held_so bytes (Err f) so = tt
+
+  -- the end
+  ended_so : (bytes : List ℕ) (old : Result OpenText SessionFault) (answer : Result Seen SessionFault) → SoFar plan bytes old → IsFinished old answer → IsSessionFrom plan (said_over plan bytes true) answer
+  ended_so bytes (Ok t) answer so finished = rw (after_all bytes true, so.1 [] true, ← so.0) finished
+  ended_so bytes (Err f) answer (inl memory) finished = rw finished (inl memory)
+  ended_so bytes (Err f) answer (inr (other, refused)) finished = rw (finished, after_all bytes true, refused [] true) (inr refl)
+
+nothing_held : [] ≡ (lines_of []).open_line
+unfolding lines_of
+nothing_held = refl
+
+-- pieces are one text
+pub pieces_joined : PiecesAreOneText
+pieces_joined plan calls fed old are =
+    let start : SoFar plan [] (Ok (opened_over plan calls)) = (refl, (λ more ended. said_of-outcome plan.plan (digest_of plan.plan) more ended), nothing_held) in
+    let so : SoFar plan (bytes_of fed) old = all_fed plan [] fed (Ok (opened_over plan calls)) old start are in
+    record {
+      piece = λ piece answer new is. (piece_fed plan (bytes_of fed) piece old new answer so is).1;
+      held = held_so plan (bytes_of fed) old so;
+      end = λ answer finished. ended_so plan (bytes_of fed) old answer so finished;
+    }
+
+-- ---- a text comes to one answer; so texts that are alike are of one request and one state
+
+-- lines without a fault come to one answer
+judged_once : (p : ContactPlan) (s : Said) (a b : Result (RouteRequest × State) SessionFault) → Judges p s a → Judges p s b → a ≡ b
+judged_once p s (Ok x) (Ok y) h k = ap Ok (h.0 ∙ sym k.0)
+judged_once p s (Ok x) (Err g) h (inl k) = absurd (k.1 h.1.closed)
+judged_once p s (Ok x) (Err g) h (inr k) = absurd (k.2 h.1)
+judged_once p s (Err f) (Ok y) (inl h) k = absurd (h.1 k.1.closed)
+judged_once p s (Err f) (Ok y) (inr h) k = absurd (h.2 k.1)
+judged_once p s (Err f) (Err g) (inl h) (inl k) = ap Err (h.0 ∙ sym k.0)
+judged_once p s (Err f) (Err g) (inl h) (inr k) = absurd (h.1 k.1)
+judged_once p s (Err f) (Err g) (inr h) (inl k) = absurd (k.1 h.1)
+judged_once p s (Err f) (Err g) (inr h) (inr k) = ap Err (h.0 ∙ sym k.0)
+
+comes_once : (p : ContactPlan) (said : Result Said SessionFault) (a b : Result (RouteRequest × State) SessionFault) → ComesTo p said a → ComesTo p said b → a ≡ b
+comes_once p (Ok s) a b h k = judged_once p s a b h k
+comes_once p (Err f) a b h k = h ∙ sym k
+
+-- a text comes to one answer
+pub answers_once : (p : ContactPlan) (h bytes : List ℕ) (ended : Bool) (a b : Result (RouteRequest × State) SessionFault)
+    → IsSessionOf p h bytes ended a → IsSessionOf p h bytes ended b → a ≡ b
+answers_once p h bytes ended a b x y = comes_once p (said_of p h bytes ended) a b x y
+
+-- the texts of two digests are alike together
+other_digest : (h k : List ℕ) (r q : RouteRequest) (s t : State) → text_of h r s ≡ text_of h q t → text_of k r s ≡ text_of k q t
+unfolding text_of
+other_digest h k r q s t e =
+    ap (λ u. codes "cgr-session 2\n" ++ (plan_line k ++ u)) (append_cancel_left (plan_line h) _ _ (append_cancel_left (codes "cgr-session 2\n") _ _ e))
+
+old_other_digest : (h k : List ℕ) (r q : RouteRequest) (s t : State) → old_text_of h r s ≡ old_text_of h q t → old_text_of k r s ≡ old_text_of k q t
+unfolding old_text_of
+old_other_digest h k r q s t e =
+    ap (λ u. codes "cgr-session 1\n" ++ (plan_line k ++ u)) (append_cancel_left (plan_line h) _ _ (append_cancel_left (codes "cgr-session 1\n") _ _ e))
+
+module _ (p : ContactPlan) (good : IsPlan p) where
+  -- a text is read to what it was written of
+  pub is_read_back : (r : RouteRequest) (s : State) → CanBeTold p r s → IsReadBack p r s
+  is_read_back r s h =
+      let state = state_is_tellable p r good h.accepted s h.formed h.there in
+      record {
+        text = text_read p r s h.accepted state h.there h.formed;
+        old = old_text_read p r s h.accepted state h.there h.formed;
+      }
+
+  same : (bytes other : List ℕ) (r q : RouteRequest) (s t : State) → bytes ≡ other → IsSessionOf p (digest_of p) bytes true (Ok (r, s)) → IsSessionOf p (digest_of p) other true (Ok (q, t)) → (r ≡ q) × (s ≡ t)
+  same bytes other r q s t e h k =
+      let one = answers_once p (digest_of p) other true (Ok (r, s)) (Ok (q, t)) (subst (λ u. IsSessionOf p (digest_of p) u true (Ok (r, s))) e h) k in
+      let pair : ◌≡◌ {A = RouteRequest × State} (r, s) (q, t) = cc in
+      (ap (λ (x : RouteRequest × State). x.0) pair, ap (λ (x : RouteRequest × State). x.1) pair)
+
+  -- texts that are alike are of one request and one state
+  pub are_apart : (h : List ℕ) (r q : RouteRequest) (s t : State) → CanBeTold p r s → CanBeTold p q t → AreApart h r q s t
+  are_apart h r q s t one two = record {
+    text = λ e. same (text_of (digest_of p) r s) (text_of (digest_of p) q t) r q s t (other_digest h (digest_of p) r q s t e) (is_read_back r s one).text (is_read_back q t two).text;
+    old = λ free gratis e. same (old_text_of (digest_of p) r s) (old_text_of (digest_of p) q t) r q s t (old_other_digest h (digest_of p) r q s t e) ((is_read_back r s one).old free) ((is_read_back q t two).old gratis);
+  }

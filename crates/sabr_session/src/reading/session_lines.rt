@@ -53,7 +53,7 @@ pub(crate) struct SessionLines<'p, B: BestOf<A>, A: Allocator + Copy> {
 impl<'p, B: BestOf<A>, A: Allocator + Copy> Model for SessionLines<'p, B, A> {
     ghost use Rattle.std.specs.Prelude.{◌≡◌, ◌≤◌, nat_lt, [], is_some, option_map};
     ghost use Rattle.sabr_session.specs.SessionFed.{OpenText, most_lines};
-    ghost use Rattle.sabr_session.specs.SessionLoader.{calls_by, request_by, parts_by, HasFinder};
+    ghost use Rattle.sabr_session.specs.PausedTexts.{calls_by, request_by, parts_by, HasFinder};
 
     ghost Value = { OpenText };
 

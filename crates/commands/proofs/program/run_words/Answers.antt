@@ -1,5 +1,5 @@
 use Rattle.std.proofs.Common.{inl, inr, refl}
-use Rattle.commands.proofs.WordLemmas.BuiltWords.{has_fault}
+use Rattle.commands.proofs.WordLemmas.RequestWords.{has_fault}
 use Rattle.commands.proofs.program.run_words.Goals as goal
 
 pub returns-in-Err : goal.returns-in-Err

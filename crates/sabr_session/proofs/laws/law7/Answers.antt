@@ -1,4 +1,4 @@
-use Rattle.sabr_session.proofs.TextLemmas.OneAnswer.{is_read_back, are_apart}
+use Rattle.sabr_session.proofs.TextLemmas.TextsRead.{is_read_back, are_apart}
 use Rattle.sabr_session.proofs.laws.law7.Goals as goal
 
 pub returns : goal.returns

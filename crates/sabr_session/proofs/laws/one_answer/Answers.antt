@@ -1,4 +1,4 @@
-use Rattle.sabr_session.proofs.TextLemmas.OneAnswer.{answers_once}
+use Rattle.sabr_session.proofs.TextLemmas.TextsRead.{answers_once}
 use Rattle.sabr_session.proofs.laws.one_answer.Goals as goal
 
 pub returns : goal.returns

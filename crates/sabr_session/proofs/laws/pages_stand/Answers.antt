@@ -1,4 +1,4 @@
-use Rattle.sabr_session.proofs.PlaceLemmas.Pages.{pages_stand}
+use Rattle.sabr_session.proofs.SessionPlaces.{pages_stand}
 use Rattle.sabr_session.proofs.laws.pages_stand.Goals as goal
 
 pub returns : goal.returns

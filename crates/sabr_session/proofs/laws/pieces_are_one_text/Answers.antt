@@ -1,4 +1,4 @@
-use Rattle.sabr_session.proofs.TextLemmas.PiecesJoined.{pieces_joined}
+use Rattle.sabr_session.proofs.TextLemmas.TextsRead.{pieces_joined}
 use Rattle.sabr_session.proofs.laws.pieces_are_one_text.Goals as goal
 
 pub returns : goal.returns

@@ -1,4 +1,4 @@
-use Rattle.sabr_session.proofs.PlaceLemmas.PlacedTexts.{texts_are_placed}
+use Rattle.sabr_session.proofs.SessionPlaces.{texts_are_placed}
 use Rattle.sabr_session.proofs.laws.texts_are_placed.Goals as goal
 
 pub returns : goal.returns

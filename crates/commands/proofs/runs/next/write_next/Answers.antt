@@ -4,7 +4,7 @@ use Rattle.std.specs.Prelude.{is_some}
 use Rattle.sabr_model.specs.plan.Plan.{TabledPlan}
 use Rattle.sabr_plan.specs.Canonical.{digest_of}
 use Rattle.sabr_session.specs.declared.session_fault.SessionFault.TheVariants.{NoMemory}
-use Rattle.commands.proofs.RunLemmas.NextPages.{is_over_plan}
+use Rattle.commands.proofs.RunLemmas.PageTexts.{is_over_plan}
 use Rattle.commands.proofs.runs.next.write_next.Goals as goal
 use Rattle.commands.proofs.runs.next.write_next.Goals.{then-keep, else-keep}
 

@@ -2,7 +2,7 @@ use Rattle.std.proofs.Common.{◌≡◌, ap, map, subst, ◌∙◌}
 use Rattle.std.proofs.lemmas.Result.{IfOk-weaker}
 use Rattle.clap.specs.Words.{App, FailsBy, app_of, fault_of, is_simple, is_simple_and_free, subcommand_of}
 use Rattle.commands.specs.words.CommandLine.{program_app}
-use Rattle.commands.proofs.WordLemmas.BuiltWords.{is_free_program, is_simple_program}
+use Rattle.commands.proofs.WordLemmas.RequestWords.{is_free_program, is_simple_program}
 use Rattle.commands.proofs.WordLemmas.NamedWords.{named_if_read}
 use Rattle.commands.proofs.words.command_line.parsed.Goals as goal
 

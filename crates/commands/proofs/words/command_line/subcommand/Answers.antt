@@ -3,7 +3,7 @@ use Rattle.clap.specs.Words.{app_of, new_app}
 use Rattle.clap.specs.Simple.{new_shape}
 use Rattle.clap.specs.declared.builder.command.Command.TheViews.{out-Command}
 use Rattle.commands.specs.words.CommandLine.{AddsWords, command_text, rules_for}
-use Rattle.commands.proofs.WordLemmas.BuiltWords.{command_in}
+use Rattle.commands.proofs.WordLemmas.RequestWords.{command_in}
 use Rattle.commands.proofs.words.command_line.subcommand.Goals as goal
 
 pub returns : goal.returns

@@ -1,5 +1,5 @@
 use Rattle.std.proofs.Common.{refl}
-use Rattle.commands.proofs.WordLemmas.BuiltWords.{first_command, next_command, program_in}
+use Rattle.commands.proofs.WordLemmas.RequestWords.{first_command, next_command, program_in}
 use Rattle.commands.proofs.words.command_line.with_commands.Goals as goal
 
 pub returns : goal.returns

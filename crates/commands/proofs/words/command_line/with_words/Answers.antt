@@ -1,4 +1,4 @@
-use Rattle.commands.proofs.WordLemmas.BuiltWords.{one_more}
+use Rattle.commands.proofs.WordLemmas.RequestWords.{one_more}
 use Rattle.commands.proofs.words.command_line.with_words.Goals as goal
 
 pub loop-word-preserved : goal.loop-word-preserved

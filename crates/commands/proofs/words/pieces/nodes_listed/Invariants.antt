@@ -3,7 +3,7 @@ use Rattle.std.specs.Option.{option_copied}
 use Rattle.commands.specs.words.Values.{pieces_of, pieces_after}
 use Rattle.sabr_session.specs.SessionWords.{all_of}
 use Rattle.sabr_plan.specs.Numbers.{number_within}
-use Rattle.sabr_session.proofs.WordLemmas.ReadNumbers.{with_front}
+use Rattle.sabr_session.proofs.WordLemmas.ReadLists.{with_front}
 use Rattle.commands.proofs.words.pieces.nodes_listed.Given as goal
 
 abbrev pub invariant-loop-rest : goal.invariant-loop-rest

@@ -8,17 +8,16 @@ use Rattle.sabr_model.proofs.ListLemmas.Answered.{on_err}
 use Rattle.sabr_frontier.specs.declared.tree.Node.{Node}
 use Rattle.sabr_frontier.specs.listing.Rising.{Rises}
 use Rattle.sabr_frontier.specs.tree.Undo.{including, modify}
-use Rattle.sabr_frontier.specs.tree.Prepared.{excluding}
+use Rattle.sabr_frontier.specs.tree.PageTrees.{excluding}
 use Rattle.sabr_frontier.specs.tree.Giving.{fresh_nodes}
 use Rattle.sabr_frontier.specs.tree.Searching.{Asked, best_for}
 use Rattle.sabr_model.specs.plan.Plan.{ContactPlan}
 use Rattle.sabr_model.specs.routes.Arrival.{RouteRequest}
 use Rattle.sabr_frontier.proofs.TreeLemmas.Floors.{floor_after, floor_wide}
 use Rattle.sabr_frontier.proofs.TreeLemmas.ModifiedPlaces.{get_there, length-modify, within_get}
-use Rattle.sabr_frontier.proofs.TreeLemmas.TestBoundaries.{increasing}
-use Rattle.sabr_frontier.proofs.ListingLemmas.Paths.{beginning_fits}
-use Rattle.sabr_frontier.proofs.ListingLemmas.Rising.{Rises-put_in}
-use Rattle.sabr_frontier.proofs.TreeLemmas.Excluding.{excluded_there, included, including_none}
+use Rattle.sabr_frontier.proofs.TreeLemmas.ListFronts.{increasing, excluded_there, included, including_none}
+use Rattle.sabr_frontier.proofs.ListingLemmas.AllRoutes.{beginning_fits}
+use Rattle.sabr_frontier.proofs.ListingLemmas.ListMembers.{Rises-put_in}
 use Rattle.sabr_frontier.proofs.giving.divide.divide.Goals as goal
 use Rattle.sabr_frontier.specs.tree.Sound.{CanExclude}
 use Rattle.sabr_search.specs.questions.Bounded.{IsFloor}

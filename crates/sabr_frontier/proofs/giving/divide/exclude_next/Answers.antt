@@ -1,5 +1,5 @@
 use Rattle.std.proofs.Common.{arith, ℕ, List, ap, ◌∙◌, set}
-use Rattle.sabr_frontier.specs.tree.Prepared.{excluding}
+use Rattle.sabr_frontier.specs.tree.PageTrees.{excluding}
 use Rattle.sabr_frontier.proofs.TreeLemmas.ModifiedPlaces.{set-modify, get_there}
 use Rattle.sabr_frontier.proofs.giving.divide.exclude_next.Goals as goal
 

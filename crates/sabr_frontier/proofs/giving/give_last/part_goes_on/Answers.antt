@@ -7,15 +7,14 @@ use Rattle.sabr_model.specs.routes.Arrival.{RouteRequest}
 use Rattle.sabr_model.specs.routes.Route.{is_route}
 use Rattle.sabr_model.proofs.RouteLemmas.Paths.{path_facts, route_is_path}
 use Rattle.sabr_search.specs.questions.Bounded.{IsFloor}
-use Rattle.sabr_search.specs.questions.Detours.{detour_looks}
+use Rattle.sabr_search.specs.questions.Detours.{detour_looks, GoesOtherwise}
 use Rattle.sabr_frontier.specs.tree.Searching.{Searching, best_for}
-use Rattle.sabr_search.specs.questions.Detours.{GoesOtherwise}
 use Rattle.sabr_frontier.specs.tree.Left.{longer_go_on, part_goes_on}
 use Rattle.sabr_frontier.specs.tree.Giving.{wide_of}
-use Rattle.sabr_frontier.proofs.ListingLemmas.Rising.{Rises-put_in}
+use Rattle.sabr_frontier.proofs.ListingLemmas.ListMembers.{Rises-put_in}
 use Rattle.sabr_frontier.proofs.TreeLemmas.Floors.{floor_after, floor_on, floor_wide}
-use Rattle.sabr_frontier.proofs.TreeLemmas.TestBoundaries.{increasing}
-use Rattle.sabr_frontier.proofs.TreeLemmas.OtherWays.{goes_on_otherwise}
+use Rattle.sabr_frontier.proofs.TreeLemmas.ListFronts.{increasing}
+use Rattle.sabr_frontier.proofs.SessionLemmas.LeftSteps.{goes_on_otherwise}
 use Rattle.sabr_frontier.proofs.giving.give_last.part_goes_on.Goals as goal
 
 pub goes_otherwise-requires-clause-few : goal.goes_otherwise-requires-clause-few

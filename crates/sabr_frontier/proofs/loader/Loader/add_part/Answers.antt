@@ -6,7 +6,7 @@ use Rattle.sabr_frontier.specs.declared.loader.load_fault.LoadFault.TheVariants 
 use Rattle.sabr_frontier.specs.loading.Loading.{Loaded, comes_after, rise_strictly, with_part}
 use Rattle.sabr_frontier.specs.listing.State.{part_with}
 use Rattle.sabr_frontier.specs.loading.Partial.{IsPartial, partial_shape_of, loaded, parts_in}
-use Rattle.sabr_frontier.proofs.LoadingLemmas.AnsweredParts.{partial_more, parts_then, carry_accepted, carry_told, not_refused, order_refused}
+use Rattle.sabr_frontier.proofs.LoadingLemmas.LoadedParts.{partial_more, parts_then, carry_accepted, carry_told, not_refused, order_refused}
 use Rattle.sabr_frontier.proofs.loader.Loader.add_part.Goals as goal
 
 pub returns-then-not-is_next-clause-refused : goal.returns-then-not-is_next-clause-refused

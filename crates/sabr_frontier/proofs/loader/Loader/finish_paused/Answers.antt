@@ -15,8 +15,8 @@ use Rattle.sabr_frontier.specs.loading.Loading.{IsClosedState, IsCounted, IsRefu
 use Rattle.sabr_frontier.specs.session.Session.{session_over}
 use Rattle.sabr_frontier.specs.tree.Shape.{shape_of, shown, Shape, front_of, numbers_of, part_at, part_of, prefix_of}
 use Rattle.sabr_frontier.specs.tree.Sound.{IsTree, AreGiven, IsLent}
-use Rattle.sabr_frontier.specs.loading.Partial.{IsLastPlace, IsLoader, partial_shape_of, is_complete, loaded, loaded_tree, PartialShape, AreLent, IsAnswered, IsGiven, IsPartial, pairs_in, parts_in, parts_of}
-use Rattle.sabr_frontier.proofs.LoadingLemmas.AnsweredParts.{complete_closed, incomplete_open, complete_expects, pairs_two}
+use Rattle.sabr_frontier.specs.loading.Partial.{IsLastPlace, IsLoader, partial_shape_of, is_complete, loaded, loaded_tree, PartialShape, AreLent, IsAnswered, IsGiven, IsPartial, pairs_in, parts_in, parts_of, onward, Expects}
+use Rattle.sabr_frontier.proofs.LoadingLemmas.LoadedParts.{complete_closed, incomplete_open, complete_expects, pairs_two}
 use Rattle.sabr_frontier.proofs.TreeLemmas.IndexedNodes.{tree_indexed}
 use Rattle.std.proofs.lemmas.Bool.{cases_Bool}
 use Rattle.std.specs.Option.{option_map}
@@ -33,13 +33,10 @@ use Rattle.sabr_frontier.specs.listing.Rising.{has, Rises}
 use Rattle.sabr_frontier.specs.listing.Tree.{set_of}
 use Rattle.sabr_frontier.specs.listing.State.{pair_of, Member, leaves, leaves_of, InPairs}
 use Rattle.sabr_frontier.specs.listing.Formed.{InOrder}
-use Rattle.sabr_frontier.specs.listing.Expecting.{onward, Expects}
 use Rattle.sabr_frontier.specs.tree.Giving.{ids_from}
-use Rattle.sabr_frontier.proofs.ListingLemmas.Rising.{length-put_in}
+use Rattle.sabr_frontier.proofs.ListingLemmas.ListMembers.{length-put_in, Member-map, Member-map_cases, Member-filter_cases, Member-flat_map_cases, Below-member, Less-apart}
 use Rattle.sabr_frontier.proofs.ListingLemmas.NumbersAfter.{number_after-snoc, number_after-of_longer}
-use Rattle.sabr_frontier.proofs.ListingLemmas.ClosedTrees.{In_Member, Member_In, set_of_has, has_set_of, last_same}
-use Rattle.sabr_frontier.proofs.ListingLemmas.ListMembers.{Member-map, Member-map_cases, Member-filter_cases, Member-flat_map_cases, Below-member, Less-apart}
-use Rattle.sabr_frontier.proofs.ListingLemmas.Leaves.{Pairs, not_empty}
+use Rattle.sabr_frontier.proofs.ListingLemmas.ClosedTrees.{In_Member, Member_In, set_of_has, has_set_of, last_same, Pairs, not_empty}
 use Rattle.sabr_frontier.proofs.TreeLemmas.CarryingNodes.{front_none}
 use Rattle.sabr_frontier.proofs.TreeLemmas.ModifiedPlaces.{get_at_end, ids_cases, ids_has}
 use Rattle.std.proofs.Math.Seq.{take-append_seam}

@@ -1,6 +1,6 @@
 use Rattle.std.proofs.Common.{sym, subst}
 use Rattle.sabr_frontier.specs.loading.Partial.{IsPartial}
-use Rattle.sabr_frontier.proofs.LoadingLemmas.AnsweredParts.{nothing_yet_is}
+use Rattle.sabr_frontier.proofs.LoadingLemmas.LoadedParts.{nothing_yet_is}
 use Rattle.sabr_frontier.proofs.loader.Loader.new.Goals as goal
 
 pub invariant_of-result : goal.invariant_of-result

@@ -3,7 +3,7 @@ use Rattle.std.specs.Prelude.{IfSome, IsTrue}
 use Rattle.sabr_model.specs.routes.Route.{is_path}
 use Rattle.sabr_model.specs.routes.Following.{IsReachedBy}
 use Rattle.sabr_model.specs.routes.Telling.{summary_of}
-use Rattle.sabr_frontier.specs.loading.Leading.{IsLead}
+use Rattle.sabr_frontier.specs.loading.Partial.{IsLead}
 use Rattle.sabr_frontier.proofs.loader.carrying.follow_from.Goals as goal
 
 pub follow_after-requires : goal.follow_after-requires

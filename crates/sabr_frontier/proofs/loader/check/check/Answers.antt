@@ -1,9 +1,8 @@
 use Rattle.std.proofs.Common.{◌≡◌, ℕ, List, [], ◌∷◌, ◌++◌, take, get_or, true, map, ap, sym, subst, ◌∙◌, true≢false}
 use Rattle.std.proofs.lemmas.List.{take_all}
 use Rattle.sabr_model.specs.routes.Route.{is_path}
-use Rattle.sabr_frontier.specs.loading.Leading.{AreSteps, step_of}
-use Rattle.sabr_frontier.specs.loading.Partial.{AllGoOn, IsChecked}
-use Rattle.sabr_frontier.proofs.LoadingLemmas.CheckedParts.{checked_more, number_in, paths_more}
+use Rattle.sabr_frontier.specs.loading.Partial.{AreSteps, step_of, AllGoOn, IsChecked}
+use Rattle.sabr_frontier.proofs.LoadingLemmas.LoadedParts.{checked_more, number_in, paths_more}
 use Rattle.sabr_frontier.proofs.loader.check.check.Goals as goal
 
 pub loop-number-init : goal.loop-number-init

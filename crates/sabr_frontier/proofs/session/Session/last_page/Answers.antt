@@ -5,7 +5,7 @@ use Rattle.sabr_frontier.specs.session.LastPage.{IsLastPage, LastSeen}
 use Rattle.sabr_frontier.specs.session.Session.{Seen}
 use Rattle.sabr_frontier.specs.tree.Searching.{Asked, records_for, steps_for}
 use Rattle.sabr_frontier.specs.tree.Shape.{shape_of, shown}
-use Rattle.sabr_frontier.proofs.GivingLemmas.CutWays.{drop_at}
+use Rattle.sabr_frontier.proofs.GivingLemmas.CutPages.{drop_at}
 use Rattle.sabr_frontier.proofs.GivingLemmas.Sums.{calls_go_on, looks_go_on}
 use Rattle.sabr_frontier.proofs.session.Session.last_page.Goals as goal
 

@@ -3,7 +3,7 @@ use Rattle.sabr_frontier.specs.tree.Shape.{shape_of}
 use Rattle.sabr_frontier.specs.session.Session.{Seen, seen_part}
 use Rattle.sabr_frontier.specs.session.Views.{seen_at}
 use Rattle.sabr_frontier.proofs.SessionLemmas.Pages.{sound_tree}
-use Rattle.sabr_frontier.proofs.TreeLemmas.FirstTrees.{seen_all}
+use Rattle.sabr_frontier.proofs.TreeLemmas.SoundSteps.{seen_all}
 use Rattle.sabr_frontier.proofs.session.Session.parts.Goals as goal
 
 pub returns : goal.returns

@@ -8,7 +8,7 @@ use Rattle.sabr_frontier.proofs.GivingLemmas.Sums.{calls_go_on}
 use Rattle.sabr_frontier.specs.tree.Shape.{Shape, shape_of, shown, root}
 use Rattle.sabr_frontier.specs.session.Session.{AreStarts, IsSession, IsSound, former_of, started}
 use Rattle.sabr_frontier.specs.tree.Best.{best_of}
-use Rattle.sabr_frontier.proofs.TreeLemmas.FirstTrees.{root_is_tree, shown_root}
+use Rattle.sabr_frontier.proofs.TreeLemmas.SoundSteps.{root_is_tree, shown_root}
 use Rattle.sabr_frontier.proofs.session.Session.start_with_index.Goals as goal
 
 pub find_best-requires-clause-fits : goal.find_best-requires-clause-fits

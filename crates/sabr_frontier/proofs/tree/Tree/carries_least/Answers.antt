@@ -9,7 +9,7 @@ use Rattle.sabr_frontier.specs.tree.Searching.{Asked, best_for}
 use Rattle.sabr_frontier.specs.tree.Best.{best_of}
 use Rattle.sabr_frontier.specs.tree.Shape.{shape_of, prefix_of}
 use Rattle.sabr_frontier.proofs.TreeLemmas.ModifiedPlaces.{get_there}
-use Rattle.sabr_frontier.proofs.TreeLemmas.TestBoundaries.{increasing}
+use Rattle.sabr_frontier.proofs.TreeLemmas.ListFronts.{increasing}
 use Rattle.sabr_frontier.proofs.SessionLemmas.Verdicts.{excluded_rise, front_is, least_best, best_least}
 use Rattle.sabr_frontier.proofs.tree.Tree.carries_least.Goals as goal
 

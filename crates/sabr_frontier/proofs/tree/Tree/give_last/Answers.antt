@@ -7,7 +7,7 @@ use Rattle.sabr_model.specs.routes.Route.{is_route}
 use Rattle.sabr_frontier.specs.declared.tree.Node.{Node}
 use Rattle.sabr_index.specs.Looks.{looks_taken}
 use Rattle.sabr_frontier.specs.tree.Left.{CarriesNoOther, others_carry, part_goes_on}
-use Rattle.sabr_frontier.proofs.SessionLemmas.OnlyCarriers.{no_others}
+use Rattle.sabr_frontier.proofs.SessionLemmas.LeftSteps.{no_others, one_route, left_after}
 use Rattle.sabr_frontier.specs.listing.Listing.{next_route}
 use Rattle.sabr_frontier.specs.listing.State.{State}
 use Rattle.sabr_frontier.specs.tree.Searching.{Asked, best_for, records_for, steps_for}
@@ -16,8 +16,7 @@ use Rattle.sabr_frontier.specs.tree.Sound.{CanExclude, IsTree}
 use Rattle.sabr_frontier.specs.tree.Winners.{CarriesNone}
 use Rattle.sabr_frontier.proofs.SessionLemmas.Pages.{counts_known, steps_stop, nothing_carried, nothing_given}
 use Rattle.sabr_frontier.proofs.TreeLemmas.CarryingNodes.{known, inside, next_is}
-use Rattle.sabr_frontier.proofs.TreeLemmas.SearchedTrees.{floor_known}
-use Rattle.sabr_frontier.proofs.SessionLemmas.LeftSteps.{one_route, left_after}
+use Rattle.sabr_frontier.proofs.TreeLemmas.Floors.{floor_known}
 use Rattle.sabr_frontier.proofs.tree.Tree.give_last.Goals as goal
 
 pub goes_on_after-requires : goal.goes_on_after-requires

@@ -9,7 +9,7 @@ use Rattle.sabr_index.specs.Looks.{looks_taken}
 use Rattle.sabr_frontier.specs.tree.Searching.{Asked, records_for, steps_for}
 use Rattle.sabr_frontier.specs.tree.Shape.{Shape, shape_of, shown}
 use Rattle.sabr_frontier.specs.tree.Sound.{IsTree}
-use Rattle.sabr_frontier.proofs.SessionLemmas.CutPages.{IsSameStep, cut_looks, cut_next, cut_tree}
+use Rattle.sabr_frontier.proofs.GivingLemmas.CutPages.{IsSameStep, cut_looks, cut_next, cut_tree}
 use Rattle.sabr_frontier.proofs.SessionLemmas.Pages.{idle, more_is, counts_go, counts_none, counts_stop, steps_go, steps_none, steps_stop}
 use Rattle.std.proofs.lemmas.List.{map-append}
 use Rattle.sabr_model.specs.plan.Plan.{ContactPlan, IsPlan}

@@ -15,15 +15,15 @@ use Rattle.sabr_frontier.specs.tree.Searching.{Asked, best_for}
 use Rattle.sabr_frontier.specs.tree.Sound.{CanExclude, IsTree}
 use Rattle.sabr_search.specs.questions.Bounded.{IsFloor}
 use Rattle.sabr_frontier.specs.tree.Giving.{IsNextGiven, changed_by, divided_with, fresh_after, wide_of, widened}
-use Rattle.sabr_frontier.specs.tree.Prepared.{carrying, excluding, given_by}
+use Rattle.sabr_frontier.specs.tree.PageTrees.{carrying, excluding, given_by}
 use Rattle.sabr_frontier.proofs.TreeLemmas.ModifiedPlaces.{length-modify, modify_back, modify_front, modify_same, modify_twice, get_front, get_other, get_same, within_get}
-use Rattle.sabr_frontier.proofs.TreeLemmas.Excluding.{carried_then}
+use Rattle.sabr_frontier.proofs.TreeLemmas.ListFronts.{carried_then}
 use Rattle.sabr_frontier.proofs.TreeLemmas.CarryingNodes.{IsKnown, known, inside, route_there}
 use Rattle.sabr_frontier.proofs.TreeLemmas.SlotWinners.{others_changed}
 use Rattle.sabr_frontier.proofs.SessionLemmas.Pages.{new_nodes, counts_known}
 use Rattle.sabr_frontier.proofs.TreeLemmas.IndexedNodes.{tree_indexed}
-use Rattle.sabr_frontier.proofs.TreeLemmas.CutDivided.{tree_divided_up_to}
-use Rattle.sabr_frontier.proofs.TreeLemmas.SearchedTrees.{floor_known}
+use Rattle.sabr_frontier.proofs.TreeLemmas.CutTrees.{tree_divided_up_to}
+use Rattle.sabr_frontier.proofs.TreeLemmas.Floors.{floor_known}
 use Rattle.sabr_frontier.proofs.tree.Tree.give_next.Goals as goal
 
 -- the node without its route

@@ -2,7 +2,7 @@ use Rattle.std.proofs.Common.{◌≡◌, ◌-◌, ◌∙◌, length, length-drop
 use Rattle.std.proofs.lemmas.List.{take_all}
 use Rattle.sabr_frontier.specs.tree.Searching.{records_for, steps_for}
 use Rattle.sabr_frontier.specs.tree.Shape.{shape_of, shown}
-use Rattle.sabr_frontier.proofs.GivingLemmas.CutWays.{drop_at}
+use Rattle.sabr_frontier.proofs.GivingLemmas.CutPages.{drop_at}
 use Rattle.sabr_frontier.proofs.tree.Tree.give_page.Goals as goal
 
 pub returns-clause-routes : goal.returns-clause-routes

@@ -1,12 +1,11 @@
 use Rattle.std.proofs.Common.{◌≡◌, ◌+◌, ◌-◌, ◌∙◌, suc, length, arith, refl, sym, subst, inl, inr}
 use Rattle.sabr_model.specs.plan.Plan.{IsPlan}
-use Rattle.sabr_frontier.specs.giving.SmallestKeys.{AreNoted, CarryKeys, carried_keys}
+use Rattle.sabr_frontier.specs.tree.SmallestKeys.{AreNoted, CarryKeys, carried_keys}
 use Rattle.sabr_frontier.specs.tree.Searching.{Asked}
 use Rattle.sabr_frontier.specs.tree.Shape.{shape_of, shown}
 use Rattle.sabr_frontier.specs.tree.Sound.{IsTree}
-use Rattle.sabr_frontier.proofs.GivingLemmas.CutWays.{IsCutWay, step_within, turn_is, way_end, way_first, way_on}
-use Rattle.sabr_frontier.proofs.GivingLemmas.EarlyRoutes.{carry_keys}
-use Rattle.sabr_frontier.proofs.SessionLemmas.CutPages.{cut_tree}
+use Rattle.sabr_frontier.proofs.GivingLemmas.CutPages.{IsCutWay, step_within, turn_is, way_end, way_first, way_on, cut_tree}
+use Rattle.sabr_frontier.proofs.GivingLemmas.KeptKeys.{carry_keys}
 use Rattle.sabr_frontier.proofs.SessionLemmas.Pages.{sound_tree, given_same}
 use Rattle.sabr_frontier.proofs.tree.Tree.give_page_up_to.Goals as goal
 

@@ -2,8 +2,8 @@ use Rattle.std.proofs.Common.{rules, of_calls}
 use Rattle.std.proofs.lemmas.List.Sorted.{IsPartitionPoint-from_clause}
 use Rattle.sabr_frontier.specs.tree.Shape.{part_at, IsBefore}
 use Rattle.sabr_frontier.specs.tree.Giving.{stands_before}
-use Rattle.sabr_frontier.proofs.TreeLemmas.TestBoundaries.{passing_is, partitioned}
-use Rattle.sabr_frontier.proofs.ListingLemmas.Rising.{earlier_prefix}
+use Rattle.sabr_frontier.proofs.TreeLemmas.ListFronts.{passing_is, partitioned}
+use Rattle.sabr_frontier.proofs.ListingLemmas.ListMembers.{earlier_prefix}
 use Rattle.sabr_frontier.proofs.tree.places.index_place.Goals as goal
 
 pub returns-clause-value : goal.returns-clause-value

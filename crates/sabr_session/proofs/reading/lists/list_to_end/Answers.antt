@@ -1,6 +1,6 @@
 -- A list of all the words is one that no `/` ends.
 use Rattle.sabr_session.specs.SessionWords.{words_of}
-use Rattle.sabr_session.proofs.WordLemmas.SlashLists.{list-ended, list-missing}
+use Rattle.sabr_session.proofs.WordLemmas.ReadLists.{list-ended, list-missing}
 use Rattle.sabr_session.proofs.reading.lists.list_to_end.Goals as goal
 
 pub returns-in-Some : goal.returns-in-Some

@@ -4,8 +4,7 @@ use Rattle.std.proofs.lemmas.Bool.Decides.{nat_tests}
 use Rattle.std.specs.Option.{MatchOption}
 use Rattle.sabr_session.specs.SessionWords.{words_of, all_of, counted, is_dash, contacts_of, before_slash, most_number}
 use Rattle.sabr_plan.specs.Numbers.{number_within}
-use Rattle.sabr_session.proofs.WordLemmas.ReadNumbers.{counted-some, counted-none}
-use Rattle.sabr_session.proofs.WordLemmas.SlashLists.{dashed, numbered, numbers-undashed}
+use Rattle.sabr_session.proofs.WordLemmas.ReadLists.{counted-some, counted-none, dashed, numbered, numbers-undashed}
 use Rattle.sabr_session.proofs.reading.lists.list_to_slash.Goals as goal
 
 -- without numbers the list is `-` or none

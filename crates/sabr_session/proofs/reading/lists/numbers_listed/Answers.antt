@@ -1,5 +1,5 @@
 use Rattle.std.proofs.Common.{ap, arith, length}
-use Rattle.sabr_session.proofs.WordLemmas.ReadNumbers.{with_front-nil}
+use Rattle.sabr_session.proofs.WordLemmas.ReadLists.{with_front-nil}
 use Rattle.sabr_session.proofs.WordLemmas.SpacedWords.{some_word}
 use Rattle.sabr_session.proofs.reading.lists.numbers_listed.Goals as goal
 

@@ -2,7 +2,7 @@ use Rattle.std.proofs.Common.{◌≡◌, ◌≤◌, ◌<◌, [], map, length}
 use Rattle.std.specs.Option.{option_copied}
 use Rattle.sabr_session.specs.SessionWords.{words_of, words_after, all_of}
 use Rattle.sabr_plan.specs.Numbers.{number_within}
-use Rattle.sabr_session.proofs.WordLemmas.ReadNumbers.{with_front}
+use Rattle.sabr_session.proofs.WordLemmas.ReadLists.{with_front}
 use Rattle.sabr_session.proofs.reading.lists.numbers_listed.Given as goal
 
 abbrev pub invariant-loop-left : goal.invariant-loop-left

@@ -3,8 +3,7 @@ use Rattle.std.specs.List.{list_any}
 use Rattle.std.specs.Option.{option_copied}
 use Rattle.sabr_session.specs.SessionWords.{words_after, is_slash, before_slash, after_slash, most_number}
 use Rattle.sabr_plan.specs.Numbers.{number_within}
-use Rattle.sabr_session.proofs.WordLemmas.ReadNumbers.{with_front-on, with_front-full}
-use Rattle.sabr_session.proofs.WordLemmas.SlashLists.{before-on, after-on, has-on, number_no_slash}
+use Rattle.sabr_session.proofs.WordLemmas.ReadLists.{with_front-on, with_front-full, before-on, after-on, has-on, number_no_slash}
 use Rattle.sabr_session.proofs.reading.lists.numbers_to_slash.Goals as goal
 
 pub returns-then-len-eq-MAX_RECORDS : goal.returns-then-len-eq-MAX_RECORDS

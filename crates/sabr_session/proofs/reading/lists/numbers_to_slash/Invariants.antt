@@ -3,7 +3,7 @@ use Rattle.std.specs.List.{list_any}
 use Rattle.std.specs.Option.{option_copied}
 use Rattle.sabr_session.specs.SessionWords.{words_of, words_after, all_of, is_slash, before_slash, after_slash, most_number}
 use Rattle.sabr_plan.specs.Numbers.{number_within}
-use Rattle.sabr_session.proofs.WordLemmas.ReadNumbers.{with_front}
+use Rattle.sabr_session.proofs.WordLemmas.ReadLists.{with_front}
 use Rattle.sabr_session.proofs.reading.lists.numbers_to_slash.Given as goal
 
 abbrev pub invariant-loop-left : goal.invariant-loop-left

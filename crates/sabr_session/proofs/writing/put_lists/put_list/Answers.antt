@@ -1,7 +1,7 @@
 use Rattle.std.proofs.Common.{◌++◌}
 use Rattle.sabr_session.specs.SessionText.{spaced_by}
 use Rattle.sabr_session.proofs.TextLemmas.Gathering.{Puts-stopped, Puts-after}
-use Rattle.sabr_session.proofs.WordLemmas.ReadNumbers.{listed_by-after}
+use Rattle.sabr_session.proofs.WordLemmas.ReadLists.{listed_by-after}
 use Rattle.sabr_session.proofs.writing.put_lists.put_list.Goals as goal
 
 pub returns-in_err-put_number-in-Some : goal.returns-in_err-put_number-in-Some

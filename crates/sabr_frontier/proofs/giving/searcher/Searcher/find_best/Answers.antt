@@ -4,7 +4,7 @@ use Rattle.sabr_search.specs.questions.Bounded.{IsSought, IsWhole}
 use Rattle.sabr_frontier.specs.tree.Searching.{Searching, best_for, call_looks}
 use Rattle.sabr_search.specs.questions.Calls.{Calls, with_call}
 use Rattle.sabr_frontier.proofs.GivingLemmas.Sums.{same_before, sum_on}
-use Rattle.sabr_frontier.proofs.TreeLemmas.BoundedAnswers.{found_by_best}
+use Rattle.sabr_frontier.proofs.TreeLemmas.Floors.{found_by_best}
 use Rattle.sabr_frontier.proofs.giving.searcher.Searcher.find_best.Goals as goal
 
 pub returns-clause-best : goal.returns-clause-best

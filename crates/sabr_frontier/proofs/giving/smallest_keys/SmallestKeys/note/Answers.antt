@@ -3,7 +3,7 @@ use Rattle.std.specs.Prelude.{All, IfSome}
 use Rattle.std.specs.BinaryHeap.{IsUpperBound}
 use Rattle.std.specs.Ordering.{nat_cmp}
 use Rattle.std.proofs.lemmas.List.Sorted.{le_from_greatest}
-use Rattle.sabr_frontier.specs.giving.SmallestKeys.{AreNoted, SeenKeys}
+use Rattle.sabr_frontier.specs.tree.SmallestKeys.{AreNoted, SeenKeys}
 use Rattle.sabr_frontier.proofs.GivingLemmas.KeptKeys.{kept_least, kept_more}
 use Rattle.sabr_frontier.proofs.giving.smallest_keys.SmallestKeys.note.Goals as goal
 

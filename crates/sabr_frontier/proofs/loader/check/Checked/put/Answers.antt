@@ -3,10 +3,10 @@ use Rattle.std.proofs.lemmas.Bool.{false_from_ne_true}
 use Rattle.sabr_model.specs.routes.Record.{record_of}
 use Rattle.sabr_model.specs.routes.Route.{is_path}
 use Rattle.sabr_frontier.specs.declared.loader.leading.ExpectedPrefix.{ExpectedPrefix}
-use Rattle.sabr_frontier.specs.loading.Leading.{AreSteps, IsLead, step_of}
+use Rattle.sabr_frontier.specs.loading.Partial.{AreSteps, IsLead, step_of}
 use Rattle.std.proofs.lemmas.List.{map-append}
 use Rattle.sabr_frontier.proofs.ListingLemmas.ListMembers.{Member-append_cases}
-use Rattle.sabr_frontier.proofs.LoadingLemmas.CheckedParts.{leaf_there, no_leaf, none_onward, onward_there}
+use Rattle.sabr_frontier.proofs.LoadingLemmas.LoadedParts.{leaf_there, no_leaf, none_onward, onward_there}
 use Rattle.sabr_frontier.proofs.loader.check.Checked.put.Goals as goal
 
 pub returns-in_default : goal.returns-in_default

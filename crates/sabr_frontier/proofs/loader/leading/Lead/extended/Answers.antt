@@ -1,5 +1,5 @@
 use Rattle.std.proofs.Common.{[], ◌∷◌, ◌++◌}
-use Rattle.sabr_frontier.proofs.LoadingLemmas.CheckedParts.{faulty_front}
+use Rattle.sabr_frontier.proofs.LoadingLemmas.LoadedParts.{faulty_front}
 use Rattle.sabr_frontier.proofs.loader.leading.Lead.extended.Goals as goal
 
 pub returns-in_default-clause-none : goal.returns-in_default-clause-none

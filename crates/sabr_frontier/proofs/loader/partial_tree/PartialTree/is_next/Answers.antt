@@ -3,7 +3,7 @@ use Rattle.std.specs.Option.{option_map_or}
 use Rattle.sabr_model.specs.Order.{numbers_before}
 use Rattle.sabr_frontier.specs.loading.Partial.{partial_shape_of, parts_in}
 use Rattle.sabr_frontier.specs.loading.Loading.{comes_after, rise_strictly}
-use Rattle.sabr_frontier.proofs.LoadingLemmas.AnsweredParts.{after_last}
+use Rattle.sabr_frontier.proofs.LoadingLemmas.LoadedParts.{after_last}
 use Rattle.sabr_frontier.proofs.loader.partial_tree.PartialTree.is_next.Goals as goal
 
 pub returns : goal.returns

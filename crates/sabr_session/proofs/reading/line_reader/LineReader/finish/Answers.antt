@@ -2,7 +2,7 @@
 use Rattle.std.proofs.Common.{◌∙◌, refl, sym, ap}
 use Rattle.sabr_session.specs.SessionRead.{misspelled}
 use Rattle.sabr_session.specs.SessionFed.{OpenText}
-use Rattle.sabr_session.proofs.ReadingLemmas.GoingOn.{ended_early, ended_well}
+use Rattle.sabr_session.proofs.ReadingLemmas.StepsTaken.{ended_early, ended_well}
 use Rattle.sabr_session.proofs.reading.line_reader.LineReader.finish.Goals as goal
 
 pub returns-then-not-has_end-clause-from : goal.returns-then-not-has_end-clause-from

@@ -4,7 +4,7 @@ use Rattle.std.proofs.lemmas.List.{take_all}
 use Rattle.std.proofs.lemmas.Result.{err_from_is_err_and}
 use Rattle.sabr_plan.specs.Words.{is_one_line}
 use Rattle.sabr_plan.proofs.Outcomes.{parted}
-use Rattle.sabr_session.proofs.ReadingLemmas.GoingOn.{nothing_taken, line_then_refused, line_then_read, rest_then_held, rest_then_refused}
+use Rattle.sabr_session.proofs.ReadingLemmas.StepsTaken.{nothing_taken, line_then_refused, line_then_read, rest_then_held, rest_then_refused}
 use Rattle.sabr_session.proofs.reading.line_reader.LineReader.take_in.Goals as goal
 
 pub loop-end-init : goal.loop-end-init

@@ -1,5 +1,5 @@
 use Rattle.std.proofs.Common.{length}
-use Rattle.sabr_session.proofs.ReadingLemmas.GoingOn.{HasTaken}
+use Rattle.sabr_session.proofs.ReadingLemmas.StepsTaken.{HasTaken}
 use Rattle.sabr_session.proofs.reading.line_reader.LineReader.take_in.Given as goal
 
 abbrev pub invariant-loop-end : goal.invariant-loop-end

@@ -8,7 +8,7 @@ use Rattle.sabr_frontier.specs.loading.Loading.{Loaded, session_with, state_with
 use Rattle.sabr_frontier.specs.session.Paused.{IsPausedOver, seen_over, state_of}
 use Rattle.sabr_frontier.specs.session.Session.{Seen}
 use Rattle.sabr_session.specs.SessionFed.{IsSessionFrom, OpenText}
-use Rattle.sabr_session.specs.SessionLoader.{HasFinder, parts_by, request_by}
+use Rattle.sabr_session.specs.PausedTexts.{HasFinder, parts_by, request_by}
 use Rattle.sabr_session.specs.SessionRead.{Said}
 use Rattle.sabr_session.proofs.reading.session_lines.SessionLines.into_paused.Goals as goal
 

@@ -1,5 +1,6 @@
--- Pages of a list, one after the other, and where a session stands after pages, refusals and steps back.
-use Rattle.std.proofs.Common.{◌≡◌, ℕ, zero, suc, ◌+◌, ◌≤◌, List, ◌∷◌, [], ◌++◌, length, take, drop, sym, ap, ◌∙◌, arith, length-drop, refl, subst, length-append, Option, Some, None}
+-- Pages of a list, one after the other, and where a session stands after pages, refusals and steps back, or once its text
+-- is verified.
+use Rattle.std.proofs.Common.{◌≡◌, ℕ, zero, suc, ◌+◌, ◌≤◌, List, ◌∷◌, [], ◌++◌, length, take, drop, sym, ap, ◌∙◌, arith, length-drop, refl, subst, length-append, Option, Some, None, true, inl, inr, Ok}
 use Rattle.std.proofs.Math.Seq.{take-nil}
 use Rattle.std.proofs.lemmas.List.{drop-drop, length-take}
 use Rattle.sabr_model.specs.plan.Plan.{ContactPlan, IsPlan, TabledPlan}
@@ -10,9 +11,13 @@ use Rattle.std.specs.Prelude.{is_some}
 use Rattle.sabr_frontier.specs.listing.State.{State}
 use Rattle.sabr_frontier.specs.listing.Listing.{next_route, state_at, steps, one_step}
 use Rattle.sabr_frontier.specs.session.Session.{Seen, former_then}
-use Rattle.sabr_frontier.proofs.ListingLemmas.Lawful.{steps_follow}
+use Rattle.sabr_frontier.proofs.ListingLemmas.Lawful.{steps_follow, state_at_formed}
 use Rattle.sabr_frontier.proofs.SessionLemmas.Pages.{steps_stop, steps_go, steps_none}
-use Rattle.sabr_session.specs.SessionPlaces.{Act, paged, refused, back, no_back, Leaves, LeaveInTurn, without_latest, pages_left, after_pages, all_asked, IsPlaced, IsNextPage, place_then, PagesStand}
+use Rattle.sabr_session.specs.SessionPlaces.{Act, paged, refused, back, no_back, Leaves, LeaveInTurn, without_latest, pages_left, after_pages, all_asked, IsPlaced, IsNextPage, place_then, PagesStand, TextsArePlaced}
+use Rattle.sabr_plan.specs.Canonical.{digest_of}
+use Rattle.sabr_session.specs.SessionRead.{IsSessionOf}
+use Rattle.sabr_session.specs.Verifying.{IsSessionText}
+use Rattle.sabr_session.proofs.TextLemmas.TextsRead.{answers_once, is_read_back}
 
 take_then : {X : Type 0} (k n : ℕ) (xs : List X) → take k xs ++ take n (drop (length (take k xs)) xs) ≡ take (k + n) xs
 take_then zero n xs = ap (λ m. take m xs) (none n)
@@ -177,3 +182,18 @@ pages_stand x y acts none led =
     stands_at h i good accepted here =
         placed_too x y (place_then x i (all_asked sizes)) h.plan h.request (next_within x.plan.plan x.request good accepted i (all_asked sizes) here.within)
         (h.state ∙ placed x.plan.plan x.request good accepted i here.within x.state here.state sizes)
+
+-- ---- the session of a text that verifying accepts
+
+-- it is read to the state of the text's place
+pub read_at_place : (p : ContactPlan) (bytes : List ℕ) → IsPlan p → (text : IsSessionText p bytes) → IsSessionOf p (digest_of p) bytes true (Ok (text.request, state_at p text.request text.place))
+read_at_place p bytes good text =
+    let s = state_at p text.request text.place in
+    let back = is_read_back p good text.request s (record { accepted = text.accepted; formed = state_at_formed p text.request good text.place text.within; there = text.there }) in
+    let reads : List ℕ → Type 0 = λ u. IsSessionOf p (digest_of p) u true (Ok (text.request, s)) in
+    elim text.spelled [ inl e ↦ subst reads (sym e) back.text | inr e ↦ subst reads (sym e.1) (back.old e.0) ]
+
+pub texts_are_placed : TextsArePlaced
+texts_are_placed p bytes x good text is =
+    let one = answers_once p (digest_of p) bytes true (Ok x) (Ok (text.request, state_at p text.request text.place)) is (read_at_place p bytes good text) in
+    cc

@@ -1,2 +1,0 @@
--- What a page keeps of the routes that it finds.
-pub mod SmallestKeys

@@ -1,3 +1,0 @@
--- Where sessions stand in the list of their request.
-pub mod Pages
-pub mod PlacedTexts
