@@ -2,6 +2,7 @@
 #include "proved.h"
 #include <stdlib.h>
 
+/* The library for debugging alone marks plans and listings, and checks the marks. */
 #ifdef CGRLIST_DEBUG
 #include "debug.h"
 #else
@@ -16,8 +17,8 @@ struct cgrlist_plan { handle handle; MARK };
 /* A copy of a plan, over which a listing is open. */
 struct cgrlist_listing { cgrlist_plan *plan; MARK };
 
-/* The handle of a plan. A call that only reads takes a copy of it: the call gives back what it takes out of a handle, so
- * such calls may share a plan. */
+/* The handle of a plan, and that of a listing. A call that only reads takes a copy (SEEN): the call gives back what it
+ * takes out of a handle, so such calls may share a plan. */
 #define HELD(plan) (CHECK(plan), &(plan)->handle)
 #define PAGED(listing) (CHECK(listing), HELD((listing)->plan))
 #define SEEN(plan) &(handle){(CHECK(plan), (plan)->handle.is_open), (plan)->handle.at}
@@ -35,7 +36,7 @@ static cgrlist_new_contact no_contacts[1];
 static cgrlist_range no_ranges[1];
 static cgrlist_reach no_reaches[1];
 
-/* A buffer and its length, or an empty one for NULL. */
+/* Two arguments: a buffer and its length, or an empty one for NULL. */
 #define BUFFER(place, length, empty) (place) != NULL ? (place) : (empty), (place) != NULL ? (length) : 0
 #define TEXT(place, length) (place) != NULL ? (uint8_t *)(place) : no_bytes, (place) != NULL ? (length) : 0
 

@@ -1,4 +1,5 @@
-//! The runs: each reads from readers, writes to writers, and returns how it ended.
+//! The runs: each reads from readers, writes to writers, and returns how it ended. `lines` has those of `many` and
+//! `follow`.
 
 mod answering;
 mod check;

@@ -1,5 +1,6 @@
 //! The functions that the C library is made of. `library/proved.h` declares them for `library/shims.c`, whose functions
-//! are those of `cgrlist.h`: they take `NULL`, and make and close handles.
+//! are those of `cgrlist.h`: they take `NULL`, and make and close handles. There the functions' names begin with
+//! `cgrlist_proved_`, `alloc` is no argument, and a slice is two: a pointer and a length.
 //!
 //! A [`PlanHandle`] is what C has of a plan: whether it is open, and where it lies. An open one has an [`Opened`]: the
 //! plan, a listing over it if one is open, and what serves until the plan changes, which is the index of searches, the

@@ -70,6 +70,7 @@ fn open_asked(alloc: Global, opened: &mut Opened, request: Result<Request, Reque
 pub fn take_up(alloc: Global, opened: &mut Opened) -> Result<(PlanLinks<Global>, Paused), u32>
     ensures { TakesUp opened.old result opened.new }
 {
+    // Asked first, since NO_LISTING comes before MEMORY.
     if !opened.has_listing() {
         return Err(NO_LISTING);
     }
@@ -182,6 +183,7 @@ pub extern "C" fn cgrlist_listing_next(
         return CLOSED;
     }
     let mut opened = handle.take(alloc);
+    // NO_LISTING comes before VALUE_COUNT, and that before MEMORY. Each return gives the plan back.
     if !opened.has_listing() {
         handle.give(opened);
         return NO_LISTING;

@@ -17,7 +17,8 @@ use std::alloc::{Allocator, Global};
 #[derive(Clone, Copy)]
 pub struct NodeId(pub usize);
 
-/// A part. Its prefix is the first `length` numbers of the route given as number `leaf`, counted from 0.
+/// A part, as a node of the tree, not of the plan. Its prefix is the first `length` numbers of the route given as
+/// number `leaf`, counted from 0.
 #[derive(Drop)]
 pub struct Node<A: Allocator + Copy = Global> {
     /// The route given that the prefix begins, counted from 0.
@@ -43,9 +44,9 @@ pub struct Entry {
 pub struct Tree<A: Allocator + Copy = Global> {
     /// The parts, in the order in which they were made.
     pub nodes: Vec<Node<A>, A>,
-    /// Their numbers in order of prefix. While a page is made, its nodes are left out.
+    /// The ids of the parts in order of prefix. While a page is made, its nodes are left out.
     pub index: Vec<NodeId, A>,
-    /// Room for the numbers of a page's nodes, until they are put among the others. Else empty.
+    /// Room for the ids of a page's nodes, until they are put among the others. Else empty.
     pub late: Vec<NodeId, A>,
     /// Slot `k` names the node with the best route among node `k` and the winners of slots `2k + 1` and `2k + 2`.
     pub winners: Vec<NodeId, A>,

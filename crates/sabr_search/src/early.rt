@@ -32,7 +32,7 @@ pub enum Early<A: Allocator + Copy> {
     Found(Found<FoundWay<A>>),
 }
 
-/// What may spare a search, or make it shorter.
+/// What is remembered from question to question, and may spare a search or make it shorter.
 #[derive(Drop)]
 pub struct Memory<A: Allocator + Copy = Global> {
     /// The allocator of all of it.

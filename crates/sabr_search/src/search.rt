@@ -33,18 +33,18 @@ use sabr_index::Looks;
 use sabr_model::NoMemory;
 use std::alloc::Allocator;
 
-/// Of the questions whose limit on hops may bind, this many begin by settling nodes. Then it is counted how many
-/// settling answered.
-/// With 64 of them and half as the least, 1000 routes over eight plans took 3 percent more instructions, and over
+/// Of the questions whose limit on hops may bind, `TRIES` begin by settling nodes. If settling answered fewer than
+/// `LEAST` questions meanwhile, `PAUSE` of them then begin with layers forward (see [`Throttle`]).
+/// With 64 tries and half as the least, 1000 routes over eight plans took 3 percent more instructions, and over
 /// dense-60, whose limit mostly binds, 11; with 32, 1 and 3; and with no layers first, 16 and 87: all in a copy of this
 /// design in plain Rust. To vary it: `bench/further.py --parts limits`.
 const TRIES: u32 = 16;
 
-/// How many of them it must answer. With 4, the same eight took 0.4 percent more, and with 12 they took 0.1.
+/// How many settling must answer: see [`TRIES`]. With 4, the same eight took 0.4 percent more, and with 12 it was 0.1.
 const LEAST: u64 = 8;
 
-/// How many such questions begin with layers forward otherwise. With 256, dense-60 took 4 percent more; with 4096
-/// nothing changed.
+/// How many then begin with layers forward: see [`TRIES`]. With 256, dense-60 took 4 percent more; with 4096 nothing
+/// changed.
 const PAUSE: u32 = 1024;
 
 /// What a search keeps from call to call.
@@ -54,7 +54,7 @@ pub struct Search<A: Allocator + Copy> {
     pub alloc: A,
     /// Where the first steps come to, and when.
     first: Vec<Visit, A>,
-    /// Nodes in order of arrival and of what the goal costs from there.
+    /// Nodes in order of arrival plus a lower bound on the rest (A*).
     settling: Settling<A>,
     /// Decides whether a question whose limit on hops may bind begins by settling, or with layers forward.
     settles: Throttle,
@@ -98,6 +98,7 @@ impl<A: Allocator + Copy> Search<A> {
     {
         let task = asked.task;
         let (hops, bound) = (asked.hops_left(), asked.bound_left());
+        // There is a flag for each node, and a way enters none twice: N - 1 hops are no limit for N nodes.
         let is_limited = hops + 1 < task.forbidden().len();
         if is_limited && !self.settles.allows() {
             return self

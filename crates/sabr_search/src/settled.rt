@@ -22,8 +22,8 @@ use sabr_index::{CountedPlan, Index, Looks};
 use sabr_model::{NoMemory, Plan, Request, Route};
 use std::alloc::{Allocator, Global};
 
-/// A finder that settles nodes in order of their arrival and of what the goal costs from there, up to the first
-/// delivery, and then makes layers backward from the goal for it.
+/// A finder that settles nodes in order of arrival plus a lower bound on the rest (A*), up to the first delivery, and
+/// then makes layers backward from the goal for it.
 ///
 /// A call costs at most `(3 * N + 1) * C` looks, for N nodes and C contacts. Without a limit on hops it costs at most
 /// `(3 * r + 3) * C`, for r hops of the answer after the prefix. Its memory is reused from call to call.

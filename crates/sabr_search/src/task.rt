@@ -245,7 +245,7 @@ impl<'a, A: Allocator + Copy> Task<'a, A> {
         self.request.cost(light)
     }
 
-    /// Returns the arrival over the contact if it is before `before`.
+    /// Returns the arrival over the contact if it is sooner than `before`.
     pub fn arrive_before(&self, at: u64, hop: &Hop, before: u64) -> Option<u64>
         requires small { IsSmall hop.now }
         ensures some { IfSome result (λ b. (hop_arrival self.now.request.margin at hop.now ≡ Some b) × (b < before)) }
@@ -263,7 +263,8 @@ impl<'a, A: Allocator + Copy> Task<'a, A> {
         }
     }
 
-    /// Returns the first second from which on the contact no longer arrives before `before`; 0 if it never does.
+    /// Returns the first second from which on nothing sent over the contact arrives sooner than `before`; 0 if nothing
+    /// ever does.
     pub fn leave_before(&self, hop: &Hop, before: u64) -> u64
         requires small { IsSmall hop.now }
         requires window { hop.now.start < hop.now.end }

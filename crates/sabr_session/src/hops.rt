@@ -69,6 +69,7 @@ impl<'a, A: Allocator + Copy> Hops<'a, A> {
         ensures question { result.question ≡ record { plan = plan.now; request = request.now; contacts = contacts.now } }
         ensures left { hops_left result ≡ told_of placed_after plan.now.plan request.now [] contacts.now }
     {
+        // Both calls are for the proof alone, by their contracts.
         plan.rules_hold();
         plan.nodes();
         Hops {

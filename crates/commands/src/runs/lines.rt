@@ -78,8 +78,8 @@ fn send_answers<O: Write, A: Allocator + Copy>(
 /// # Errors
 ///
 /// [`Failure::NoMemory`] if an allocation failed. If one failed at a line, the answers to those before it were written
-/// and flushed. [`Failure::Write`] if the writer failed. Then a beginning of the answers was written. Else the
-/// plan was refused, and then no line was read, or the lines were, and nothing was written.
+/// and flushed. [`Failure::Write`] if the writer failed. Then a beginning of the answers was written. Else nothing was
+/// written: the plan was refused, and then no line was read, or the lines were refused.
 fn write_answers<P: Read, Q: Read, O: Write, A: Allocator + Copy>(
     alloc: A,
     plan: &mut P,
@@ -107,9 +107,9 @@ fn write_answers<P: Read, Q: Read, O: Write, A: Allocator + Copy>(
 ///
 /// A failure's message goes to `err`; a failure of `err` changes nothing else. The status is [`Status::Plan`] if the
 /// plan is refused, and then `requests` isn't read; [`Status::Session`] if a line is bad; [`Status::Io`] if `out` or a
-/// reader failed, that of the requests after good lines alone; and [`Status::Memory`] if an allocation failed. If one
-/// failed at a request, `out` holds the answers to those before it, whole and flushed, and no others. If `out` failed, it
-/// holds a beginning of the answers.
+/// reader failed (`requests`: before any bad line); and [`Status::Memory`] if an allocation failed. If one failed at a
+/// request, `out` holds the answers to those before it, whole and flushed, and no others. If `out` failed, it holds a
+/// beginning of the answers.
 pub fn run_many<P: Read, Q: Read, O: Write, E: Write, A: Allocator + Copy>(
     alloc: A,
     plan: &mut P,
@@ -137,9 +137,9 @@ pub fn run_many<P: Read, Q: Read, O: Write, E: Write, A: Allocator + Copy>(
 ///
 /// A failure's message goes to `err`; a failure of `err` changes nothing else. The status is [`Status::Done`] whether
 /// or not the lists are routes; [`Status::Plan`] if the plan is refused, and then `lists` isn't read;
-/// [`Status::Session`] if a line is bad; [`Status::Io`] if `out` or a reader failed, that of the lists after good lines
-/// alone; and [`Status::Memory`] if an allocation failed. If one failed at a list, `out` holds the answers to those
-/// before it, whole and flushed, and no others. If `out` failed, it holds a beginning of the answers.
+/// [`Status::Session`] if a line is bad; [`Status::Io`] if `out` or a reader failed (`lists`: before any bad line);
+/// and [`Status::Memory`] if an allocation failed. If one failed at a list, `out` holds the answers to those before it,
+/// whole and flushed, and no others. If `out` failed, it holds a beginning of the answers.
 pub fn run_follow<P: Read, Q: Read, O: Write, E: Write, A: Allocator + Copy>(
     alloc: A,
     plan: &mut P,

@@ -15,8 +15,8 @@ use sabr_search::BestOf;
 use sabr_session::{write_report, write_session};
 use std::alloc::Allocator;
 
-/// The writers of a page. A clause names them at a call's end by their places: `exit.0` for `out`, and `exit.1.0` for
-/// `session`.
+/// The writers of a page. In clauses, `to.entry` is such a parameter as it was passed, and its writers at the call's
+/// end are `to.exit.0`, for `out`, and `to.exit.1.0`, for `session`.
 #[derive(Drop)]
 pub struct PageWriters<'w, O, S> {
     /// For the report.
@@ -64,7 +64,7 @@ fn send_session<S: Write, B: BestOf<A>, A: Allocator + Copy>(
     Ok(())
 }
 
-/// Writes the next `count` routes of a listing, and whether it goes on. All are found first, and no other.
+/// Writes the next `count` routes of a listing, and whether it goes on. None is written before all are found.
 fn write_last_page<O: Write, B: BestOf<A>, A: Allocator + Copy>(
     listing: Session<'_, B, A>,
     count: u32,
@@ -104,8 +104,8 @@ fn write_kept_page<O: Write, S: Write, B: BestOf<A>, A: Allocator + Copy>(
 
 /// Writes the next `count` routes of a listing to `out`, with ranks that go on from the routes given before, and
 /// whether the listing goes on. Then, if `keep` is the digest of its plan, it writes the session after them to
-/// `session`. All routes are found first, and no other if no session is written. Each writer is flushed after its text,
-/// `out` before anything is written to `session`.
+/// `session`. No route is written before all are found. Each writer is flushed after its text, `out` before anything is
+/// written to `session`.
 ///
 /// # Errors
 ///

@@ -59,8 +59,8 @@ pub enum LineKind {
     BadAvoid,
     /// The source is the destination.
     SameNode,
-    /// The line is too long, has fewer than three or more than six words, or four to seven with contacts, or comes
-    /// after the last that a text may have.
+    /// The line is too long, comes after the last that a text may have, or doesn't have three to six words (with
+    /// contacts: four to seven).
     BadLine,
 }
 
@@ -118,7 +118,7 @@ fn fault_at(form: LineForm, number: u32, line: &[u8]) -> Option<LineKind>
     }
 }
 
-/// Whether the line of this number is bad once this number of its bytes is read, with any bytes after them.
+/// Whether the line of this number, with `bytes` bytes so far, is too long or one too many, whatever bytes follow.
 fn is_bad_rest(form: LineForm, number: u32, bytes: usize) -> bool
     ensures { result ≡ is_bad_rest form number bytes }
 {
@@ -152,7 +152,8 @@ fn judge(form: LineForm, text: &[u8], before: Judged) -> Result<Judged, LinesFau
     Ok(judged)
 }
 
-/// Judges a text that grew by this piece, as [`judge`]. A piece that ends no line is looked at once.
+/// Judges a text that grew by this piece, as [`judge`]. If no line ends in the piece, and the last line isn't bad yet,
+/// only the piece is searched.
 fn judge_piece(
     form: LineForm,
     text: &[u8],

@@ -87,6 +87,7 @@ fn part_goes_on<B: BestOf<A>, A: Allocator + Copy>(
     ensures least { IfOk result (λ yes. IsTrue yes → searcher.new.calls.count ≡ searcher.old.calls.count → length route.now ≤ looks_taken looks.new) }
     ensures same { searcher.new.asked ≡ searcher.old.asked }
 {
+    // Both calls are for the proof alone, by their contracts.
     searcher.plan().rules_hold();
     looks.left();
     if searcher.goes_otherwise(looks, route, part.excluded.as_slice())? {

@@ -136,6 +136,7 @@ impl<A: Allocator + Copy> Tree<A> {
 
     /// Gives the next `count` routes, or all that are left if they are fewer. The searches for new parts have a bound:
     /// they needn't find a route that comes after `count + 2` routes that the nodes have carried since the call began.
+    /// A last page needs two more than the `count` given here: its last route, and one that shows that a route is left.
     pub fn give_page_up_to<B: BestOf<A>>(
         &mut self,
         searcher: &mut Searcher<'_, B, A>,

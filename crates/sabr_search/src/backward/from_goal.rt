@@ -31,9 +31,9 @@ pub struct Aim<'t, 'a, 's, A: Allocator + Copy> {
     pub since: &'s Since<'s>,
     /// Where the first steps come to, and when.
     pub first: &'s [Visit],
-    /// The delivery that the layers are made for. In a question's own search, no way delivers before it, and with a
-    /// limit on hops the earliest delivery may be later (`best_within`). Of layers over the whole graph it is the
-    /// floor.
+    /// The delivery that the layers are made for: over the whole graph the floor, and in a question's own search the
+    /// earliest. But `best_within` takes a lower bound on it, 0 if none is known, and makes the layers for the earliest
+    /// delivery within the limit on hops.
     pub delivery: u64,
 }
 
@@ -60,9 +60,9 @@ impl<A: Allocator + Copy> Deadlines<A> {
         Ok(())
     }
 
-    /// Returns true if a link needn't be taken to a node that has to be left before `before`: its bounds show that the
-    /// deadline of its sender doesn't rise, or that no way comes to its sender early enough; or its sender is
-    /// forbidden, as the start is, or is the goal. The cheapest comparison comes first.
+    /// Returns true if a link needn't be taken to a node with the deadline `before`: its bounds show that the deadline
+    /// of its sender doesn't rise, or that no way comes to its sender early enough; or its sender is forbidden, as the
+    /// start is, or is the goal. The cheapest comparison comes first.
     #[inline(always)]
     fn brings_nothing(&self, aim: &Aim<'_, '_, '_, A>, head: SenderHead, before: u64) -> bool
         requires task { IsTask aim.now.task.now }

@@ -92,7 +92,7 @@ impl<'t, 'a, A: Allocator + Copy> Backward<'t, 'a, A> {
         Ok(self.task.leave_over(looks, link, to.before, latest))
     }
 
-    /// Returns the second for the sender of the link at a place, by the rule; no later than `latest` if it isn't later.
+    /// Returns the second for the sender of the link at a place, by the rule. A second up to `latest` raises nothing.
     #[inline(always)]
     fn reach(
         &self,

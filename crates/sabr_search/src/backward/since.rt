@@ -11,7 +11,8 @@ use std::marker::Model;
 pub struct Since<'a> {
     /// How many nodes there are.
     pub nodes: usize,
-    /// For each node, its earliest arrival, or a later second; 0 after the list's end.
+    /// For each node, a second before which no way comes there, but only if it is before `last` in
+    /// [`at`](Since::at); 0 after the list's end.
     pub arrival: &'a [u64],
     /// For each node, a number of seconds that each way to the goal takes at least; 0 after the list's end.
     pub costs: &'a [u64],

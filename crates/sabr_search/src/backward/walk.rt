@@ -168,9 +168,9 @@ impl<A: Allocator + Copy> Walk<A> {
         least
     }
 
-    /// Picks the way of `hops` hops with the smallest numbers that is at the goal by the delivery of the layers. No way
-    /// of fewer hops is. The pick goes back from dead ends, of which there are none by a question's own layers. It stops
-    /// after too many of them.
+    /// Picks the way of `hops` hops with the smallest numbers that is at the goal by the delivery of the layers. The
+    /// caller knows that no way of fewer hops is there by then. The pick goes back from dead ends, of which there are
+    /// none by a question's own layers. It stops after too many of them.
     pub fn pick(
         &mut self,
         layers: &Deadlines<A>,

@@ -64,9 +64,9 @@ pub fn initial_arrivals<A: Allocator + Copy>(
     Ok(())
 }
 
-/// Returns the second before which an arrival at a node is news. From that second on, an arrival is no sooner than a
-/// known one, or no way from it delivers before `delivery`, by what the goal costs from there. At the goal, which has
-/// no arrival before `delivery`, that alone counts. The list of costs may be empty.
+/// Returns the second before which an arrival at a node is news: the known arrival, or `delivery` less the lower bound
+/// on the rest, if that is sooner. From the latter on, no way delivers before `delivery`. At the goal, which has no
+/// arrival before `delivery`, only the latter counts. The list of costs may be empty.
 #[inline(always)]
 pub fn news_before(arrival: &[u64], costs: &[u64], node: usize, delivery: u64) -> u64
     requires { node < length arrival.now }

@@ -1,4 +1,4 @@
-//! Nodes settled in order of their arrival and of what the goal costs from there, up to the first delivery at the goal.
+//! Nodes settled in order of arrival plus a lower bound on the rest (A*), up to the first delivery at the goal.
 
 ghost use Rattle.std.specs.Prelude.{◌≡◌, ◌≢◌, ℕ, min, [], ◌+◌, ◌-◌, ◌^◌, ◌≤◌, ◌<◌, length, slice_get, slice_set, slice_index, slice_index_or, replicate, Some, OnOk, IfOk, true, false};
 ghost use Rattle.sabr_search.specs.questions.Task.{IsTask, Takes, latest_arrival};

@@ -24,8 +24,8 @@ fn is_at_most(least: Option<Step>, number: u32) -> bool
 }
 
 impl<'a, A: Allocator + Copy> Task<'a, A> {
-    /// Returns the step of smallest number over a link, for what is at its sender at `at`. It arrives before `before`,
-    /// and its number is less than that of `least`. If there is no such step, returns `least`.
+    /// Returns the step of smallest number over a link, for what is at its sender at `at`. It arrives sooner than
+    /// `before`, and its number is less than that of `least`. If there is no such step, returns `least`.
     #[inline(always)]
     pub fn least_over(
         &self,

@@ -11,8 +11,8 @@ use crate::task::Task;
 use sabr_index::{Looks, Pass};
 use std::alloc::Allocator;
 
-/// Returns the number of passes that start before `before`. The passes are in order of their starts, so it is a binary
-/// search. It takes no look.
+/// Returns the number of passes that start sooner than `before`. The passes are in order of their starts, so it is a
+/// binary search. It takes no look.
 fn started(passes: &[Pass], before: u64) -> usize
     requires { AreInOrder passes.now }
     ensures within { result ≤ length passes.now }
@@ -21,7 +21,7 @@ fn started(passes: &[Pass], before: u64) -> usize
     passes.partition_point(|pass| pass.begins_before(before))
 }
 
-/// Returns the number of passes of a link that start before `before`; the first is counted even if it starts later.
+/// Returns the number of passes of a link that start sooner than `before`; the first counts even if it starts later.
 fn begun(passes: &[Pass], before: u64) -> usize
     requires { AreInOrder passes.now }
     ensures within { result ≤ length passes.now }
@@ -34,7 +34,7 @@ fn begun(passes: &[Pass], before: u64) -> usize
 }
 
 /// Returns true if, by its end and the light times up to it, nothing that is at the sender at `latest` or later arrives
-/// before `before` over this pass or an earlier one. The margin is left out.
+/// sooner than `before` over this pass or an earlier one. The margin is left out.
 fn leaves_no_later(pass: &Pass, before: u64, latest: u64) -> bool
     ensures { IsTrue result → (pass.now.latest_end ≤ latest) ⊎ (before ≤ latest + pass.now.least_light_before) }
 {
@@ -42,8 +42,8 @@ fn leaves_no_later(pass: &Pass, before: u64, latest: u64) -> bool
 }
 
 impl<'a, A: Allocator + Copy> Task<'a, A> {
-    /// Returns the first second from which on nothing leaves over a link and arrives before `before`, if that is later
-    /// than `latest`; otherwise `latest`. It takes a binary search and one look for each pass in question.
+    /// Returns the first second from which on nothing leaves over a link and arrives sooner than `before`, if that is
+    /// later than `latest`; otherwise `latest`. It takes a binary search and one look for each pass in question.
     #[inline(always)]
     pub fn leave_over(
         &self,

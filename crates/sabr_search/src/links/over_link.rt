@@ -25,7 +25,7 @@ pub struct WalkedLink<'a> {
 }
 
 /// Returns true if two bounds of a whole link, `soonest` and `least_light`, show that nothing that is at its sender at
-/// `at` or later arrives before `before`.
+/// second `at` or later arrives sooner than `before`.
 #[inline(always)]
 pub fn arrives_no_sooner(soonest: u64, least_light: u32, at: u64, before: u64) -> bool
     ensures late { IsTrue result → (before ≤ soonest) ⊎ (before ≤ at + least_light) }
@@ -34,8 +34,8 @@ pub fn arrives_no_sooner(soonest: u64, least_light: u32, at: u64, before: u64) -
     before <= soonest.max(at.saturating_add(least_light as u64))
 }
 
-/// Returns true if, by the bounds of the whole link, nothing that is at its sender at `at` or later arrives before
-/// `before`. Whether the link has ended is seen first.
+/// Returns true if, by the bounds of the whole link, nothing that is at its sender at second `at` or later arrives
+/// sooner than `before`. Whether the link has ended is seen first.
 #[inline(always)]
 pub fn rules_out(bounds: LinkBounds, at: u64, before: u64) -> bool
     ensures late { IsTrue result → IsRuledOut bounds at before }
@@ -57,8 +57,8 @@ pub fn first_unended(passes: &[Pass], at: u64) -> usize
     passes.partition_point(|pass| pass.latest_end <= at)
 }
 
-/// Returns true if, by its start and the light times from it on, what is at the sender at `at` arrives at `before` or
-/// later over this pass and over each one after it. The margin is left out.
+/// Returns true if, by its start and the light times from it on, what is at the sender at second `at` arrives no sooner
+/// than `before` over this pass and over each one after it. The margin is left out.
 pub fn comes_late(pass: &Looked<'_>, at: u64, before: u64) -> bool
     ensures { IsTrue result → before ≤ max at pass.now.start + pass.now.least_light_after }
 {
@@ -101,9 +101,9 @@ impl<'a, A: Allocator + Copy> Task<'a, A> {
         }
     }
 
-    /// Returns the earliest arrival over a link of what is at its sender at `at`, if it is before `before`; otherwise
-    /// `before`. It takes a binary search and one look for each pass in question, mostly two. Excluded passes with
-    /// consecutive numbers take one look.
+    /// Returns the earliest arrival over a link of what is at its sender at second `at`, but `before` at the latest. It
+    /// takes a binary search and one look for each pass in question, mostly two. Excluded passes with consecutive
+    /// numbers take one look.
     #[inline(always)]
     pub fn arrive_over(&self, looks: &mut Looks, link: WalkedLink<'_>, at: u64, before: u64) -> u64
         requires task { IsTask self.now }
