@@ -5,14 +5,13 @@ ghost use Rattle.sabr_model.specs.plan.Plan.{IsPlan, contact_named, has};
 ghost use Rattle.sabr_model.specs.plan.Table.{node_count};
 ghost use Rattle.sabr_model.specs.plan.Tabled.{IsTabled, IsHopNamed};
 ghost use Rattle.sabr_model.specs.routes.Telling.{summary_of};
-ghost use Rattle.sabr_index.specs.Index.{IsIndex};
+ghost use Rattle.sabr_index.specs.Index.{AreLinksOfPlan, held_links};
 ghost use Rattle.sabr_index.specs.Links.{AreLinksOf, AreLinksTo};
 
-use crate::incoming::IncomingLinks;
 use crate::link::Links;
 use crate::looks::Looks;
+use crate::plan_links::{HeldLinks, PlanLinks};
 use crate::senders::Senders;
-use crate::table::LinkTable;
 use sabr_model::{Hop, Plan, RouteSummary};
 use std::alloc::{Allocator, Global};
 use std::marker::Model;
@@ -23,31 +22,19 @@ use std::marker::Model;
 pub struct CountedPlan<'p, A: Allocator + Copy = Global> {
     /// The plan.
     plan: &'p Plan<A>,
-    /// By node its links.
-    linked: LinkTable<A>,
-    /// By node the links to it.
-    incoming: IncomingLinks<A>,
+    /// Its links.
+    links: HeldLinks<'p, A>,
 }
 
 impl<'p, A: Allocator + Copy> Model for CountedPlan<'p, A> {
     ghost use Rattle.sabr_model.specs.plan.Plan.{TabledPlan};
-    ghost use Rattle.sabr_index.specs.Index.{IsIndex};
+    ghost use Rattle.sabr_index.specs.Index.{AreLinksOfPlan, held_links};
 
     ghost Value = { TabledPlan };
 
     ghost view = { λ i. i.plan.now };
 
-    ghost invariant = { λ i. IsIndex i.plan.now i.linked i.incoming.starts.items i.incoming.named.items };
-}
-
-/// The links of an index without its plan. The owner of a plan can store them beside it, and make the index again at no
-/// cost, as long as the plan stays the same.
-#[derive(Drop)]
-pub struct PlanLinks<A: Allocator + Copy = Global> {
-    /// By node its links.
-    pub linked: LinkTable<A>,
-    /// By node the links to it.
-    pub incoming: IncomingLinks<A>,
+    ghost invariant = { λ i. AreLinksOfPlan i.plan.now (held_links i.links) };
 }
 
 /// What one look at a contact returns, if a list of contacts goes on by it: the contact as a search reads it, unless the
@@ -60,31 +47,22 @@ pub struct Followed {
 
 impl<'p, A: Allocator + Copy> CountedPlan<'p, A> {
     /// Joins a plan and its links.
-    pub(crate) fn over(
-        plan: &'p Plan<A>,
-        linked: LinkTable<A>,
-        incoming: IncomingLinks<A>,
-    ) -> CountedPlan<'p, A>
-        requires { IsIndex plan.now linked incoming.starts.items incoming.named.items }
+    pub(crate) fn over(plan: &'p Plan<A>, links: HeldLinks<'p, A>) -> CountedPlan<'p, A>
+        requires { AreLinksOfPlan plan.now (held_links links) }
         ensures { result ≡ plan.now }
     {
-        CountedPlan {
-            plan,
-            linked,
-            incoming,
-        }
+        CountedPlan { plan, links }
     }
 
-    /// The links, without the plan.
-    pub(crate) fn into_links(self) -> PlanLinks<A>
-        ensures { IsIndex self.entry result.linked result.incoming.starts.items result.incoming.named.items }
+    /// The plan's links.
+    #[inline(always)]
+    fn plan_links(&self) -> &PlanLinks<A>
+        ensures { AreLinksOfPlan self.now result.now }
     {
-        let CountedPlan {
-            plan: _,
-            linked,
-            incoming,
-        } = self;
-        PlanLinks { linked, incoming }
+        match &self.links {
+            HeldLinks::Owned(links) => links,
+            HeldLinks::Borrowed(links) => links,
+        }
     }
 
     /// The plan.
@@ -188,7 +166,7 @@ impl<'p, A: Allocator + Copy> CountedPlan<'p, A> {
         requires { index < length self.now.table }
         ensures { (node : ℕ) → slice_get self.now.table index ≡ Some node → AreLinksOf self.now node result.links.now result.passes.now }
     {
-        self.linked.of(index)
+        self.plan_links().linked.of(index)
     }
 
     /// The links to the node at an index of the table, each with its sender.
@@ -196,6 +174,7 @@ impl<'p, A: Allocator + Copy> CountedPlan<'p, A> {
         requires { index < length self.now.table }
         ensures { (node : ℕ) → slice_get self.now.table index ≡ Some node → AreLinksTo self.now node result }
     {
-        Senders::over(self.incoming.of(index), &self.linked)
+        let links = self.plan_links();
+        Senders::over(links.incoming.of(index), &links.linked)
     }
 }

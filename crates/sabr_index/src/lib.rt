@@ -34,11 +34,13 @@ mod index;
 mod link;
 mod looks;
 mod order;
+mod plan_links;
 mod senders;
 mod table;
 
-pub use counted_plan::{CountedPlan, Followed, PlanLinks};
+pub use counted_plan::{CountedPlan, Followed};
 pub use index::Index;
 pub use link::{Link, LinkBounds, Links, Pass, Sender, SenderHead};
 pub use looks::{Looked, Looks, SetAside};
+pub use plan_links::{HeldLinks, PlanLinks};
 pub use senders::Senders;

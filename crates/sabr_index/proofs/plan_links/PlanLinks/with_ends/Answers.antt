@@ -1,6 +1,6 @@
 use Rattle.std.proofs.Common.{arith}
 use Rattle.sabr_index.proofs.SenderLemmas.{have_receivers}
-use Rattle.sabr_index.proofs.index.Index.with_ends.Goals as goal
+use Rattle.sabr_index.proofs.plan_links.PlanLinks.with_ends.Goals as goal
 
 pub incoming_links-requires : goal.incoming_links-requires
 incoming_links-requires g c =
@@ -11,8 +11,8 @@ incoming_links-requires g c =
       few = made.few;
     }
 
-pub over-requires : goal.over-requires
-over-requires g c =
+pub returns : goal.returns
+returns g c =
     let made = c.in_ok-linked.ensures {u = tt} in
     record {
       tabled = c.requires.tabled;
