@@ -34,43 +34,37 @@ pub fn verify<R: Read, B: BestOf<A>, A: Allocator + Copy>(
     requires { digest.now ≡ digest_of plan.now.plan }
     ensures { VerifiesText plan.now.plan (R.input reader.old) result (R.input reader.new) }
 {
-    let index = Index::new(alloc, plan)?;
-    let (verified, _index) = verify_over(alloc, reader, index, digest, finder);
-    verified
+    match read_paused(alloc, reader, plan, digest, finder) {
+        Ok(paused) => {
+            plan.rules_hold();
+            let index = Index::new(alloc, plan)?;
+            certify(paused, index)
+        }
+        Err(fault) => refused(fault),
+    }
 }
 
-/// Verifies bytes as [`verify`] does, over an index of the plan, and gives that back.
+/// Verifies bytes as [`verify`] does, over an index of the plan.
 ///
 /// # Errors
 ///
 /// Those of [`verify`].
-pub fn verify_over<'p, R: Read, B: BestOf<A>, A: Allocator + Copy>(
+pub fn verify_over<R: Read, B: BestOf<A>, A: Allocator + Copy>(
     alloc: A,
     reader: &mut R,
-    index: Index<'p, A>,
+    index: Index<'_, A>,
     digest: &[u8; 32],
     finder: B,
-) -> (Result<bool, SessionFault>, Index<'p, A>)
+) -> Result<bool, SessionFault>
     requires { digest.now ≡ digest_of index.plan }
-    ensures verified { VerifiesText index.entry.plan (R.input reader.old) result.0 (R.input reader.new) }
-    ensures index { result.1 ≡ index.entry }
+    ensures { VerifiesText index.entry.plan (R.input reader.old) result (R.input reader.new) }
 {
     let plan = index.plan();
-    plan.rules_hold();
     match read_paused(alloc, reader, plan, digest, finder) {
         Ok(paused) => {
-            let mut session = paused.resume(index);
-            let certified = session.certify();
-            let (_paused, index) = session.pause();
-            match certified {
-                Ok(placed) => (Ok(placed), index),
-                Err(_refused) => (Err(SessionFault::NoMemory), index),
-            }
+            plan.rules_hold();
+            certify(paused, index)
         }
-        Err(fault) => match fault {
-            SessionFault::Read => (Err(SessionFault::Read), index),
-            SessionFault::NoMemory => (Err(SessionFault::NoMemory), index),
-            _ => (Ok(false), index),
-        },
+        Err(fault) => refused(fault),
     }
 }

@@ -88,14 +88,21 @@ impl<'p, B: BestOf<A>, A: Allocator + Copy> Searcher<'p, B, A> {
         PausedSearcher::new(alloc, request, finder).resume(index)
     }
 
-    /// Returns the searcher without its plan's index, and the index.
-    pub fn pause(self) -> (PausedSearcher<B, A>, Index<'p, A>)
-        ensures request { result.0.request ≡ self.entry.asked.request }
-        ensures calls { B.calls_of result.0.finder ≡ self.entry.calls }
-        ensures cache { IsSearchCache self.entry.asked.plan result.0.request result.0.cache }
-        ensures index { result.1 ≡ self.entry.asked.plan }
+    /// Returns the searcher without its plan's index.
+    pub fn pause(self) -> PausedSearcher<B, A>
+        ensures request { result.request ≡ self.entry.asked.request }
+        ensures calls { B.calls_of result.finder ≡ self.entry.calls }
+        ensures cache { IsSearchCache self.entry.asked.plan result.request result.cache }
     {
-        (self.rest, self.index)
+        self.rest
+    }
+
+    /// Returns the plan's index and the finder, for another request.
+    pub fn into_index_and_finder(self) -> (Index<'p, A>, B)
+        ensures index { result.0 ≡ self.entry.asked.plan }
+        ensures calls { B.calls_of result.1 ≡ self.entry.calls }
+    {
+        (self.index, self.rest.finder)
     }
 
     /// Returns the sum of the looks that the finder's calls took, `u64::MAX` if they are more, and begins it anew.
@@ -219,12 +226,5 @@ impl<B: BestOf<A>, A: Allocator + Copy> PausedSearcher<B, A> {
             looks: 0,
             counted_calls: GhostCalls::new(),
         }
-    }
-
-    /// Returns the finder alone.
-    pub fn into_finder(self) -> B
-        ensures { result ≡ self.finder }
-    {
-        self.finder
     }
 }

@@ -16,13 +16,13 @@ ghost use Rattle.sabr_frontier.specs.tree.Undo.{IsRoomy};
 use crate::giving::searcher::Searcher;
 use crate::session::Session;
 use crate::tree::Tree;
-use sabr_index::{Index, Looks};
+use sabr_index::Looks;
 use sabr_model::{NoMemory, Request, Route};
 use sabr_search::BestOf;
 use std::alloc::{Allocator, Global};
 use std::marker::Model;
 
-/// The last page of a session. The session has ended. Its index and its finder are kept for another request.
+/// The last page of a session. The session has ended. Its index and its finder serve another request.
 ///
 /// Contracts see the plan, the routes, whether one is left after them, the finder's calls, and the looks that the page
 /// took.
@@ -159,16 +159,7 @@ impl<'p, B: BestOf<A>, A: Allocator + Copy> LastPage<'p, B, A> {
         ensures { IfOk result (IsStarted self.entry.plan request self.entry.calls) }
     {
         let alloc = self.searcher.alloc();
-        let (index, finder) = self.into_index_and_finder();
+        let (index, finder) = self.searcher.into_index_and_finder();
         Session::start_with_index(alloc, index, request, finder)
-    }
-
-    /// Returns the plan's index and the finder, for another session, without the routes.
-    pub fn into_index_and_finder(self) -> (Index<'p, A>, B)
-        ensures index { result.0 ≡ self.entry.plan }
-        ensures calls { B.calls_of result.1 ≡ self.entry.calls }
-    {
-        let (searcher, index) = self.searcher.pause();
-        (index, searcher.into_finder())
     }
 }

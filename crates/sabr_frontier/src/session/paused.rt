@@ -35,13 +35,13 @@ pub struct PausedSession<B: BestOf<A>, A: Allocator + Copy = Global> {
 }
 
 impl<'p, B: BestOf<A>, A: Allocator + Copy> Session<'p, B, A> {
-    /// Pauses the session: returns it without its plan's index, and the index. Its cost is constant.
-    pub fn pause(self) -> (PausedSession<B, A>, Index<'p, A>)
+    /// Pauses the session: returns it without its plan's index, which is dropped. Its cost is constant if the owner of
+    /// the plan lent the links.
+    pub fn pause(self) -> PausedSession<B, A>
 
         // Over the plan it shows what it showed, and it can go on.
-        ensures seen { seen_over B.calls_of self.entry.plan result.0 ≡ self.entry }
-        ensures paused { IsPausedOver self.entry.plan result.0 }
-        ensures index { result.1 ≡ self.entry.plan }
+        ensures seen { seen_over B.calls_of self.entry.plan result ≡ self.entry }
+        ensures paused { IsPausedOver self.entry.plan result }
     {
         let Session {
             searcher,
@@ -50,15 +50,14 @@ impl<'p, B: BestOf<A>, A: Allocator + Copy> Session<'p, B, A> {
             searches,
             looks,
         } = self;
-        let (searcher, index) = searcher.pause();
-        let paused = PausedSession {
+        let searcher = searcher.pause();
+        PausedSession {
             searcher,
             tree,
             pages,
             searches,
             looks,
-        };
-        (paused, index)
+        }
     }
 }
 

@@ -9,8 +9,8 @@ use Rattle.sabr_session.specs.declared.session_fault.SessionFault.TheVariants as
 use Rattle.sabr_session.proofs.ReadingLemmas.Verified.{session_verified, fault_verified, break_verified}
 use Rattle.sabr_session.proofs.verifying.verify_over.Goals as goal
 
-pub returns-in-Ok-certified-clause-verified : goal.returns-in-Ok-certified-clause-verified
-returns-in-Ok-certified-clause-verified g c =
+pub returns-in-Ok-certified : goal.returns-in-Ok-certified
+returns-in-Ok-certified g c =
     let old = g.R.Read.input c.args.reader.now in
     let new = g.R.Read.input c.read_paused.new.reader in
     let p = c.plan-plan.result.now in
@@ -22,15 +22,15 @@ returns-in-Ok-certified-clause-verified g c =
     (subst (λ (t : Seen). IsRequest t.request) shown c.in-Ok.ensures.paused.session.limits)
     c.in-Ok-certified.placed c.in-Ok-certified.ensures.ok)
 
-pub returns-in-Read-clause-verified : goal.returns-in-Read-clause-verified
-returns-in-Read-clause-verified g c =
+pub returns-in-Read : goal.returns-in-Read
+returns-in-Read g c =
     let old = g.R.Read.input c.args.reader.now in
     let new = g.R.Read.input c.read_paused.new.reader in
     subst (λ (q : TabledPlan). VerifiesText q.plan old (Err fault.Read) new) c.plan-plan.ensures
     (break_verified c.plan-plan.result.now c.rules_hold.ensures old new c.in-Err.fault c.in-Err.ensures.read c.in-Read.is)
 
-pub returns-clause-verified : goal.returns-clause-verified
-returns-clause-verified g c =
+pub returns : goal.returns
+returns g c =
     let old = g.R.Read.input c.args.reader.now in
     let new = g.R.Read.input c.read_paused.new.reader in
     subst (λ (q : TabledPlan). VerifiesText q.plan old (Ok false) new) c.plan-plan.ensures

@@ -1,12 +1,14 @@
-use Rattle.std.proofs.Common.{subst}
+use Rattle.std.proofs.Common.{ap, subst, ◌∙◌}
 use Rattle.std.specs.Prelude.{IfOk}
 use Rattle.sabr_model.specs.plan.Plan.{TabledPlan}
 use Rattle.sabr_search.specs.questions.Calls.{Calls}
+use Rattle.sabr_frontier.specs.session.LastPage.{LastSeen}
 use Rattle.sabr_frontier.specs.session.Session.{IsStarted}
 use Rattle.sabr_frontier.proofs.session.last_page.LastPage.start_again.Goals as goal
 
 pub returns : goal.returns
 returns g c =
     let made = c.into_index_and_finder-index in
-    subst (λ (p : TabledPlan). IfOk c.start_with_index.result (IsStarted p c.args.request c.args.self.calls)) made.ensures.index
-    (subst (λ (calls : Calls). IfOk c.start_with_index.result (IsStarted made.result.0 c.args.request calls)) made.ensures.calls c.start_with_index.ensures)
+    let seen = c.self.view_is in
+    subst (λ (p : TabledPlan). IfOk c.start_with_index.result (IsStarted p c.args.request c.args.self.calls)) (made.ensures.index ∙ ap (λ (v : LastSeen). v.plan) seen)
+    (subst (λ (calls : Calls). IfOk c.start_with_index.result (IsStarted made.result.0 c.args.request calls)) (made.ensures.calls ∙ ap (λ (v : LastSeen). v.calls) seen) c.start_with_index.ensures)
