@@ -48,7 +48,7 @@ pub use laws::{law4, law5, law6, pages_give_new_routes};
 pub use loader::Loader;
 pub use loader::load_fault::LoadFault;
 pub use rows::{states_of_plan_a, states_of_plan_c, steps_of_plan_a};
-pub use session::Session;
 pub use session::last_page::LastPage;
 pub use session::paused::PausedSession;
+pub use session::{MAX_ROUTES, Session};
 pub use views::{PartView, Parts};

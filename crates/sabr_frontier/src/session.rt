@@ -20,6 +20,9 @@ use sabr_search::BestOf;
 use std::alloc::{Allocator, Global};
 use std::marker::Model;
 
+/// The most routes of a page (this project's profile).
+pub const MAX_ROUTES: u32 = 10000;
+
 /// A listing of the routes of a plan for a request, as far as they were given. It keeps the parts that are left (Yen,
 /// Lawler), each with its best route.
 ///

@@ -34,14 +34,8 @@ pub fn verify<R: Read, B: BestOf<A>, A: Allocator + Copy>(
     requires { digest.now ≡ digest_of plan.now.plan }
     ensures { VerifiesText plan.now.plan (R.input reader.old) result (R.input reader.new) }
 {
-    match read_paused(alloc, reader, plan, digest, finder) {
-        Ok(paused) => {
-            plan.rules_hold();
-            let index = Index::new(alloc, plan)?;
-            certify(paused, index)
-        }
-        Err(fault) => refused(fault),
-    }
+    let index = Index::new(alloc, plan)?;
+    verify_over(alloc, reader, index, digest, finder)
 }
 
 /// Verifies bytes as [`verify`] does, over an index of the plan.
@@ -60,11 +54,20 @@ pub fn verify_over<R: Read, B: BestOf<A>, A: Allocator + Copy>(
     ensures { VerifiesText index.entry.plan (R.input reader.old) result (R.input reader.new) }
 {
     let plan = index.plan();
+    plan.rules_hold();
     match read_paused(alloc, reader, plan, digest, finder) {
         Ok(paused) => {
-            plan.rules_hold();
-            certify(paused, index)
+            let mut session = paused.resume(index);
+            let certified = session.certify();
+            match certified {
+                Ok(placed) => Ok(placed),
+                Err(_refused) => Err(SessionFault::NoMemory),
+            }
         }
-        Err(fault) => refused(fault),
+        Err(fault) => match fault {
+            SessionFault::Read => Err(SessionFault::Read),
+            SessionFault::NoMemory => Err(SessionFault::NoMemory),
+            _ => Ok(false),
+        },
     }
 }
