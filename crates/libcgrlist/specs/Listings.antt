@@ -2,14 +2,13 @@
 use Rattle.std.specs.Prelude.{◌≡◌, ℕ, ◌<◌, ◌⊎◌, ◌↔◌, IsTrue, is_some, length, map, nat_lt, Bool, true, false, List, [], ◌∷◌, Result, Ok, Err, Option, None, Some, if◌then◌else◌}
 use Rattle.sabr_model.specs.routes.Arrival.{RouteRequest}
 use Rattle.sabr_model.specs.routes.Record.{RouteRecord, record_of}
-use Rattle.sabr_index.specs.declared.counted_plan.PlanLinks.{PlanLinks}
 use Rattle.sabr_frontier.specs.declared.session.paused.PausedSession.{PausedSession}
 use Rattle.sabr_frontier.specs.listing.Listing.{next_route}
 use Rattle.sabr_frontier.specs.session.Paused.{IsPausedOver}
 use Rattle.sabr_search.specs.questions.Calls.{no_calls}
 use Rattle.sabr_frontier.specs.session.Session.{Seen, former_then, next_page, started}
 use Rattle.libcgrlist.specs.Answers.{WritesPage, count_refusal}
-use Rattle.libcgrlist.specs.Opened.{OpenPlan, AreLinksOf, listing_of, listing_over}
+use Rattle.libcgrlist.specs.Opened.{OpenPlan, listing_of, listing_over}
 use Rattle.libcgrlist.specs.Buffers.{IsPage, RouteBuffers}
 use Rattle.libcgrlist.specs.Status.{done, has_listing, no, no_listing, no_memory}
 use Rattle.libcgrlist.specs.declared.listing.ListingPlace.{ListingPlace}
@@ -41,10 +40,10 @@ abbrev pub IfOpen : Option Seen → (Seen → Type 0) → Type 0
 IfOpen None P = ⊥
 IfOpen (Some s) P = P s
 
--- the listing and the links are taken out of what is behind the handle, or it stays
-abbrev pub TakesUp : {B A : Type 0} → OpenPlan → Result (PlanLinks A × PausedSession B A) ℕ → OpenPlan → Type 0
+-- the listing is taken out of what is behind the handle, or it stays
+abbrev pub TakesUp : {B A : Type 0} → OpenPlan → Result (PausedSession B A) ℕ → OpenPlan → Type 0
 TakesUp o (Err e) n = (e ≡ listing_refusal o.listing) × (n ≡ o)
-TakesUp o (Ok x) n = AreLinksOf o.plan x.0 × IsPausedOver o.plan x.1 × (o.listing ≡ Some (listing_over o.plan x.1)) × (n ≡ record o { listing = None })
+TakesUp o (Ok s) n = IsPausedOver o.plan s × (o.listing ≡ Some (listing_over o.plan s)) × (n ≡ record o { listing = None })
 
 -- what an opening call answers
 abbrev pub OpensListing : OpenPlan → Result RouteRequest ℕ → ℕ → OpenPlan → Type 0

@@ -4,8 +4,6 @@ use Rattle.std.specs.List.{filter}
 use Rattle.sabr_model.specs.plan.Light.{light_of}
 use Rattle.sabr_model.specs.plan.Plan.{ContactPlan, TabledPlan}
 use Rattle.sabr_frontier.specs.session.Session.{Seen}
-use Rattle.sabr_index.specs.Index.{IsIndex}
-use Rattle.sabr_index.specs.declared.counted_plan.PlanLinks.{PlanLinks}
 use Rattle.sabr_frontier.specs.declared.session.paused.PausedSession.{PausedSession}
 use Rattle.sabr_search.specs.questions.Calls.{no_calls}
 use Rattle.sabr_frontier.specs.session.Paused.{seen_over}
@@ -18,10 +16,6 @@ pub record OpenPlan : Type 0 where
 -- how many standing contacts have no light time at their start
 abbrev pub contacts_without_light : ContactPlan → ℕ
 contacts_without_light p = length (filter (λ c. is_none (light_of p c)) p.contacts)
-
--- links are those of a plan
-abbrev pub AreLinksOf : {A : Type 0} → TabledPlan → PlanLinks A → Type 0
-AreLinksOf p l = IsIndex p l.linked l.incoming.starts.items l.incoming.named.items
 
 -- what callers see of a listing: searches, calls of the finder and looks aren't counted
 abbrev pub listing_of : Seen → Seen

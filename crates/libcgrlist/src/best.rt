@@ -1,13 +1,11 @@
 //! What C asks, and the best route of a request.
 
-ghost use Rattle.std.specs.Prelude.{◌≡◌, IfOk, OnErr, map};
-ghost use Rattle.sabr_model.specs.routes.Listing.{routes};
-ghost use Rattle.sabr_model.specs.routes.Record.{record_of};
+ghost use Rattle.std.specs.Prelude.{◌≡◌, IfOk};
 ghost use Rattle.libcgrlist.specs.Answers.{AnswersBest, UnlessWritten, WritesBest, none_or_one, first_routes, asked_request};
 ghost use Rattle.libcgrlist.specs.Open.{Calls, IsWhole};
 
 use crate::buffers::{RouteRow, put_whole};
-use crate::handle::PlanHandle;
+use crate::handle::{PlanHandle, over_plan};
 use crate::opened::Opened;
 use crate::status::{CLOSED, MEMORY, NO, of_request};
 use sabr_index::Index;
@@ -84,28 +82,40 @@ fn write_best(best: Option<Route<Global>>, row: &mut RouteRow, contacts: &mut [u
     put_whole(numbers, contacts)
 }
 
-/// Finds the best route of a request, writes it if there is one, and returns the status.
+/// Finds the best route of a request. It writes nothing into a plan that has its links.
 fn find_best(
     alloc: Global,
     opened: &mut Opened,
-    request: Request,
+    request: &Request,
+) -> Result<Option<Route<Global>>, NoMemory>
+    ensures same { opened.new ≡ opened.old }
+    ensures best { IfOk result (λ best. none_or_one best ≡ first_routes opened.old.plan.plan request.now 1) }
+{
+    opened.link(alloc)?;
+    let index = opened.index(alloc)?;
+    let mut finder = Settled::new(alloc);
+    best_route(alloc, &mut finder, &index, request)
+}
+
+/// Finds the best route of what is asked, if that is a request, writes it if there is one, and returns the status.
+fn give_best(
+    alloc: Global,
+    opened: &mut Opened,
+    asked: Result<Request, RequestError>,
     row: &mut RouteRow,
     contacts: &mut [u32],
-) -> Result<u32, NoMemory>
+) -> u32
     ensures same { opened.new ≡ opened.old }
-    ensures best { IfOk result (λ status. WritesBest (map (record_of opened.old.plan.plan request) (routes opened.old.plan.plan request)) status row.new contacts.old contacts.new) }
-    ensures kept { IfOk result (λ status. UnlessWritten status ((row.new ≡ row.old) × (contacts.new ≡ contacts.old))) }
-    ensures err { OnErr result ((row.new ≡ row.old) × (contacts.new ≡ contacts.old)) }
+    ensures best { AnswersBest opened.old.plan.plan asked result row.new contacts.old contacts.new }
+    ensures kept { UnlessWritten result ((row.new ≡ row.old) × (contacts.new ≡ contacts.old)) }
 {
-    let links = opened.take_links(alloc)?;
-    let mut finder = opened.take_finder(alloc);
-    let index = Index::from_links(opened.plan(), links);
-    let found = best_route(alloc, &mut finder, &index, &request);
-    let links = index.into_links();
-    opened.keep_links(links);
-    opened.keep_finder(finder);
-    let best = found?;
-    Ok(write_best(best, row, contacts))
+    match asked {
+        Ok(request) => match find_best(alloc, opened, &request) {
+            Ok(best) => write_best(best, row, contacts),
+            Err(_refused) => MEMORY,
+        },
+        Err(error) => of_request(error),
+    }
 }
 
 /// Gives the best route of a request.
@@ -122,21 +132,6 @@ pub extern "C" fn cgrlist_best(
     ensures best { Calls handle.old handle.new result (λ o n. (n ≡ o) × AnswersBest o.plan.plan (asked_request asked.now avoid.now) result row.new contacts.old contacts.new) }
     ensures kept { UnlessWritten result ((row.new ≡ row.old) × (contacts.new ≡ contacts.old)) }
 {
-    if !handle.is_open {
-        return CLOSED;
-    }
-    let mut opened = handle.take(alloc);
-    let request = match asked.request(avoid) {
-        Ok(request) => request,
-        Err(error) => {
-            handle.give(opened);
-            return of_request(error);
-        }
-    };
-    let status = match find_best(alloc, &mut opened, request, row, contacts) {
-        Ok(status) => status,
-        Err(_refused) => MEMORY,
-    };
-    handle.give(opened);
-    status
+    let request = asked.request(avoid);
+    over_plan!(handle, alloc, opened => give_best(alloc, &mut opened, request, row, contacts))
 }

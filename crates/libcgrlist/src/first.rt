@@ -11,14 +11,11 @@ use crate::buffers::{Page, RouteRow, write_routes};
 use crate::handle::PlanHandle;
 use crate::opened::Opened;
 use crate::status::{CLOSED, DONE, MEMORY, ROOM, VALUE_COUNT, of_request};
-use sabr_frontier::{LastPage, Session, law6};
+use sabr_frontier::{LastPage, MAX_ROUTES, Session, law6};
 use sabr_index::Index;
 use sabr_model::{NoMemory, Request, law3};
 use sabr_search::Settled;
 use std::alloc::Global;
-
-/// The most routes of a page.
-pub const MOST_ROUTES: u32 = 10000;
 
 /// How many of the first routes of a request are wanted.
 #[derive(Drop)]
@@ -42,21 +39,19 @@ pub fn page_status(page: &Page) -> u32
 fn first_page<'p>(
     alloc: Global,
     index: Index<'p, Global>,
-    finder: Settled<Global>,
     request: Request,
     count: u32,
 ) -> Result<LastPage<'p, Settled<Global>, Global>, NoMemory>
     requires { count ≤ most_routes }
     ensures { IfOk result (IsLastOf index.entry request count) }
 {
-    Session::start_with_index(alloc, index, request, finder)?.last_page(count)
+    Session::start_with_index(alloc, index, request, Settled::new(alloc))?.last_page(count)
 }
 
 /// Finds the first routes of the list of all routes of a request.
 fn listed<'p>(
     alloc: Global,
     index: Index<'p, Global>,
-    finder: Settled<Global>,
     request: Request,
     count: u32,
 ) -> Result<LastPage<'p, Settled<Global>, Global>, NoMemory>
@@ -67,7 +62,7 @@ fn listed<'p>(
     law6();
     index.plan().rules_hold();
     request.limits_hold();
-    first_page(alloc, index, finder, request, count)
+    first_page(alloc, index, request, count)
 }
 
 /// Finds the first routes of a request, and writes them.
@@ -84,16 +79,10 @@ fn find_first(
     ensures kept { OnErr result ((rows.new ≡ rows.old) × (contacts.new ≡ contacts.old)) }
 {
     let FirstRoutes { request, count } = wanted;
-    let links = opened.take_links(alloc)?;
-    let finder = opened.take_finder(alloc);
-    let index = Index::from_links(opened.plan(), links);
-    let last = listed(alloc, index, finder, request, count)?;
-    let page = write_routes(last.routes(), last.more(), rows, contacts);
-    let (index, finder) = last.into_index_and_finder();
-    let links = index.into_links();
-    opened.keep_links(links);
-    opened.keep_finder(finder);
-    Ok(page)
+    opened.link(alloc)?;
+    let index = opened.index(alloc)?;
+    let last = listed(alloc, index, request, count)?;
+    Ok(write_routes(last.routes(), last.more(), rows, contacts))
 }
 
 /// Gives the first routes of a request, best first.
@@ -116,7 +105,7 @@ pub extern "C" fn cgrlist_first(
         return CLOSED;
     }
     let mut opened = handle.take(alloc);
-    if MOST_ROUTES < count {
+    if MAX_ROUTES < count {
         handle.give(opened);
         return VALUE_COUNT;
     }

@@ -14,12 +14,11 @@ ghost use Rattle.libcgrlist.specs.Status.{refused_or};
 
 use crate::best::Asked;
 use crate::buffers::{Page, RouteRow, write_routes};
-use crate::first::{MOST_ROUTES, page_status};
+use crate::first::page_status;
 use crate::handle::{PlanHandle, over_plan};
-use crate::opened::{Opened, Paused, parted};
+use crate::opened::{Opened, Paused, paused};
 use crate::status::{CLOSED, DONE, LISTING, MEMORY, NO, NO_LISTING, VALUE_COUNT, of_request};
-use sabr_frontier::Session;
-use sabr_index::{Index, PlanLinks};
+use sabr_frontier::{MAX_ROUTES, Session};
 use sabr_model::{NoMemory, Request, RequestError};
 use sabr_search::Settled;
 use std::alloc::Global;
@@ -42,11 +41,11 @@ fn open_listing(alloc: Global, opened: &mut Opened, request: Request) -> Result<
     ensures ok { OnOk result (opened.new ≡ record opened.old { listing = Some (listing_of (started opened.old.plan request no_calls)) }) }
     ensures err { OnErr result (opened.new ≡ opened.old) }
 {
-    let links = opened.take_links(alloc)?;
-    let index = Index::from_links(opened.plan(), links);
+    opened.link(alloc)?;
+    let index = opened.index(alloc)?;
     let session = Session::start_with_index(alloc, index, request, Settled::new(alloc))?;
-    let (links, paused) = parted(session);
-    opened.keep(links, paused);
+    let listing = paused(session);
+    opened.keep_listing(listing);
     Ok(())
 }
 
@@ -66,22 +65,41 @@ fn open_asked(alloc: Global, opened: &mut Opened, request: Result<Request, Reque
     }
 }
 
-/// Takes the listing and the plan's links out of what is behind a handle.
-pub fn take_up(alloc: Global, opened: &mut Opened) -> Result<(PlanLinks<Global>, Paused), u32>
+/// Takes the listing out of what is behind a handle, and makes the plan's links unless it has them.
+pub fn take_up(alloc: Global, opened: &mut Opened) -> Result<Paused, u32>
     ensures { TakesUp opened.old result opened.new }
 {
     // Asked first, since NO_LISTING comes before MEMORY.
     if !opened.has_listing() {
         return Err(NO_LISTING);
     }
-    let Ok(links) = opened.take_links(alloc) else {
+    let Ok(()) = opened.link(alloc) else {
         return Err(MEMORY);
     };
-    let Some(paused) = opened.take_listing() else {
-        return Err(NO_LISTING);
-    };
-    Ok((links, paused))
+    match opened.take_listing() {
+        Some(listing) => Ok(listing),
+        None => Err(NO_LISTING),
+    }
 }
+
+/// What an expression makes of the session of the listing, which is then paused again. The function that calls this
+/// returns the status of a listing that can't be taken up.
+macro_rules! over_listing {
+    ($opened:ident, $alloc:ident, $session:ident => $call:expr) => {{
+        let listing = take_up($alloc, $opened)?;
+        let Ok(index) = $opened.index($alloc) else {
+            $opened.keep_listing(listing);
+            return Err(MEMORY);
+        };
+        let mut $session = listing.resume(index);
+        let made = $call;
+        let listing = paused($session);
+        $opened.keep_listing(listing);
+        made
+    }};
+}
+
+pub(crate) use over_listing;
 
 /// Writes the next page of a session, and takes it back if there is no room for all of it.
 fn give_page(
@@ -117,11 +135,8 @@ fn next_page(
     requires { count ≤ most_routes }
     ensures { GivesNext opened.old count result (buffers rows.old contacts.old) (buffers rows.new contacts.new) opened.new }
 {
-    let (links, paused) = take_up(alloc, opened)?;
-    let mut session = paused.resume(Index::from_links(opened.plan(), links));
-    let given = give_page(&mut session, count, rows, contacts);
-    let (links, paused) = parted(session);
-    opened.keep(links, paused);
+    let given =
+        over_listing!(opened, alloc, session => give_page(&mut session, count, rows, contacts));
     match given {
         Ok(page) => Ok(page),
         Err(_refused) => Err(MEMORY),
@@ -132,11 +147,7 @@ fn next_page(
 fn go_back(alloc: Global, opened: &mut Opened) -> Result<bool, u32>
     ensures { GoesBack opened.old result opened.new }
 {
-    let (links, paused) = take_up(alloc, opened)?;
-    let mut session = paused.resume(Index::from_links(opened.plan(), links));
-    let gone = session.back();
-    let (links, paused) = parted(session);
-    opened.keep(links, paused);
+    let gone = over_listing!(opened, alloc, session => session.back());
     Ok(gone)
 }
 
@@ -188,7 +199,7 @@ pub extern "C" fn cgrlist_listing_next(
         handle.give(opened);
         return NO_LISTING;
     }
-    if MOST_ROUTES < count {
+    if MAX_ROUTES < count {
         handle.give(opened);
         return VALUE_COUNT;
     }

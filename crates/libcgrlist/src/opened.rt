@@ -5,7 +5,7 @@ ghost use Rattle.std.specs.Option.{option_map};
 ghost use Rattle.sabr_plan.specs.Canonical.{digest_of};
 ghost use Rattle.sabr_frontier.specs.session.Paused.{IsPausedOver};
 ghost use Rattle.libcgrlist.specs.Listings.{IsPlaceIn};
-ghost use Rattle.libcgrlist.specs.Opened.{AreLinksOf, OpenPlan, contacts_without_light, listing_of, listing_over};
+ghost use Rattle.libcgrlist.specs.Opened.{OpenPlan, contacts_without_light, listing_of, listing_over};
 
 use crate::listing::ListingPlace;
 use sabr_frontier::{PausedSession, Session};
@@ -26,8 +26,6 @@ pub struct Opened {
     plan: Plan<Global>,
     /// The plan's links.
     links: Option<PlanLinks<Global>>,
-    /// A finder. It keeps its memory from question to question.
-    finder: Option<Settled<Global>>,
     /// The listing.
     listing: Option<Paused>,
     /// The plan's digest.
@@ -41,13 +39,15 @@ impl Model for Opened {
     ghost use Rattle.std.specs.Option.{option_map};
     ghost use Rattle.sabr_plan.specs.Canonical.{digest_of};
     ghost use Rattle.sabr_frontier.specs.session.Paused.{IsPausedOver};
-    ghost use Rattle.libcgrlist.specs.Opened.{AreLinksOf, OpenPlan, contacts_without_light, listing_over};
+    ghost use Rattle.sabr_index.specs.Index.{AreLinksOfPlan};
+    ghost use Rattle.sabr_index.specs.Index.{AreLinksOfPlan};
+    ghost use Rattle.libcgrlist.specs.Opened.{OpenPlan, contacts_without_light, listing_over};
 
     ghost Value = { OpenPlan };
 
     ghost view = { λ o. record { plan = o.plan; listing = option_map (listing_over o.plan) o.listing } };
 
-    ghost invariant = { λ o. IfSome o.links (AreLinksOf o.plan) × IfSome o.listing (IsPausedOver o.plan) × IfSome o.digest (λ d. d ≡ digest_of o.plan.plan) × IfSome o.without_light (λ n. n ≡ contacts_without_light o.plan.plan) };
+    ghost invariant = { λ o. IfSome o.links (AreLinksOfPlan o.plan) × IfSome o.listing (IsPausedOver o.plan) × IfSome o.digest (λ d. d ≡ digest_of o.plan.plan) × IfSome o.without_light (λ n. n ≡ contacts_without_light o.plan.plan) };
 }
 
 impl Opened {
@@ -58,7 +58,6 @@ impl Opened {
         Opened {
             plan,
             links: None,
-            finder: None,
             listing: None,
             digest: None,
             without_light: None,
@@ -78,7 +77,6 @@ impl Opened {
         Ok(Opened {
             plan,
             links: None,
-            finder: None,
             listing: None,
             digest: self.digest,
             without_light: self.without_light,
@@ -118,44 +116,33 @@ impl Opened {
         }
     }
 
-    /// Takes out the plan's links, or makes them.
+    /// Makes the plan's links, and keeps them, unless it has them.
     ///
     /// # Errors
     ///
     /// [`NoMemory`] if an allocation failed.
-    pub fn take_links(&mut self, alloc: Global) -> Result<PlanLinks<Global>, NoMemory>
-        ensures links { IfOk result (AreLinksOf self.old.plan) }
-        ensures same { self.new ≡ self.old }
+    pub fn link(&mut self, alloc: Global) -> Result<(), NoMemory>
+        ensures { self.new ≡ self.old }
     {
-        match self.links.take() {
-            Some(links) => Ok(links),
-            None => Ok(Index::new(alloc, &self.plan)?.into_links()),
+        if self.links.is_none() {
+            let links = PlanLinks::new(alloc, &self.plan)?;
+            self.links = Some(links);
         }
+        Ok(())
     }
 
-    /// Keeps the plan's links.
-    pub fn keep_links(&mut self, links: PlanLinks<Global>)
-        requires { AreLinksOf self.old.plan links }
-        ensures { self.new ≡ self.old }
+    /// The plan's index, over the links that are kept. If none are, it has links of its own.
+    ///
+    /// # Errors
+    ///
+    /// [`NoMemory`] if no links are kept, and an allocation failed.
+    pub fn index(&self, alloc: Global) -> Result<Index<'_, Global>, NoMemory>
+        ensures { IfOk result (λ index. index ≡ self.now.plan) }
     {
-        self.links = Some(links);
-    }
-
-    /// Takes out the finder, or makes one.
-    pub fn take_finder(&mut self, alloc: Global) -> Settled<Global>
-        ensures { self.new ≡ self.old }
-    {
-        match self.finder.take() {
-            Some(finder) => finder,
-            None => Settled::new(alloc),
+        match &self.links {
+            Some(links) => Ok(Index::over(&self.plan, links)),
+            None => Index::new(alloc, &self.plan),
         }
-    }
-
-    /// Keeps a finder.
-    pub fn keep_finder(&mut self, finder: Settled<Global>)
-        ensures { self.new ≡ self.old }
-    {
-        self.finder = Some(finder);
     }
 
     /// Takes out the listing: none is open then.
@@ -173,16 +160,6 @@ impl Opened {
         ensures { self.new ≡ record self.old { listing = Some (listing_over self.old.plan listing) } }
     {
         self.listing = Some(listing);
-    }
-
-    /// Keeps the plan's links, and opens a listing, in place of any other.
-    pub fn keep(&mut self, links: PlanLinks<Global>, listing: Paused)
-        requires links { AreLinksOf self.old.plan links }
-        requires listing { IsPausedOver self.old.plan listing }
-        ensures { self.new ≡ record self.old { listing = Some (listing_over self.old.plan listing) } }
-    {
-        self.keep_links(links);
-        self.keep_listing(listing);
     }
 
     /// The plan's digest, which is made once.
@@ -221,9 +198,7 @@ impl Opened {
     {
         self.digest();
         self.without_light();
-        let links = self.take_links(alloc)?;
-        self.keep_links(links);
-        Ok(())
+        self.link(alloc)
     }
 }
 
@@ -237,14 +212,12 @@ pub fn copy_of(alloc: Global, plan: &Plan<Global>) -> Result<Plan<Global>, NoMem
     Ok(copy)
 }
 
-/// Returns the parts of a session that [`Opened::keep`] takes: its plan's links, and the listing.
-pub fn parted(session: Session<'_, Settled<Global>, Global>) -> (PlanLinks<Global>, Paused)
-    ensures links { AreLinksOf session.entry.plan result.0 }
-    ensures paused { IsPausedOver session.entry.plan result.1 }
-    ensures listing { listing_over session.entry.plan result.1 ≡ listing_of session.entry }
+/// Pauses the session of a listing.
+pub fn paused(session: Session<'_, Settled<Global>, Global>) -> Paused
+    ensures paused { IsPausedOver session.entry.plan result }
+    ensures listing { listing_over session.entry.plan result ≡ listing_of session.entry }
 {
-    let (paused, index) = session.pause();
-    (index.into_links(), paused)
+    session.pause()
 }
 
 /// Counts the contacts that have no light time at their start.

@@ -221,6 +221,7 @@ pub extern "C" fn cgrlist_plan_text(
 
 /// States that reading the text of a plan, as [`cgrlist_plan_text`] writes it, makes the plan again: its contacts with
 /// their numbers, its ranges, and the largest number given.
+#[tactic(auto, using(crate::proofs::PlanTextLemmas::reads_back))]
 pub fn plan_texts_read_back()
     ensures { PlanTextsReadBack }
 {}

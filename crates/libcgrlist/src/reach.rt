@@ -142,15 +142,14 @@ fn give_reaches(
     if reaches.len() < destinations.to.len() {
         return ROOM;
     }
-    let Ok(links) = opened.take_links(alloc) else {
+    let Ok(()) = opened.link(alloc) else {
         return MEMORY;
     };
-    let mut finder = opened.take_finder(alloc);
-    let index = Index::from_links(opened.plan(), links);
+    let Ok(index) = opened.index(alloc) else {
+        return MEMORY;
+    };
+    let mut finder = Settled::new(alloc);
     write_reaches(alloc, &mut finder, &index, destinations, reaches);
-    let links = index.into_links();
-    opened.keep_links(links);
-    opened.keep_finder(finder);
     DONE
 }
 

@@ -9,11 +9,10 @@ ghost use Rattle.libcgrlist.specs.SessionTexts.{AnswersLoad, AnswersText, IsLoad
 
 use crate::buffers::put_whole;
 use crate::handle::{PlanHandle, over_plan};
-use crate::listing::take_up;
-use crate::opened::{Opened, parted};
+use crate::listing::{over_listing, take_up};
+use crate::opened::{Opened, paused};
 use crate::status::{CLOSED, DONE, LISTING, MEMORY, NO, of_session};
 use host::Bytes;
-use sabr_index::Index;
 use sabr_model::{Failed, GhostCount, Write};
 use sabr_search::Settled;
 use sabr_session::{SessionFault, read_paused, verify_over, write_session};
@@ -73,12 +72,9 @@ fn text_of_place(alloc: Global, opened: &mut Opened) -> Result<Vec<u8, Global>, 
     ensures refused { IfErr result (λ e. e ≡ listing_refusal opened.old.listing) }
 {
     let digest = opened.digest();
-    let (links, paused) = take_up(alloc, opened)?;
-    let session = paused.resume(Index::from_links(opened.plan(), links));
     let mut writer = Gathered::new(alloc);
-    let written = write_session(&session, &digest, &mut writer);
-    let (links, paused) = parted(session);
-    opened.keep(links, paused);
+    let written =
+        over_listing!(opened, alloc, session => write_session(&session, &digest, &mut writer));
     match written {
         Ok(()) => Ok(writer.into_bytes()),
         Err(_failed) => Err(MEMORY),
@@ -168,20 +164,17 @@ pub extern "C" fn cgrlist_listing_load(
     over_plan!(handle, alloc, opened => open_text(alloc, &mut opened, text, line))
 }
 
-/// Verifies that bytes are the session text of a place over the plan. The plan's links are kept.
+/// Verifies that bytes are the session text of a place over the plan. It writes nothing into a plan that has its links
+/// and its digest.
 fn verify_text(alloc: Global, opened: &mut Opened, text: &[u8]) -> Result<bool, SessionFault>
     ensures same { opened.new ≡ opened.old }
     ensures verified { Verifies opened.old.plan.plan text.now result }
 {
     let digest = opened.digest();
-    let links = opened.take_links(alloc)?;
-    let index = Index::from_links(opened.plan(), links);
+    opened.link(alloc)?;
+    let index = opened.index(alloc)?;
     let mut reader = Bytes::new(text);
-    let finder = Settled::new(alloc);
-    let (verified, index) = verify_over(alloc, &mut reader, index, &digest, finder);
-    let links = index.into_links();
-    opened.keep_links(links);
-    verified
+    verify_over(alloc, &mut reader, index, &digest, Settled::new(alloc))
 }
 
 /// Returns whether a text is the session text of a place in the list of its request over the plan.

@@ -6,12 +6,14 @@ ghost use Rattle.sabr_laws.specs.OneText.{CanonicalTextsTellPlans};
 
 /// States that the listing of a plan with some of its contacts is the routes over these alone, in the same order. They
 /// deliver as they did, so a plan never delivers sooner with fewer contacts.
+#[tactic(auto, using(crate::proofs::FewerContacts::fewer_contacts_take_their_routes))]
 pub fn fewer_contacts_take_their_routes()
     ensures { FewerContactsTakeTheirRoutes }
 {}
 
 /// States that the listing of a plan without a contact is the listing without the routes that have the contact. The
 /// others deliver as they did.
+#[tactic(auto, using(crate::proofs::FewerContacts::lost_contacts_take_their_routes))]
 pub fn lost_contacts_take_their_routes()
     ensures { LostContactsTakeTheirRoutes }
 {}
@@ -19,6 +21,7 @@ pub fn lost_contacts_take_their_routes()
 /// States that the listing under a lower limit on hops, or with more avoided nodes, is the listing without the routes
 /// that have more hops or go over one of the nodes. The others deliver as they did, so a request never delivers sooner
 /// with limits.
+#[tactic(auto, using(crate::proofs::Limited::limits_leave_routes_out))]
 pub fn limits_leave_routes_out()
     ensures { LimitsLeaveRoutesOut }
 {}
@@ -31,6 +34,7 @@ pub fn canonical_texts_tell_plans()
 {}
 
 /// States that a text that spells a session over a plan spells none if bytes are left out at its end.
+#[tactic(auto, using(crate::proofs::CutTexts::no_text_begins_another))]
 pub fn no_text_begins_another()
     ensures { NoTextBeginsAnother }
 {}

@@ -8,11 +8,13 @@ ghost use Rattle.sabr_session.specs.TextLaws.{HasOneAnswer, PiecesAreOneText, Te
 /// order in which they were given. So are the states that it can go back to. If it began at a place of the list, it
 /// stands at the place after their routes. From there its next page has the next routes, says whether more follow, and
 /// leads to the place after them.
+#[tactic(auto, using(crate::proofs::SessionPlaces::pages_stand))]
 pub fn pages_stand()
     ensures { PagesStand }
 {}
 
 /// States that the session of a text that [`verify`](crate::verify) accepts stands at the text's place.
+#[tactic(auto, using(crate::proofs::SessionPlaces::texts_are_placed))]
 pub fn texts_are_placed()
     ensures { TextsArePlaced }
 {}
@@ -24,12 +26,14 @@ pub fn law7()
 {}
 
 /// States that bytes have one meaning: a request and a state, or one fault.
+#[tactic(auto, using(crate::proofs::TextLemmas::TextsRead::answers_once))]
 pub fn one_answer()
     ensures { HasOneAnswer }
 {}
 
 /// States that the chunks fed to a [`SessionFeed`](crate::SessionFeed) are one text. The result for a chunk is that of
 /// a reader that fails after all bytes so far. The result at the end is that of all bytes.
+#[tactic(auto, using(crate::proofs::TextLemmas::TextsRead::pieces_joined))]
 pub fn pieces_are_one_text()
     ensures { PiecesAreOneText }
 {}

@@ -17,7 +17,7 @@ fn copy_up(ids: &mut [NodeId], by: usize)
     ensures { ids.new ≡ take by ids.old ++ take (length ids.old - by) ids.old }
 {
     let count = ids.len() - by;
-    let mut room = [NodeId(0); 128];
+    let mut room = [NodeId(0); ROOM];
     room[..count].copy_from_slice(&ids[..count]);
     ids[by..].copy_from_slice(&room[..count]);
 }

@@ -1,5 +1,0 @@
-use Rattle.sabr_frontier.proofs.ListingLemmas.Lawful.{steps_follow}
-use Rattle.sabr_frontier.proofs.laws.law6.Goals as goal
-
-pub returns : goal.returns
-returns c = steps_follow
