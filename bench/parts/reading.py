@@ -86,7 +86,7 @@ def ranges_in_one_bucket():
 
 
 def contacts_in_one_bucket():
-    """Of the hash table of known_openings.rt, by senders, receivers and starts. Between two seconds in one bucket there
+    """Of the hash table of duplicate_check.rt, by senders, receivers and starts. Between two seconds in one bucket there
     are at most three different steps, which the first ones show."""
     begin = 11400714819323198485 + 2 * 14029467366897019727 + second_of(BEGINS) * 1609587929392839161
     is_there = lambda second: ((begin + second * 1609587929392839161) >> 44) % 4096 == 0

@@ -48,8 +48,8 @@ later_opening o last cs all more =
     is_le_by (opening_key (opening_of d)) (opening_key o) by) cs all
 
 -- one more contact, whose opening is the last one
-pub knows_push : (befores lasts : List ℕ) (rising : Bool) (last o : Opening) (cs : List Contact) → KnowsSome befores lasts rising last cs → (rising ≡ true → OpenBy o cs) → (c : Contact) → opening_of c ≡ o → KnowsSome befores lasts rising o (cs ++ c ∷ [])
-knows_push befores lasts rising last o cs h by c is = (
+pub knows_push : (befores lasts : List ℕ) (in_order : Bool) (last o : Opening) (cs : List Contact) → KnowsSome befores lasts in_order last cs → (in_order ≡ true → OpenBy o cs) → (c : Contact) → opening_of c ≡ o → KnowsSome befores lasts in_order o (cs ++ c ∷ [])
+knows_push befores lasts in_order last o cs h by c is = (
   chained_push contact_bucket cs c befores lasts h.0,
   λ up. all_push (λ d. is_le (by_key (opening_key (opening_of d)) (opening_key o)) ≡ true) cs c (by up) (subst (λ p. is_le (by_key (opening_key p) (opening_key o)) ≡ true) (sym is) (le_itself (opening_key o))),
 )

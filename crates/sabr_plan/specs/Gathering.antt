@@ -69,7 +69,7 @@ OpenBy last contacts = AllByRecursion (λ c. is_le (by_key (opening_key (opening
 
 -- the first contacts are in chains, and if the contacts ascend none opens after the last one
 abbrev pub KnowsSome : List ℕ → List ℕ → Bool → Opening → List Contact → Type 0
-KnowsSome befores lasts rising last contacts = AreChained (map contact_bucket contacts) befores lasts × (rising ≡ true → OpenBy last contacts)
+KnowsSome befores lasts in_order last contacts = AreChained (map contact_bucket contacts) befores lasts × (in_order ≡ true → OpenBy last contacts)
 
 -- the index of a contact that stands and has this opening, or none does
 abbrev pub IsFound : Opening → List Contact → Option ℕ → Type 0
@@ -137,4 +137,4 @@ EndBy key ranges = AllByRecursion (λ r. is_le (by_key (r.one, r.other, r.end) k
 
 -- the first ranges are in chains, and if each begins after those before it end, none ends after the last end
 abbrev pub KnowsRanges : List ℕ → List ℕ → Bool → ℕ × ℕ × ℕ → List Range → Type 0
-KnowsRanges befores lasts rising last ranges = AreChained (map range_bucket ranges) befores lasts × (rising ≡ true → EndBy last ranges)
+KnowsRanges befores lasts in_order last ranges = AreChained (map range_bucket ranges) befores lasts × (in_order ≡ true → EndBy last ranges)

@@ -32,9 +32,9 @@
 ghost use Rattle.std.specs.Prelude.{◌≡◌, IfOk};
 
 mod chains;
+mod duplicate_check;
 mod gathered_contacts;
 mod gathered_ranges;
-mod known_openings;
 mod known_ranges;
 mod opening_tree;
 mod range_tree;

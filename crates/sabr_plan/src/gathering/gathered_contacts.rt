@@ -7,7 +7,7 @@ ghost use Rattle.sabr_model.specs.declared.fault.AddFault.{AddFault};
 ghost use Rattle.sabr_model.specs.declared.fault.AddFault.TheVariants.{NoMemory, NothingToDelete};
 ghost use Rattle.sabr_model.specs.plan.Adding.{next_contact, contact_refusal, with_contact, number_of_opening, without_contact};
 
-use crate::gathering::known_openings::{KnownOpenings, find_by_pass, find_standing};
+use crate::gathering::duplicate_check::{DuplicateCheck, find_by_pass, find_standing};
 use sabr_model::{AddFault, Contact, MAX_RECORDS, Opening};
 use std::alloc::{Allocator, Global};
 use std::marker::Model;
@@ -19,7 +19,7 @@ use std::marker::Model;
 pub struct GatheredContacts<A: Allocator + Copy = Global> {
     /// The contacts that were added, at most `MAX_RECORDS`. A deleted one ends at its start.
     contacts: Vec<Contact, A>,
-    openings: KnownOpenings<A>,
+    openings: DuplicateCheck<A>,
     largest: u32,
     /// Whether one of them was deleted.
     has_deleted: bool,
@@ -34,7 +34,7 @@ impl<A: Allocator + Copy> Model for GatheredContacts<A> {
 
     ghost view = { λ g. plan_of_contacts (standing g.contacts.items) g.largest };
 
-    ghost invariant = { λ g. IsPlan (plan_of_contacts (standing g.contacts.items) g.largest) × KnowsSome g.openings.chains.befores.items g.openings.chains.lasts.items g.openings.rising g.openings.last g.contacts.items × IsTreed g.openings.tree.indexes g.openings.tree.treed g.contacts.items × (g.has_deleted ≡ false → standing g.contacts.items ≡ g.contacts.items) };
+    ghost invariant = { λ g. IsPlan (plan_of_contacts (standing g.contacts.items) g.largest) × KnowsSome g.openings.chains.befores.items g.openings.chains.lasts.items g.openings.in_order g.openings.last g.contacts.items × IsTreed g.openings.tree.indexes g.openings.tree.treed g.contacts.items × (g.has_deleted ≡ false → standing g.contacts.items ≡ g.contacts.items) };
 }
 
 impl<A: Allocator + Copy> GatheredContacts<A> {
@@ -44,7 +44,7 @@ impl<A: Allocator + Copy> GatheredContacts<A> {
     {
         GatheredContacts {
             contacts: Vec::new(alloc),
-            openings: KnownOpenings::new(alloc),
+            openings: DuplicateCheck::new(alloc),
             largest: 0,
             has_deleted: false,
         }

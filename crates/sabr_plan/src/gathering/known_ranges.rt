@@ -31,7 +31,7 @@ pub struct KnownRanges<A: Allocator + Copy> {
     /// The number of steps along chains so far.
     walked: usize,
     /// Whether each range so far begins after those before it end.
-    pub rising: bool,
+    pub in_order: bool,
     /// If so, no range ends after this, in the order of ranges: by pair of nodes and second.
     pub last: (u64, u64, u64),
 }
@@ -45,22 +45,22 @@ impl<A: Allocator + Copy> KnownRanges<A> {
         KnownRanges {
             chains: Chains::new(alloc),
             walked: 0,
-            rising: true,
+            in_order: true,
             last: (0, 0, 0),
         }
     }
 
     /// Returns true if a range that is to come after these overlaps one of its ordered pair.
     pub fn overlaps(&mut self, ranges: &[Range], range: &Range) -> bool
-        requires { KnowsRanges self.old.chains.befores.items self.old.chains.lasts.items self.old.rising self.old.last ranges.now }
+        requires { KnowsRanges self.old.chains.befores.items self.old.chains.lasts.items self.old.in_order self.old.last ranges.now }
         ensures value { result ≡ list_any (overlap range.now) ranges.now }
-        ensures knows { KnowsRanges self.new.chains.befores.items self.new.chains.lasts.items self.new.rising self.new.last ranges.now }
-        ensures rises { IsTrue self.new.rising → EndBy (range_key range.now) ranges.now }
+        ensures knows { KnowsRanges self.new.chains.befores.items self.new.chains.lasts.items self.new.in_order self.new.last ranges.now }
+        ensures rises { IsTrue self.new.in_order → EndBy (range_key range.now) ranges.now }
     {
-        if self.rising && comes_by(self.last, range) {
+        if self.in_order && in_key_order(self.last, range) {
             return false;
         }
-        self.rising = false;
+        self.in_order = false;
         let Ok(()) = self.chains.add_all(BUCKETS, ranges, bucket_of) else {
             return any_overlaps(ranges, range);
         };
@@ -73,7 +73,7 @@ impl<A: Allocator + Copy> KnownRanges<A> {
     /// Returns true if the walks along the chains of this number of ranges took long since it last returned true.
     pub fn is_slow(&mut self, count: usize) -> bool
         ensures chains { self.new.chains ≡ self.old.chains }
-        ensures rising { self.new.rising ≡ self.old.rising }
+        ensures in_order { self.new.in_order ≡ self.old.in_order }
         ensures last { self.new.last ≡ self.old.last }
     {
         let slow = self.walked / LONG > count;
@@ -84,8 +84,8 @@ impl<A: Allocator + Copy> KnownRanges<A> {
     }
 }
 
-/// Returns true if a pair and second come no later than a range, by its pair and start.
-fn comes_by(last: (u64, u64, u64), range: &Range) -> bool
+/// Returns true if a key, of a pair and a second, comes no later than that of a range.
+fn in_key_order(last: (u64, u64, u64), range: &Range) -> bool
     ensures { result ≡ is_le (by_key last (range_key range.now)) }
 {
     last <= range.key()

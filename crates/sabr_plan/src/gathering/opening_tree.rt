@@ -4,7 +4,7 @@ ghost use Rattle.std.specs.Prelude.{◌≡◌, ◌<◌, ◌+◌, IsTrue, OnOk, l
 ghost use Rattle.sabr_model.specs.plan.Plan.{same_opening, none_twice};
 ghost use Rattle.sabr_plan.specs.Gathering.{IsFound, IsTreed, standing};
 
-use crate::gathering::known_openings::stands_at;
+use crate::gathering::duplicate_check::stands_at;
 use sabr_model::{Contact, Opening};
 use std::alloc::{AllocError, Allocator};
 use std::collections::BTreeMap;

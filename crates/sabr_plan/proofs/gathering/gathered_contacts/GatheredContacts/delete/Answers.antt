@@ -35,7 +35,7 @@ invariant_of-self-2 g c =
     let left = deletes o cs k found c.self.invariant.0.openings_differ in
     let then = ended (get_or cs k no_contact) c.args.start in
     let chained = subst (λ ds. AreChained (map contact_bucket ds) chains.befores.items chains.lasts.items) c.deref.ensures.value c.find_standing.ensures.chained in
-    subst (λ x. IsPlan (plan_of_contacts (standing (set cs k (ended x c.args.start))) s.largest) × KnowsSome chains.befores.items chains.lasts.items s.openings.rising s.openings.last (set cs k (ended x c.args.start)) × IsTreed tree.indexes tree.treed (set cs k (ended x c.args.start)) × (true ≡ false → standing (set cs k (ended x c.args.start)) ≡ set cs k (ended x c.args.start))) (sym (there cs k c.index_mut.result.now found.0 c.index_mut.ensures.value)) (
+    subst (λ x. IsPlan (plan_of_contacts (standing (set cs k (ended x c.args.start))) s.largest) × KnowsSome chains.befores.items chains.lasts.items s.openings.in_order s.openings.last (set cs k (ended x c.args.start)) × IsTreed tree.indexes tree.treed (set cs k (ended x c.args.start)) × (true ≡ false → standing (set cs k (ended x c.args.start)) ≡ set cs k (ended x c.args.start))) (sym (there cs k c.index_mut.result.now found.0 c.index_mut.ensures.value)) (
       subst (λ ds. IsPlan (plan_of_contacts ds s.largest)) (sym left.0) (IsPlan-fewer_contacts (plan_of_contacts (standing cs) s.largest) (λ d. not (opens o.from o.to o.start d)) c.self.invariant.0),
       (
         subst (λ ks. AreChained ks chains.befores.items chains.lasts.items) (sym (map-set_same contact_bucket cs k then no_contact refl)) chained,

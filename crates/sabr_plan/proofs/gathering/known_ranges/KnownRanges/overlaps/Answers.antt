@@ -3,11 +3,11 @@ use Rattle.std.proofs.Common.{◌∙◌, sym, arith}
 use Rattle.sabr_plan.proofs.SortedRanges.{later_end, overlaps_none}
 use Rattle.sabr_plan.proofs.gathering.known_ranges.KnownRanges.overlaps.Goals as goal
 
-pub returns-then-comes_by-clause-value : goal.returns-then-comes_by-clause-value
-returns-then-comes_by-clause-value g c = sym (overlaps_none c.args.range.now c.args.ranges.now (later_end _ _ _ (sym c.comes_by.ensures ∙ c.if-comes_by.true) (c.requires.1 c.if-self.true)))
+pub returns-then-in_key_order-clause-value : goal.returns-then-in_key_order-clause-value
+returns-then-in_key_order-clause-value g c = sym (overlaps_none c.args.range.now c.args.ranges.now (later_end _ _ _ (sym c.in_key_order.ensures ∙ c.if-in_key_order.true) (c.requires.1 c.if-self.true)))
 
-pub returns-then-comes_by-clause-rises : goal.returns-then-comes_by-clause-rises
-returns-then-comes_by-clause-rises g c = λ up. later_end _ _ _ (sym c.comes_by.ensures ∙ c.if-comes_by.true) (c.requires.1 up)
+pub returns-then-in_key_order-clause-rises : goal.returns-then-in_key_order-clause-rises
+returns-then-in_key_order-clause-rises g c = λ up. later_end _ _ _ (sym c.in_key_order.ensures ∙ c.if-in_key_order.true) (c.requires.1 up)
 
 pub returns-clause-value : goal.returns-clause-value
 returns-clause-value g c = let told = sym c.is_none.ensures ∙ c.walk_chain-walked.ensures in grind (arith, told)

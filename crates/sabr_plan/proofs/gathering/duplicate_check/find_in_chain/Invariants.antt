@@ -1,7 +1,7 @@
 use Rattle.sabr_plan.specs.Gathering.{opening_bucket, contact_bucket, stands_at}
 use Rattle.sabr_plan.proofs.ChainedPlaces.{IsWalked}
 use Rattle.sabr_plan.proofs.GatheredOpenings.{no_contact}
-use Rattle.sabr_plan.proofs.gathering.known_openings.find_in_chain.Given as goal
+use Rattle.sabr_plan.proofs.gathering.duplicate_check.find_in_chain.Given as goal
 
 abbrev pub invariant-loop-at : goal.invariant-loop-at
 invariant-loop-at l = IsWalked contact_bucket (stands_at l.opening) (opening_bucket l.opening) no_contact l.contacts l.at

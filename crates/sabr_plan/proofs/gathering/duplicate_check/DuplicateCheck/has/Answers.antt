@@ -1,7 +1,7 @@
 -- An opening after all others is new.
 use Rattle.std.proofs.Common.{sym, ◌∙◌}
 use Rattle.sabr_plan.proofs.GatheredOpenings.{after_all, later_opening, found_any}
-use Rattle.sabr_plan.proofs.gathering.known_openings.KnownOpenings.has.Goals as goal
+use Rattle.sabr_plan.proofs.gathering.duplicate_check.DuplicateCheck.has.Goals as goal
 
 pub returns-then-comes_after-clause-value : goal.returns-then-comes_after-clause-value
 returns-then-comes_after-clause-value g c = sym (after_all c.args.opening c.args.self.now.last c.args.contacts.now (c.requires.knows.1 c.if-self.true) (sym c.comes_after.ensures ∙ c.if-comes_after.true))

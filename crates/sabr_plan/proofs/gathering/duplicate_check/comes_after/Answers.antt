@@ -1,7 +1,7 @@
 use Rattle.std.proofs.Common.{Some, ◌∙◌, rules}
 use Rattle.std.specs.Ordering.{nat_cmp, partial_ordering_then, is_gt, is_some_and}
 use Rattle.sabr_model.proofs.PlanLemmas.KeyOrder.{told_by}
-use Rattle.sabr_plan.proofs.gathering.known_openings.comes_after.Goals as goal
+use Rattle.sabr_plan.proofs.gathering.duplicate_check.comes_after.Goals as goal
 
 pub returns : goal.returns
 returns c =

@@ -1,5 +1,5 @@
-//! The openings of contacts that come one by one. A contact whose opening is the largest so far needs no search for a
-//! duplicate.
+//! What tells whether a contact has the opening of one that came before it. A contact whose opening is the largest so
+//! far needs no search.
 
 ghost use Rattle.std.specs.Prelude.{◌≡◌, ◌<◌, ◌≤◌, [], IsTrue, length, map};
 ghost use Rattle.std.specs.List.{list_any, position};
@@ -24,28 +24,28 @@ const BUCKETS: usize = 4096;
 /// While each contact opens after those before it, the table is empty. From the first that doesn't, all contacts are in
 /// the table.
 #[derive(Drop)]
-pub struct KnownOpenings<A: Allocator + Copy> {
+pub struct DuplicateCheck<A: Allocator + Copy> {
     /// The hash table of the first contacts, by their openings.
     pub chains: Chains<A>,
     /// A tree of the first contacts, made when the walks along chains took long.
     pub tree: OpeningTree<A>,
     /// Whether each contact so far opens after those before it.
-    pub rising: bool,
+    pub in_order: bool,
     /// If so, no contact opens after it.
     pub last: Opening,
 }
 
-impl<A: Allocator + Copy> KnownOpenings<A> {
-    /// The openings of no contact. It doesn't allocate.
-    pub fn new(alloc: A) -> KnownOpenings<A>
+impl<A: Allocator + Copy> DuplicateCheck<A> {
+    /// Makes a value for no contact. It doesn't allocate.
+    pub fn new(alloc: A) -> DuplicateCheck<A>
         ensures lasts { result.chains.lasts.items ≡ [] }
         ensures befores { result.chains.befores.items ≡ [] }
         ensures treed { result.tree.treed ≡ 0 }
     {
-        KnownOpenings {
+        DuplicateCheck {
             chains: Chains::new(alloc),
             tree: OpeningTree::new(alloc),
-            rising: true,
+            in_order: true,
             last: Opening {
                 from: 0,
                 to: 0,
@@ -57,18 +57,18 @@ impl<A: Allocator + Copy> KnownOpenings<A> {
     /// Returns true if one of these contacts stands and has this opening, that of a contact that is to come after them.
     #[inline(always)]
     pub fn has(&mut self, contacts: &[Contact], opening: Opening) -> bool
-        requires knows { KnowsSome self.old.chains.befores.items self.old.chains.lasts.items self.old.rising self.old.last contacts.now }
+        requires knows { KnowsSome self.old.chains.befores.items self.old.chains.lasts.items self.old.in_order self.old.last contacts.now }
         requires treed { IsTreed self.old.tree.indexes self.old.tree.treed contacts.now }
         requires apart { IsTrue (none_twice same_opening (standing contacts.now)) }
         ensures value { result ≡ list_any (stands_at opening) contacts.now }
-        ensures knows { KnowsSome self.new.chains.befores.items self.new.chains.lasts.items self.new.rising self.new.last contacts.now }
+        ensures knows { KnowsSome self.new.chains.befores.items self.new.chains.lasts.items self.new.in_order self.new.last contacts.now }
         ensures treed { IsTreed self.new.tree.indexes self.new.tree.treed contacts.now }
-        ensures rises { IsTrue self.new.rising → OpenBy opening contacts.now }
+        ensures rises { IsTrue self.new.in_order → OpenBy opening contacts.now }
     {
-        if self.rising && comes_after(&opening, &self.last) {
+        if self.in_order && comes_after(&opening, &self.last) {
             return false;
         }
-        self.rising = false;
+        self.in_order = false;
         // A copy, so that an opening that comes last stays in registers.
         let late = opening;
         find_standing(&mut self.chains, &mut self.tree, contacts, &late).is_some()

@@ -1,7 +1,7 @@
 use Rattle.std.proofs.Common.{Some, ◌∙◌, rules}
 use Rattle.std.specs.Ordering.{nat_cmp, partial_ordering_then, is_le, is_some_and}
 use Rattle.sabr_model.proofs.PlanLemmas.KeyOrder.{told_by}
-use Rattle.sabr_plan.proofs.gathering.known_ranges.comes_by.Goals as goal
+use Rattle.sabr_plan.proofs.gathering.known_ranges.in_key_order.Goals as goal
 
 pub returns : goal.returns
 returns c =
