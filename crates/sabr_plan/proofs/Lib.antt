@@ -5,6 +5,7 @@ pub mod GatheredOpenings
 pub mod TreedOpenings
 pub mod SpelledNumbers
 pub mod PlainWords
+pub mod TextPieces
 pub mod Days
 pub mod Spelling
 pub mod Outcomes

@@ -4,6 +4,7 @@ pub mod Digits
 pub mod Numbers
 pub mod Times
 pub mod Words
+pub mod Pieces
 pub mod PlainWords
 pub mod Operands
 pub mod Commands

@@ -7,9 +7,10 @@ ghost use Rattle.sabr_plan.specs.declared.fault.PlanKind.TheVariants as kind;
 
 use crate::command::Command;
 use crate::fault::{PlanFault, PlanKind};
+use crate::pieces::ended_line;
 use crate::reading::PlanReading;
 use arrayvec::ArrayVec;
-use memchr::{memchr, memrchr};
+use memchr::memrchr;
 use sabr_model::{NoMemory, Plan};
 use std::alloc::Allocator;
 use std::marker::Model;
@@ -39,26 +40,6 @@ impl<A: Allocator + Copy> Model for PlanFeed<A> {
     ghost view = { λ f. record { lines = f.lines; reading = f.reading; held = f.held.items } };
 
     ghost invariant = { λ f. BeginsLine f.lines f.held.items };
-}
-
-/// Returns the index of the first LF. `None` if there is none. Its time grows with the index.
-pub fn line_end(text: &[u8]) -> Option<usize>
-    ensures { MatchOption result (IsTrue (is_one_line text.now)) (λ end. (end < length text.now) × (slice_index text.now end ≡ 10) × IsTrue (is_one_line (take end text.now))) }
-{
-    memchr(b'\n', text)
-}
-
-/// Returns the first line of a text, and the text after its LF.
-fn first_line(text: &[u8]) -> (&[u8], &[u8])
-    requires { IsFalse (is_one_line text.now) }
-    ensures parts { text.now ≡ result.0.now ++ 10 ∷ result.1.now }
-    ensures line { IsTrue (is_one_line result.0.now) }
-{
-    let Some(end) = line_end(text) else {
-        unreachable!();
-    };
-    let (line, back) = text.split_at(end);
-    (line, &back[1..])
 }
 
 /// Returns the lines of a chunk with their LF, and the bytes after the last LF.
@@ -121,7 +102,9 @@ impl<A: Allocator + Copy> PlanFeed<A> {
                 return (line, rest, ended);
             }
         }
-        let (line, rest) = first_line(text);
+        let Some((line, rest)) = ended_line(text) else {
+            unreachable!();
+        };
         let ended = self.end_line(line);
         (line, rest, ended)
     }

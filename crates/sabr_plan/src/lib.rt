@@ -4,7 +4,7 @@
 //! as a [`PlanFault`]: the number of the line, from 1, and a [`PlanKind`]. [`canonical`] writes one text for each plan,
 //! and [`digest`] is the SHA-256 of that text, by which a saved session knows its plan. [`parse_time`] and
 //! [`time_text`] convert a second from and to `yyyy/mm/dd-hh:mm:ss`; [`DayText`] does so for many seconds.
-//! [`number_within`] reads a decimal number.
+//! [`number_within`] reads a decimal number, and [`first_piece`] splits a text at the bytes of one value.
 //!
 //! **Commands.** `a contact FROM-TIME TO-TIME SENDER RECEIVER RATE`, `a range FROM-TIME TO-TIME NODE NODE LIGHT`,
 //! `d contact TIME SENDER RECEIVER`, `d range TIME NODE NODE`, and `@ TIME`, from which the relative times `+N` of the
@@ -44,6 +44,7 @@ mod known_day;
 mod laws;
 mod number;
 mod operand;
+mod pieces;
 mod read;
 mod reading;
 mod record_line;
@@ -53,8 +54,8 @@ mod words;
 pub use canonical_text::{canonical, digest};
 pub use day_text::DayText;
 pub use fault::{PlanFault, PlanKind};
-pub use feed::line_end;
 pub use laws::spelled_plans_obey;
-pub use number::{leading_number, number_within};
+pub use number::{MAX_U32, leading_number, number_within};
+pub use pieces::{ended_line, first_piece, line_end};
 pub use read::{parse_plan, read_plan};
 pub use time::{parse_time, time_text};

@@ -8,6 +8,9 @@ ghost use Rattle.sabr_plan.specs.Numbers.{number_within};
 
 use crate::eight_digits::{count_any_digits, count_digits};
 
+/// The largest number of 32 bits, the type of contact numbers, of margins in parts a million, and of limits on hops.
+pub const MAX_U32: u64 = u32::MAX as u64;
+
 /// Appends a digit to a number, if the result is below 2^64.
 fn push_digit(value: u64, byte: u8) -> Option<u64>
     requires { IsTrue (is_digit byte) }

@@ -1,24 +1,19 @@
 -- What the words of a session text mean.
-use Rattle.std.specs.Prelude.{ℕ, ◌==◌, nat_lt, nat_le, ◌&&◌, Bool, false, List, [], ◌∷◌, length, codes, option_map, option_and_then, map, if◌then◌else◌}
-use Rattle.std.specs.List.{slice_split}
+use Rattle.std.specs.Prelude.{ℕ, nat_lt, nat_le, ◌&&◌, Bool, false, List, [], ◌∷◌, length, codes, option_map, option_and_then, map, if◌then◌else◌}
 use Rattle.std.specs.Str.{bytes_eq}
 use Rattle.sabr_model.specs.plan.Plan.{most_records}
 use Rattle.sabr_plan.specs.Numbers.{number_within}
+use Rattle.sabr_plan.specs.Pieces.{pieces_after, pieces_of}
 use Rattle.std.specs.declared.option.Option.{Option}
 use Rattle.std.specs.declared.option.Option.TheVariants.{Some, None}
 
--- a space separates words
-abbrev pub is_space : ℕ → Bool
-is_space b = b == 32
-
 -- the words of a text, separated by single spaces; an empty text has one empty word
-unfoldable pub words_of : List ℕ → List (List ℕ)
-words_of text = slice_split is_space text
+abbrev pub words_of : List ℕ → List (List ℕ)
+words_of text = pieces_of 32 text
 
 -- the words after a space, if there is one
 abbrev pub words_after : Option (List ℕ) → List (List ℕ)
-words_after None = []
-words_after (Some text) = words_of text
+words_after after = pieces_after 32 after
 
 -- the values of all, if each has one
 abbrev pub all_of : List (Option ℕ) → Option (List ℕ)

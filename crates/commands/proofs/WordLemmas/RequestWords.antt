@@ -1,9 +1,10 @@
 -- Words that are added to a command, the words of a line of requests or of lists, and lists of at most 16 numbers.
-use Rattle.std.proofs.Common.{◌≡◌, ◌==◌, ℕ, ◌+◌, ◌<◌, Bool, drop, drop-drop, List, [], ◌∷◌, length, true, false, refl, sym, ap, subst, ◌∙◌, arith, Bor, Result, Ok, Err, ◌≤◌, cond, ◌++◌, map, length-append, ◌≢◌, ◌||◌, take, get_or, ap₂, append_assoc, inl, inr, IfOk}
+use Rattle.std.proofs.Common.{◌≡◌, ℕ, ◌+◌, ◌<◌, Bool, drop, drop-drop, List, [], ◌∷◌, length, true, false, refl, sym, ap, subst, ◌∙◌, arith, Bor, Result, Ok, Err, ◌≤◌, cond, ◌++◌, map, length-append, ◌≢◌, ◌||◌, take, get_or, ap₂, append_assoc, inl, inr, IfOk}
 use Rattle.std.specs.Prelude.{is_some, option_and_then, nat_le, if◌then◌else◌}
 use Rattle.std.specs.Option.{option_copied}
-use Rattle.std.proofs.lemmas.List.Splits.{length-slice_split}
-use Rattle.commands.specs.words.Values.{first_of, pieces_of, pieces_after, TextsGiven, numbers_within}
+use Rattle.commands.specs.words.Values.{first_of, TextsGiven, numbers_within}
+use Rattle.sabr_plan.specs.Pieces.{pieces_of, pieces_after}
+use Rattle.sabr_plan.proofs.TextPieces.{some_piece}
 use Rattle.commands.specs.words.Lines.{texts_of, after_contacts, after_listed, fault_of, list_in, list_texts_in, list_where_given, or_kind, request_by}
 use Rattle.std.specs.declared.option.Option.{Option}
 use Rattle.std.specs.declared.option.Option.TheVariants.{Some, None}
@@ -60,10 +61,6 @@ from_place ws place a w v from is = (
   ap (λ (z : Option (List ℕ) × List (List ℕ)). z.0) is ∙ ap (λ (ps : List (List ℕ)). (first_of ps).0) from,
   ap (λ (z : Option (List ℕ) × List (List ℕ)). z.1) is ∙ others w ∙ ap (λ (ps : List (List ℕ)). drop 1 ps) from ∙ drop-drop 1 place ws,
 )
-
--- a text has a piece
-pub some_piece : (separator : ℕ) (text : List ℕ) → 0 < length (pieces_of separator text)
-some_piece separator text = omega (arith, length-slice_split (λ b. b == separator) text)
 
 -- a borrowed text is there if it is there
 pub copied_some : (o : Option (Bor (List ℕ))) → is_some (option_copied o) ≡ is_some o

@@ -1,8 +1,8 @@
 -- The lines of a text of requests or of lists, and how they are judged while the text is read.
 use Rattle.std.proofs.Common.{◌≡◌, ℕ, ◌<◌, List, [], ◌∷◌, length, refl, ap, sym, ◌∙◌, arith, ◌++◌, inr, Result, Ok, Err, None, Some, ◌==◌, nat_lt, ◌&&◌, ◌||◌, ◌+◌, ◌-◌, ◌≤◌, Bool, true, false, not, take, drop, ◌⊎◌, inl, append_assoc, append-nil, length-take, length-drop, length-append, if◌then◌else◌}
-use Rattle.commands.specs.words.Values.{pieces_of}
+use Rattle.sabr_plan.specs.Pieces.{pieces_of}
 use Rattle.commands.specs.words.Lines.{lines_in, without_last_empty, Asked, AskedLine, IsRefused, IsGoodSoFar, ReadsLines, asked_by, fault_of, put_first, IsJudged, after_contacts, asked_at, asked_from, fault_in, is_bad_rest, list_in, most_bytes, most_line_bytes, most_lines, most_list_bytes, request_in}
-use Rattle.commands.proofs.WordLemmas.RequestWords.{some_piece}
+use Rattle.sabr_plan.proofs.TextPieces.{some_piece}
 use Rattle.sabr_model.specs.Devices.{Input, Gives}
 use Rattle.commands.specs.declared.words.lines.LinesFault.{LinesFault}
 use Rattle.commands.specs.declared.words.lines.LinesFault.TheVariants.{Line, Read}
@@ -24,13 +24,13 @@ use Rattle.commands.specs.declared.words.lines.LineKind.TheVariants.{BadLine}
 
 -- an empty text has no lines
 pub no_lines : (text : List ℕ) → length text ≡ 0 → lines_in text ≡ []
-unfolding lines_in
+unfolding lines_in pieces_of
 no_lines [] e = refl
 no_lines (b ∷ text) e = absurd (omega arith)
 
 -- a text without LF is a line
 pub one_line : (text line : List ℕ) → 0 < length text → pieces_of 10 text ≡ line ∷ [] → line ≡ text → lines_in text ≡ line ∷ lines_in []
-unfolding lines_in
+unfolding lines_in pieces_of
 one_line [] line some e is = absurd (omega arith)
 one_line (b ∷ text) line some e is = ap without_last_empty (e ∙ ap (λ l. l ∷ []) is) ∙ ap (λ l. l ∷ []) (sym is)
 
@@ -87,6 +87,7 @@ no_end b h = grind (arith, nat_tests)
 
 -- LF ends a line, whatever follows
 ended : (line rest more : List ℕ) → is_one_line line ≡ true → lines_in ((line ++ 10 ∷ rest) ++ more) ≡ line ∷ lines_in (rest ++ more)
+unfolding pieces_of
 ended line rest more h =
     ap lines_in (append_assoc line (10 ∷ rest) more)
     ∙ next_line (line ++ 10 ∷ (rest ++ more)) line (rest ++ more) (slice_split_at is_end line 10 (rest ++ more) (λ k d below. no_end _ (AllPass-from_list_all (λ b. not (b == 10)) line h k d below)) refl)
@@ -131,6 +132,7 @@ first_piece_of [] more e some = absurd (omega arith)
 first_piece_of (piece ∷ pieces) more e some = record { tail = piece; others = pieces; is = e }
 
 first_line_of : (front more : List ℕ) → is_one_line front ≡ true → FirstLine front more
+unfolding pieces_of
 first_line_of [] more h = first_piece_of (slice_split is_end more) more refl (some_piece 10 more)
 first_line_of (b ∷ front) more h =
     let l = first_line_of front more (grind (arith, common_steps, h)) in
@@ -174,7 +176,7 @@ module _ (form : LineForm) (text : List ℕ) (j : Judged) (is : IsJudged form te
 
   -- if it is too long, or comes after the last, no byte that follows makes it a good one
   pub rest_refused : is_bad_rest form j.number (length text - j.bytes) ≡ true → IsRefused form text (Line j.number BadLine)
-  unfolding lines_in
+  unfolding lines_in pieces_of
   rest_refused bad more =
       let l = first_line_of (drop j.bytes text) more one in
       let line = drop j.bytes text ++ l.tail in
@@ -194,6 +196,7 @@ module _ (form : LineForm) (text : List ℕ) (j : Judged) (is : IsJudged form te
   none_left e = at_end ∙ ap (λ (ls : List (List ℕ)). fault_of (asked_from form j.number ls)) (no_lines (drop j.bytes text) (omega (arith, e, rest_size)))
 
   last_line : 0 < length text - j.bytes → fault_in form 1 text ≡ fault_of (put_first j.number (drop j.bytes text) (asked_at form j.number (drop j.bytes text)) (asked_from form (j.number + 1) (lines_in [])))
+  unfolding pieces_of
   last_line some = at_end ∙ ap (λ (ls : List (List ℕ)). fault_of (asked_from form j.number ls)) (one_line (drop j.bytes text) (drop j.bytes text) (omega (arith, some, rest_size)) (slice_split_none is_end (drop j.bytes text) (λ k d below. no_end _ (AllPass-from_list_all (λ b. not (b == 10)) (drop j.bytes text) one k d below))) refl)
 
   pub last_bad : (kind : LineKind) → 0 < length text - j.bytes → fault_of (asked_at form j.number (drop j.bytes text)) ≡ Some kind → fault_in form 1 text ≡ Some (Line j.number kind)

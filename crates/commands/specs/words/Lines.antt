@@ -17,8 +17,9 @@ use Rattle.commands.specs.declared.words.lines.LineForm.TheVariants.{Requests, L
 use Rattle.commands.specs.declared.words.lines.Judged.{Judged}
 use Rattle.commands.specs.declared.words.request_line.Listed.{Listed}
 use Rattle.sabr_plan.specs.Words.{is_one_line}
+use Rattle.sabr_plan.specs.Pieces.{pieces_of}
 use Rattle.sabr_session.specs.SessionWords.{most_number}
-use Rattle.commands.specs.words.Values.{numbers_within, pieces_of, TextsGiven, and_then, request_words, request_of}
+use Rattle.commands.specs.words.Values.{numbers_within, TextsGiven, and_then, request_words, request_of}
 
 -- what is bad in a line, by the fault of its values; a value that no line has would be no part of a line
 abbrev pub kind_of : ValueFault → LineKind

@@ -22,20 +22,11 @@ use Rattle.commands.specs.declared.words.value_fault.ValueFault.{ValueFault}
 use Rattle.commands.specs.declared.words.value_fault.ValueFault.TheVariants.{Bad, SameNode, BadAvoid}
 use Rattle.sabr_model.specs.declared.request_values.RequestValues.{RequestValues}
 use Rattle.sabr_plan.specs.Numbers.{number_within}
+use Rattle.sabr_plan.specs.Pieces.{pieces_of}
 use Rattle.sabr_session.specs.SessionWords.{most_number, all_of, most_avoided}
-use Rattle.std.specs.List.{slice_split}
 use Rattle.commands.specs.declared.command.CommandName.TheVariants as command
 
 -- ---- the pieces of texts, and what the lists of the command line spell
-
--- the pieces of a text between the bytes of this value
-abbrev pub pieces_of : ℕ → List ℕ → List (List ℕ)
-pieces_of separator text = slice_split (λ b. b == separator) text
-
--- the pieces of what stands after such a byte, if there is one
-abbrev pub pieces_after : ℕ → Option (List ℕ) → List (List ℕ)
-pieces_after separator None = []
-pieces_after separator (Some text) = pieces_of separator text
 
 -- the first piece, if there is one, and the others
 abbrev pub first_of : List (List ℕ) → Option (List ℕ) × List (List ℕ)

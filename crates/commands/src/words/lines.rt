@@ -5,11 +5,10 @@ ghost use Rattle.sabr_plan.specs.Words.{is_one_line};
 ghost use Rattle.commands.specs.words.Lines.{HasLines, IsGoodSoFar, IsJudged, IsRefused, ReadsLines, AskedLine, asked_at, fault_in, fault_of, is_bad_rest, most_bytes, most_lines, kind_of};
 ghost use Rattle.commands.specs.declared.words.lines.LinesFault.{LinesFault};
 
-use crate::words::pieces::ended_line;
 use crate::words::request_line::{MAX_LINE_BYTES, MAX_LIST_BYTES, list_fault, request_in};
 use crate::words::value_fault::{ValueFault, ValueName};
 use sabr_model::{Failed, Read};
-use sabr_plan::line_end;
+use sabr_plan::{ended_line, line_end};
 use std::alloc::Allocator;
 
 /// The most lines of a text.

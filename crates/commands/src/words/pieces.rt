@@ -1,36 +1,15 @@
-//! The first piece of a text, up to a byte that separates: a number of a list, a word of a line, a line.
+//! The words of a line, the lines of a text, and lists of numbers.
 
-ghost use Rattle.std.specs.Prelude.{◌≡◌, ◌==◌, ◌<◌, ◌∷◌, ◌++◌, [], ⊤, MatchOption, IfSome, IsTrue, length, None, Some, IfOk, is_some};
-ghost use Rattle.std.specs.List.{position};
+ghost use Rattle.std.specs.Prelude.{◌≡◌, ◌<◌, ◌∷◌, [], MatchOption, IfSome, length, None, Some, IfOk, is_some};
 ghost use Rattle.std.specs.Option.{option_copied};
-ghost use Rattle.sabr_plan.specs.Words.{is_one_line};
-ghost use Rattle.commands.specs.words.Values.{first_of, pieces_after, pieces_of, nodes_listed, numbers_within};
-ghost use Rattle.commands.specs.words.Lines.{line_feed, lines_in, space};
+ghost use Rattle.sabr_plan.specs.Pieces.{pieces_after};
+ghost use Rattle.commands.specs.words.Values.{first_of, nodes_listed, numbers_within};
+ghost use Rattle.commands.specs.words.Lines.{lines_in, space};
 ghost use Rattle.sabr_session.specs.SessionWords.{most_number};
 
 use sabr_model::{NoMemory, NodeList, Numbers};
-use sabr_plan::{line_end, number_within};
+use sabr_plan::{MAX_U32, first_piece, number_within};
 use std::alloc::Allocator;
-
-/// Finds the first byte of this value.
-fn first_place(text: &[u8], separator: u8) -> Option<usize>
-    ensures { result ≡ position (λ b. b == separator) text.now }
-{
-    text.iter().position(|b| *b == separator)
-}
-
-/// Splits off the first piece, up to the first byte that separates. With it comes what stands after that, if there is
-/// one.
-pub fn first_piece(text: &[u8], separator: u8) -> (&[u8], Option<&[u8]>)
-    ensures pieces { pieces_of separator text.now ≡ result.0.now ∷ pieces_after separator (option_copied result.1) }
-    ensures whole { MatchOption result.1 (result.0.now ≡ text.now) (λ _. ⊤) }
-    ensures shorter { IfSome result.1 (λ rest. length rest.now < length text.now) }
-{
-    match first_place(text, separator) {
-        Some(place) => (&text[..place], Some(&text[place + 1..])),
-        None => (text, None),
-    }
-}
 
 /// Splits off the first word, if there is one.
 pub fn next_word<'a>(text: Option<&'a [u8]>) -> (Option<&'a [u8]>, Option<&'a [u8]>)
@@ -58,17 +37,6 @@ pub fn first_line(text: &[u8]) -> Option<(&[u8], &[u8])>
     }
 }
 
-/// Splits off the first line that ends with LF. With it comes what stands after that. `None` if there is no LF.
-pub fn ended_line(text: &[u8]) -> Option<(&[u8], &[u8])>
-    ensures { MatchOption result (IsTrue (is_one_line text.now)) (λ r. (text.now ≡ r.0.now ++ line_feed ∷ r.1.now) × IsTrue (is_one_line r.0.now)) }
-{
-    let end = line_end(text)?;
-    Some((&text[..end], &text[end + 1..]))
-}
-
-/// The largest number of a contact.
-const MAX_NUMBER: u64 = u32::MAX as u64;
-
 /// Reads the text as 1 to 16 nodes. `None` if it isn't that.
 pub fn nodes_listed(text: &[u8]) -> Option<NodeList>
     ensures { MatchOption result (nodes_listed text.now ≡ None) (λ nodes. nodes_listed text.now ≡ Some nodes) }
@@ -89,7 +57,7 @@ pub fn are_contacts(text: &[u8]) -> bool
     ensures { result ≡ is_some (numbers_within 1 most_number text.now) }
 {
     text.split(|b| *b == b',')
-        .all(|piece| number_within(piece, 1, MAX_NUMBER).is_some())
+        .all(|piece| number_within(piece, 1, MAX_U32).is_some())
 }
 
 /// Reads the text as contact numbers. `None` if it isn't a list of them.
@@ -107,7 +75,7 @@ pub fn contacts_listed<A: Allocator + Copy>(
     let mut rest = Some(text);
     while let Some(after) = rest {
         let (piece, others) = first_piece(after, b',');
-        let Some(number) = number_within(piece, 1, MAX_NUMBER) else {
+        let Some(number) = number_within(piece, 1, MAX_U32) else {
             return Ok(None);
         };
         contacts.push(number as u32)?;

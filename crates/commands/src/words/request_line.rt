@@ -3,14 +3,16 @@
 ghost use Rattle.std.specs.Prelude.{◌≡◌, IfOk};
 ghost use Rattle.std.specs.Option.{option_copied, option_map};
 ghost use Rattle.std.specs.Result.{result_ok};
-ghost use Rattle.commands.specs.words.Values.{pieces_after, pieces_of, texts_given};
+ghost use Rattle.sabr_plan.specs.Pieces.{pieces_after, pieces_of};
+ghost use Rattle.commands.specs.words.Values.{texts_given};
 ghost use Rattle.commands.specs.words.Lines.{fault_of, list_in, list_texts_in, list_texts_of, or_kind, request_by, request_in, seen_list, texts_of, space};
 
 use crate::words::lines::LineKind;
-use crate::words::pieces::{are_contacts, contacts_listed, first_piece, next_word};
+use crate::words::pieces::{are_contacts, contacts_listed, next_word};
 use crate::words::request_words::{RequestTexts, request_of, request_words};
 use crate::words::value_fault::ValueFault;
 use sabr_model::{NoMemory, Numbers, Request};
+use sabr_plan::first_piece;
 use std::alloc::{Allocator, Global};
 
 /// The most bytes of a line. A line of 20-digit nodes, a time, the largest limits and 16 nodes to avoid has as many.

@@ -8,8 +8,9 @@ use Rattle.std.proofs.lemmas.Fmt.{decimal_by_steps_wide}
 use Rattle.std.proofs.lemmas.List.Splits.{length-slice_split, join_with_byte-slice_split}
 use Rattle.std.specs.declared.option.Option.TheVariants.{Some}
 use Rattle.sabr_session.specs.SessionText.{spaced_by, list_text}
-use Rattle.sabr_session.specs.SessionWords.{is_space, words_of, all_of, counted, is_dash, list_within, is_slash, before_slash, after_slash, contacts_of, most_number}
+use Rattle.sabr_session.specs.SessionWords.{words_of, all_of, counted, is_dash, list_within, is_slash, before_slash, after_slash, contacts_of, most_number}
 use Rattle.sabr_plan.specs.Numbers.{number_within}
+use Rattle.sabr_plan.specs.Pieces.{pieces_of}
 use Rattle.sabr_plan.proofs.SpelledNumbers.{number_within-spelled_within}
 use Rattle.sabr_session.proofs.WordLemmas.ReadLists.{counted-some}
 use Rattle.std.specs.Prelude.{slice_index}
@@ -78,6 +79,10 @@ not_slash n h = numeric_apart (decimal n) 47 (decimal_is_numeric n h) (omega ari
 
 -- ---- the words of a text
 
+-- a space separates words
+abbrev is_space : ℕ → Bool
+is_space b = b == 32
+
 onto-more : (b : ℕ) (xs ys : List (List ℕ)) → 0 < length xs → onto_first b (xs ++ ys) ≡ onto_first b xs ++ ys
 onto-more b [] ys h = absurd (omega arith)
 onto-more b (x ∷ xs) ys h = refl
@@ -91,7 +96,7 @@ split-apart (b ∷ u) v = elim (is_space b) as (λ (t : Bool). cond t ([] ∷ sl
 
 -- the words before a space, and those after it
 pub words-apart : (u v : List ℕ) → words_of (u ++ 32 ∷ v) ≡ words_of u ++ words_of v
-unfolding words_of
+unfolding pieces_of
 words-apart u v = split-apart u v
 
 split-word : (w : List ℕ) → IsWord w → slice_split is_space w ≡ w ∷ []
@@ -102,7 +107,7 @@ split-word (b ∷ w) h =
 
 -- a word
 pub words-word : (w : List ℕ) → IsWord w → words_of w ≡ w ∷ []
-unfolding words_of
+unfolding pieces_of
 words-word w h = split-word w h
 
 -- ---- lists of numbers
@@ -252,7 +257,7 @@ joined words = join_with_byte 32 words
 
 -- a text is its words
 pub words-joined : (text : List ℕ) → joined (words_of text) ≡ text
-unfolding words_of
+unfolding pieces_of
 words-joined text = join_with_byte-slice_split 32 text
 
 -- two lists of words in turn

@@ -7,9 +7,9 @@ ghost use Rattle.sabr_session.specs.SessionWords.{words_of, words_after};
 ghost use Rattle.sabr_session.specs.SessionLines.{after_label, header_of, is_digest_digit, is_digest, digest_named, four_of, unlimited_of, limited_of, values_of, request_of, emitted_of, last_listed, count_of, is_end};
 
 use crate::reading::lists::{list_to_end, nodes_of};
-use crate::reading::words::{MAX_NUMBER, count_within, first_word, is_word};
+use crate::reading::words::{count_within, is_word};
 use sabr_model::{MAX_HOPS, NoMemory, NodeList, Numbers, RequestValues};
-use sabr_plan::{number_within, parse_time};
+use sabr_plan::{MAX_U32, first_piece, number_within, parse_time};
 use std::alloc::Allocator;
 
 /// The number of digits of a digest.
@@ -79,10 +79,10 @@ pub(crate) fn digest_named(line: &[u8]) -> Option<&[u8]>
 fn four_words(text: &[u8]) -> Option<(&[u8], &[u8], &[u8], &[u8], Option<&[u8]>)>
     ensures { MatchOption result (length (words_of text.now) < 4) (λ w. words_of text.now ≡ w.0.now ∷ w.1.now ∷ w.2.now ∷ w.3.now ∷ words_after (option_copied w.4)) }
 {
-    let (one, rest) = first_word(text);
-    let (two, rest) = first_word(rest?);
-    let (three, rest) = first_word(rest?);
-    let (four, rest) = first_word(rest?);
+    let (one, rest) = first_piece(text, b' ');
+    let (two, rest) = first_piece(rest?, b' ');
+    let (three, rest) = first_piece(rest?, b' ');
+    let (four, rest) = first_piece(rest?, b' ');
     Some((one, two, three, four, rest))
 }
 
@@ -93,7 +93,7 @@ fn four_of(from: &[u8], to: &[u8], time: &[u8], margin: &[u8]) -> Option<Request
     let from = number_within(from, 0, u64::MAX)?;
     let to = number_within(to, 0, u64::MAX)?;
     let at = parse_time(time)?;
-    let margin_ppm = number_within(margin, 0, MAX_NUMBER)? as u32;
+    let margin_ppm = number_within(margin, 0, MAX_U32)? as u32;
     Some(RequestValues {
         from,
         to,
@@ -120,13 +120,13 @@ fn limited_of(text: &[u8]) -> Option<RequestValues>
     ensures { result ≡ limited_of (words_of text.now) }
 {
     let (from, to, time, margin, rest) = four_words(text)?;
-    let (hops, rest) = first_word(rest?);
-    let (slash, rest) = first_word(rest?);
+    let (hops, rest) = first_piece(rest?, b' ');
+    let (slash, rest) = first_piece(rest?, b' ');
     if !is_word(slash, b"/") {
         return None;
     }
     let avoid = nodes_of(rest?)?;
-    let max_hops = number_within(hops, 0, MAX_NUMBER)? as u32;
+    let max_hops = number_within(hops, 0, MAX_U32)? as u32;
     let values = four_of(from, to, time, margin)?;
     Some(RequestValues {
         max_hops,

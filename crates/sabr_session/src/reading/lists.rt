@@ -4,9 +4,9 @@ ghost use Rattle.std.specs.Prelude.{◌≡◌, None, Some, if◌then◌else◌, 
 ghost use Rattle.sabr_session.specs.SessionWords.{words_of, contacts_of, is_dash, node_numbers, nodes_of};
 ghost use Rattle.sabr_session.specs.SessionLists.{FindsDash, FindsList, FindsNumbers};
 
-use crate::reading::words::{first_number, first_word, is_word};
+use crate::reading::words::{first_number, is_word};
 use sabr_model::{MAX_RECORDS, NoMemory, NodeList};
-use sabr_plan::number_within;
+use sabr_plan::{first_piece, number_within};
 use std::alloc::Allocator;
 
 /// How a list ends: whether at `/`, and the words after it.
@@ -20,7 +20,7 @@ pub(crate) struct ListEnd<'a> {
 fn dash_to_slash(text: &[u8]) -> Option<ListEnd<'_>>
     ensures { FindsDash (words_of text.now) result }
 {
-    let (word, others) = first_word(text);
+    let (word, others) = first_piece(text, b' ');
     if !is_word(word, b"-") {
         return None;
     }
@@ -30,7 +30,7 @@ fn dash_to_slash(text: &[u8]) -> Option<ListEnd<'_>>
             rest: None,
         });
     };
-    let (next, rest) = first_word(after);
+    let (next, rest) = first_piece(after, b' ');
     if is_word(next, b"/") {
         Some(ListEnd {
             stopped: true,
@@ -116,7 +116,7 @@ fn numbers_listed(text: &[u8]) -> Option<NodeList>
     let mut nodes = NodeList::new();
     let mut left = Some(text);
     while let Some(after) = left {
-        let (word, others) = first_word(after);
+        let (word, others) = first_piece(after, b' ');
         nodes.push(number_within(word, 0, u64::MAX)?)?;
         left = others;
     }
@@ -127,7 +127,7 @@ fn numbers_listed(text: &[u8]) -> Option<NodeList>
 fn is_dash(text: &[u8]) -> bool
     ensures { result ≡ is_dash (words_of text.now) }
 {
-    let (word, others) = first_word(text);
+    let (word, others) = first_piece(text, b' ');
     match others {
         Some(_after) => false,
         None => is_word(word, b"-"),

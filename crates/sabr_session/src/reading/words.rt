@@ -1,35 +1,13 @@
 //! The words of a session text, separated by single spaces, and the numbers among them.
 
 ghost use Rattle.std.specs.Prelude.{◌≡◌, ◌==◌, ◌≤◌, ◌∷◌, ◌<◌, [], length, Some, IfSome};
-ghost use Rattle.std.specs.List.{position};
 ghost use Rattle.std.specs.Option.{option_copied};
 ghost use Rattle.std.specs.Str.{bytes_eq};
 ghost use Rattle.sabr_plan.specs.Numbers.{number_within};
-ghost use Rattle.sabr_session.specs.SessionWords.{is_space, words_of, words_after, most_number};
+ghost use Rattle.sabr_session.specs.SessionWords.{words_of, words_after, most_number};
 
 use itoa::Buffer;
-use sabr_plan::{leading_number, number_within};
-
-/// The largest number of 32 bits, the type of contact numbers, margins and limits on hops.
-pub(crate) const MAX_NUMBER: u64 = u32::MAX as u64;
-
-/// Finds the first space.
-fn first_space(text: &[u8]) -> Option<usize>
-    ensures { result ≡ position is_space text.now }
-{
-    text.iter().position(|b| *b == b' ')
-}
-
-/// Returns the first word, and the text after its space, if there is one.
-pub(crate) fn first_word(text: &[u8]) -> (&[u8], Option<&[u8]>)
-    ensures words { words_of text.now ≡ result.0.now ∷ words_after (option_copied result.1) }
-    ensures shorter { IfSome result.1 (λ rest. length rest.now < length text.now) }
-{
-    match first_space(text) {
-        Some(space) => (&text[..space], Some(&text[space + 1..])),
-        None => (text, None),
-    }
-}
+use sabr_plan::{MAX_U32, first_piece, leading_number, number_within};
 
 /// Returns whether the word is this text.
 pub(crate) fn is_word(word: &[u8], text: &[u8]) -> bool
@@ -46,7 +24,7 @@ fn plain_number(text: &[u8]) -> Option<(&[u8], u64, Option<&[u8]>)>
     ensures number { IfSome result (λ r. number_within 1 most_number r.0.now ≡ Some r.1) }
     ensures limit { IfSome result (λ r. r.1 ≤ most_number) }
 {
-    let (value, word, after) = leading_number(text, 1, MAX_NUMBER)?;
+    let (value, word, after) = leading_number(text, 1, MAX_U32)?;
     if after.is_empty() {
         return Some((word, value, None));
     }
@@ -65,8 +43,8 @@ pub(crate) fn first_number(text: &[u8]) -> (&[u8], Option<u64>, Option<&[u8]>)
     if let Some((word, number, rest)) = plain_number(text) {
         return (word, Some(number), rest);
     }
-    let (word, rest) = first_word(text);
-    (word, number_within(word, 1, MAX_NUMBER), rest)
+    let (word, rest) = first_piece(text, b' ');
+    (word, number_within(word, 1, MAX_U32), rest)
 }
 
 /// Reads a number up to 340282366920938463463374607431768211455, decimal without a sign or leading zero.

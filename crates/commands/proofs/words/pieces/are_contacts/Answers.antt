@@ -5,7 +5,8 @@ use Rattle.std.specs.List.{list_all}
 use Rattle.std.specs.Prelude.{is_some, option_map}
 use Rattle.std.specs.declared.option.Option.{Option}
 use Rattle.std.specs.declared.option.Option.TheVariants.{Some, None}
-use Rattle.commands.specs.words.Values.{numbers_within, pieces_of}
+use Rattle.commands.specs.words.Values.{numbers_within}
+use Rattle.sabr_plan.specs.Pieces.{pieces_of}
 use Rattle.sabr_plan.specs.Numbers.{number_within}
 use Rattle.sabr_session.specs.SessionWords.{all_of, most_number}
 use Rattle.commands.proofs.words.pieces.are_contacts.Goals as goal
@@ -24,7 +25,7 @@ each_is_all f [] = refl
 each_is_all f (p ∷ ps) = both (f p) (map f ps) _ (each_is_all f ps)
 
 pub returns : goal.returns
-unfolding numbers_within
+unfolding numbers_within pieces_of
 returns c =
     let pieces = YieldsList-from_slice_split _ _ c.args.text.now c.split.ensures.rest c.split.ensures.done c.split.ensures.closure (λ x r q k. search (rules, tests)) in
     all_from_yields_List (λ p. is_some (number_within 1 most_number p)) _ _ c.all.result c.all.ensures.ran pieces (λ x b q k. search (rules, tests))

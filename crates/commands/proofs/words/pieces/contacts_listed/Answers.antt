@@ -1,6 +1,7 @@
 use Rattle.std.proofs.Common.{Some, ap, sym, ◌∙◌, arith}
 use Rattle.std.specs.Option.{option_copied}
-use Rattle.commands.specs.words.Values.{numbers_within, pieces_after}
+use Rattle.commands.specs.words.Values.{numbers_within}
+use Rattle.sabr_plan.specs.Pieces.{pieces_after}
 use Rattle.sabr_plan.specs.Numbers.{number_within}
 use Rattle.sabr_session.proofs.WordLemmas.ReadLists.{with_front-bad, with_front-end}
 use Rattle.sabr_plan.proofs.SpelledNumbers.{number_within-range}

@@ -1,7 +1,7 @@
 use Rattle.std.proofs.Common.{◌≡◌, ◌<◌, ◌∷◌, [], length, ap, ◌∙◌, arith}
 use Rattle.std.specs.Option.{option_copied}
 use Rattle.std.proofs.lemmas.Grind.{common_steps}
-use Rattle.commands.specs.words.Values.{pieces_of, pieces_after}
+use Rattle.sabr_plan.specs.Pieces.{pieces_of, pieces_after}
 use Rattle.commands.proofs.WordLemmas.TextLines.{no_lines, one_line, next_line}
 use Rattle.commands.proofs.words.pieces.first_line.Goals as goal
 

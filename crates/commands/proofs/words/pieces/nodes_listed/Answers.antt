@@ -1,6 +1,7 @@
 use Rattle.std.proofs.Common.{ap, sym, ◌∙◌}
 use Rattle.std.specs.Option.{option_copied}
-use Rattle.commands.specs.words.Values.{nodes_listed, numbers_within, pieces_after}
+use Rattle.commands.specs.words.Values.{nodes_listed, numbers_within}
+use Rattle.sabr_plan.specs.Pieces.{pieces_after}
 use Rattle.sabr_plan.specs.Numbers.{number_within}
 use Rattle.sabr_session.proofs.WordLemmas.ReadLists.{with_front-bad, with_front-end}
 use Rattle.commands.proofs.WordLemmas.RequestWords.{few, few-kept, few-full}

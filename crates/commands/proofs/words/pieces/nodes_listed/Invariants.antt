@@ -1,6 +1,6 @@
 use Rattle.std.proofs.Common.{◌≡◌, ◌≤◌, map, length}
 use Rattle.std.specs.Option.{option_copied}
-use Rattle.commands.specs.words.Values.{pieces_of, pieces_after}
+use Rattle.sabr_plan.specs.Pieces.{pieces_of, pieces_after}
 use Rattle.sabr_session.specs.SessionWords.{all_of}
 use Rattle.sabr_plan.specs.Numbers.{number_within}
 use Rattle.sabr_session.proofs.WordLemmas.ReadLists.{with_front}

@@ -1,6 +1,6 @@
 use Rattle.std.proofs.Common.{not, sym, ap, ◌∙◌}
 use Rattle.std.specs.Option.{option_copied}
-use Rattle.commands.specs.words.Values.{pieces_after}
+use Rattle.sabr_plan.specs.Pieces.{pieces_after}
 use Rattle.commands.proofs.WordLemmas.RequestWords.{Turns, copied_some, too_few, too_many, they_fit}
 use Rattle.commands.proofs.words.request_line.texts_of.Goals as goal
 use Rattle.commands.proofs.words.request_line.texts_of.Goals.{then-is_none-via-then-is_none, then-is_none-via-else-is_none+then-is_some}

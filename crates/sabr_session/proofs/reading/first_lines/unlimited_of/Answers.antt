@@ -3,7 +3,7 @@ use Rattle.std.specs.Option.{option_copied}
 use Rattle.std.specs.declared.option.Option.TheVariants.{None}
 use Rattle.sabr_session.specs.SessionWords.{words_of, words_after}
 use Rattle.sabr_session.specs.SessionLines.{unlimited_of}
-use Rattle.sabr_session.proofs.WordLemmas.SpacedWords.{some_word}
+use Rattle.sabr_plan.proofs.TextPieces.{some_piece}
 use Rattle.sabr_session.proofs.reading.first_lines.unlimited_of.Goals as goal
 
 -- a fifth word is one too many
@@ -15,4 +15,4 @@ pub returns-in-Some : goal.returns-in-Some
 returns-in-Some c =
     let h = c.in_ok-from.ensures in
     let after = ap (λ o. words_after (option_copied o)) c.in-Some.is in
-    rw (h, after) (sym (five c.in_ok-from.from.now c.in_ok-from.to.now c.in_ok-from.time.now c.in_ok-from.margin.now (words_of c.in-Some._after.now) (some_word c.in-Some._after.now)))
+    rw (h, after) (sym (five c.in_ok-from.from.now c.in_ok-from.to.now c.in_ok-from.time.now c.in_ok-from.margin.now (words_of c.in-Some._after.now) (some_piece 32 c.in-Some._after.now)))

@@ -1,7 +1,7 @@
 use Rattle.std.proofs.Common.{◌≡◌, ℕ, ◌<◌, false, List, [], ◌∷◌, length, refl, sym, ap, ◌∙◌, arith}
 use Rattle.std.specs.Option.{option_copied}
 use Rattle.sabr_session.specs.SessionWords.{words_of, words_after, is_dash}
-use Rattle.sabr_session.proofs.WordLemmas.SpacedWords.{some_word}
+use Rattle.sabr_plan.proofs.TextPieces.{some_piece}
 use Rattle.sabr_session.proofs.reading.lists.is_dash.Goals as goal
 
 -- a second word is one too many
@@ -11,5 +11,5 @@ two w (v ∷ ws) some = refl
 
 pub returns-in-Some : goal.returns-in-Some
 returns-in-Some c =
-    let h = c.first_word.ensures.words ∙ ap (λ o. c.first_word.result.0.now ∷ words_after (option_copied o)) c.in-Some.is in
-    rw h (sym (two c.first_word.result.0.now (words_of c.in-Some._after.now) (some_word c.in-Some._after.now)))
+    let h = c.first_piece.ensures.pieces ∙ ap (λ o. c.first_piece.result.0.now ∷ words_after (option_copied o)) c.in-Some.is in
+    rw h (sym (two c.first_piece.result.0.now (words_of c.in-Some._after.now) (some_piece 32 c.in-Some._after.now)))

@@ -4,7 +4,7 @@ use borrow.Author.Tests.{eqb-true}
 use Rattle.memchr.specs.Find.{IsFirstByte, is_byte}
 use Rattle.sabr_plan.specs.Words.{is_one_line}
 use Rattle.sabr_plan.proofs.Held.{one_line_from, one_line_before}
-use Rattle.sabr_plan.proofs.feed.line_end.Goals as goal
+use Rattle.sabr_plan.proofs.pieces.line_end.Goals as goal
 
 found : (text : List ℕ) (r : Option ℕ) → IsFirstByte (is_byte 10) text r → MatchOption r (IsTrue (is_one_line text)) (λ end. (end < length text) × (get_or text end 0 ≡ 10) × IsTrue (is_one_line (take end text)))
 found text None none = one_line_from text (λ k h. none k (omega arith) h)
