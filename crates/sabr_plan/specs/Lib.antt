@@ -12,3 +12,4 @@ pub mod Reading
 pub mod Feeding
 pub mod PlanRead
 pub mod Canonical
+pub mod WithoutLight

@@ -49,6 +49,7 @@ mod read;
 mod reading;
 mod record_line;
 mod time;
+mod without_light;
 mod words;
 
 pub use canonical_text::{canonical, digest};
@@ -59,3 +60,4 @@ pub use number::{MAX_U32, leading_number, number_within};
 pub use pieces::{ended_line, first_piece, line_end};
 pub use read::{parse_plan, read_plan};
 pub use time::{parse_time, time_text};
+pub use without_light::contacts_without_light;

@@ -1,7 +1,7 @@
 -- What is written about a plan: the explanation of a list of contacts, hop by hop up to the first fault, and the text
 -- of a check.
-use Rattle.std.specs.Prelude.{◌≡◌, ℕ, ◌+◌, Bool, List, [], ◌∷◌, ◌++◌, length, decimal, codes, Result, Ok, Err, is_none}
-use Rattle.std.specs.List.{concat, filter}
+use Rattle.std.specs.Prelude.{◌≡◌, ℕ, ◌+◌, Bool, List, [], ◌∷◌, ◌++◌, length, decimal, codes, Result, Ok, Err}
+use Rattle.std.specs.List.{concat}
 use Rattle.std.specs.Option.{option_map_or}
 use Rattle.sabr_model.specs.declared.contact.Contact.{Contact}
 use Rattle.sabr_model.specs.declared.fault.HopFault.{HopFault}
@@ -20,9 +20,9 @@ use Rattle.sabr_session.specs.ReportText.{route_line}
 use Rattle.commands.specs.declared.failure.Failure.{Failure}
 use Rattle.commands.specs.texts.Messages.{failure_of_plan}
 use Rattle.hex.specs.Hex.{encode_lower}
-use Rattle.sabr_model.specs.plan.Light.{light_of}
 use Rattle.sabr_model.specs.plan.Table.{node_count}
 use Rattle.sabr_plan.specs.Canonical.{digest_of}
+use Rattle.sabr_plan.specs.WithoutLight.{contacts_without_light}
 use Rattle.commands.specs.declared.failure.Failure.TheVariants as failure
 
 -- a hop as a line: its place, its contact, and the times of sending and of arrival
@@ -88,10 +88,6 @@ WritesExplanation (Ok p) r s (Err _) old new = ⊥
 
 -- ---- the text of a check: what a plan holds, and its digest
 
--- the standing contacts that have no light time at their start
-abbrev pub without_light : ContactPlan → List Contact
-without_light p = filter (λ c. is_none (light_of p c)) p.contacts
-
 -- how many contacts and ranges stand, how many nodes send or receive a standing contact, how many standing contacts
 -- have no light time, and the digest of the plan's canonical text as hex digits in lower case: each in a line of its
 -- own
@@ -99,7 +95,7 @@ unfoldable pub check_text : ContactPlan → List ℕ
 check_text p =
     concat (codes "contacts " ∷ decimal (length p.contacts) ∷ codes "\nranges " ∷ decimal (length p.ranges)
     ∷ codes "\nnodes " ∷ decimal (node_count p.contacts)
-    ∷ codes "\nwithout light " ∷ decimal (length (without_light p))
+    ∷ codes "\nwithout light " ∷ decimal (contacts_without_light p)
     ∷ codes "\ndigest " ∷ encode_lower (digest_of p) ∷ codes "\n" ∷ [])
 
 -- what a check writes over what reading gave: over a plan its text, whole and flushed, or a beginning of it if the

@@ -1,31 +1,21 @@
 //! The run that reports what a plan holds.
 
-ghost use Rattle.std.specs.Prelude.{◌≡◌, Result, length};
+ghost use Rattle.std.specs.Prelude.{◌≡◌, Result};
 ghost use Rattle.sabr_model.specs.plan.Plan.{TabledPlan};
 ghost use Rattle.sabr_plan.specs.PlanRead.{ReadsPlan};
 ghost use Rattle.sabr_plan.specs.declared.fault.PlanFault.{PlanFault};
 ghost use Rattle.commands.specs.declared.failure.Failure.{Failure};
 ghost use Rattle.commands.specs.texts.Messages.{ReportsEnd, status_at};
-ghost use Rattle.commands.specs.texts.PlanTexts.{WritesCheck, without_light, check_text};
+ghost use Rattle.commands.specs.texts.PlanTexts.{WritesCheck, check_text};
 ghost use Rattle.sabr_model.specs.Devices.{WritesText};
 
 use crate::failure::{Failure, Status};
 use crate::texts::{report_end, write_pieces};
 use itoa::Buffer;
 use sabr_model::{Plan, Read, Write, WriteFault};
-use sabr_plan::{digest, read_plan};
+use sabr_plan::{contacts_without_light, digest, read_plan};
 use sabr_session::digest_text;
 use std::alloc::Allocator;
-
-/// Counts the contacts that weren't deleted and have no light time at their start.
-fn without_light<A: Allocator + Copy>(plan: &Plan<A>) -> usize
-    ensures { result ≡ length (without_light plan.now.plan) }
-{
-    plan.contacts()
-        .iter()
-        .filter(|contact| plan.light(contact).is_none())
-        .count()
-}
 
 /// Writes what the plan holds in five lines: the numbers of contacts and of ranges that weren't deleted, of nodes that
 /// send or receive a contact, and of contacts without light time at their start, and then the plan's digest.
@@ -55,7 +45,7 @@ fn write_check_text<W: Write, A: Allocator + Copy>(
         b"\nnodes ",
         nodes.format(plan.nodes()).as_bytes(),
         b"\nwithout light ",
-        unlit.format(without_light(plan)).as_bytes(),
+        unlit.format(contacts_without_light(plan)).as_bytes(),
         b"\ndigest ",
         &digits,
         b"\n",
