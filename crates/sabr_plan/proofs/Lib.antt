@@ -8,6 +8,7 @@ pub mod PlainWords
 pub mod TextPieces
 pub mod Days
 pub mod Spelling
+pub mod TextReading
 pub mod Outcomes
 pub mod Held
 pub mod SpelledPlans

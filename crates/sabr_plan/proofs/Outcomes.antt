@@ -82,25 +82,59 @@ pub and_then-same : {A B E : Type 0} (r : Result A E) {f g : A → Result B E} �
 and_then-same (Ok x) same = same x
 and_then-same (Err e) same = refl
 
--- the outcome of the lines of a text, from number n on
-lines_outcome : ℕ → Reading → TextLines → Bool → Result ContactPlan PlanFault
-lines_outcome n r t ended = and_then (read_lines n r t.ended) (last_line ended (n + length t.ended) t.open_line)
+-- such steps take the lines of a text in turn
+pub record TakeInTurn {R F : Type 0} (lines : ℕ → R → List (List ℕ) → Result R F) (line : ℕ → R → List ℕ → Result R F) : Type 0 where
+  pub none : (n : ℕ) (r : R) → lines n r [] ≡ Ok r
+  pub more : (n : ℕ) (r : R) (first : List ℕ) (rest : List (List ℕ)) → lines n r (first ∷ rest) ≡ and_then (line n r first) (λ r₁. lines (n + 1) r₁ rest)
 
-outcome-lines : (s : Fed) (bytes : List ℕ) (ended : Bool) → outcome s bytes ended ≡ lines_outcome (s.lines + 1) s.reading (lines_of (s.held ++ bytes)) ended
-unfolding outcome lines_outcome
-outcome-lines s bytes ended = refl
+module _ {R X F : Type 0} (lines : ℕ → R → List (List ℕ) → Result R F) (line : ℕ → R → List ℕ → Result R F) (last : Bool → ℕ → List ℕ → R → Result X F) where
+  -- the outcome of the lines of a text, from number n on
+  abbrev lines_outcome : ℕ → R → TextLines → Bool → Result X F
+  lines_outcome n r t ended = and_then (lines n r t.ended) (last ended (n + length t.ended) t.open_line)
 
-lines_outcome-more : (n : ℕ) (r : Reading) (line : List ℕ) (lines : List (List ℕ)) (rest : List ℕ) (ended : Bool) → lines_outcome n r (record { ended = line ∷ lines; open_line = rest }) ended ≡ and_then (read_line n r line) (λ r₁. lines_outcome (n + 1) r₁ (record { ended = lines; open_line = rest }) ended)
-unfolding lines_outcome read_lines
-lines_outcome-more n r line lines rest ended =
-    let count : n + suc (length lines) ≡ n + 1 + length lines = omega arith in
-    rw count (and_then-and_then (read_line n r line) (λ r₁. read_lines (n + 1) r₁ lines) (last_line ended (n + 1 + length lines) rest))
+  -- of the bytes after those held of line n
+  abbrev pub text_outcome : ℕ → R → List ℕ → List ℕ → Bool → Result X F
+  text_outcome n r held bytes ended = lines_outcome n r (lines_of (held ++ bytes)) ended
 
-lines_outcome-last : (n : ℕ) (r : Reading) (rest : List ℕ) (ended : Bool) → lines_outcome n r (record { ended = []; open_line = rest }) ended ≡ last_line ended n rest r
-unfolding lines_outcome read_lines
-lines_outcome-last n r rest ended =
-    let count : n + 0 ≡ n = omega arith in
-    ap (λ k. last_line ended k rest r) count
+  module _ (steps : TakeInTurn lines line) where
+    outcome_more : (n : ℕ) (r : R) (first : List ℕ) (more : List (List ℕ)) (rest : List ℕ) (ended : Bool) → lines_outcome n r (record { ended = first ∷ more; open_line = rest }) ended ≡ and_then (line n r first) (λ r₁. lines_outcome (n + 1) r₁ (record { ended = more; open_line = rest }) ended)
+    outcome_more n r first more rest ended =
+        let count : n + suc (length more) ≡ n + 1 + length more = omega arith in
+        rw (count, steps.more n r first more) (and_then-and_then (line n r first) (λ r₁. lines (n + 1) r₁ more) (last ended (n + 1 + length more) rest))
+
+    outcome_last : (n : ℕ) (r : R) (rest : List ℕ) (ended : Bool) → lines_outcome n r (record { ended = []; open_line = rest }) ended ≡ last ended n rest r
+    outcome_last n r rest ended =
+        let count : n + 0 ≡ n = omega arith in
+        rw (steps.none n r) (ap (λ k. last ended k rest r) count)
+
+    -- a line ends in a piece
+    pub text_outcome-line : (n : ℕ) (r : R) (held front rest more : List ℕ) (ended : Bool) → is_one_line held ≡ true → is_one_line front ≡ true → text_outcome n r held ((front ++ 10 ∷ rest) ++ more) ended ≡ and_then (line n r (held ++ front)) (λ r₁. text_outcome (n + 1) r₁ [] (rest ++ more) ended)
+    text_outcome-line n r held front rest more ended one_held one =
+        let whole : is_one_line (held ++ front) ≡ true = rw (list_all-append (λ b. not (eqb b 10)) held front, one_held, one) refl in
+        let parts : held ++ ((front ++ 10 ∷ rest) ++ more) ≡ (held ++ front) ++ 10 ∷ (rest ++ more) = rw (append_assoc, append_assoc) refl in
+        let t = lines_of (rest ++ more) in
+        ap (λ t. lines_outcome n r t ended) (ap lines_of parts ∙ lines_of-line (held ++ front) (rest ++ more) whole) ∙ outcome_more n r (held ++ front) t.ended t.open_line ended
+
+    -- a text ends, or breaks off, after what is held
+    pub text_outcome-end : (n : ℕ) (r : R) (held : List ℕ) (ended : Bool) → is_one_line held ≡ true → text_outcome n r held [] ended ≡ last ended n held r
+    text_outcome-end n r held ended one = ap (λ t. lines_outcome n r t ended) (ap lines_of (append-nil held) ∙ lines_of-one held one) ∙ outcome_last n r held ended
+
+    -- bytes that are refused, whatever comes after them
+    pub text_outcome-refused : (n : ℕ) (r : R) (held bytes more : List ℕ) (ended : Bool) (f : F) → is_one_line held ≡ true → is_one_line bytes ≡ true
+        → ((back : List ℕ) → line n r ((held ++ bytes) ++ back) ≡ Err f) → ((back : List ℕ) → last ended n ((held ++ bytes) ++ back) r ≡ Err f) → text_outcome n r held (bytes ++ more) ended ≡ Err f
+    text_outcome-refused n r held bytes more ended f one_held one bad_line bad_last =
+        let whole : is_one_line (held ++ bytes) ≡ true = rw (list_all-append (λ b. not (eqb b 10)) held bytes, one_held, one) refl in
+        let parts : held ++ (bytes ++ more) ≡ (held ++ bytes) ++ more = rw append_assoc refl in
+        ap (λ t. lines_outcome n r t ended) (ap lines_of parts ∙ lines_of-front (held ++ bytes) more whole) ∙ by_lines (lines_of more).ended (lines_of more).open_line
+      where
+        by_lines : (after : List (List ℕ)) (rest : List ℕ) → lines_outcome n r (in_front (held ++ bytes) (record { ended = after; open_line = rest })) ended ≡ Err f
+        by_lines [] rest = outcome_last n r ((held ++ bytes) ++ rest) ended ∙ bad_last rest
+        by_lines (first ∷ after) rest = outcome_more n r ((held ++ bytes) ++ first) after rest ended ∙ rw (bad_line first) refl
+
+-- the lines of a plan
+in_turn : TakeInTurn read_lines read_line
+unfolding read_lines
+in_turn = record { none = λ n r. refl; more = λ n r first rest. refl }
 
 -- the plan of a text is the outcome from the state in which nothing was fed
 pub plan_of-outcome : (bytes : List ℕ) (ended : Bool) → plan_of bytes ended ≡ outcome nothing_fed bytes ended
@@ -111,15 +145,8 @@ plan_of-outcome bytes ended =
 
 -- a line ends in a piece
 pub outcome-line : (s : Fed) (front rest more : List ℕ) (ended : Bool) → is_one_line s.held ≡ true → is_one_line front ≡ true → outcome s ((front ++ 10 ∷ rest) ++ more) ended ≡ and_then (read_line (s.lines + 1) s.reading (s.held ++ front)) (λ r. outcome (record { lines = s.lines + 1; reading = r; held = [] }) (rest ++ more) ended)
-outcome-line s front rest more ended held one =
-    let line = s.held ++ front in
-    let whole : is_one_line line ≡ true = rw (list_all-append (λ b. not (eqb b 10)) s.held front, held, one) refl in
-    let parts : s.held ++ ((front ++ 10 ∷ rest) ++ more) ≡ line ++ 10 ∷ (rest ++ more) = rw (append_assoc, append_assoc) refl in
-    let t = lines_of (rest ++ more) in
-    outcome-lines s ((front ++ 10 ∷ rest) ++ more) ended
-    ∙ ap (λ t. lines_outcome (s.lines + 1) s.reading t ended) (ap lines_of parts ∙ lines_of-line line (rest ++ more) whole)
-    ∙ lines_outcome-more (s.lines + 1) s.reading line t.ended t.open_line ended
-    ∙ and_then-same (read_line (s.lines + 1) s.reading line) (λ r. sym (outcome-lines (record { lines = s.lines + 1; reading = r; held = [] }) (rest ++ more) ended))
+unfolding outcome
+outcome-line s front rest more ended held one = text_outcome-line read_lines read_line last_line in_turn (s.lines + 1) s.reading s.held front rest more ended held one
 
 -- bytes are held
 pub outcome-held : (s : Fed) (bytes more : List ℕ) (ended : Bool) → outcome s (bytes ++ more) ended ≡ outcome (record { lines = s.lines; reading = s.reading; held = s.held ++ bytes }) more ended
@@ -128,8 +155,8 @@ outcome-held s bytes more ended = rw append_assoc refl
 
 -- a text ends, or breaks off, after what is held
 pub outcome-end : (s : Fed) (ended : Bool) → is_one_line s.held ≡ true → outcome s [] ended ≡ last_line ended (s.lines + 1) s.held s.reading
-outcome-end s ended one =
-    outcome-lines s [] ended ∙ ap (λ t. lines_outcome (s.lines + 1) s.reading t ended) (ap lines_of (append-nil s.held) ∙ lines_of-one s.held one) ∙ lines_outcome-last (s.lines + 1) s.reading s.held ended
+unfolding outcome
+outcome-end s ended one = text_outcome-end read_lines read_line last_line in_turn (s.lines + 1) s.reading s.held ended one
 
 -- a line with too high a number, or too long, is refused for its beginning
 refused_line : (n : ℕ) (r : Reading) (front back : List ℕ) → (broken_line n front).kind ≢ kind.Read → limited n r (front ++ back) ≡ Err (broken_line n front).kind
@@ -149,19 +176,11 @@ last_refused n r front back true other =
     rw (some_bytes n front back other, refused_line n r front back other) refl
 last_refused n r front back false other = ap Err (still_broken n front back other)
 
--- the lines are refused for the beginning of the first, whatever comes after it
-front_refused : (n : ℕ) (r : Reading) (front : List ℕ) (lines : List (List ℕ)) (rest : List ℕ) (ended : Bool) → (broken_line n front).kind ≢ kind.Read → lines_outcome n r (in_front front (record { ended = lines; open_line = rest })) ended ≡ Err (broken_line n front)
-front_refused n r front [] rest ended other = lines_outcome-last n r (front ++ rest) ended ∙ last_refused n r front rest ended other
-front_refused n r front (line ∷ lines) rest ended other =
-    lines_outcome-more n r (front ++ line) lines rest ended ∙ rw (refused_line n r front line other) refl
-
 -- bytes that are refused, whatever comes after them
 pub outcome-refused : (s : Fed) (bytes more : List ℕ) (ended : Bool) → is_one_line s.held ≡ true → is_one_line bytes ≡ true → (broken_line (s.lines + 1) (s.held ++ bytes)).kind ≢ kind.Read → outcome s (bytes ++ more) ended ≡ Err (broken_line (s.lines + 1) (s.held ++ bytes))
+unfolding outcome
 outcome-refused s bytes more ended held one other =
+    let n = s.lines + 1 in
     let front = s.held ++ bytes in
-    let whole : is_one_line front ≡ true = rw (list_all-append (λ b. not (eqb b 10)) s.held bytes, held, one) refl in
-    let parts : s.held ++ (bytes ++ more) ≡ front ++ more = rw append_assoc refl in
-    let t = lines_of more in
-    outcome-lines s (bytes ++ more) ended
-    ∙ ap (λ t. lines_outcome (s.lines + 1) s.reading t ended) (ap lines_of parts ∙ lines_of-front front more whole)
-    ∙ front_refused (s.lines + 1) s.reading front t.ended t.open_line ended other
+    text_outcome-refused read_lines read_line last_line in_turn n s.reading s.held bytes more ended (broken_line n front) held one
+    (λ back. rw (refused_line n s.reading front back other) refl) (λ back. last_refused n s.reading front back ended other)

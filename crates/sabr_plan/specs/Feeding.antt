@@ -1,5 +1,6 @@
 -- A plan text that is read in chunks: what was read so far, and what the text comes to.
 use Rattle.std.specs.Prelude.{◌≡◌, ℕ, ◌+◌, ◌-◌, ◌*◌, Bool, List, [], ◌++◌, length, ◌≤◌, IsTrue, OnOk, OnErr, Result, Ok, Err, ◌⊎◌}
+use Rattle.sabr_plan.specs.TextReading.{AreRefused, ContinuesAs}
 use Rattle.sabr_model.specs.plan.Plan.{ContactPlan, TabledPlan}
 use Rattle.sabr_plan.specs.Steps.{and_then}
 use Rattle.sabr_plan.specs.Words.{lines_of, is_one_line}
@@ -30,8 +31,8 @@ outcome s bytes ended =
 
 -- a chunk was fed: for all bytes after it, the text comes to the same
 abbrev pub IsFed : {U : Type 0} → Fed → List ℕ → Result U PlanFault → Fed → Type 0
-IsFed old piece (Ok _) new = (more : List ℕ) (ended : Bool) → outcome old (piece ++ more) ended ≡ outcome new more ended
-IsFed old piece (Err f) new = (f.kind ≡ NoMemory) ⊎ ((more : List ℕ) (ended : Bool) → outcome old (piece ++ more) ended ≡ Err f)
+IsFed old piece (Ok _) new = ContinuesAs (outcome old) piece (outcome new)
+IsFed old piece (Err f) new = (f.kind ≡ NoMemory) ⊎ AreRefused (outcome old) piece f
 
 -- the line that goes on with these bytes was ended, or refused
 pub record EndsLine {U : Type 0} (old : Fed) (back : List ℕ) (r : Result U PlanKind) (new : Fed) : Type 0 where

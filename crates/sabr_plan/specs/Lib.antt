@@ -5,6 +5,7 @@ pub mod Numbers
 pub mod Times
 pub mod Words
 pub mod Pieces
+pub mod TextReading
 pub mod PlainWords
 pub mod Operands
 pub mod Commands

@@ -2,22 +2,26 @@
 use Rattle.std.proofs.Common.{refl, arith}
 use Rattle.std.proofs.lemmas.Result.{err_from_is_err_and}
 use Rattle.sabr_model.proofs.ListLemmas.ReadTexts.{end_told}
-use Rattle.sabr_plan.proofs.Held.{nothing_was_read, piece_was_read, text_ended, piece_refused, read_failed}
+use Rattle.sabr_plan.proofs.TextReading.{nothing_read, piece_read, text_ended}
+use Rattle.sabr_plan.specs.Feeding.{Answers, outcome}
+use Rattle.sabr_plan.specs.PlanRead.{IsNoMemory, IsRead}
+use Rattle.sabr_plan.specs.Reading.{plan_of}
+use Rattle.sabr_plan.proofs.Held.{at_first, piece_refused, read_failed}
 use Rattle.sabr_plan.proofs.read.read_plan.Goals as goal
 
 pub loop-feed-init : goal.loop-feed-init
-loop-feed-init g c = record { read = nothing_was_read _ c.new-feed.result c.new-feed.ensures; fine = refl }
+loop-feed-init g c = record { read = nothing_read plan_of (outcome c.new-feed.result) _ (at_first c.new-feed.result c.new-feed.ensures); fine = refl }
 
 pub returns-in-Ok-eq0-clause-read : goal.returns-in-Ok-eq0-clause-read
 returns-in-Ok-eq0-clause-read g c =
     let h = c.in-Ok-eq0.ensures in
-    text_ended _ _ _ c.loop-feed.feed c.finish.result c.loop-feed.invariant.read (rw c.in-Ok-eq0.field-0-test at h.bytes) (end_told _ _ (g.R.Read.input c.read.new.self) h.end h.left c.in-Ok-eq0.field-0-test (omega (arith, c.read.auto.buf))) (omega (arith, h.count, c.loop-feed.invariant.fine)) c.finish.ensures
+    text_ended Answers IsRead IsNoMemory _ c.loop-feed.invariant.read c.finish.result (rw c.in-Ok-eq0.field-0-test at h.bytes) (end_told _ _ (g.R.Read.input c.read.new.self) h.end h.left c.in-Ok-eq0.field-0-test (omega (arith, c.read.auto.buf))) (omega (arith, h.count, c.loop-feed.invariant.fine)) c.finish.ensures
 
 pub loop-feed-preserved : goal.loop-feed-preserved
 loop-feed-preserved g c =
     let h = c.in-Ok.ensures in
     record {
-      read = piece_was_read _ _ _ c.loop-feed.feed c.feed.new.self _ c.loop-feed.invariant.read h.bytes c.in_ok-feed-in-Ok.ensures.fed;
+      read = piece_read (outcome c.feed.new.self) _ _ c.loop-feed.invariant.read h.bytes c.in_ok-feed-in-Ok.ensures.fed;
       fine = omega (arith, h.count, c.loop-feed.invariant.fine);
     }
 
@@ -25,7 +29,7 @@ pub returns-in_err-feed-in-Ok-clause-read : goal.returns-in_err-feed-in-Ok-claus
 returns-in_err-feed-in-Ok-clause-read g c =
     let p = err_from_is_err_and c.from_residual.result c.from_residual.ensures.1 in
     let h = c.in-Ok.ensures in
-    rw (p.1, p.2) (piece_refused _ _ _ c.loop-feed.feed _ c.in_err-feed-in-Ok.field-0.0 c.loop-feed.invariant.read h.bytes (omega (arith, h.count, c.loop-feed.invariant.fine)) c.in_err-feed-in-Ok.ensures.fed)
+    rw (p.1, p.2) (piece_refused c.loop-feed.feed _ _ c.in_err-feed-in-Ok.field-0.0 c.loop-feed.invariant.read h.bytes (omega (arith, h.count, c.loop-feed.invariant.fine)) c.in_err-feed-in-Ok.ensures.fed)
 
 pub returns-in-Ok-eq0-clause-failed : goal.returns-in-Ok-eq0-clause-failed
 returns-in-Ok-eq0-clause-failed g c = read_failed _ c.finish.result _ (returns-in-Ok-eq0-clause-read g c)

@@ -1,12 +1,12 @@
 use Rattle.std.proofs.Common.{◌≡◌, ◌+◌, ◌-◌, ◌*◌}
-use Rattle.sabr_plan.specs.Reading.{most_lines}
-use Rattle.sabr_plan.specs.Feeding.{weight}
-use Rattle.sabr_plan.proofs.Held.{HasRead}
+use Rattle.sabr_plan.proofs.TextReading.{HasRead}
+use Rattle.sabr_plan.specs.Reading.{most_lines, plan_of}
+use Rattle.sabr_plan.specs.Feeding.{outcome, weight}
 use Rattle.sabr_plan.proofs.read.read_plan.Given as goal
 
 abbrev pub invariant-loop-feed : goal.invariant-loop-feed
 invariant-loop-feed g l = record {
-  read : HasRead (g.R.Read.input l.initial.reader) (g.R.Read.input l.reader) l.feed;
+  read : HasRead plan_of (outcome l.feed) (g.R.Read.input l.initial.reader) (g.R.Read.input l.reader);
   fine : (g.R.Read.input l.reader).failures ≡ (g.R.Read.input l.initial.reader).failures;
 }
 
