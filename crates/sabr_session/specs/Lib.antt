@@ -1,6 +1,7 @@
 pub mod Gathering
 pub mod ReportText
 pub mod SessionText
+pub mod Pieces
 pub mod SessionRows
 pub mod SessionWords
 pub mod SessionLists

@@ -98,12 +98,6 @@ old_session_text p r i = old_text_of (digest_of p) r (state_at p r i)
 
 -- ---- the slices that make up a session's text
 
--- `request FROM TO AT PPM HOPS`
-abbrev pub asked_pieces : RouteRequest → List (List ℕ)
-asked_pieces r =
-    codes "request " ∷ decimal r.source ∷ codes " " ∷ decimal r.destination ∷ codes " " ∷ time_text_of r.at
-    ∷ codes " " ∷ decimal r.margin ∷ codes " " ∷ decimal r.max_hops ∷ []
-
 -- `emitted N`, `last LIST` and `parts M`
 abbrev pub counts_pieces : State → List (List ℕ)
 counts_pieces s = codes "emitted " ∷ decimal s.emitted ∷ codes "\nlast " ∷ list_text s.last ∷ codes "\nparts " ∷ decimal (length s.parts) ∷ codes "\n" ∷ []

@@ -18,7 +18,7 @@ use Rattle.sabr_model.specs.routes.Record.{record_of, RouteRecord}
 use Rattle.sabr_frontier.specs.listing.State.{PartState, State}
 use Rattle.sabr_frontier.specs.session.Session.{PartSeen, seen_part}
 use Rattle.sabr_frontier.specs.tree.Shape.{numbers_of}
-use Rattle.sabr_session.specs.SessionText.{list_text, request_line, part_line, state_lines, asked_pieces, counts_pieces, part_shown, seen_line}
+use Rattle.sabr_session.specs.SessionText.{part_line, state_lines, counts_pieces, part_shown, seen_line}
 use Rattle.std.proofs.Math.Seq.{take-suc}
 use Rattle.sabr_session.specs.ReportText.{report_line, report_lines}
 
@@ -109,26 +109,25 @@ module _ {W : Type 0} {output : W → Output} where
 
 -- ---- pieces and lines that are put into a text one after the other
 
--- all of them, joined
-abbrev pub joined : List (Bor (List ℕ)) → List ℕ
-joined pieces = concat (map (λ t. t.now) pieces)
+module _ {X : Type 0} (text : X → List ℕ) where
+  -- all of them, joined
+  abbrev pub joined : List X → List ℕ
+  joined pieces = concat (map text pieces)
 
-joined-append : (xs ys : List (Bor (List ℕ))) → joined (xs ++ ys) ≡ joined xs ++ joined ys
-joined-append [] ys = refl
-joined-append (x ∷ xs) ys = ap (λ zs. x.now ++ zs) (joined-append xs ys) ∙ sym (append_assoc x.now (joined xs) (joined ys))
+  joined-append : (xs ys : List X) → joined (xs ++ ys) ≡ joined xs ++ joined ys
+  joined-append [] ys = refl
+  joined-append (x ∷ xs) ys = ap (λ zs. text x ++ zs) (joined-append xs ys) ∙ sym (append_assoc (text x) (joined xs) (joined ys))
 
--- one more of them
-pub joined-more : (xs : List (Bor (List ℕ))) (i : ℕ) (d : Bor (List ℕ)) → i < length xs
-    → joined (take (i + 1) xs) ≡ joined (take i xs) ++ (get_or xs i d).now
-joined-more xs i d h =
-    ap joined (take_more xs i d h) ∙ joined-append (take i xs) (get_or xs i d ∷ []) ∙ ap (λ z. joined (take i xs) ++ z) (append-nil (get_or xs i d).now)
+  -- one more of them
+  pub joined-more : (xs : List X) (i : ℕ) (d : X) → i < length xs → joined (take (i + 1) xs) ≡ joined (take i xs) ++ text (get_or xs i d)
+  joined-more xs i d h =
+      ap joined (take_more xs i d h) ∙ joined-append (take i xs) (get_or xs i d ∷ []) ∙ ap (λ z. joined (take i xs) ++ z) (append-nil (text (get_or xs i d)))
 
--- those before one of them, that one, and those after it
-pub joined-at : (xs : List (Bor (List ℕ))) (i : ℕ) (d : Bor (List ℕ)) → i < length xs
-    → joined xs ≡ joined (take i xs) ++ ((get_or xs i d).now ++ joined (drop (i + 1) xs))
-joined-at xs i d h =
-    ap joined (sym (take-append-drop i xs)) ∙ joined-append (take i xs) (drop i xs)
-    ∙ ap (λ z. joined (take i xs) ++ joined z) (drop-cons xs i d h ∙ ap (λ k. get_or xs i d ∷ drop k xs) (sym (add-one i)))
+  -- those before one of them, that one, and those after it
+  pub joined-at : (xs : List X) (i : ℕ) (d : X) → i < length xs → joined xs ≡ joined (take i xs) ++ (text (get_or xs i d) ++ joined (drop (i + 1) xs))
+  joined-at xs i d h =
+      ap joined (sym (take-append-drop i xs)) ∙ joined-append (take i xs) (drop i xs)
+      ∙ ap (λ z. joined (take i xs) ++ joined z) (drop-cons xs i d h ∙ ap (λ k. get_or xs i d ∷ drop k xs) (sym (add-one i)))
 
 -- the lines of the first n records, which are ys, that of the next, which is x, and those after it
 pub lines-at : {X : Type 0} (line : X → List ℕ) (all ys : List X) (n : ℕ) (x : X) → ys ≡ take n all → (n < length all) × (x ≡ get_or all n x)
@@ -142,23 +141,19 @@ lines-at line all ys n x e h =
 
 module _ {W : Type 0} {output : W → Output} where
   -- one more piece is put
-  pub HasPut-piece : {a b c : TextBuffer W} (xs : List (Bor (List ℕ))) (place : ℕ) (d : Bor (List ℕ)) → place < length xs
-      → HasPut output a (joined (take place xs)) b → HasPut output b (get_or xs place d).now c → HasPut output a (joined (take (place + 1) xs)) c
-  HasPut-piece xs place d l p q = rw (joined-more xs place d l) (HasPut-append (joined (take place xs)) (get_or xs place d).now p q)
+  pub HasPut-piece : {X : Type 0} (text : X → List ℕ) {a b c : TextBuffer W} (xs : List X) (place : ℕ) (d : X) → place < length xs
+      → HasPut output a (joined text (take place xs)) b → HasPut output b (text (get_or xs place d)) c → HasPut output a (joined text (take (place + 1) xs)) c
+  HasPut-piece text xs place d l p q = rw (joined-more text xs place d l) (HasPut-append (joined text (take place xs)) (text (get_or xs place d)) p q)
 
   -- the writer failed in one of the pieces
-  pub Puts-in_piece : {A E : Type 0} (P : E → Type 0) {a b c : TextBuffer W} (xs : List (Bor (List ℕ))) (place : ℕ) (d : Bor (List ℕ)) (r : Result A E) → place < length xs
-      → IsErrAnd r P → HasPut output a (joined (take place xs)) b → StopsIn output b (b.held.items ++ (get_or xs place d).now) c → Puts output a (joined xs) r c
-  Puts-in_piece P {c = c} xs place d r l is p q =
-      rw (joined-at xs place d l)
-      (Puts-after c (joined (take place xs)) ((get_or xs place d).now ++ joined (drop (place + 1) xs)) r p
-      (Puts-stopped P (get_or xs place d).now (joined (drop (place + 1) xs)) r is q))
+  pub Puts-in_piece : {X A E : Type 0} (text : X → List ℕ) (P : E → Type 0) {a b c : TextBuffer W} (xs : List X) (place : ℕ) (d : X) (r : Result A E) → place < length xs
+      → IsErrAnd r P → HasPut output a (joined text (take place xs)) b → StopsIn output b (b.held.items ++ text (get_or xs place d)) c → Puts output a (joined text xs) r c
+  Puts-in_piece text P {c = c} xs place d r l is p q =
+      rw (joined-at text xs place d l)
+      (Puts-after c (joined text (take place xs)) (text (get_or xs place d) ++ joined text (drop (place + 1) xs)) r p
+      (Puts-stopped P (text (get_or xs place d)) (joined text (drop (place + 1) xs)) r is q))
 
 -- ---- the lines of a session's text, made of their pieces
-
--- the line of a request
-pub request_in_pieces : (r : RouteRequest) → request_line r ≡ concat (asked_pieces r) ++ ((codes " / " ++ list_text r.avoided) ++ codes "\n")
-request_in_pieces r = concat-append (asked_pieces r) (codes " / " ∷ list_text r.avoided ∷ codes "\n" ∷ [])
 
 -- the lines of a state
 pub state_in_pieces : (s : State) → state_lines s ≡ concat (counts_pieces s) ++ (flat_map part_line s.parts ++ codes "end\n")

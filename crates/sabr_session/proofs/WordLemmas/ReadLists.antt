@@ -91,10 +91,6 @@ module _ {N : Type 0} (spelled : N → List ℕ) where
       ap (spaced_by spelled) (take-suc xs i d h) ∙ spaced_by-append (take i xs) (get_or xs i d ∷ [])
       ∙ ap (λ ys. spaced_by spelled (take i xs) ++ ys) (append-nil (32 ∷ spelled (get_or xs i d)))
 
-  -- a list that isn't empty, after a label
-  pub listed_by-after : (label : List ℕ) (xs : List N) (x : N) (rest : List N) → xs ≡ x ∷ rest → label ++ listed_by spelled xs ≡ (label ++ spelled x) ++ spaced_by spelled rest
-  listed_by-after label xs x rest is = ap (λ ys. label ++ listed_by spelled ys) is ∙ sym (append_assoc label (spelled x) (spaced_by spelled rest))
-
 -- ---- the words up to a `/`, and those after it
 
 -- another word comes first

@@ -8,13 +8,11 @@ ghost use Rattle.sabr_plan.specs.Canonical.{digest_of};
 ghost use Rattle.sabr_frontier.specs.tree.Shape.{numbers_of};
 ghost use Rattle.sabr_frontier.specs.session.Views.{seen_of, seen_left};
 ghost use Rattle.sabr_session.specs.Gathering.{Puts};
-ghost use Rattle.sabr_session.specs.SessionText.{plan_line, request_line, state_lines, text_of, text_of_session, HasText, asked_pieces, counts_pieces, seen_line};
+ghost use Rattle.sabr_session.specs.SessionText.{plan_line, request_line, state_lines, text_of, text_of_session, HasText, counts_pieces, seen_line};
 
 use crate::hex_digest::digest_text;
-use crate::writing::put_lists::{put_list, put_pieces};
-use crate::writing::put_numbers::put_number;
+use crate::writing::pieces::{Piece, put_all, put_pieces};
 use crate::writing::text_buffer::TextBuffer;
-use itoa::Buffer;
 use sabr_frontier::{PartView, Parts, Session};
 use sabr_model::{Request, Route, Write, WriteFault};
 use sabr_plan::time_text;
@@ -39,14 +37,14 @@ pub fn write_session<W: Write, B: BestOf<A>, A: Allocator + Copy>(
     ensures there { HasText session.now.state }
     ensures text { WritesText (W.output writer.old) (text_of_session session.now) result (W.output writer.new) }
 {
-    tell_count(session);
+    count_fits(session);
     let mut text = TextBuffer::new(writer);
     put_session(&mut text, session, digest)?;
     text.send()
 }
 
 /// Shows that the number of parts of a session fits a text. It does nothing at run time.
-fn tell_count<B: BestOf<A>, A: Allocator + Copy>(session: &Session<'_, B, A>)
+fn count_fits<B: BestOf<A>, A: Allocator + Copy>(session: &Session<'_, B, A>)
     ensures { HasText session.now.state }
 {
     session.part_count();
@@ -79,33 +77,23 @@ fn put_digest<W: Write>(text: &mut TextBuffer<'_, W>, digest: &[u8; 32]) -> Resu
 fn put_request<W: Write>(text: &mut TextBuffer<'_, W>, request: &Request) -> Result<(), WriteFault>
     ensures { Puts W.output text.old (request_line request.now) result text.new }
 {
-    put_asked(text, request)?;
-    put_list(text, b" / ", request.avoided())?;
-    text.put(b"\n")
-}
-
-/// Puts the values of the request, except for the avoided nodes.
-fn put_asked<W: Write>(text: &mut TextBuffer<'_, W>, request: &Request) -> Result<(), WriteFault>
-    ensures { Puts W.output text.old (concat (asked_pieces request.now)) result text.new }
-{
-    let mut from = Buffer::new();
-    let mut to = Buffer::new();
-    let mut margin = Buffer::new();
-    let mut hops = Buffer::new();
     let at = time_text(request.at());
-    let pieces: [&[u8]; 10] = [
-        b"request ",
-        from.format(request.from()).as_bytes(),
-        b" ",
-        to.format(request.to()).as_bytes(),
-        b" ",
-        &at,
-        b" ",
-        margin.format(request.margin_ppm()).as_bytes(),
-        b" ",
-        hops.format(request.max_hops()).as_bytes(),
+    let pieces = [
+        Piece::Text(b"request "),
+        Piece::Number(request.from()),
+        Piece::Text(b" "),
+        Piece::Number(request.to()),
+        Piece::Text(b" "),
+        Piece::Text(&at),
+        Piece::Text(b" "),
+        Piece::Number(request.margin_ppm() as u64),
+        Piece::Text(b" "),
+        Piece::Number(request.max_hops() as u64),
+        Piece::Text(b" / "),
+        Piece::Nodes(request.avoided()),
+        Piece::Text(b"\n"),
     ];
-    put_pieces(text, &pieces)
+    put_all(text, &pieces)
 }
 
 /// Puts the lines after that of the request.
@@ -127,10 +115,16 @@ fn put_counts<W: Write, B: BestOf<A>, A: Allocator + Copy>(
 ) -> Result<(), WriteFault>
     ensures { Puts W.output text.old (concat (counts_pieces session.now.state)) result text.new }
 {
-    put_number(text, b"emitted ", session.emitted())?;
-    put_list(text, b"\nlast ", session.last())?;
-    put_number(text, b"\nparts ", session.part_count() as u64)?;
-    text.put(b"\n")
+    let pieces = [
+        Piece::Text(b"emitted "),
+        Piece::Number(session.emitted() as u64),
+        Piece::Text(b"\nlast "),
+        Piece::Contacts(session.last()),
+        Piece::Text(b"\nparts "),
+        Piece::Number(session.part_count() as u64),
+        Piece::Text(b"\n"),
+    ];
+    put_all(text, &pieces)
 }
 
 /// Puts a line for each part.
@@ -153,10 +147,16 @@ fn put_part<W: Write, A: Allocator + Copy>(
 ) -> Result<(), WriteFault>
     ensures { Puts W.output text.old (seen_line (seen_of part.now)) result text.new }
 {
-    put_list(text, b"part ", part.prefix)?;
-    put_list(text, b" / ", part.excluded)?;
-    put_list(text, b" / ", numbers_in(part.route))?;
-    text.put(b"\n")
+    let pieces = [
+        Piece::Text(b"part "),
+        Piece::Contacts(part.prefix),
+        Piece::Text(b" / "),
+        Piece::Contacts(part.excluded),
+        Piece::Text(b" / "),
+        Piece::Contacts(numbers_in(part.route)),
+        Piece::Text(b"\n"),
+    ];
+    put_all(text, &pieces)
 }
 
 /// The numbers of the best route of a part, or no number if it has none.

@@ -1,0 +1,15 @@
+use Rattle.sabr_session.specs.Pieces.{piece_text}
+use Rattle.sabr_session.proofs.TextLemmas.Gathering.{HasPut-nil, HasPut-piece, Puts-in_piece}
+use Rattle.sabr_session.proofs.writing.pieces.put_all.Goals as goal
+
+pub loop-piece-init : goal.loop-piece-init
+loop-piece-init g c = HasPut-nil c.args.text.now
+
+pub returns-in_err-put_piece : goal.returns-in_err-put_piece
+returns-in_err-put_piece g c =
+    Puts-in_piece piece_text _ c.args.pieces.now c.loop-piece.piece-index _ c.from_residual.result c.loop-piece-test.true c.from_residual.ensures.1
+    c.loop-piece.invariant (c.in_err-put_piece.ensures {u = tt})
+
+pub loop-piece-preserved : goal.loop-piece-preserved
+loop-piece-preserved g c =
+    HasPut-piece piece_text c.args.pieces.now c.loop-piece.piece-index _ c.loop-piece-test.true c.loop-piece.invariant (c.in_ok-put_piece.ensures {u = tt})
