@@ -50,7 +50,7 @@ static cgrlist_plan *plan_of(const char *path) {
 }
 
 /* Prints the best route, and returns its first contact, or 0 if there is no route. */
-static uint32_t ask(cgrlist_plan *plan, const cgrlist_request *request) {
+static uint32_t ask(const cgrlist_plan *plan, const cgrlist_request *request) {
     cgrlist_route route = {0, 0, 0, 0, 0};
     uint32_t *contacts = NULL;
     cgrlist_status status;

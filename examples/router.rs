@@ -46,7 +46,7 @@ impl Plan {
     }
 
     /// Returns the best route with its contacts; none if there is none. An error is a status.
-    fn best(&mut self, request: &Request) -> Result<Option<(Route, Vec<u32>)>, u32> {
+    fn best(&self, request: &Request) -> Result<Option<(Route, Vec<u32>)>, u32> {
         let (mut route, mut contacts) = (Route::default(), vec![0; 64]);
         loop {
             match unsafe { cgrlist_best(self.0, request, &mut route, contacts.as_mut_ptr(), contacts.len()) } {

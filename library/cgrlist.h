@@ -175,7 +175,8 @@ cgrlist_status cgrlist_plan_delete_range(cgrlist_plan *plan, uint64_t one, uint6
 cgrlist_status cgrlist_plan_add_contacts(cgrlist_plan *plan, const cgrlist_new_contact *contacts, size_t count,
                                          size_t *place);
 cgrlist_status cgrlist_plan_add_ranges(cgrlist_plan *plan, const cgrlist_range *ranges, size_t count, size_t *place);
-/* Makes what serves until a plan changes: the index of searches, the digest, and the counts. */
+/* Makes what serves until a plan changes: the index of searches, the digest, and the counts. What is missing is made by the
+ * first call that needs it. */
 cgrlist_status cgrlist_plan_prepare(cgrlist_plan *plan);
 /* The plan as a text from which cgrlist_plan_read makes it again, with the numbers of its contacts and the largest one
  * given: *bytes is its length; ROOM if it doesn't fit (nothing is written then). */
@@ -196,13 +197,13 @@ cgrlist_status cgrlist_plan_nodes(const cgrlist_plan *plan, uint64_t *nodes, siz
 
 /* ---- Routes ---- */
 /* The best route. OK, NO if there is none, ROOM if `contacts` is too small (route->hops is how many it needs). */
-cgrlist_status cgrlist_best(cgrlist_plan *plan, const cgrlist_request *request, cgrlist_route *route,
+cgrlist_status cgrlist_best(const cgrlist_plan *plan, const cgrlist_request *request, cgrlist_route *route,
                             uint32_t *contacts, size_t contacts_room);
 /* The first `count` routes, at most 10000, or all if they are fewer. */
-cgrlist_status cgrlist_first(cgrlist_plan *plan, const cgrlist_request *request, uint32_t count, cgrlist_route *routes,
+cgrlist_status cgrlist_first(const cgrlist_plan *plan, const cgrlist_request *request, uint32_t count, cgrlist_route *routes,
                              size_t routes_room, uint32_t *contacts, size_t contacts_room, cgrlist_page *page);
 /* The best route to each of `count` destinations, in place of the request's. OK also if some have none. */
-cgrlist_status cgrlist_best_each(cgrlist_plan *plan, const cgrlist_request *request, const uint64_t *to, size_t count,
+cgrlist_status cgrlist_best_each(const cgrlist_plan *plan, const cgrlist_request *request, const uint64_t *to, size_t count,
                                  cgrlist_reach *reaches);
 /* OK: the contacts make a route, whose record is in `outcome`. NO: its first fault is. */
 cgrlist_status cgrlist_follow(const cgrlist_plan *plan, const cgrlist_request *request, const uint32_t *contacts,
@@ -228,7 +229,7 @@ cgrlist_status cgrlist_listing_place(const cgrlist_listing *listing, cgrlist_pla
 cgrlist_status cgrlist_listing_text(cgrlist_listing *listing, char *text, size_t room, size_t *bytes);
 void cgrlist_listing_close(cgrlist_listing *listing);
 /* OK: the text is the session text of a place in the list of its request over this plan. NO: it isn't. */
-cgrlist_status cgrlist_verify(cgrlist_plan *plan, const char *text, size_t bytes);
+cgrlist_status cgrlist_verify(const cgrlist_plan *plan, const char *text, size_t bytes);
 
 /* ---- Texts, which last as long as the program. ---- */
 const char *cgrlist_status_name(uint32_t status); /* "CGRLIST_SAME_NODE" ..; "" if there is no such status */

@@ -242,14 +242,14 @@ public:
     }
 
     // The best route to each destination, in place of the request's.
-    std::vector<cgrlist_reach> best_each(const request &it, const std::vector<std::uint64_t> &to) {
+    std::vector<cgrlist_reach> best_each(const request &it, const std::vector<std::uint64_t> &to) const {
         const cgrlist_request asked = detail::asked(it);
         std::vector<cgrlist_reach> out(to.size());
         detail::checked(cgrlist_best_each(get(), &asked, to.data(), to.size(), out.data()));
         return out;
     }
 
-    std::optional<route> best(const request &it) {
+    std::optional<route> best(const request &it) const {
         const cgrlist_request asked = detail::asked(it);
         std::vector<std::uint32_t> contacts(64);
         cgrlist_route row = {};
@@ -260,7 +260,7 @@ public:
         return detail::route_of(row, contacts);
     }
 
-    page first(const request &it, std::uint32_t count) {
+    page first(const request &it, std::uint32_t count) const {
         const cgrlist_request asked = detail::asked(it);
         return detail::page_of([&](auto... given) { return cgrlist_first(get(), &asked, count, given...); });
     }
@@ -300,7 +300,9 @@ public:
     }
 
     // Whether a text is the session text of a place in the list of its request.
-    bool verify(std::string_view text) { return detail::checked(cgrlist_verify(get(), text.data(), text.size())) == CGRLIST_OK; }
+    bool verify(std::string_view text) const {
+        return detail::checked(cgrlist_verify(get(), text.data(), text.size())) == CGRLIST_OK;
+    }
 
     cgrlist_plan *get() const noexcept { return opened.get(); }
 

@@ -195,30 +195,30 @@ cgrlist_status cgrlist_plan_nodes(const cgrlist_plan *plan, uint64_t *nodes, siz
 
 /* ---- Routes ---- */
 
-cgrlist_status cgrlist_best(cgrlist_plan *plan, const cgrlist_request *request, cgrlist_route *route,
+cgrlist_status cgrlist_best(const cgrlist_plan *plan, const cgrlist_request *request, cgrlist_route *route,
                             uint32_t *contacts, size_t contacts_room) {
     const question it = question_of(request);
     cgrlist_route unwanted = {0, 0, 0, 0, 0};
     if (plan == NULL) return CGRLIST_NO_PLAN;
-    return cgrlist_proved_best(HELD(plan), &it.asked, it.avoid, it.avoids, route != NULL ? route : &unwanted,
+    return cgrlist_proved_best(SEEN(plan), &it.asked, it.avoid, it.avoids, route != NULL ? route : &unwanted,
                                BUFFER(contacts, contacts_room, no_numbers));
 }
 
-cgrlist_status cgrlist_best_each(cgrlist_plan *plan, const cgrlist_request *request, const uint64_t *to, size_t count,
+cgrlist_status cgrlist_best_each(const cgrlist_plan *plan, const cgrlist_request *request, const uint64_t *to, size_t count,
                                  cgrlist_reach *reaches) {
     const question it = question_of(request);
     if (plan == NULL) return CGRLIST_NO_PLAN;
     if (to == NULL || reaches == NULL) count = 0;
-    return cgrlist_proved_best_each(HELD(plan), &it.asked, it.avoid, it.avoids, BUFFER(to, count, no_nodes),
+    return cgrlist_proved_best_each(SEEN(plan), &it.asked, it.avoid, it.avoids, BUFFER(to, count, no_nodes),
                                     BUFFER(reaches, count, no_reaches));
 }
 
-cgrlist_status cgrlist_first(cgrlist_plan *plan, const cgrlist_request *request, uint32_t count, cgrlist_route *routes,
+cgrlist_status cgrlist_first(const cgrlist_plan *plan, const cgrlist_request *request, uint32_t count, cgrlist_route *routes,
                              size_t routes_room, uint32_t *contacts, size_t contacts_room, cgrlist_page *page) {
     const question it = question_of(request);
     cgrlist_page given = {0, 0, 0, false};
     if (plan == NULL) return CGRLIST_NO_PLAN;
-    uint32_t status = cgrlist_proved_first(HELD(plan), &it.asked, it.avoid, it.avoids, count,
+    uint32_t status = cgrlist_proved_first(SEEN(plan), &it.asked, it.avoid, it.avoids, count,
                                            BUFFER(routes, routes_room, no_routes),
                                            BUFFER(contacts, contacts_room, no_numbers), &given);
     if (page != NULL && (status == CGRLIST_OK || status == CGRLIST_ROOM)) *page = given;
@@ -246,9 +246,9 @@ cgrlist_status cgrlist_hops(const cgrlist_plan *plan, const cgrlist_request *req
     return status;
 }
 
-cgrlist_status cgrlist_verify(cgrlist_plan *plan, const char *text, size_t bytes) {
+cgrlist_status cgrlist_verify(const cgrlist_plan *plan, const char *text, size_t bytes) {
     if (plan == NULL) return CGRLIST_NO_PLAN;
-    return cgrlist_proved_verify(HELD(plan), TEXT(text, bytes));
+    return cgrlist_proved_verify(SEEN(plan), TEXT(text, bytes));
 }
 
 /* ---- Listings ---- */

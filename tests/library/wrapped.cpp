@@ -15,10 +15,11 @@ int main(int, char **argv) {
     const std::string text(std::istreambuf_iterator<char>(file), {});
     const cgrlist::request asked = {31, 1, 1893458700};
     auto plan = cgrlist::plan::read(text);
-    print(*plan.best(asked));
+    const auto &seen = plan;
+    print(*seen.best(asked));
     auto listing = plan.list(asked);
     for (const auto &route : listing.next(2).routes) print(route);
-    auto first = *plan.contact(plan.first(asked, 1).routes[0].contacts[0]);
+    auto first = *plan.contact(seen.first(asked, 1).routes[0].contacts[0]);
     std::cout << plan.hops(asked, {4, 11}).size() << " " << cgrlist_fault_name(plan.follow(asked, {4, 11}).fault) << "\n";
     std::cout << plan.delete_contact(first.from, first.to, first.start) << "\n";
     print(*plan.best(asked));
@@ -28,7 +29,7 @@ int main(int, char **argv) {
     std::cout << (copy.digest() == plan.copy().digest()) << " " << copy.greatest() << " " << copy.contacts().size() << " "
               << copy.ranges().size() << " " << copy.counts().nodes << "\n";
     auto renewed = plan.renumber(1893480000);
-    auto reach = plan.best_each(asked, {1, 31, 0});
+    auto reach = seen.best_each(asked, {1, 31, 0});
     plan.prepare();
     std::cout << renewed.copy.greatest() << " " << renewed.numbers.at(0) << " " << renewed.copy.nodes().size() << " " << reach[0].delivery << " "
               << reach[0].entry << " " << reach[0].hops << " " << reach[1].status << " " << reach[2].status << "\n";
@@ -36,7 +37,7 @@ int main(int, char **argv) {
     renewed.copy.add_ranges({{1, 7001, 3, 4, 5}});
     renewed.copy.delete_number(1);
     std::cout << renewed.copy.counts().contacts << " " << renewed.copy.counts().ranges << "\n";
-    std::cout << plan.verify(plan.list(asked).text()) << plan.verify(listing.text()) << "\n";
+    std::cout << seen.verify(seen.list(asked).text()) << seen.verify(listing.text()) << "\n";
     cgrlist::plan empty;
     std::cout << empty.add_contact(1, 2, 3, 4, 5) << " " << empty.best({1, 2, 3}).has_value() << "\n";
     try {

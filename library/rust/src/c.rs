@@ -88,10 +88,10 @@ unsafe extern "C" {
     pub fn cgrlist_plan_contact(plan: *const Plan, number: u32, contact: *mut Contact) -> u32;
     pub fn cgrlist_plan_contact_at(plan: *const Plan, place: usize, contact: *mut Contact) -> u32;
     pub fn cgrlist_plan_range_at(plan: *const Plan, place: usize, range: *mut crate::Range) -> u32;
-    pub fn cgrlist_best(plan: *mut Plan, request: *const Request, route: *mut Route, contacts: *mut u32, contacts_room: usize) -> u32;
-    pub fn cgrlist_best_each(plan: *mut Plan, request: *const Request, to: *const u64, count: usize, reaches: *mut crate::Reach) -> u32;
+    pub fn cgrlist_best(plan: *const Plan, request: *const Request, route: *mut Route, contacts: *mut u32, contacts_room: usize) -> u32;
+    pub fn cgrlist_best_each(plan: *const Plan, request: *const Request, to: *const u64, count: usize, reaches: *mut crate::Reach) -> u32;
     pub fn cgrlist_first(
-        plan: *mut Plan, request: *const Request, count: u32, routes: *mut Route, routes_room: usize, contacts: *mut u32,
+        plan: *const Plan, request: *const Request, count: u32, routes: *mut Route, routes_room: usize, contacts: *mut u32,
         contacts_room: usize, page: *mut Page,
     ) -> u32;
     pub fn cgrlist_follow(plan: *const Plan, request: *const Request, contacts: *const u32, count: usize, outcome: *mut Outcome) -> u32;
@@ -99,7 +99,7 @@ unsafe extern "C" {
         plan: *const Plan, request: *const Request, contacts: *const u32, count: usize, hops: *mut crate::Hop, hops_room: usize,
         hops_count: *mut usize,
     ) -> u32;
-    pub fn cgrlist_verify(plan: *mut Plan, text: *const u8, bytes: usize) -> u32;
+    pub fn cgrlist_verify(plan: *const Plan, text: *const u8, bytes: usize) -> u32;
     pub fn cgrlist_listing_open(plan: *const Plan, request: *const Request, listing: *mut *mut Listing) -> u32;
     pub fn cgrlist_listing_load(plan: *const Plan, text: *const u8, bytes: usize, listing: *mut *mut Listing, line: *mut u64) -> u32;
     pub fn cgrlist_listing_next(
