@@ -234,7 +234,7 @@ cgrlist_status cgrlist_verify(const cgrlist_plan *plan, const char *text, size_t
 /* ---- Texts, which last as long as the program. ---- */
 const char *cgrlist_status_name(uint32_t status); /* "CGRLIST_SAME_NODE" ..; "" if there is no such status */
 const char *cgrlist_fault_name(uint32_t fault);   /* "CGRLIST_FAULT_NOT_CHAINED" ..; "" if there is no such fault */
-const char *cgrlist_version(void);                /* "1.2.0" */
+const char *cgrlist_version(void);                /* "MAJOR.MINOR.PATCH" */
 uint32_t cgrlist_abi(void);
 
 #ifdef __cplusplus

@@ -1,4 +1,4 @@
-/* The texts of the library. */
+/* The texts of the library. library/build defines CGRLIST_VERSION. */
 #include "cgrlist.h"
 
 #define NAME(constant) [constant] = #constant
@@ -29,6 +29,6 @@ const char *cgrlist_status_name(uint32_t status) { return NAME_OF(STATUSES, stat
 
 const char *cgrlist_fault_name(uint32_t fault) { return NAME_OF(FAULTS, fault); }
 
-const char *cgrlist_version(void) { return "1.2.0"; }
+const char *cgrlist_version(void) { return CGRLIST_VERSION; }
 
 uint32_t cgrlist_abi(void) { return CGRLIST_ABI; }

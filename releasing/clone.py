@@ -13,9 +13,8 @@ from .files import TOP, Failed, said_by
 
 # The places that name the version, each as a text before it. tools/cgrlist/version.py is the one that counts.
 VERSIONS = {
-    "CHANGELOG.md": r"^## ", "library/cgrlist.pc.in": r"^Version: ", "library/cgrlist.h": r'cgrlist_version\(.*/\* "',
-    "library/names.c": r'cgrlist_version\(.*return "',
-    "library/rust/Cargo.toml": r'^version = "', "crates/commands/src/words/command_line.rt": r'^const VERSION: &str = "',
+    "CHANGELOG.md": r"^## ", "library/rust/Cargo.toml": r'^version = "', "tests/data/rows/help.txt": r"^err cgrlist ",
+    "crates/commands/src/words/command_line.rt": r'^const VERSION: &str = "',
     **{f"docs/{it}": r"^\.Os cgrlist " for it in os.listdir(f"{TOP}/docs") if it.endswith((".1", ".3"))},
 }
 NEEDED = {"git": "git", "dpkg-deb": "dpkg", "ar": "binutils", "readelf": "binutils", linking.COMPILER: "gcc"}

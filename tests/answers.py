@@ -18,7 +18,7 @@ from collections import Counter
 from datetime import datetime, timezone
 from itertools import groupby
 
-from checking import SECONDS, TOP, Room, checks_of, differing, last_of, lines_with, parts_of, unlike, without_progress
+from checking import SECONDS, TOP, VERSION, Room, checks_of, differing, last_of, lines_with, parts_of, unlike, without_progress
 
 DAY = "2030/01/01"
 RELAY_DIGEST = "1742355ab40bb9304358b80eea1f07137fa6c7a830d70d3ebaadf26f2add99e2"
@@ -139,7 +139,7 @@ def latest_seconds(room):
 def versions_and_environments(room):
     for tool in sorted(os.listdir(f"{TOP}/tools")):
         if tool not in ("cgrlist", "manual_pages", "mutations", "refusals.py", "reference", "pyproject.toml", "completions", "wheel.py"):
-            yield f"the version of {tool}", f"{tool} 1.2.0", lambda: room.run(f"tools/{tool} --version").all()
+            yield f"the version of {tool}", f"{tool} {VERSION}", lambda: room.run(f"tools/{tool} --version").all()
     by_environment = {"CGRLIST_PLAN": f"{TOP}/examples/relay.txt", "CGRLIST_NAMES": room.names[1], "CGRLIST": room.program}
     yield ("plan, names and program by the environment", "lander > relay high > 12 > 1", lambda: parts_of("lander.*", room.run(
         f"tools/report --from lander --to 1 --at {DAY}-00:45:00 --count 1", **by_environment).all()))
@@ -241,7 +241,7 @@ rank,delivery,hops,entry,until,contacts,nodes,room
  "end": true,
  "names": {"31": "lander"},
  "plan": "1742355ab40bb9304358b80eea1f07137fa6c7a830d70d3ebaadf26f2add99e2",
- "version": "1.2.0"}""", room.from_lander, f"--at {DAY}-16:00:00 --count 10 --json --room --max-hops 5 --avoid 12", room.names
+ "version": "%s"}""" % VERSION, room.from_lander, f"--at {DAY}-16:00:00 --count 10 --json --room --max-hops 5 --avoid 12", room.names
     asked = [f"report --plan examples/relay.txt --from 31 --to 1 --at {DAY}-{at} --count 2 --json" for at in ("00:45:00", "17:34:00")]
     yield ("it is JSON", [(2, False), (0, True)],
            lambda: [(len(it["routes"]), it["end"]) for it in (json.loads(room.ask(words).out) for words in asked)])
@@ -922,7 +922,7 @@ report: hint: the source and the destination are the same node\nstatus 4",
            lambda: room.of_requests(limited).partition("\n")[0])
     yield ("limits stand in CSV", ["at,margin_ppm,max_hops,avoid,rank", '2030-01-01 00:45:00,224,3,"12,22",1'],
            lambda: [re.sub(r"^(?:\w+,){2}|(?<=rank),.*|(?<=,1),.*", "", it) for it in room.of_requests(limited, "--csv").splitlines()])
-    yield ("limits stand in JSON", ({"from": 31, "to": 1, "at": "2030-01-01T00:45:00Z", "margin_ppm": 224, "max_hops": 3, "avoid": [12, 22]}, "1.2.0"),
+    yield ("limits stand in JSON", ({"from": 31, "to": 1, "at": "2030-01-01T00:45:00Z", "margin_ppm": 224, "max_hops": 3, "avoid": [12, 22]}, VERSION),
            lambda: (lambda it: (it["request"], it["version"]))(json.loads(room.of_requests(limited, "--json"))))
     seconds = "".join(f"31 1 {DAY}-00:{minute}:{second}\n" for minute in range(10, 60) for second in range(10, 60))
     shared = room.of_requests(seconds)

@@ -4,6 +4,7 @@ import inspect
 import os
 import pty
 import re
+import runpy
 import shlex
 import subprocess
 import sys
@@ -17,6 +18,8 @@ from itertools import zip_longest
 from typing import NamedTuple
 
 from trial import TOP, Broken, compiled
+
+VERSION = runpy.run_path(f"{TOP}/tools/cgrlist/version.py")["VERSION"]
 
 SHOWN = 10  # failures that are shown of one name
 SEEN = "shown already"  # a failure that is counted alone

@@ -182,7 +182,7 @@ def run_by_the_script():
 
 
 def has_library():
-    return os.path.exists(f"{TOP}/library/out/libcgrlist.a")
+    return os.path.exists(f"{TOP}/library/out/cgrlist.pc")
 
 
 def the_installation(room):

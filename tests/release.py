@@ -143,7 +143,7 @@ def is_proved():
     """Whether the proved program and the library are there, so that a release takes minutes."""
     has_program = subprocess.run([f"{TOP}/cgrlist", "--version"], env={**os.environ, "CGRLIST_TRIAL": "no"}, stdout=subprocess.PIPE,
                                  stderr=subprocess.STDOUT, check=False).returncode != 125
-    return has_program and os.path.exists(f"{TOP}/library/out/libcgrlist.a")
+    return has_program and os.path.exists(f"{TOP}/library/out/cgrlist.pc")
 
 
 def checks(asked):
