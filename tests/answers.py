@@ -404,7 +404,7 @@ def many_routes(room):
     yield ("enough are looked at", "report: 1 routes are shown of 50 looked at; --look N looks at more",
            lambda: last_of(from_twelve("--distinct entry --via 2 --count 2 --look 50")))
     through = room.from_lander(f"--at {DAY}-00:45:00 --via 11 --distinct nodes --count 1")
-    yield "through a node, and distinct", (1, "4", True), lambda: (*routes_in(through)[:2], "\nmore" in through)
+    yield "through a node, and distinct", (1, "4", "more"), lambda: (*routes_in(through)[:2], lines_with("^(more|end)$", through))
 
     # A terminal is told how far a slow run is. A run that is ended leaves no file.
     slow = room.stub("slow", f"""#!/bin/sh
@@ -690,7 +690,7 @@ def what_has_no_end(room):
         yield f"a plan without an end: {title}", f"{told}\nstatus 3", lambda: "\n".join(room.run(
             "bash -c", [f"ulimit -v 2000000; tools/check --plan {given}"]).all().splitlines()[-2:])
     for title, line in (("no line of a plan", "x" * 200), ("contacts", f"a contact {DAY}-00:00:00 {DAY}-00:00:09 1 2 5")):
-        reads = "import sys; sys.path.insert(0, 'tools'); from cgrlist.reading import plan_bytes; print(len(plan_bytes('-')) < 5_000_000)"
+        reads = "import sys; sys.path.insert(0, 'tools'); from cgrlist.reading import plan_bytes; n = len(plan_bytes('-')); print(n < 5_000_000 or n)"
         yield f"of many lines, no more is read than it takes: {title}", "True", lambda: room.run(
             "bash -c", [f"yes '{line}' | head -c 300000000 | python3 -B -c \"{reads}\""]).all()
     request = f"--from 31 --to 1 --at {DAY}-00:45:00"

@@ -216,7 +216,7 @@ def whole_files(room):
     yield ("the file of a host that repeats the contacts of another", (0, " repeated 1,"),
            lambda: (room.filter(twice).status, parts_of("again.*( repeated 1,)", room.filter(twice).err)))
     noise = room.filter([room.file("noise", os.urandom(50000).replace(b"\0", b""))])
-    yield "odd bytes", (1, False), lambda: (noise.status, "Traceback" in noise.err)
+    yield "odd bytes", (1, ""), lambda: (noise.status, lines_with("Traceback", noise.err))
     yield "a plan is in ASCII", "", lambda: "".join(sorted(set(re.sub(r"[!-~\s]", "", noise.out))))
     many = "".join(f"a contact +{at} +30000 1 2 5\na range +{at} +{at + 1} 1 2 {at % 2}\n" for at in range(20001))
     yield ("more contacts and ranges than a plan has",

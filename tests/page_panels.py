@@ -150,7 +150,7 @@ def plan_text(it, room):
     yield "a jump", FAULTY.split("\n")[8], it.run, "const it = document.activeElement; return it.value.slice(it.selectionStart, it.selectionEnd)"
     press(it, "plan", "Use this text")
     waited(it, "document.getElementById('refused').innerText")
-    yield "a refused text", [True, "relay.txt"], it.run, "return [app.plan.text.startsWith('# A day at Mars'), app.plan.name]"
+    yield "a refused text", ["# A day at Mars", "relay.txt"], it.run, "return [app.plan.text.slice(0, 15), app.plan.name]"
     press(it, "plan", "Take changes back")
     yield "changes are taken back", text_of(RELAY), it.run, "return planArea.value"
 
