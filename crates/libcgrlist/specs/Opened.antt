@@ -1,8 +1,6 @@
 -- What stands behind an open handle.
-use Rattle.std.specs.Prelude.{ℕ, is_none, length, Option}
-use Rattle.std.specs.List.{filter}
-use Rattle.sabr_model.specs.plan.Light.{light_of}
-use Rattle.sabr_model.specs.plan.Plan.{ContactPlan, TabledPlan}
+use Rattle.std.specs.Prelude.{Option}
+use Rattle.sabr_model.specs.plan.Plan.{TabledPlan}
 use Rattle.sabr_frontier.specs.session.Session.{Seen}
 use Rattle.sabr_frontier.specs.declared.session.paused.PausedSession.{PausedSession}
 use Rattle.sabr_search.specs.questions.Calls.{no_calls}
@@ -12,10 +10,6 @@ use Rattle.sabr_frontier.specs.session.Paused.{seen_over}
 pub record OpenPlan : Type 0 where
   pub plan : TabledPlan
   pub listing : Option Seen
-
--- how many standing contacts have no light time at their start
-abbrev pub contacts_without_light : ContactPlan → ℕ
-contacts_without_light p = length (filter (λ c. is_none (light_of p c)) p.contacts)
 
 -- what callers see of a listing: searches, calls of the finder and looks aren't counted
 abbrev pub listing_of : Seen → Seen

@@ -5,7 +5,7 @@ use Rattle.sabr_model.specs.declared.contact.Range.{Range}
 use Rattle.sabr_model.specs.plan.Light.{light_of}
 use Rattle.sabr_model.specs.plan.Plan.{ContactPlan}
 use Rattle.sabr_model.specs.plan.Table.{node_count, ends_of}
-use Rattle.libcgrlist.specs.Opened.{contacts_without_light}
+use Rattle.sabr_plan.specs.WithoutLight.{contacts_without_light}
 use Rattle.libcgrlist.specs.Status.{done, no, no_memory}
 use Rattle.libcgrlist.specs.declared.views.Counts.{Counts}
 use Rattle.libcgrlist.specs.declared.views.ContactRow.{ContactRow}

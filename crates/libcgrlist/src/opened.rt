@@ -5,13 +5,14 @@ ghost use Rattle.std.specs.Option.{option_map};
 ghost use Rattle.sabr_plan.specs.Canonical.{digest_of};
 ghost use Rattle.sabr_frontier.specs.session.Paused.{IsPausedOver};
 ghost use Rattle.libcgrlist.specs.Listings.{IsPlaceIn};
-ghost use Rattle.libcgrlist.specs.Opened.{OpenPlan, contacts_without_light, listing_of, listing_over};
+ghost use Rattle.sabr_plan.specs.WithoutLight.{contacts_without_light};
+ghost use Rattle.libcgrlist.specs.Opened.{OpenPlan, listing_of, listing_over};
 
 use crate::listing::ListingPlace;
 use sabr_frontier::{PausedSession, Session};
 use sabr_index::{Index, PlanLinks};
 use sabr_model::{AddFault, NoMemory, Plan, Range};
-use sabr_plan::digest;
+use sabr_plan::{contacts_without_light, digest};
 use sabr_search::Settled;
 use std::alloc::Global;
 use std::marker::Model;
@@ -41,7 +42,8 @@ impl Model for Opened {
     ghost use Rattle.sabr_frontier.specs.session.Paused.{IsPausedOver};
     ghost use Rattle.sabr_index.specs.Index.{AreLinksOfPlan};
     ghost use Rattle.sabr_index.specs.Index.{AreLinksOfPlan};
-    ghost use Rattle.libcgrlist.specs.Opened.{OpenPlan, contacts_without_light, listing_over};
+    ghost use Rattle.sabr_plan.specs.WithoutLight.{contacts_without_light};
+    ghost use Rattle.libcgrlist.specs.Opened.{OpenPlan, listing_over};
 
     ghost Value = { OpenPlan };
 
@@ -183,7 +185,7 @@ impl Opened {
         if let Some(counted) = self.without_light {
             return counted;
         }
-        let counted = count_without_light(&self.plan);
+        let counted = contacts_without_light(&self.plan);
         self.without_light = Some(counted);
         counted
     }
@@ -218,16 +220,6 @@ pub fn paused(session: Session<'_, Settled<Global>, Global>) -> Paused
     ensures listing { listing_over session.entry.plan result ≡ listing_of session.entry }
 {
     session.pause()
-}
-
-/// Counts the contacts that have no light time at their start.
-fn count_without_light(plan: &Plan<Global>) -> usize
-    ensures { result ≡ contacts_without_light plan.now.plan }
-{
-    plan.contacts()
-        .iter()
-        .filter(|contact| plan.light(contact).is_none())
-        .count()
 }
 
 /// A contact to add: its sender and receiver, its window in seconds since 1970-01-01T00:00:00Z, and its rate in bytes a

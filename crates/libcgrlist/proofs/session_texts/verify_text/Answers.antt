@@ -7,6 +7,6 @@ use Rattle.libcgrlist.proofs.session_texts.verify_text.Goals as goal
 
 pub returns-clause-verified : goal.returns-clause-verified
 returns-clause-verified c =
-    let plan : c.from_links-index.result ≡ c.args.opened.now.plan = c.from_links-index.ensures ∙ c.plan.ensures ∙ ap (λ (o : OpenPlan). o.plan) (c.take_links.ensures.same ∙ c.digest-digest.ensures.same) in
-    subst (λ (q : TabledPlan). Verifies q.plan c.args.text.now c.verify_over-verified.result.0) plan
-    (subst (λ w. Verifies c.from_links-index.result.plan w c.verify_over-verified.result.0) c.new-reader.ensures.rest (verified_bytes _ _ _ _ _ _ _ _ c.verify_over-verified.ensures.verified))
+    let plan : c.in_ok-index.index ≡ c.args.opened.now.plan = c.in_ok-index.ensures ∙ ap (λ (o : OpenPlan). o.plan) (c.link.ensures ∙ c.digest-digest.ensures.same) in
+    subst (λ (q : TabledPlan). Verifies q.plan c.args.text.now c.verify_over.result) plan
+    (subst (λ w. Verifies c.in_ok-index.index.plan w c.verify_over.result) c.new-reader.ensures.rest (verified_bytes _ _ _ _ _ _ _ _ c.verify_over.ensures))
