@@ -4,14 +4,12 @@ ghost use Rattle.sabr_frontier.specs.listing.Laws.{PartsDivide, StatesAreTold, S
 ghost use Rattle.sabr_frontier.specs.listing.Fresh.{PagesGiveNewRoutes};
 
 /// States that every route was given or is in exactly one part of the tree of those given, never both.
-#[tactic(auto, using(crate::proofs::ListingLemmas::Lawful::parts_divide))]
 pub fn law4()
     ensures { PartsDivide }
 {}
 
 /// States that a well-formed state has the parts of its leaves. If each part carries its best route, and the leaves
 /// come before all that is carried, it is the state of the place that it counts.
-#[tactic(auto, using(crate::proofs::ListingLemmas::Lawful::states_are_told))]
 pub fn law5()
     ensures { StatesAreTold }
 {}
@@ -24,7 +22,6 @@ pub fn law6()
 
 /// States that, from every well-formed state, pages give only new routes, even if the state is of no place of the list.
 /// None is one that the state counts as given, and none comes twice among the pages that weren't taken back.
-#[tactic(auto, using(crate::proofs::ListingLemmas::NewRoutes::pages_give_new_routes))]
 pub fn pages_give_new_routes()
     ensures { PagesGiveNewRoutes }
 {}
