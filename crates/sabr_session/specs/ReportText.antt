@@ -9,6 +9,14 @@ use Rattle.sabr_session.specs.SessionText.{spaced_by}
 abbrev pub HasSpelledTimes : RouteRecord → Type 0
 HasSpelledTimes r = (r.delivery ≤ last_spelled) × (r.until ≤ last_spelled)
 
+-- a route's line up to the numbers of its contacts, in slices
+abbrev pub figure_pieces : RouteRecord → List (List ℕ)
+figure_pieces r =
+    codes "delivery " ∷ time_text_of r.delivery
+    ∷ codes " hops " ∷ decimal (length r.contacts)
+    ∷ codes " entry " ∷ decimal r.entry
+    ∷ codes " until " ∷ time_text_of r.until ∷ codes " contacts" ∷ []
+
 -- the line of a route
 abbrev pub route_line : RouteRecord → List ℕ
 route_line r = concat (

@@ -1,6 +1,7 @@
 //! Writing a session text and the report of a page.
 
 mod pieces;
+mod put_numbers;
 mod report;
 mod session_text;
 mod text_buffer;

@@ -1,5 +1,5 @@
 -- Texts that are put into a buffer in turn, and handed to its writer at the end: slices, the lines of a session's text, and those of a report.
-use Rattle.std.proofs.Common.{◌≡◌, ℕ, List, [], ◌++◌, Result, Ok, Err, ap, ◌∙◌, sym, append_assoc, append-nil, refl, ◌+◌, ◌<◌, ◌∷◌, Bor, map, length, get_or, take, drop, add-one, drop-cons, codes, Option, Some, None, suc, length-take-le, arith}
+use Rattle.std.proofs.Common.{◌≡◌, ℕ, List, [], ◌++◌, Result, Ok, Err, ap, ◌∙◌, sym, append_assoc, append-nil, refl, ◌+◌, ◌<◌, ◌∷◌, map, length, get_or, take, drop, add-one, drop-cons, codes, Option, Some, None, suc, length-take-le, arith}
 use Rattle.std.specs.Borrow.{MutBor}
 use Rattle.std.specs.Result.{IsErrAnd}
 use Rattle.sabr_model.specs.Devices.{Output, WritesText}

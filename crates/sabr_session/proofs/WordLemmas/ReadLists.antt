@@ -7,7 +7,7 @@ use Rattle.std.specs.declared.option.Option.TheVariants.{Some, None}
 use Rattle.sabr_session.specs.SessionWords.{all_of, counted, is_dash, list_within, contacts_of, is_slash, before_slash, after_slash, most_number}
 use Rattle.std.proofs.Math.Seq.{take-suc}
 use Rattle.std.proofs.lemmas.List.{take-append-drop}
-use Rattle.sabr_session.specs.SessionText.{spaced_by, listed_by}
+use Rattle.sabr_session.specs.SessionText.{spaced_by}
 use Rattle.std.specs.List.{list_any}
 use Rattle.std.specs.Prelude.{codes, not, if◌then◌else◌}
 use Rattle.std.specs.Str.{bytes_eq}

@@ -1,13 +1,14 @@
 //! Texts in pieces, put in turn: slices, numbers and lists of numbers.
 
-ghost use Rattle.std.specs.Prelude.{◌∷◌, map};
+ghost use Rattle.std.specs.Prelude.{map};
 ghost use Rattle.std.specs.List.{concat};
 ghost use Rattle.sabr_session.specs.Gathering.{Puts};
 ghost use Rattle.sabr_session.specs.Pieces.{piece_text};
-ghost use Rattle.sabr_session.specs.SessionText.{listed_by, spaced_by};
+ghost use Rattle.sabr_session.specs.SessionText.{listed_by};
 
+use crate::writing::put_numbers::{put_digits, put_numbers};
 use crate::writing::text_buffer::TextBuffer;
-use itoa::{Buffer, Integer};
+use itoa::Integer;
 use sabr_model::{Write, WriteFault};
 
 /// A piece of a text.
@@ -17,8 +18,6 @@ pub(crate) enum Piece<'t, 'n> {
     Text(&'t [u8]),
     /// The number in decimal digits.
     Number(u64),
-    /// Each number after a space.
-    Spaced(&'n [u32]),
     /// The numbers, separated by spaces, or `-` if there is none.
     Contacts(&'n [u32]),
     /// The same of the numbers of nodes.
@@ -63,45 +62,9 @@ fn put_piece<W: Write>(text: &mut TextBuffer<'_, W>, piece: Piece<'_, '_>) -> Re
     match piece {
         Piece::Text(bytes) => text.put(bytes),
         Piece::Number(number) => put_digits(text, number),
-        Piece::Spaced(numbers) => put_numbers(text, numbers),
         Piece::Contacts(numbers) => put_list(text, numbers),
         Piece::Nodes(numbers) => put_list(text, numbers),
     }
-}
-
-/// Puts the number in decimal digits.
-pub(crate) fn put_digits<W: Write, N: Integer>(
-    text: &mut TextBuffer<'_, W>,
-    number: N,
-) -> Result<(), WriteFault>
-    ensures { Puts W.output text.old (N.text number) result text.new }
-{
-    let mut digits = Buffer::new();
-    text.put(digits.format(number).as_bytes())
-}
-
-/// Puts each number after a space.
-fn put_numbers<W: Write, N: Integer>(
-    text: &mut TextBuffer<'_, W>,
-    numbers: &[N],
-) -> Result<(), WriteFault>
-    ensures { Puts W.output text.old (spaced_by N.text numbers.now) result text.new }
-{
-    for number in numbers {
-        put_number(text, *number)?;
-    }
-    Ok(())
-}
-
-/// Puts a space and the number.
-fn put_number<W: Write, N: Integer>(
-    text: &mut TextBuffer<'_, W>,
-    number: N,
-) -> Result<(), WriteFault>
-    ensures { Puts W.output text.old (32 ∷ N.text number) result text.new }
-{
-    text.put_byte(b' ')?;
-    put_digits(text, number)
 }
 
 /// Puts the numbers, separated by spaces, or `-` if there is none.

@@ -1,13 +1,16 @@
 //! The report of a page.
 
 ghost use Rattle.std.specs.Prelude.{◌≡◌, ℕ, ◌+◌, ◌^◌, ◌<◌, ◌≤◌, All, length};
+ghost use Rattle.std.specs.List.{concat};
 ghost use Rattle.sabr_model.specs.Devices.{WritesText};
 ghost use Rattle.sabr_plan.specs.Times.{last_spelled};
 ghost use Rattle.sabr_session.specs.Gathering.{Puts};
-ghost use Rattle.sabr_session.specs.ReportText.{HasSpelledTimes, route_line, report_line, report_lines, last_line, report_text};
+ghost use Rattle.sabr_session.specs.ReportText.{HasSpelledTimes, figure_pieces, route_line, report_line, report_lines, last_line, report_text};
 
-use crate::writing::pieces::{Piece, put_all, put_digits};
+use crate::writing::pieces::put_pieces;
+use crate::writing::put_numbers::{put_digits, put_numbers};
 use crate::writing::text_buffer::TextBuffer;
+use itoa::Buffer;
 use sabr_model::{Route, Write, WriteFault};
 use sabr_plan::DayText;
 use std::alloc::Allocator;
@@ -110,7 +113,7 @@ fn put_line<W: Write, A: Allocator + Copy>(
     ensures { Puts W.output text.old (report_line rank route.now) result text.new }
 {
     put_digits(text, rank)?;
-    text.put_byte(b' ')?;
+    text.put(b" ")?;
     put_route(text, days, route)
 }
 
@@ -167,22 +170,36 @@ fn put_route_figures<W: Write>(
     requires { (figures.delivery ≤ last_spelled) × (figures.until ≤ last_spelled) }
     ensures { Puts W.output text.old (route_line (record { contacts = figures.entry.contacts.now; delivery = figures.entry.delivery; until = figures.entry.until; entry = figures.entry.entry })) result text.new }
 {
+    put_figures(text, days, figures)?;
+    put_numbers(text, figures.contacts)?;
+    text.put(b"\n")
+}
+
+/// Puts the line of a route up to the numbers of its contacts.
+fn put_figures<W: Write>(
+    text: &mut TextBuffer<'_, W>,
+    days: &mut LastDays,
+    figures: Figures<'_>,
+) -> Result<(), WriteFault>
+    requires { (figures.delivery ≤ last_spelled) × (figures.until ≤ last_spelled) }
+    ensures { Puts W.output text.old (concat (figure_pieces (record { contacts = figures.entry.contacts.now; delivery = figures.entry.delivery; until = figures.entry.until; entry = figures.entry.entry }))) result text.new }
+{
+    let mut hops = Buffer::new();
+    let mut node = Buffer::new();
     let delivery = days.delivery.time_text(figures.delivery);
     let until = days.until.time_text(figures.until);
-    let pieces = [
-        Piece::Text(b"delivery "),
-        Piece::Text(&delivery),
-        Piece::Text(b" hops "),
-        Piece::Number(figures.contacts.len() as u64),
-        Piece::Text(b" entry "),
-        Piece::Number(figures.entry),
-        Piece::Text(b" until "),
-        Piece::Text(&until),
-        Piece::Text(b" contacts"),
-        Piece::Spaced(figures.contacts),
-        Piece::Text(b"\n"),
+    let pieces: [&[u8]; 9] = [
+        b"delivery ",
+        &delivery,
+        b" hops ",
+        hops.format(figures.contacts.len()).as_bytes(),
+        b" entry ",
+        node.format(figures.entry).as_bytes(),
+        b" until ",
+        &until,
+        b" contacts",
     ];
-    put_all(text, &pieces)
+    put_pieces(text, &pieces)
 }
 
 /// Puts `more` if another route follows, and `end` otherwise.

@@ -1,6 +1,5 @@
 //! A buffered writer with a fixed array, so that the writer is called seldom.
 
-ghost use Rattle.std.specs.Prelude.{[], ◌∷◌};
 ghost use Rattle.sabr_session.specs.Gathering.{IsEmptyBefore, Puts, Sends};
 
 use arrayvec::ArrayVec;
@@ -45,17 +44,6 @@ impl<'w, W: Write> TextBuffer<'w, W> {
         let Ok(()) = self.held.try_extend_from_slice(text) else {
             unreachable!();
         };
-        Ok(())
-    }
-
-    /// Puts the byte after the bytes held. If there is no room, these are written first.
-    pub(crate) fn put_byte(&mut self, byte: u8) -> Result<(), WriteFault>
-        ensures { Puts W.output self.old (byte ∷ []) result self.new }
-    {
-        if self.held.len() >= CAPACITY {
-            self.send()?;
-        }
-        self.held.push(byte);
         Ok(())
     }
 

@@ -2,7 +2,7 @@ use Rattle.std.proofs.Common.{◌∷◌, drop, suc, add-one}
 use Rattle.sabr_session.specs.SessionText.{spaced_by}
 use Rattle.sabr_session.proofs.TextLemmas.Gathering.{HasPut-nil, HasPut-append, Puts-stopped, Puts-after}
 use Rattle.sabr_session.proofs.WordLemmas.ReadLists.{spaced_by-at, spaced_by-take}
-use Rattle.sabr_session.proofs.writing.pieces.put_numbers.Goals as goal
+use Rattle.sabr_session.proofs.writing.put_numbers.put_numbers.Goals as goal
 
 pub loop-number-init : goal.loop-number-init
 loop-number-init g c = HasPut-nil c.args.text.now
