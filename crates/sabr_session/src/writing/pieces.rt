@@ -56,6 +56,7 @@ pub(crate) fn put_all<W: Write>(
 }
 
 /// Puts the piece.
+#[inline(always)]
 fn put_piece<W: Write>(text: &mut TextBuffer<'_, W>, piece: Piece<'_, '_>) -> Result<(), WriteFault>
     ensures { Puts W.output text.old (piece_text piece.entry) result text.new }
 {
@@ -68,6 +69,7 @@ fn put_piece<W: Write>(text: &mut TextBuffer<'_, W>, piece: Piece<'_, '_>) -> Re
 }
 
 /// Puts the numbers, separated by spaces, or `-` if there is none.
+#[inline(always)]
 fn put_list<W: Write, N: Integer>(
     text: &mut TextBuffer<'_, W>,
     numbers: &[N],

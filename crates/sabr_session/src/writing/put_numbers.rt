@@ -1,4 +1,6 @@
 //! Numbers put into a text.
+//!
+//! What puts one piece is inlined, since a call for each took half as many instructions again for the line of a part.
 
 ghost use Rattle.std.specs.Prelude.{◌++◌};
 ghost use Rattle.sabr_session.specs.Gathering.{Puts};
@@ -9,6 +11,7 @@ use itoa::{Buffer, Integer};
 use sabr_model::{Write, WriteFault};
 
 /// Puts the number in decimal digits.
+#[inline(always)]
 pub(crate) fn put_digits<W: Write, N: Integer>(
     text: &mut TextBuffer<'_, W>,
     number: N,
@@ -20,6 +23,7 @@ pub(crate) fn put_digits<W: Write, N: Integer>(
 }
 
 /// Puts the label, and after it the number in decimal digits.
+#[inline(always)]
 pub(crate) fn put_number<W: Write, N: Integer>(
     text: &mut TextBuffer<'_, W>,
     label: &[u8],
@@ -32,6 +36,7 @@ pub(crate) fn put_number<W: Write, N: Integer>(
 }
 
 /// Puts each number after a space.
+#[inline(always)]
 pub(crate) fn put_numbers<W: Write, N: Integer>(
     text: &mut TextBuffer<'_, W>,
     numbers: &[N],

@@ -32,6 +32,7 @@ impl<'w, W: Write> TextBuffer<'w, W> {
     /// # Errors
     ///
     /// [`WriteFault`] if the writer failed. Then a prefix of the bytes held and the text was written.
+    #[inline(always)]
     pub fn put(&mut self, text: &[u8]) -> Result<(), WriteFault>
         ensures { Puts W.output self.old text.now result self.new }
     {
