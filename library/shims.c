@@ -17,8 +17,8 @@ struct cgrlist_plan { handle handle; MARK };
 /* A copy of a plan, over which a listing is open. */
 struct cgrlist_listing { cgrlist_plan *plan; MARK };
 
-/* The handle of a plan, and that of a listing. A call that only reads takes a copy (SEEN): the call gives back what it
- * takes out of a handle, so such calls may share a plan. */
+/* The handle of a plan, and that of a listing. A call with a const plan takes a copy (SEEN): the call gives back
+ * what it takes out of a handle, so such calls may share a plan. */
 #define HELD(plan) (CHECK(plan), &(plan)->handle)
 #define PAGED(listing) (CHECK(listing), HELD((listing)->plan))
 #define SEEN(plan) &(handle){(CHECK(plan), (plan)->handle.is_open), (plan)->handle.at}

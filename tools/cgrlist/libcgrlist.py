@@ -7,7 +7,8 @@
         print(plan.best(request(31, 1, 1893458700)))
 
 Times are whole seconds since 1970-01-01T00:00:00Z. What the library refuses is a `Refusal`, whose name is that of the constant
-in cgrlist.h; cgrlist(3) says what each means. A plan or a listing is used by one call at a time.
+in cgrlist.h; cgrlist(3) says what each means. A plan or a listing is used by one call at a time; after `prepare`,
+threads may make calls that don't change a plan at the same time.
 """
 
 import ctypes
@@ -319,7 +320,7 @@ class Plan(_Opened):
         return copy, tuple(numbers[: copy.greatest()])
 
     def prepare(self):
-        """Makes what is kept until the next change."""
+        """Makes what is kept until the next change. Until then, threads may make calls that don't change it at the same time."""
         self._call("plan_prepare")
 
     def greatest(self):
