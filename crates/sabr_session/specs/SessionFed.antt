@@ -1,5 +1,6 @@
 -- A session text that is read in chunks: what was read so far, what the text comes to, and what a call that reads leaves.
 use Rattle.std.specs.Prelude.{◌≡◌, ◌≢◌, ℕ, ◌+◌, ◌*◌, nat_lt, ◌&&◌, ◌||◌, Bool, true, false, List, [], ◌++◌, length, Result, Ok, Err, ◌⊎◌}
+use Rattle.sabr_plan.specs.TextReading.{AreRefused, ContinuesAs}
 use Rattle.sabr_model.specs.plan.Plan.{ContactPlan, TabledPlan}
 use Rattle.sabr_plan.specs.Canonical.{digest_of}
 use Rattle.sabr_plan.specs.Steps.{and_then}
@@ -50,12 +51,12 @@ pub record GoesOn (old : OpenText) (piece : List ℕ) (new : OpenText) : Type 0 
   pub plan : new.plan ≡ old.plan
   pub calls : new.calls ≡ old.calls
   pub held : new.fed.held ≡ (lines_of (old.fed.held ++ piece)).open_line
-  pub same : (more : List ℕ) (ended : Bool) → outcome_of old (piece ++ more) ended ≡ outcome_of new more ended
+  pub same : ContinuesAs (outcome_of old) piece (outcome_of new)
   pub fine : outcome_of new [] false ≡ Err Read
 
 -- a chunk is refused: a failed allocation, or this fault for all bytes after it
 abbrev pub IsRefusedPiece : OpenText → List ℕ → SessionFault → Type 0
-IsRefusedPiece t piece f = (f ≡ NoMemory) ⊎ ((f ≢ Read) × ((more : List ℕ) (ended : Bool) → outcome_of t (piece ++ more) ended ≡ Err f))
+IsRefusedPiece t piece f = (f ≡ NoMemory) ⊎ ((f ≢ Read) × AreRefused (outcome_of t) piece f)
 
 -- more bytes aren't held: a failed allocation, or no line begins with those held and them
 abbrev pub IsRefusedFront : OpenText → List ℕ → SessionFault → Type 0

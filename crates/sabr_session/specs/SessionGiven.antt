@@ -1,6 +1,7 @@
 -- What reading a session text leaves.
-use Rattle.std.specs.Prelude.{◌≡◌, ◌≢◌, ℕ, ◌+◌, Bool, true, false, List, ◌++◌, Result, Ok, Err, ◌⊎◌}
-use Rattle.sabr_model.specs.Devices.{Input, Gives, HasEnded}
+use Rattle.std.specs.Prelude.{◌≡◌, ℕ, Bool, List, Result}
+use Rattle.sabr_model.specs.Devices.{Input}
+use Rattle.sabr_plan.specs.TextReading as text
 use Rattle.sabr_model.specs.plan.Plan.{TabledPlan}
 use Rattle.sabr_plan.specs.Canonical.{digest_of}
 use Rattle.sabr_frontier.specs.session.Session.{Seen}
@@ -13,23 +14,25 @@ use Rattle.sabr_session.specs.declared.session_fault.SessionFault.TheVariants.{R
 abbrev pub said_over : TabledPlan → List ℕ → Bool → Result Said SessionFault
 said_over plan bytes ended = said_of plan.plan (digest_of plan.plan) bytes ended
 
+-- the fault of a reader that failed, and of a failed allocation
+abbrev pub IsRead : SessionFault → Type 0
+IsRead f = f ≡ Read
+
+abbrev pub IsNoMemory : SessionFault → Type 0
+IsNoMemory f = f ≡ NoMemory
+
 -- the reader ended after these bytes, and they are the text
 abbrev pub EndsText : TabledPlan → Input → List ℕ → Result Seen SessionFault → Input → Type 0
-EndsText plan old given answer new = HasEnded new × (new.failures ≡ old.failures) × IsSessionFrom plan (said_over plan given true) answer
+EndsText plan = text.EndsText (said_over plan) (IsSessionFrom plan)
 
 -- the reader failed after these bytes, which have no fault
 abbrev pub BreaksText : TabledPlan → Input → List ℕ → Result Seen SessionFault → Input → Type 0
-BreaksText plan old given (Ok s) new = ⊥
-BreaksText plan old given (Err f) new = (new.failures ≡ old.failures + 1) × (f ≡ Read) × (said_over plan given false ≡ Err f)
+BreaksText plan = text.BreaksText (said_over plan) IsRead
 
 -- these bytes are refused for all bytes after them, or an allocation failed
 abbrev pub RefusesText : TabledPlan → Input → List ℕ → Result Seen SessionFault → Input → Type 0
-RefusesText plan old given (Ok s) new = ⊥
-RefusesText plan old given (Err f) new =
-    (new.failures ≡ old.failures) × ((f ≡ NoMemory) ⊎ ((f ≢ Read) × ((more : List ℕ) (ended : Bool) → said_over plan (given ++ more) ended ≡ Err f)))
+RefusesText plan = text.RefusesText (said_over plan) IsRead IsNoMemory
 
 -- these bytes were read, and the result is that of their text
-pub record ReadsSession (plan : TabledPlan) (old : Input) (answer : Result Seen SessionFault) (new : Input) : Type 0 where
-  pub given : List ℕ
-  pub gives : Gives old given new
-  pub told : EndsText plan old given answer new ⊎ (BreaksText plan old given answer new ⊎ RefusesText plan old given answer new)
+abbrev pub ReadsSession : TabledPlan → Input → Result Seen SessionFault → Input → Type 0
+ReadsSession plan = text.ReadsToEnd (said_over plan) (IsSessionFrom plan) IsRead IsNoMemory

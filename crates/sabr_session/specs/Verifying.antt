@@ -1,6 +1,7 @@
 -- Which bytes are the text after some number of the best routes, and what verifying a text leaves.
 use Rattle.std.specs.Prelude.{◌≡◌, ◌≢◌, ℕ, ◌+◌, ◌≤◌, Bool, false, IsTrue, ◌↔◌, ◌⊎◌, List, ◌++◌, length, Result, Ok, Err}
-use Rattle.sabr_model.specs.Devices.{Input, Gives, HasEnded}
+use Rattle.sabr_model.specs.Devices.{Input, HasEnded}
+use Rattle.sabr_plan.specs.TextReading.{AreRefused, ReadsBytes}
 use Rattle.sabr_model.specs.plan.Plan.{ContactPlan}
 use Rattle.sabr_model.specs.routes.Arrival.{RouteRequest}
 use Rattle.sabr_model.specs.routes.Asking.{IsRequest}
@@ -34,7 +35,7 @@ BreaksVerified p old given answer new = (new.failures ≡ old.failures + 1) × (
 pub record HasFault (p : ContactPlan) (given : List ℕ) : Type 0 where
   pub fault : SessionFault
   pub other : fault ≢ Read
-  pub told : (more : List ℕ) (ended : Bool) → said_of p (digest_of p) (given ++ more) ended ≡ Err fault
+  pub told : AreRefused (said_of p (digest_of p)) given fault
 
 -- these bytes have a fault, and begin no such text, or an allocation failed
 abbrev pub RefusesVerified : ContactPlan → Input → List ℕ → Result Bool SessionFault → Input → Type 0
@@ -42,7 +43,5 @@ RefusesVerified p old given (Ok placed) new = (new.failures ≡ old.failures) ×
 RefusesVerified p old given (Err f) new = (new.failures ≡ old.failures) × (f ≡ NoMemory)
 
 -- these bytes were read, and the result is that of their text
-pub record VerifiesText (p : ContactPlan) (old : Input) (answer : Result Bool SessionFault) (new : Input) : Type 0 where
-  pub given : List ℕ
-  pub gives : Gives old given new
-  pub told : EndsVerified p old given answer new ⊎ (BreaksVerified p old given answer new ⊎ RefusesVerified p old given answer new)
+abbrev pub VerifiesText : ContactPlan → Input → Result Bool SessionFault → Input → Type 0
+VerifiesText p = ReadsBytes (EndsVerified p) (BreaksVerified p) (RefusesVerified p)

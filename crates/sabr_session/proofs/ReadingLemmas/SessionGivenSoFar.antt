@@ -1,7 +1,7 @@
 -- What reading a session text leaves, call by call.
-use Rattle.std.proofs.Common.{◌≡◌, ◌≢◌, ℕ, ◌+◌, Bool, true, false, List, [], ◌++◌, ◌⊎◌, inl, inr, sym, ap, ◌∙◌, refl, append_assoc, Result, Ok, Err, IfOk, IfErr}
+use Rattle.std.proofs.Common.{◌≡◌, ℕ, ◌+◌, true, false, List, [], ◌⊎◌, inl, inr, sym, subst, ◌∙◌, refl, Result, Ok, Err, IfOk, IfErr}
 use Rattle.sabr_model.specs.Devices.{Input, Gives, HasEnded}
-use Rattle.sabr_model.proofs.ListLemmas.ReadTexts.{Gives-nil, Gives-append}
+use Rattle.sabr_plan.proofs.TextReading as reading
 use Rattle.sabr_model.specs.plan.Plan.{TabledPlan}
 use Rattle.sabr_plan.specs.Canonical.{digest_of}
 use Rattle.sabr_frontier.specs.declared.session.paused.PausedSession.{PausedSession}
@@ -12,19 +12,17 @@ use Rattle.sabr_search.specs.questions.Calls.{Calls}
 use Rattle.sabr_session.specs.declared.session_fault.SessionFault.{SessionFault}
 use Rattle.sabr_session.specs.declared.session_fault.SessionFault.TheVariants as fault
 use Rattle.sabr_session.specs.SessionRead.{Said, ComesTo}
-use Rattle.sabr_session.specs.SessionFed.{OpenText, nothing_fed, opened_over, outcome_of, IsRefusedPiece, IsFed, IsFinished}
-use Rattle.sabr_session.specs.SessionGiven.{EndsText, BreaksText, RefusesText, ReadsSession, said_over}
+use Rattle.sabr_session.specs.SessionFed.{OpenText, nothing_fed, opened_over, outcome_of, IsFed, IsFinished, IsSessionFrom}
+use Rattle.sabr_session.specs.SessionGiven.{EndsText, BreaksText, RefusesText, IsNoMemory, IsRead, ReadsSession, said_over}
 use Rattle.sabr_session.specs.PausedTexts.{IsFinishedPaused, shown_over}
 use Rattle.sabr_session.proofs.ReadingLemmas.SessionOutcomes.{said_of-outcome, outcome-read}
 use Rattle.sabr_session.proofs.ReadingLemmas.StepsTaken.{text_not_read}
 
--- these bytes were read of a text over the plan that wasn't refused, and whatever comes after them, it comes to the same
+-- bytes were read of a text over the plan that wasn't refused, and whatever comes after them, it comes to the same
 pub record HasGiven (plan : TabledPlan) (calls : Calls) (old new : Input) (t : OpenText) : Type 0 where
-  pub given : List ℕ
-  pub gives : Gives old given new
+  pub read : reading.HasRead (said_over plan) (outcome_of t) old new
   pub over : t.plan ≡ plan
   pub counted : t.calls ≡ calls
-  pub same : (more : List ℕ) (ended : Bool) → said_over plan (given ++ more) ended ≡ outcome_of t more ended
   pub fine : outcome_of t [] false ≡ Err fault.Read
 
 -- a feed holds such a text
@@ -35,11 +33,9 @@ HasFed plan calls old new (Err f) = ⊥
 -- nothing was read at first
 pub nothing_given : (plan : TabledPlan) (calls : Calls) (old : Input) (feed : Result OpenText SessionFault) → feed ≡ Ok (opened_over plan calls) → HasFed plan calls old old feed
 nothing_given plan calls old feed is = rw is (record {
-  given = [];
-  gives = Gives-nil old;
+  read = reading.nothing_read (said_over plan) (outcome_of (opened_over plan calls)) old (λ more ended. said_of-outcome plan.plan (digest_of plan.plan) more ended);
   over = refl;
   counted = refl;
-  same = λ more ended. said_of-outcome plan.plan (digest_of plan.plan) more ended;
   fine = outcome-read plan.plan (digest_of plan.plan) nothing_fed refl refl;
 })
 
@@ -49,11 +45,9 @@ pub piece_given : {U : Type 0} (plan : TabledPlan) (calls : Calls) (old mid new 
 piece_given plan calls old mid new (Err f) next piece u was gives fed = absurd was
 piece_given plan calls old mid new (Ok t) (Err f) piece u was gives fed = absurd fed
 piece_given plan calls old mid new (Ok t) (Ok s) piece u was gives fed = record {
-  given = was.given ++ piece;
-  gives = Gives-append old mid new was.given piece was.gives gives;
+  read = reading.piece_read (outcome_of s) new piece was.read gives fed.same;
   over = fed.plan ∙ was.over;
   counted = fed.calls ∙ was.counted;
-  same = λ more ended. ap (λ bytes. said_over plan bytes ended) (append_assoc was.given piece more) ∙ was.same (piece ++ more) ended ∙ fed.same more ended;
   fine = fed.fine;
 }
 
@@ -61,26 +55,14 @@ piece_given plan calls old mid new (Ok t) (Ok s) piece u was gives fed = record 
 pub piece_refused : (plan : TabledPlan) (calls : Calls) (old mid new : Input) (feed next : Result OpenText SessionFault) (piece : List ℕ) (f : SessionFault)
     → HasFed plan calls old mid feed → Gives mid piece new → new.failures ≡ old.failures → IsFed {U = Unit {0}} feed piece (Err f) next → ReadsSession plan old (Err f) new
 piece_refused plan calls old mid new (Err g) next piece f was gives fine fed = absurd was
-piece_refused plan calls old mid new (Ok t) next piece f was gives fine fed = record {
-  given = was.given ++ piece;
-  gives = Gives-append old mid new was.given piece was.gives gives;
-  told = inr (inr (fine, for_good fed.1));
-}
-  where
-    for_good : IsRefusedPiece t piece f → (f ≡ fault.NoMemory) ⊎ ((f ≢ fault.Read) × ((more : List ℕ) (ended : Bool) → said_over plan ((was.given ++ piece) ++ more) ended ≡ Err f))
-    for_good (inl memory) = inl memory
-    for_good (inr (other, refused)) =
-        inr (other, λ more ended. ap (λ bytes. said_over plan bytes ended) (append_assoc was.given piece more) ∙ was.same (piece ++ more) ended ∙ refused more ended)
+piece_refused plan calls old mid new (Ok t) next piece f was gives fine fed = reading.piece_refused (IsSessionFrom plan) IsRead IsNoMemory new was.read piece f gives fine fed.1
 
 -- the reader ended
 pub reader_ended : (plan : TabledPlan) (calls : Calls) (old mid new : Input) (feed : Result OpenText SessionFault) (answer : Result Seen SessionFault)
     → HasFed plan calls old mid feed → Gives mid [] new → HasEnded new → new.failures ≡ old.failures → IsFinished feed answer → ReadsSession plan old answer new
 reader_ended plan calls old mid new (Err f) answer was gives end fine finished = absurd was
-reader_ended plan calls old mid new (Ok t) answer was gives end fine finished = record {
-  given = was.given ++ [];
-  gives = Gives-append old mid new was.given [] was.gives gives;
-  told = inl (end, fine, rw (was.same [] true, ← was.over) finished);
-}
+reader_ended plan calls old mid new (Ok t) answer was gives end fine finished =
+    reading.text_ended (IsSessionFrom plan) IsRead IsNoMemory new was.read answer gives end fine (subst (λ (q : TabledPlan). IsSessionFrom q (outcome_of t [] true) answer) was.over finished)
 
 -- the session of such a text was paused over the plan
 pub finished_over : {B A : Type 0} (calls_of : B → Calls) (plan : TabledPlan) (calls : Calls) (old new : Input) (feed : Result OpenText SessionFault) (answer : Result (PausedSession B A) SessionFault)
@@ -99,27 +81,21 @@ no_index plan old s new reads = record { given = reads.given; gives = reads.give
     by_end (inr (inl bad)) = absurd bad
     by_end (inr (inr bad)) = absurd bad
 
--- the fault of a session is Read only if its reader failed
-pub read_failed : (plan : TabledPlan) (old : Input) (answer : Result Seen SessionFault) (new : Input) → ReadsSession plan old answer new → IfErr answer (λ f. f ≡ fault.Read → new.failures ≡ old.failures + 1)
-read_failed plan old (Ok s) new reads = tt
-read_failed plan old (Err f) new reads = λ e.
-    elim reads.told [
-      | inl (end, fine, inl memory) ↦ absurd (no_memory (sym memory ∙ e))
-      | inl (end, fine, inr from) ↦ absurd (not_from reads.given e (said_over plan reads.given true) refl from)
-      | inr (inl (failed, so, broken)) ↦ failed
-      | inr (inr (fine, inl memory)) ↦ absurd (no_memory (sym memory ∙ e))
-      | inr (inr (fine, inr (other, refused))) ↦ absurd (other e)
-    ]
+-- no text that ends is refused as if its reader had failed
+pub never_read : (plan : TabledPlan) (given : List ℕ) (f : SessionFault) → IsSessionFrom plan (said_over plan given true) (Err f) → f ≡ fault.Read → ⊥
+never_read plan given f (inl memory) e = cc
+never_read plan given f (inr comes) e = by_said (said_over plan given true) refl comes
   where
-    no_memory : fault.NoMemory ≢ fault.Read
-    no_memory e = cc
-
-    not_from : (given : List ℕ) → f ≡ fault.Read → (said : Result Said SessionFault) → said_over plan given true ≡ said → ComesTo plan.plan said (Err f) → ⊥
-    not_from given e (Ok s) is (inl (closed, never)) = absurd cc
-    not_from given e (Ok s) is (inr (count, closed, never)) = absurd cc
-    not_from given e (Err g) is told =
+    by_said : (said : Result Said SessionFault) → said_over plan given true ≡ said → ComesTo plan.plan said (Err f) → ⊥
+    by_said (Ok s) is (inl (closed, never)) = absurd cc
+    by_said (Ok s) is (inr (count, closed, never)) = absurd cc
+    by_said (Err g) is told =
         let same : f ≡ g = cc in
         text_not_read plan.plan (digest_of plan.plan) given g is (sym same ∙ e)
+
+-- the fault of a session is Read only if its reader failed
+pub read_failed : (plan : TabledPlan) (old : Input) (answer : Result Seen SessionFault) (new : Input) → ReadsSession plan old answer new → IfErr answer (λ f. f ≡ fault.Read → new.failures ≡ old.failures + 1)
+read_failed plan old answer new reads = reading.read_failed (said_over plan) (IsSessionFrom plan) IsRead IsNoMemory old new answer (λ f memory is. cc) (never_read plan) reads
 
 pub paused_failed : {B A : Type 0} (calls_of : B → Calls) (plan : TabledPlan) (old : Input) (answer : Result (PausedSession B A) SessionFault) (new : Input)
     → ReadsSession plan old (shown_over calls_of plan answer) new → IfErr answer (λ f. f ≡ fault.Read → new.failures ≡ old.failures + 1)

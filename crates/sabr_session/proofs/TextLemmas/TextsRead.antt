@@ -10,6 +10,7 @@ use Rattle.sabr_model.specs.routes.Arrival.{RouteRequest}
 use Rattle.sabr_model.specs.routes.Asking.{IsRequest}
 use Rattle.sabr_plan.specs.Canonical.{canonical_text, digest_of}
 use Rattle.sabr_plan.specs.Steps.{and_then}
+use Rattle.sabr_plan.specs.TextReading.{AreRefused, ContinuesAs}
 use Rattle.sabr_plan.specs.Times.{time_text_of}
 use Rattle.sabr_plan.specs.Words.{TextLines, is_one_line, lines_of, before_lines}
 use Rattle.sabr_frontier.specs.listing.State.{PartState, State}
@@ -19,13 +20,14 @@ use Rattle.sabr_session.specs.SessionRead.{Said, nothing_said, line_said, read_l
 use Rattle.sabr_session.specs.declared.reading.first_lines.Version.{Version}
 use Rattle.sabr_session.specs.declared.reading.first_lines.Version.TheVariants.{One, Two}
 use Rattle.sabr_plan.proofs.SpelledNumbers.{same_text}
+use Rattle.sabr_plan.proofs.TextReading.{continued_end, continued_on}
 use Rattle.sabr_session.proofs.WordLemmas.SpelledWords.{decimal_is_word, digest_length, digest_word}
 use Rattle.sabr_session.proofs.TextLemmas.SpelledLines.{joined, AreLines, lines_of-joined, lf_after, concat_line, length-concat, word_line, list_line, list_length, nodes_length, accepted_nodes, accepted_few, time_word, digest_read, emitted_read, count_read, last_read, request_text, old_request_text, request_read, old_request_read, asked_is, old_asked_is, part_pieces, spelled_part, part_line_is, ArePartsOf, read_on, parts_read}
 use Rattle.sabr_session.proofs.ReadingLemmas.ShortStates.{StateIsTellable, state_is_tellable}
 use Rattle.sabr_plan.proofs.Held.{one_line-append}
 use Rattle.sabr_session.specs.SessionWords.{most_number}
 use Rattle.sabr_frontier.specs.session.Session.{Seen}
-use Rattle.sabr_session.specs.SessionFed.{OpenText, opened_over, outcome_of, IsFed, IsFinished, IsSessionFrom}
+use Rattle.sabr_session.specs.SessionFed.{OpenText, opened_over, outcome_of, IsFed, IsFinished, IsRefusedPiece, IsSessionFrom}
 use Rattle.sabr_session.specs.SessionGiven.{said_over}
 use Rattle.sabr_session.specs.TextLaws.{AreFed, bytes_of, IsAnswerSoFar, PiecesAreOneText, CanBeTold, IsReadBack, AreApart}
 use Rattle.sabr_session.specs.declared.session_fault.SessionFault.{SessionFault}
@@ -277,48 +279,45 @@ open_line-append bytes more = ap (λ (t : TextLines). t.open_line) (lines_of-app
 
 -- after these bytes, what was fed comes to what they come to
 abbrev SoFar : TabledPlan → List ℕ → Result OpenText SessionFault → Type 0
-SoFar plan bytes (Ok t) = (t.plan ≡ plan) × ((more : List ℕ) (ended : Bool) → said_over plan (bytes ++ more) ended ≡ outcome_of t more ended) × (t.fed.held ≡ (lines_of bytes).open_line)
-SoFar plan bytes (Err f) = (f ≡ fault.NoMemory) ⊎ ((f ≢ fault.Read) × ((more : List ℕ) (ended : Bool) → said_over plan (bytes ++ more) ended ≡ Err f))
+SoFar plan bytes (Ok t) = (t.plan ≡ plan) × ContinuesAs (said_over plan) bytes (outcome_of t) × (t.fed.held ≡ (lines_of bytes).open_line)
+SoFar plan bytes (Err f) = (f ≡ fault.NoMemory) ⊎ ((f ≢ fault.Read) × AreRefused (said_over plan) bytes f)
 
 module _ (plan : TabledPlan) where
-  after_all : (bytes : List ℕ) (ended : Bool) → said_over plan bytes ended ≡ said_over plan (bytes ++ []) ended
-  after_all bytes ended = ap (λ b. said_over plan b ended) (sym (append-nil bytes))
-
-  regrouped : (bytes piece more : List ℕ) (ended : Bool) → said_over plan ((bytes ++ piece) ++ more) ended ≡ said_over plan (bytes ++ (piece ++ more)) ended
-  regrouped bytes piece more ended = ap (λ b. said_over plan b ended) (append_assoc bytes piece more)
-
   -- one more piece
-  piece_fed : (bytes piece : List ℕ) (old new : Result OpenText SessionFault) (answer : Result (Unit {0}) SessionFault) → SoFar plan bytes old → IsFed old piece answer new → SoFar plan (bytes ++ piece) new × IsAnswerSoFar plan (bytes ++ piece) answer
+  piece_fed : (bytes piece : List ℕ) (old new : Result OpenText SessionFault) (answer : Result (Unit {0}) SessionFault) → SoFar plan bytes old → IsFed old piece answer new → SoFar plan (bytes ++ piece) new
   piece_fed bytes piece (Ok t) (Ok s) (Ok u) so fed =
-      let same : (more : List ℕ) (ended : Bool) → said_over plan ((bytes ++ piece) ++ more) ended ≡ outcome_of s more ended = λ more ended. regrouped bytes piece more ended ∙ so.1 (piece ++ more) ended ∙ fed.same more ended in
       let held : s.fed.held ≡ (lines_of (bytes ++ piece)).open_line = fed.held ∙ ap (λ b. (lines_of (b ++ piece)).open_line) so.2 ∙ sym (open_line-append bytes piece) in
-      ((fed.plan ∙ so.0, same, held), after_all (bytes ++ piece) false ∙ same [] false ∙ fed.fine)
+      (fed.plan ∙ so.0, continued_on (said_over plan) (outcome_of t) (outcome_of s) bytes piece so.1 fed.same, held)
   piece_fed bytes piece (Ok t) (Err g) (Ok u) so fed = absurd fed
-  piece_fed bytes piece (Ok t) (Ok s) (Err f) so fed = absurd cc
-  piece_fed bytes piece (Ok t) (Err g) (Err f) so fed = by_refusal fed.1
+  piece_fed bytes piece (Ok t) new (Err f) so fed = subst (SoFar plan (bytes ++ piece)) (sym fed.0) (by_refusal fed.1)
     where
-      by_refusal : (f ≡ fault.NoMemory) ⊎ ((f ≢ fault.Read) × ((more : List ℕ) (ended : Bool) → outcome_of t (piece ++ more) ended ≡ Err f)) → SoFar plan (bytes ++ piece) (Err g) × IsAnswerSoFar plan (bytes ++ piece) (Err f)
-      by_refusal (inl memory) = let same : g ≡ f = (let e = fed.0 in cc) in (inl (same ∙ memory), inl memory)
-      by_refusal (inr (other, refused)) =
-          let same : g ≡ f = (let e = fed.0 in cc) in
-          let all : (more : List ℕ) (ended : Bool) → said_over plan ((bytes ++ piece) ++ more) ended ≡ Err f = λ more ended. regrouped bytes piece more ended ∙ so.1 (piece ++ more) ended ∙ refused more ended in
-          (inr (rw same other, rw same all), inr (other, after_all (bytes ++ piece) false ∙ all [] false))
+      by_refusal : IsRefusedPiece t piece f → SoFar plan (bytes ++ piece) (Err f)
+      by_refusal (inl memory) = inl memory
+      by_refusal (inr (other, all)) = inr (other, continued_on (said_over plan) (outcome_of t) (λ _ _. Err f) bytes piece so.1 all)
   piece_fed bytes piece (Err g) new (Ok u) so fed = absurd fed
-  piece_fed bytes piece (Err g) (Ok s) (Err f) so fed = absurd cc
-  piece_fed bytes piece (Err g) (Err e) (Err f) so fed = by_refusal so
+  piece_fed bytes piece (Err g) new (Err f) so fed = subst (SoFar plan (bytes ++ piece)) (sym fed.1) (by_refusal so)
     where
-      by_refusal : SoFar plan bytes (Err g) → SoFar plan (bytes ++ piece) (Err e) × IsAnswerSoFar plan (bytes ++ piece) (Err f)
-      by_refusal (inl memory) = let same : e ≡ g = (let is = fed.1 in cc) in (inl (same ∙ memory), inl (fed.0 ∙ memory))
-      by_refusal (inr (other, refused)) =
-          let same : e ≡ g = (let is = fed.1 in cc) in
-          let all : (more : List ℕ) (ended : Bool) → said_over plan ((bytes ++ piece) ++ more) ended ≡ Err g = λ more ended. regrouped bytes piece more ended ∙ refused (piece ++ more) ended in
-          (inr (rw same other, rw same all), inr (rw fed.0 other, after_all (bytes ++ piece) false ∙ rw fed.0 (all [] false)))
+      by_refusal : SoFar plan bytes (Err g) → SoFar plan (bytes ++ piece) (Err g)
+      by_refusal (inl memory) = inl memory
+      by_refusal (inr (other, all)) = inr (other, continued_on (said_over plan) (λ _ _. Err g) (λ _ _. Err g) bytes piece all (λ more ended. refl))
+
+  -- its result
+  fault_so : (bytes : List ℕ) (f : SessionFault) → SoFar plan bytes (Err f) → IsAnswerSoFar plan bytes (Err f)
+  fault_so bytes f (inl memory) = inl memory
+  fault_so bytes f (inr (other, all)) = inr (other, continued_end (said_over plan) (λ _ _. Err f) bytes false all)
+
+  answer_so : (bytes piece : List ℕ) (old new : Result OpenText SessionFault) (answer : Result (Unit {0}) SessionFault) → IsFed old piece answer new → SoFar plan bytes new → IsAnswerSoFar plan bytes answer
+  answer_so bytes piece (Ok t) (Ok s) (Ok u) fed so = continued_end (said_over plan) (outcome_of s) bytes false so.1 ∙ fed.fine
+  answer_so bytes piece (Ok t) (Err g) (Ok u) fed so = absurd fed
+  answer_so bytes piece (Ok t) new (Err f) fed so = fault_so bytes f (subst (SoFar plan bytes) fed.0 so)
+  answer_so bytes piece (Err g) new (Ok u) fed so = absurd fed
+  answer_so bytes piece (Err g) new (Err f) fed so = fault_so bytes f (subst (SoFar plan bytes) (fed.1 ∙ ap Err (sym fed.0)) so)
 
   -- one piece after the other
   all_fed : (bytes : List ℕ) (fed : List (List ℕ × Result (Unit {0}) SessionFault)) (old new : Result OpenText SessionFault) → SoFar plan bytes old → AreFed old fed new → SoFar plan (bytes ++ bytes_of fed) new
   all_fed bytes [] old new so are = rw (append-nil bytes, are) so
   all_fed bytes (f ∷ fed) old new so (mid, first, rest) =
-      rw (← append_assoc bytes f.0 (bytes_of fed)) (all_fed (bytes ++ f.0) fed mid new (piece_fed bytes f.0 old mid f.1 so first).0 rest)
+      rw (← append_assoc bytes f.0 (bytes_of fed)) (all_fed (bytes ++ f.0) fed mid new (piece_fed bytes f.0 old mid f.1 so first) rest)
 
   -- what is held
   held_so : (bytes : List ℕ) (old : Result OpenText SessionFault) → SoFar plan bytes old → IfOk old (λ t. t.fed.held ≡ (lines_of bytes).open_line)
@@ -327,9 +326,9 @@ module _ (plan : TabledPlan) where
 
   -- the end
   ended_so : (bytes : List ℕ) (old : Result OpenText SessionFault) (answer : Result Seen SessionFault) → SoFar plan bytes old → IsFinished old answer → IsSessionFrom plan (said_over plan bytes true) answer
-  ended_so bytes (Ok t) answer so finished = rw (after_all bytes true, so.1 [] true, ← so.0) finished
+  ended_so bytes (Ok t) answer so finished = rw (continued_end (said_over plan) (outcome_of t) bytes true so.1, ← so.0) finished
   ended_so bytes (Err f) answer (inl memory) finished = rw finished (inl memory)
-  ended_so bytes (Err f) answer (inr (other, refused)) finished = rw (finished, after_all bytes true, refused [] true) (inr refl)
+  ended_so bytes (Err f) answer (inr (other, all)) finished = rw (finished, continued_end (said_over plan) (λ _ _. Err f) bytes true all) (inr refl)
 
 nothing_held : [] ≡ (lines_of []).open_line
 unfolding lines_of
@@ -341,7 +340,7 @@ pieces_joined plan calls fed old are =
     let start : SoFar plan [] (Ok (opened_over plan calls)) = (refl, (λ more ended. said_of-outcome plan.plan (digest_of plan.plan) more ended), nothing_held) in
     let so : SoFar plan (bytes_of fed) old = all_fed plan [] fed (Ok (opened_over plan calls)) old start are in
     record {
-      piece = λ piece answer new is. (piece_fed plan (bytes_of fed) piece old new answer so is).1;
+      piece = λ piece answer new is. answer_so plan (bytes_of fed ++ piece) piece old new answer is (piece_fed plan (bytes_of fed) piece old new answer so is);
       held = held_so plan (bytes_of fed) old so;
       end = λ answer finished. ended_so plan (bytes_of fed) old answer so finished;
     }

@@ -1,6 +1,6 @@
 -- The words in which numbers, lists, times and digests are spelled, digits as the first word of a text, and that words which
 -- are read so are the spelling of it.
-use Rattle.std.proofs.Common.{◌≡◌, ℕ, ◌+◌, ◌%◌, ◌<◌, ◌≤◌, ◌^◌, Bool, true, false, cond, eqb, List, [], ◌∷◌, ◌++◌, length, map, refl, ap, ◌∙◌, arith, append-nil, decimal, codes, option_map, zero, suc, ◌*◌, ◌/◌, leb, ◌&&◌, ltb, sym, append_assoc, Option, None}
+use Rattle.std.proofs.Common.{◌≡◌, ◌==◌, ℕ, ◌+◌, ◌%◌, ◌<◌, ◌≤◌, ◌^◌, Bool, true, false, cond, eqb, List, [], ◌∷◌, ◌++◌, length, map, refl, ap, ◌∙◌, arith, append-nil, decimal, codes, option_map, zero, suc, ◌*◌, ◌/◌, leb, ◌&&◌, ltb, sym, append_assoc, Option, None}
 use Rattle.std.specs.List.{slice_split, onto_first, list_all, join_with_byte}
 use Rattle.std.specs.Str.{bytes_eq}
 use Rattle.std.proofs.lemmas.Bool.Decides.{nat_tests}
