@@ -6,9 +6,9 @@
 //! [`run_check`] prints what a plan contains, [`run_explain`] follows a list of contacts, and [`run_many`] and
 //! [`run_follow`] answer each line of a text.
 //!
-//! **Values.** [`values_in`] reads the values of a command from texts, wherever they come from, and [`read_values`] from
-//! what `clap` found. Times are seconds since 1970-01-01T00:00:00Z, a margin is in parts per million of light times,
-//! and a page has 1 to 10000 routes.
+//! **Values.** [`read_values`] reads the values of a command from what `clap` found, and [`first_values_in`],
+//! [`page_count_in`] and [`explain_values_in`] from texts, wherever they come from. Times are seconds since
+//! 1970-01-01T00:00:00Z, a margin is in parts per million of light times, and a page has 1 to 10000 routes.
 //!
 //! **Files.** A [`FileSystem`] opens files and makes the one for a session, and its contract says what is left of it.
 //! [`Disk`] is the system's.
@@ -36,10 +36,10 @@ mod failure;
 mod files;
 mod headline;
 mod program;
-mod rows;
 mod runs;
 mod texts;
 mod words;
+mod worked_explanations;
 
 pub use command::CommandName;
 pub use failure::{Failure, Status};
@@ -49,7 +49,10 @@ pub use headline::{
     runs_go_on, runs_in_turn,
 };
 pub use program::run_words;
-pub use rows::explanations_of_plan_a;
 pub use runs::{run_check, run_explain, run_first, run_follow, run_many, run_next, run_verify};
 pub use texts::report_failure;
-pub use words::{RequestTexts, ValueFault, ValueName, ValueTexts, Values, read_values, values_in};
+pub use words::{
+    RequestTexts, ValueFault, ValueName, ValueTexts, Values, explain_values_in, first_values_in,
+    page_count_in, read_values,
+};
+pub use worked_explanations::explanations_of_plan_a;

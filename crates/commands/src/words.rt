@@ -20,5 +20,6 @@ pub use table::{
 };
 pub use value_fault::{ValueFault, ValueName};
 pub use values::{
-    ValueTexts, Values, explain_values, first_values, page_count, read_values, values_in,
+    ValueTexts, Values, explain_values, explain_values_in, first_values, first_values_in,
+    page_count, page_count_in, read_values,
 };

@@ -11,6 +11,7 @@ use commands::{
     Disk, Status, ValueFault, ValueName, run_check, run_explain, run_first, run_follow, run_many,
     run_next, run_verify, run_words,
 };
+use sabr_frontier::MAX_ROUTES;
 use std::alloc::{Allocator, Global};
 
 /// What a command writes to.
@@ -165,7 +166,7 @@ fn count_of(words: &mut Words<'_>) -> Option<(u32, bool)>
 {
     let count = small_number(words)?;
     let keeps = words.next() == Some("keep");
-    if count < 1 || count > 10000 {
+    if count < 1 || count > MAX_ROUTES {
         return None;
     }
     Some((count, keeps))

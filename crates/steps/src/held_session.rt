@@ -5,7 +5,7 @@ use crate::harness::Harness;
 use crate::loading::{fed, loaded};
 use crate::sessions::session_step;
 use crate::words::{Words, small_number};
-use sabr_frontier::{LastPage, Loader, Session};
+use sabr_frontier::{LastPage, Loader, MAX_ROUTES, Session};
 use sabr_model::Plan;
 use sabr_plan::digest;
 use sabr_search::{BestOf, Layered, Settled};
@@ -77,7 +77,7 @@ impl<'p, B: NewFinder<A>, A: Allocator + Copy> HeldSession<'p, B, A> {
     /// The last page of the session, at most 10000 routes. It is `Some(None)` if an allocation failed, and `None`
     /// without a session or a number.
     fn last_page(&mut self, words: &mut Words<'_>) -> Option<Option<LastPage<'p, B, A>>> {
-        let count = small_number(words)?.min(10000);
+        let count = small_number(words)?.min(MAX_ROUTES);
         Some(self.session.take()?.last_page(count).ok())
     }
 

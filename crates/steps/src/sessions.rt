@@ -4,7 +4,7 @@ use crate::answers::{done, no_memory, put_numbers, put_route, routes, yes_or_no}
 use crate::harness::Harness;
 use crate::plans::held;
 use crate::words::{Words, small_number};
-use sabr_frontier::Session;
+use sabr_frontier::{MAX_ROUTES, Session};
 use sabr_plan::digest;
 use sabr_search::BestOf;
 use sabr_session::write_session;
@@ -36,7 +36,7 @@ fn page<A: Allocator + Copy, B: BestOf<A>>(
     alloc: Global,
     count: Option<u32>,
 ) -> Option<String> {
-    match session.page(count?.min(10000)) {
+    match session.page(count?.min(MAX_ROUTES)) {
         Ok(given) => routes(alloc, given.as_slice()),
         Err(_) => no_memory(alloc),
     }

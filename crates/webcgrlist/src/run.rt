@@ -9,7 +9,9 @@ use crate::asked::Asked;
 use crate::call::{Call, Run};
 use crate::runs::{check, explain, first, follow, list_canonical, many, next, verify};
 use crate::writers::Writers;
-use commands::{CommandName, Status, report_failure, values_in};
+use commands::{
+    CommandName, Status, explain_values_in, first_values_in, page_count_in, report_failure,
+};
 use sabr_model::Write;
 use std::alloc::Allocator;
 
@@ -22,17 +24,26 @@ fn run_command<O: Write, S: Write, E: Write, A: Allocator + Copy>(
 ) -> Status
     ensures { EndsCall (run.Command command) asked.now (seen O.output S.output E.output to.entry.report.now to.entry.session.now to.entry.message.now) (seen O.output S.output E.output to.exit.0.now to.exit.1.0.now to.exit.1.1.0.now) result }
 {
-    let values = match values_in(alloc, command, &asked.values()) {
-        Ok(values) => values,
-        Err(fault) => return report_failure(to.message, fault.into()),
-    };
+    let texts = asked.values();
     match command {
-        CommandName::First => first(alloc, asked, values, to),
-        CommandName::Next => next(alloc, asked, values, to),
+        CommandName::First => match first_values_in(&texts) {
+            Ok((request, count)) => first(alloc, asked, request, count, to),
+            Err(fault) => report_failure(to.message, fault.into()),
+        },
+        CommandName::Next => match page_count_in(&texts) {
+            Ok(count) => next(alloc, asked, count, to),
+            Err(fault) => report_failure(to.message, fault.into()),
+        },
         CommandName::Verify => verify(alloc, asked, to),
         CommandName::Check => check(alloc, asked, to),
-        CommandName::Explain => explain(alloc, asked, values, to),
-        CommandName::Many => many(alloc, asked, values, to),
+        CommandName::Explain => match explain_values_in(alloc, &texts) {
+            Ok((request, contacts)) => explain(alloc, asked, request, contacts.as_slice(), to),
+            Err(fault) => report_failure(to.message, fault.into()),
+        },
+        CommandName::Many => match page_count_in(&texts) {
+            Ok(count) => many(alloc, asked, count, to),
+            Err(fault) => report_failure(to.message, fault.into()),
+        },
         CommandName::Follow => follow(alloc, asked, to),
     }
 }

@@ -1,6 +1,6 @@
 //! The runs, over texts in memory.
 
-ghost use Rattle.std.specs.Prelude.{◌≡◌, IfSome, IsTrue, is_some};
+ghost use Rattle.std.specs.Prelude.{◌≡◌};
 ghost use Rattle.commands.specs.words.Values.{IsCount};
 ghost use Rattle.webcgrlist.specs.Runs.{RunsCanonical, RunsCheck, RunsExplain, RunsFirst, RunsFollow, RunsMany, RunsNext, RunsVerify, seen};
 
@@ -8,26 +8,23 @@ use crate::asked::Asked;
 use crate::canonical::run_canonical;
 use crate::writers::Writers;
 use commands::{
-    Status, Values, run_check, run_explain, run_first, run_follow, run_many, run_next, run_verify,
+    Status, run_check, run_explain, run_first, run_follow, run_many, run_next, run_verify,
 };
 use host::Bytes;
-use sabr_model::Write;
+use sabr_model::{Request, Write};
 use std::alloc::Allocator;
 
 /// Lists the first page of a request. Writes the session after it if that is asked.
 pub fn first<O: Write, S: Write, E: Write, A: Allocator + Copy>(
     alloc: A,
     asked: &Asked<'_>,
-    values: Values<A>,
+    request: Request,
+    count: u32,
     to: Writers<'_, O, S, E>,
 ) -> Status
-    requires request { IsTrue (is_some values.request) }
-    requires count { IsTrue (is_some values.count) }
-    requires range { IfSome values.count IsCount }
-    ensures { IfSome values.request (λ r. IfSome values.count (λ count. RunsFirst asked.now r count (seen O.output S.output E.output to.entry.report.now to.entry.session.now to.entry.message.now) (seen O.output S.output E.output to.exit.0.now to.exit.1.0.now to.exit.1.1.0.now) result)) }
+    requires { IsCount count }
+    ensures { RunsFirst asked.now request count (seen O.output S.output E.output to.entry.report.now to.entry.session.now to.entry.message.now) (seen O.output S.output E.output to.exit.0.now to.exit.1.0.now to.exit.1.1.0.now) result }
 {
-    let request = values.request.unwrap();
-    let count = values.count.unwrap();
     let keep = asked.keep;
     let mut plan = Bytes::new(asked.plan);
     let Writers {
@@ -44,14 +41,12 @@ pub fn first<O: Write, S: Write, E: Write, A: Allocator + Copy>(
 pub fn next<O: Write, S: Write, E: Write, A: Allocator + Copy>(
     alloc: A,
     asked: &Asked<'_>,
-    values: Values<A>,
+    count: u32,
     to: Writers<'_, O, S, E>,
 ) -> Status
-    requires count { IsTrue (is_some values.count) }
-    requires range { IfSome values.count IsCount }
-    ensures { IfSome values.count (λ count. RunsNext asked.now count (seen O.output S.output E.output to.entry.report.now to.entry.session.now to.entry.message.now) (seen O.output S.output E.output to.exit.0.now to.exit.1.0.now to.exit.1.1.0.now) result) }
+    requires { IsCount count }
+    ensures { RunsNext asked.now count (seen O.output S.output E.output to.entry.report.now to.entry.session.now to.entry.message.now) (seen O.output S.output E.output to.exit.0.now to.exit.1.0.now to.exit.1.1.0.now) result }
 {
-    let count = values.count.unwrap();
     let keep = asked.keep;
     let mut plan = Bytes::new(asked.plan);
     let mut old = Bytes::new(asked.session);
@@ -104,14 +99,12 @@ pub fn check<O: Write, S: Write, E: Write, A: Allocator + Copy>(
 pub fn explain<O: Write, S: Write, E: Write, A: Allocator + Copy>(
     alloc: A,
     asked: &Asked<'_>,
-    values: Values<A>,
+    request: Request,
+    contacts: &[u32],
     to: Writers<'_, O, S, E>,
 ) -> Status
-    requires request { IsTrue (is_some values.request) }
-    ensures { IfSome values.request (λ r. RunsExplain asked.now r values.contacts (seen O.output S.output E.output to.entry.report.now to.entry.session.now to.entry.message.now) (seen O.output S.output E.output to.exit.0.now to.exit.1.0.now to.exit.1.1.0.now) result) }
+    ensures { RunsExplain asked.now request contacts.now (seen O.output S.output E.output to.entry.report.now to.entry.session.now to.entry.message.now) (seen O.output S.output E.output to.exit.0.now to.exit.1.0.now to.exit.1.1.0.now) result }
 {
-    let request = values.request.unwrap();
-    let contacts = values.contacts.as_slice();
     let mut plan = Bytes::new(asked.plan);
     let Writers {
         report,
@@ -125,14 +118,12 @@ pub fn explain<O: Write, S: Write, E: Write, A: Allocator + Copy>(
 pub fn many<O: Write, S: Write, E: Write, A: Allocator + Copy>(
     alloc: A,
     asked: &Asked<'_>,
-    values: Values<A>,
+    count: u32,
     to: Writers<'_, O, S, E>,
 ) -> Status
-    requires count { IsTrue (is_some values.count) }
-    requires range { IfSome values.count IsCount }
-    ensures { IfSome values.count (λ count. RunsMany asked.now count (seen O.output S.output E.output to.entry.report.now to.entry.session.now to.entry.message.now) (seen O.output S.output E.output to.exit.0.now to.exit.1.0.now to.exit.1.1.0.now) result) }
+    requires { IsCount count }
+    ensures { RunsMany asked.now count (seen O.output S.output E.output to.entry.report.now to.entry.session.now to.entry.message.now) (seen O.output S.output E.output to.exit.0.now to.exit.1.0.now to.exit.1.1.0.now) result }
 {
-    let count = values.count.unwrap();
     let mut plan = Bytes::new(asked.plan);
     let mut requests = Bytes::new(asked.requests);
     let Writers {

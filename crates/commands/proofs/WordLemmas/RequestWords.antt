@@ -5,7 +5,8 @@ use Rattle.std.specs.Option.{option_copied}
 use Rattle.commands.specs.words.Values.{first_of, TextsGiven, numbers_within}
 use Rattle.sabr_plan.specs.Pieces.{pieces_of, pieces_after}
 use Rattle.sabr_plan.proofs.TextPieces.{some_piece}
-use Rattle.commands.specs.words.Lines.{texts_of, after_contacts, after_listed, fault_of, list_in, list_texts_in, list_where_given, or_kind, request_by}
+use Rattle.std.specs.Result.{result_ok}
+use Rattle.commands.specs.words.Lines.{Asked, texts_of, after_contacts, after_listed, fault_of, list_in, list_texts_in, list_where_given, or_kind, request_by}
 use Rattle.std.specs.declared.option.Option.{Option}
 use Rattle.std.specs.declared.option.Option.TheVariants.{Some, None}
 use Rattle.sabr_model.specs.routes.Arrival.{RouteRequest}
@@ -119,10 +120,10 @@ some_there : (o : Option (List ℕ)) → is_some o ≡ true → (contacts : List
 some_there None e = absurd cc
 some_there (Some contacts) e = (contacts, refl)
 
--- after good contacts, the fault is the request's
-same_fault : (contacts : List ℕ) (r : Result RouteRequest LineKind) → fault_of (after_contacts contacts r) ≡ fault_of r
-same_fault contacts (Ok r) = refl
-same_fault contacts (Err kind) = refl
+-- a line with a fault asks nothing
+pub none_asked : (r : Result Asked LineKind) (kind : LineKind) → Some kind ≡ fault_of r → None ≡ result_ok r
+none_asked (Ok a) kind e = absurd cc
+none_asked (Err other) kind e = refl
 
 module _ (line : List ℕ) where
   -- a line that is too long, or has too few words or too many
@@ -136,21 +137,24 @@ module _ (line : List ℕ) where
     by_numbers = ap list_where_given (sym is)
 
     -- bad contacts
-    pub not_contacts : numbers_within 1 most_number numbers ≡ None → list_in line ≡ Err BadContacts
-    not_contacts none = by_numbers ∙ ap (λ o. after_listed o (or_kind (request_by texts))) none
+    pub not_contacts : is_some (numbers_within 1 most_number numbers) ≡ false → list_in line ≡ Err BadContacts
+    not_contacts none = by_numbers ∙ ap (λ o. after_listed o (or_kind (request_by texts))) (none_there (numbers_within 1 most_number numbers) none)
 
     -- contacts, and then a request or what is bad in it
-    pub with_contacts : (contacts : List ℕ) → numbers_within 1 most_number numbers ≡ Some contacts → list_in line ≡ after_contacts contacts (or_kind (request_by texts))
-    with_contacts contacts some = by_numbers ∙ ap (λ o. after_listed o (or_kind (request_by texts))) some
-
-    -- the same of a line that is judged
-    pub fault_at_contacts : is_some (numbers_within 1 most_number numbers) ≡ false → Some BadContacts ≡ fault_of (list_in line)
-    fault_at_contacts none = sym (ap fault_of (not_contacts (none_there (numbers_within 1 most_number numbers) none)))
-
-    pub fault_after_contacts : is_some (numbers_within 1 most_number numbers) ≡ true → fault_of (or_kind (request_by texts)) ≡ fault_of (list_in line)
-    fault_after_contacts some =
+    with_contacts : is_some (numbers_within 1 most_number numbers) ≡ true → (r : Result RouteRequest LineKind) → or_kind (request_by texts) ≡ r
+        → (contacts : List ℕ) × (numbers_within 1 most_number numbers ≡ Some contacts) × (list_in line ≡ after_contacts contacts r)
+    with_contacts some r is =
         let (contacts, there) = some_there (numbers_within 1 most_number numbers) some in
-        sym (ap fault_of (with_contacts contacts there) ∙ same_fault contacts (or_kind (request_by texts)))
+        (contacts, there, by_numbers ∙ ap (λ o. after_listed o (or_kind (request_by texts))) there ∙ ap (after_contacts contacts) is)
+
+    -- contacts, and then what is bad in a request
+    pub bad_request : is_some (numbers_within 1 most_number numbers) ≡ true → (kind : LineKind) → or_kind (request_by texts) ≡ Err kind → list_in line ≡ Err kind
+    bad_request some kind is = (with_contacts some (Err kind) is).2
+
+    -- contacts, and then a request
+    pub good_list : is_some (numbers_within 1 most_number numbers) ≡ true → (r : RouteRequest) → or_kind (request_by texts) ≡ Ok r
+        → (contacts : List ℕ) × (numbers_within 1 most_number numbers ≡ Some contacts) × (list_in line ≡ Ok (record { contacts = contacts; request = r }))
+    good_list some r is = with_contacts some (Ok r) is
 
 -- ---- at most 16 numbers
 

@@ -5,7 +5,7 @@ ghost use Rattle.sabr_plan.specs.Words.{is_one_line};
 ghost use Rattle.commands.specs.words.Lines.{HasLines, IsGoodSoFar, IsJudged, IsRefused, ReadsLines, AskedLine, asked_at, fault_in, fault_of, is_bad_rest, most_bytes, most_lines, kind_of};
 ghost use Rattle.commands.specs.declared.words.lines.LinesFault.{LinesFault};
 
-use crate::words::request_line::{MAX_LINE_BYTES, MAX_LIST_BYTES, list_fault, request_in};
+use crate::words::request_line::{MAX_LINE_BYTES, MAX_LIST_BYTES, list_words, request_in};
 use crate::words::value_fault::{ValueFault, ValueName};
 use sabr_model::{Failed, Read};
 use sabr_plan::{ended_line, line_end};
@@ -113,7 +113,7 @@ fn fault_at(form: LineForm, number: u32, line: &[u8]) -> Option<LineKind>
     }
     match form {
         LineForm::Requests => request_in(line).err(),
-        LineForm::Lists => list_fault(line),
+        LineForm::Lists => list_words(line).err(),
     }
 }
 

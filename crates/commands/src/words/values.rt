@@ -15,11 +15,9 @@ use crate::words::pieces::contacts_listed;
 use crate::words::request_words::{RequestTexts, number_given, request_of, request_words};
 use crate::words::value_fault::{ValueFault, ValueName};
 use clap::ArgMatches;
+use sabr_frontier::MAX_ROUTES;
 use sabr_model::{Numbers, Request};
 use std::alloc::{Allocator, Global};
-
-/// The most routes of a page.
-const MAX_ROUTES: u64 = 10000;
 
 /// The values of a command. What the command doesn't have is `None` or empty.
 #[derive(Drop)]
@@ -38,7 +36,7 @@ fn count_given(text: Option<&[u8]>) -> Result<u32, ValueFault>
     ensures range { IfOk result IsCount }
     ensures memory { ¬ IsErrOf result ValueFault.NoMemory }
 {
-    let count = number_given(text, ValueName::Count, 1, MAX_ROUTES)?;
+    let count = number_given(text, ValueName::Count, 1, MAX_ROUTES as u64)?;
     Ok(count as u32)
 }
 
@@ -55,8 +53,12 @@ fn contacts_given<A: Allocator + Copy>(
 }
 
 /// Reads the values of `first` from texts: the request, and the number of routes of a page.
+///
+/// # Errors
+///
+/// Those of [`read_values`].
 #[tactic(auto, unfolding(crate::specs::words::Values::values_in))]
-fn first_values_in(texts: &ValueTexts<'_>) -> Result<(Request, u32), ValueFault>
+pub fn first_values_in(texts: &ValueTexts<'_>) -> Result<(Request, u32), ValueFault>
     ensures ok { IfOk result (λ v. values_in named.First (values_given texts.now) ≡ Ok (record { request = Some v.0; count = Some v.1; contacts = [] })) }
     ensures err { IfErr result (λ e. values_in named.First (values_given texts.now) ≡ Err e) }
     ensures range { IfOk result (λ v. IsCount v.1) }
@@ -68,9 +70,30 @@ fn first_values_in(texts: &ValueTexts<'_>) -> Result<(Request, u32), ValueFault>
     Ok((request, count))
 }
 
-/// Reads the values of `explain` from texts: the request, and the contacts.
+/// Reads the value of `next` and of `many` from texts: the number of routes of a page.
+///
+/// # Errors
+///
+/// Those of [`read_values`].
 #[tactic(auto, unfolding(crate::specs::words::Values::values_in))]
-fn explain_values_in<A: Allocator + Copy>(
+pub fn page_count_in(texts: &ValueTexts<'_>) -> Result<u32, ValueFault>
+    ensures next { IfOk result (λ n. values_in named.Next (values_given texts.now) ≡ Ok (record { request = None; count = Some n; contacts = [] })) }
+    ensures many { IfOk result (λ n. values_in named.Many (values_given texts.now) ≡ Ok (record { request = None; count = Some n; contacts = [] })) }
+    ensures not_next { IfErr result (λ e. values_in named.Next (values_given texts.now) ≡ Err e) }
+    ensures not_many { IfErr result (λ e. values_in named.Many (values_given texts.now) ≡ Err e) }
+    ensures range { IfOk result IsCount }
+    ensures memory { ¬ IsErrOf result ValueFault.NoMemory }
+{
+    count_given(texts.count)
+}
+
+/// Reads the values of `explain` from texts: the request, and the contacts.
+///
+/// # Errors
+///
+/// Those of [`read_values`].
+#[tactic(auto, unfolding(crate::specs::words::Values::values_in))]
+pub fn explain_values_in<A: Allocator + Copy>(
     alloc: A,
     texts: &ValueTexts<'_>,
 ) -> Result<(Request, Numbers<A>), ValueFault>
@@ -98,19 +121,9 @@ fn without_contacts<A: Allocator + Copy>(
     }
 }
 
-/// Reads the values of a command from texts strictly.
-///
-/// Nodes, numbers and counts are decimal without a sign or leading zero and within their limits, a time is
-/// `yyyy/mm/dd-hh:mm:ss`, and lists are joined by single commas. A margin that isn't given is 0, a limit on hops that
-/// isn't given is 20000, and without nodes to avoid none is avoided.
-///
-/// # Errors
-///
-/// The first that holds: [`ValueFault::Bad`] with the first bad text in the order of [`ValueName`],
-/// [`ValueFault::SameNode`], [`ValueFault::BadAvoid`]. [`ValueFault::NoMemory`] only if an allocation for contacts
-/// failed.
+/// Reads the values of a command from texts.
 #[tactic(auto, unfolding(crate::specs::words::Values::values_in))]
-pub fn values_in<A: Allocator + Copy>(
+fn values_in<A: Allocator + Copy>(
     alloc: A,
     command: CommandName,
     texts: &ValueTexts<'_>,
@@ -153,7 +166,7 @@ pub fn values_in<A: Allocator + Copy>(
 ///
 /// # Errors
 ///
-/// Those of [`values_in`].
+/// Those of [`read_values`].
 pub fn first_values(words: &ArgMatches<'_>) -> Result<(Request, u32), ValueFault>
     ensures ok { IfOk result (λ v. values_of named.First (found_of words.now) ≡ Ok (record { request = Some v.0; count = Some v.1; contacts = [] })) }
     ensures err { IfErr result (λ e. values_of named.First (found_of words.now) ≡ Err e) }
@@ -167,8 +180,7 @@ pub fn first_values(words: &ArgMatches<'_>) -> Result<(Request, u32), ValueFault
 ///
 /// # Errors
 ///
-/// Those of [`values_in`].
-#[tactic(auto, unfolding(crate::specs::words::Values::values_in))]
+/// Those of [`read_values`].
 pub fn page_count(words: &ArgMatches<'_>) -> Result<u32, ValueFault>
     ensures next { IfOk result (λ n. values_of named.Next (found_of words.now) ≡ Ok (record { request = None; count = Some n; contacts = [] })) }
     ensures many { IfOk result (λ n. values_of named.Many (found_of words.now) ≡ Ok (record { request = None; count = Some n; contacts = [] })) }
@@ -177,14 +189,14 @@ pub fn page_count(words: &ArgMatches<'_>) -> Result<u32, ValueFault>
     ensures range { IfOk result IsCount }
     ensures memory { ¬ IsErrOf result ValueFault.NoMemory }
 {
-    count_given(values_under(words).count)
+    page_count_in(&values_under(words))
 }
 
 /// Reads the values of `explain` from its words: the request, and the contacts.
 ///
 /// # Errors
 ///
-/// Those of [`values_in`].
+/// Those of [`read_values`].
 pub fn explain_values<A: Allocator + Copy>(
     alloc: A,
     words: &ArgMatches<'_>,
@@ -195,12 +207,18 @@ pub fn explain_values<A: Allocator + Copy>(
     explain_values_in(alloc, &values_under(words))
 }
 
-/// Reads the values of the command of this name, as [`values_in`]. `matches` holds the texts given under the names of its
-/// words. The name is that of one of the commands.
+/// Reads the values of the command of this name strictly. `matches` holds the texts given under the names of its words.
+/// The name is that of one of the commands.
+///
+/// Nodes, numbers and counts are decimal without a sign or leading zero and within their limits, a time is
+/// `yyyy/mm/dd-hh:mm:ss`, and lists are joined by single commas. A margin that isn't given is 0, a limit on hops that
+/// isn't given is 20000, and without nodes to avoid none is avoided.
 ///
 /// # Errors
 ///
-/// Those of [`values_in`].
+/// The first that holds: [`ValueFault::Bad`] with the first bad text in the order of [`ValueName`],
+/// [`ValueFault::SameNode`], [`ValueFault::BadAvoid`]. [`ValueFault::NoMemory`] only if an allocation for contacts
+/// failed.
 pub fn read_values<A: Allocator + Copy>(
     alloc: A,
     command: &str,
@@ -214,10 +232,10 @@ pub fn read_values<A: Allocator + Copy>(
     ensures count { IfSome (command_named command.now) (λ name. IfOk result (λ v. is_some v.count ≡ has_count name)) }
     ensures count_range { IfOk result (λ v. IfSome v.count IsCount) }
 {
-    let Some(command) = command_named(command) else {
-        unreachable!();
-    };
-    values_in(alloc, command, &values_under(matches))
+    match command_named(command) {
+        Some(command) => values_in(alloc, command, &values_under(matches)),
+        None => Ok(without_contacts(alloc, None, None)),
+    }
 }
 
 /// The texts that are given for the values of a command, wherever they come from. A text that isn't given is `None`.

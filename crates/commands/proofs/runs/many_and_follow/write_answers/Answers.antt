@@ -5,7 +5,7 @@ use Rattle.commands.specs.texts.Messages.{failure_of_lines}
 use Rattle.commands.specs.words.Lines.{fault_of, lines_in, asked_from}
 use Rattle.commands.specs.declared.words.lines.LinesFault.TheVariants.{NoMemory}
 use Rattle.commands.proofs.RunLemmas.ManyAnswers.{not_requested, none_bad, answers_left}
-use Rattle.commands.proofs.runs.lines.write_answers.Goals as goal
+use Rattle.commands.proofs.runs.many_and_follow.write_answers.Goals as goal
 
 -- lines that aren't read have no answer, and nothing is asked of one
 pub returns-in_err-plan : goal.returns-in_err-plan

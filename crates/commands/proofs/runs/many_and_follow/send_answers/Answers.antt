@@ -1,6 +1,6 @@
 use Rattle.std.proofs.Common.{arith, sym, ◌∙◌}
 use Rattle.commands.proofs.RunLemmas.ManyAnswers.{all_flushed, broken_before, broken_by_flush}
-use Rattle.commands.proofs.runs.lines.send_answers.Goals as goal
+use Rattle.commands.proofs.runs.many_and_follow.send_answers.Goals as goal
 
 pub returns-then-has_broken : goal.returns-then-has_broken
 returns-then-has_broken g c =

@@ -2,7 +2,7 @@ use Rattle.std.proofs.Common.{◌≡◌, length}
 use Rattle.commands.specs.words.Lines.{lines_in, asked_from}
 use Rattle.commands.specs.runs.Many.{form_of}
 use Rattle.commands.proofs.RunLemmas.ManyAnswers.{HasAnswered}
-use Rattle.commands.proofs.runs.lines.answer_all.Given as goal
+use Rattle.commands.proofs.runs.many_and_follow.answer_all.Given as goal
 
 abbrev pub invariant-loop-line : goal.invariant-loop-line
 invariant-loop-line g l = record {

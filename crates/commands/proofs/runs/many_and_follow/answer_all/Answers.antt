@@ -1,7 +1,7 @@
 use Rattle.std.proofs.Common.{Ok, Err, refl, subst, ◌∙◌}
 use Rattle.std.proofs.lemmas.Result.{err_from_is_err_and}
 use Rattle.commands.proofs.RunLemmas.ManyAnswers.{Leaves, none_answered, one_answered, fails, all_answered}
-use Rattle.commands.proofs.runs.lines.answer_all.Goals as goal
+use Rattle.commands.proofs.runs.many_and_follow.answer_all.Goals as goal
 
 pub loop-line-init : goal.loop-line-init
 loop-line-init g c = record { answered = none_answered c.args.answering.now.plan c.args.kind _ _ c.requires.requests; plan = refl }
