@@ -1,12 +1,13 @@
 //! The program: words, files and the runs over them.
 
-ghost use Rattle.std.specs.Prelude.{◌≢◌, IsTrue, is_some, map};
+ghost use Rattle.std.specs.Prelude.{◌≡◌, ◌≢◌, MatchOption, None, map};
+ghost use Rattle.clap.specs.Matches.{found_of};
 ghost use Rattle.clap.specs.Simple.{subcommand_rows_of};
 ghost use Rattle.clap.specs.Values.{kind_of};
-ghost use Rattle.commands.specs.runs.Program.{EndsNamed, EndsWords, ReportsRefusal, named_in};
+ghost use Rattle.commands.specs.runs.Program.{EndsCommand, EndsWords, IsCall, ReportsRefusal, named_in};
 ghost use Rattle.commands.specs.texts.Messages.{WritesMessage};
 
-use crate::command::command_named;
+use crate::command::{CommandName, command_named};
 use crate::failure::{Failure, Status};
 use crate::files::FileSystem;
 use crate::texts::report_failure;
@@ -33,7 +34,10 @@ pub fn run_words<'w, D: FileSystem<'w>, O: Write, E: Write>(
     ensures { EndsWords D.rules (map (λ w. w.now) words.now) (D.left files.old) (D.left files.new) (O.output out.old) (O.output out.new) (E.output err.old) (E.output err.new) result }
 {
     match parsed(alloc, words) {
-        Ok(matches) => run_command(alloc, &matches, files, out, err),
+        Ok(matches) => match called(&matches) {
+            Some((command, words)) => run_command(alloc, command, words, files, out, err),
+            None => Status::Usage,
+        },
         Err(refusal) => tell_usage(alloc, &refusal, err),
     }
 }
@@ -59,23 +63,26 @@ fn tell_usage<E: Write>(alloc: Global, refusal: &Error, err: &mut E) -> Status
     Status::Usage
 }
 
-/// Runs the command that the words name, or reports why it couldn't begin.
+/// Finds the command that the words name, with what they give it. `None` if they name none, which parsing refuses.
+fn called<'m, 'w>(matches: &'m ArgMatches<'w>) -> Option<(CommandName, &'m ArgMatches<'w>)>
+    ensures { MatchOption result (named_in (subcommand_rows_of matches.now) ≡ None) (λ c. IsCall (subcommand_rows_of matches.now) c.0 (found_of c.1.now)) }
+{
+    let (name, words) = matches.subcommand()?;
+    let command = command_named(name)?;
+    Some((command, words))
+}
+
+/// Runs a command over its words, or reports why it couldn't begin.
 fn run_command<'w, D: FileSystem<'w>, O: Write, E: Write>(
     alloc: Global,
-    matches: &ArgMatches<'w>,
+    command: CommandName,
+    words: &ArgMatches<'w>,
     files: &mut D,
     out: &mut O,
     err: &mut E,
 ) -> Status
-    requires { IsTrue (is_some (named_in (subcommand_rows_of matches.now))) }
-    ensures { EndsNamed D.rules (subcommand_rows_of matches.now) (D.left files.old) (D.left files.new) (O.output out.old) (O.output out.new) (E.output err.old) (E.output err.new) result }
+    ensures { EndsCommand D.rules command (found_of words.now) (D.left files.old) (D.left files.new) (O.output out.old) (O.output out.new) (E.output err.old) (E.output err.new) result }
 {
-    let Some((name, words)) = matches.subcommand() else {
-        unreachable!();
-    };
-    let Some(command) = command_named(name) else {
-        unreachable!();
-    };
     match command.run(alloc, words, files, out, err) {
         Ok(status) => status,
         Err(failure) => report_failure(err, failure),

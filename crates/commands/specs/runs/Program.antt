@@ -37,13 +37,22 @@ pub record EndsBefore (rules : FileRules) (name : CommandName) (found : Found) (
   pub reports : WritesMessage err (message_text why) err₁
   pub ends : ended ≡ status_of why
 
--- the command that was named was run over what was given to it, or it ended before its run
+-- a command was run, or it ended before its run
+abbrev pub EndsCommand : FileRules → CommandName → Found → Left → Left → Output → Output → Output → Output → Status → Type 0
+EndsCommand rules name found left left₁ out out₁ err err₁ ended =
+    RunsCommand name rules found left left₁ out out₁ err err₁ ended ⊎ EndsBefore rules name found left left₁ out out₁ err err₁ ended
+
+-- the command that was named, with what was given to it
+pub record IsCall (given : Given) (name : CommandName) (found : Found) : Type 0 where
+  pub named : named_in given ≡ Some name
+  pub rows : rows_in given ≡ Some (rows_of found)
+
+-- the command that was named ended over what was given to it
 pub record EndsNamed (rules : FileRules) (given : Given) (left left₁ : Left) (out out₁ err err₁ : Output) (ended : Status) : Type 0 where
   pub name : CommandName
   pub found : Found
-  pub named : named_in given ≡ Some name
-  pub rows : rows_in given ≡ Some (rows_of found)
-  pub does : RunsCommand name rules found left left₁ out out₁ err err₁ ended ⊎ EndsBefore rules name found left left₁ out out₁ err err₁ ended
+  pub is : IsCall given name found
+  pub does : EndsCommand rules name found left left₁ out out₁ err err₁ ended
 
 -- the words were refused: for this reason, and then a text is written and the status is Usage; or memory was
 abbrev pub ReportsRefusal : Type 0 → Output → Output → Status → Type 0

@@ -1,6 +1,12 @@
 use Rattle.std.proofs.Common.{inl, inr, refl}
+use Rattle.clap.specs.Words.{found_of}
 use Rattle.commands.proofs.WordLemmas.RequestWords.{has_fault}
 use Rattle.commands.proofs.program.run_words.Goals as goal
+
+pub returns-in-Some : goal.returns-in-Some
+returns-in-Some g c =
+    let call = rw c.in-Ok.ensures.given at c.in-Some.ensures in
+    inr (c.in-Ok.ensures.fault, record { name = c.in-Some.field-0.0; found = found_of c.in-Some.words.now; is = call; does = c.run_command.ensures })
 
 pub returns-in-Err : goal.returns-in-Err
 returns-in-Err g c =
