@@ -14,7 +14,6 @@ pub struct NodeSet {
 
 impl NodeSet {
     /// Returns the empty set.
-    #[tactic(auto, using(crate::proofs::HopLemmas::none_in))]
     pub fn new() -> NodeSet
         ensures { (k : ℕ) → has_index result k ≡ false }
     {
