@@ -71,6 +71,7 @@ unsafe extern "C" {
     pub fn cgrlist_plan_new(plan: *mut *mut Plan) -> u32;
     pub fn cgrlist_plan_read(plan: *mut *mut Plan, text: *const u8, bytes: usize, line: *mut u64) -> u32;
     pub fn cgrlist_plan_copy(plan: *const Plan, copy: *mut *mut Plan) -> u32;
+    pub fn cgrlist_plan_prepare(plan: *mut Plan) -> u32;
     pub fn cgrlist_plan_close(plan: *mut Plan);
     pub fn cgrlist_plan_add_contact(plan: *mut Plan, from: u64, to: u64, start: u64, end: u64, rate: u64, number: *mut u32) -> u32;
     pub fn cgrlist_plan_add_range(plan: *mut Plan, one: u64, other: u64, start: u64, end: u64, light: u32) -> u32;

@@ -37,6 +37,11 @@ impl Plan {
         Ok(Plan(copy))
     }
 
+    /// Makes what later calls would make: the index of searches, the digest and the counts.
+    pub fn prepare(&mut self) -> Result<(), Error> {
+        answer(unsafe { c::cgrlist_plan_prepare(self.0) }).map(drop)
+    }
+
     /// Adds a contact, and returns its number.
     pub fn add_contact(&mut self, from: u64, to: u64, start: u64, end: u64, rate: u64) -> Result<u32, Error> {
         let mut number = 0;

@@ -225,16 +225,13 @@ all_flushed p xs kind (Err _) a b c e left kept fails mark = absurd left
 
 -- of a reader that has the text of lines, these are read
 lines_are : (form : LineForm) (text : List ℕ) (xs ys : List AskedLine) (reader reader₁ : Input) → asked_by form text ≡ Ok xs → IsTextOf reader text reader₁ → ReadsLines form reader (Ok ys) reader₁ → ys ≡ xs
-lines_are form text xs ys reader reader₁ spelled has h = elim h.answered [
-  | inl bad ↦ absurd bad
-  | inr (fine, inl (end, answer)) ↦
-      let all = (begins_with reader reader₁ text h.given has h.gives).all end in
-      let asks : asked_by form text ≡ Ok ys = subst (λ b. asked_by form b ≡ Ok ys) all answer in
+lines_are form text xs ys reader reader₁ spelled has h = elim h.told [
+  | inl e ↦
+      let all = (begins_with reader reader₁ text h.given has h.gives).all e.0 in
+      let asks : asked_by form text ≡ Ok ys = subst (λ b. asked_by form b ≡ Ok ys) all e.2 in
       cc
-  | inr (fine, inr answer) ↦
-      let more = begins_with reader reader₁ text h.given has h.gives in
-      let asks : asked_by form text ≡ Ok ys = subst (λ b. asked_by form b ≡ Ok ys) more.parts (answer more.rest) in
-      cc
+  | inr (inl bad) ↦ absurd (let fails = bad.0 in cc)
+  | inr (inr bad) ↦ absurd bad
 ]
 
 module _ (plan : List ℕ) (p : ContactPlan) (spelled : plan_of plan true ≡ Ok p) where

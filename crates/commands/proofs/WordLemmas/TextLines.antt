@@ -52,17 +52,27 @@ pub fault_requested : (requested : Result (List AskedLine) LinesFault) (f : Line
 fault_requested (Ok xs) f e = absurd cc
 fault_requested (Err g) f e = cc
 
+-- no text has a fault of its reader
+never_read : (form : LineForm) (n : ℕ) (lines : List (List ℕ)) → fault_of (asked_from form n lines) ≡ Some Read → ⊥
+never_read form n [] e = absurd cc
+never_read form n (line ∷ lines) e = by_parts (asked_at form n line) (asked_from form (n + 1) lines) e (never_read form (n + 1) lines)
+  where
+    by_parts : (a : Result Asked LineKind) (rest : Result (List AskedLine) LinesFault) → fault_of (put_first n line a rest) ≡ Some Read → (fault_of rest ≡ Some Read → ⊥) → ⊥
+    by_parts (Err kind) rest e below = absurd cc
+    by_parts (Ok a) (Err f) e below = below e
+    by_parts (Ok a) (Ok xs) e below = absurd cc
+
 -- a bad line was read, and what follows can't make it a good one
 pub line_refused : (form : LineForm) (old new : Input) (text : List ℕ) (f : LinesFault) → Gives old text new → new.failures ≡ old.failures → IsRefused form text f → ReadsLines form old (Err f) new
 line_refused form old new text f gives fine refused = record {
   given = text;
   gives = gives;
-  answered = inr (fine, inr (λ more. fault_requested (asked_by form (text ++ more)) f (refused more)));
+  told = inr (inr (fine, inr ((λ is. never_read form 1 (lines_in (text ++ [])) (refused [] ∙ ap Some is)), (λ more ended. fault_requested (asked_by form (text ++ more)) f (refused more)))));
 }
 
 -- the reader failed, and no line that it gave is bad
 pub reader_failed : (form : LineForm) (old new : Input) (text : List ℕ) (j : Judged) → Gives old text new → new.failures ≡ old.failures + 1 → IsGoodSoFar form text j → ReadsLines form old (Err Read) new
-reader_failed form old new text j gives fails good = record { given = text; gives = gives; answered = inl (fails, (j, good)) }
+reader_failed form old new text j gives fails good = record { given = text; gives = gives; told = inr (inl (refl, (fails, (j, good)))) }
 
 -- a bad line is the first bad one before all others
 pub bad_first : (n : ℕ) (line : List ℕ) (a : Result Asked LineKind) (rest : Result (List AskedLine) LinesFault) (kind : LineKind) → fault_of a ≡ Some kind → fault_of (put_first n line a rest) ≡ Some (Line n kind)

@@ -1,6 +1,6 @@
 -- What a text of requests or of lists says: one a line, each word read as strictly as the option of its name.
-use Rattle.std.specs.Prelude.{◌≡◌, ℕ, ◌+◌, ◌-◌, ◌≤◌, nat_lt, true, false, ◌&&◌, ◌||◌, ◌⊎◌, Bool, List, [], ◌∷◌, ◌++◌, length, drop, option_map, Result, Ok, Err, IsErrAnd, if◌then◌else◌}
-use Rattle.sabr_model.specs.Devices.{Input, Gives, HasEnded}
+use Rattle.std.specs.Prelude.{◌≡◌, ℕ, ◌+◌, ◌-◌, ◌≤◌, nat_lt, true, false, ◌&&◌, ◌||◌, ◌⊎◌, Bool, List, [], ◌∷◌, ◌++◌, length, drop, option_map, Result, Ok, Err, if◌then◌else◌}
+use Rattle.sabr_model.specs.Devices.{Input}
 use Rattle.std.specs.Result.{result_err}
 use Rattle.std.specs.declared.option.Option.{Option}
 use Rattle.std.specs.declared.option.Option.TheVariants.{Some, None}
@@ -19,6 +19,7 @@ use Rattle.commands.specs.declared.words.request_line.Listed.{Listed}
 use Rattle.commands.specs.declared.words.request_line.ListWords.{ListWords}
 use Rattle.sabr_plan.specs.Words.{is_one_line}
 use Rattle.sabr_plan.specs.Pieces.{pieces_of}
+use Rattle.sabr_plan.specs.TextReading.{EndsText, ReadsBytes, RefusesText}
 use Rattle.sabr_session.specs.SessionWords.{most_number}
 use Rattle.commands.specs.words.Values.{numbers_within, TextsGiven, and_then, request_words, request_of}
 
@@ -195,23 +196,15 @@ pub record IsGoodSoFar (form : LineForm) (text : List ℕ) (j : Judged) : Type 0
 abbrev pub IsRefused : LineForm → List ℕ → LinesFault → Type 0
 IsRefused form text fault = (more : List ℕ) → fault_in form 1 (text ++ more) ≡ Some fault
 
--- these bytes aren't read to their end: the reader failed after them, and no line of them is bad; or an allocation failed
-abbrev pub StopsReading : LineForm → Input → List ℕ → LinesFault → Input → Type 0
-StopsReading form old given Read new = (new.failures ≡ old.failures + 1) × ((j : Judged) × IsGoodSoFar form given j)
-StopsReading form old given NoMemory new = new.failures ≡ old.failures
-StopsReading form old given (Line n kind) new = ⊥
+-- the reader failed after these bytes, of which no line is bad
+abbrev pub BreaksLines : LineForm → Input → List ℕ → Result (List AskedLine) LinesFault → Input → Type 0
+BreaksLines form old given answer new = (answer ≡ Err Read) × (new.failures ≡ old.failures + 1) × ((j : Judged) × IsGoodSoFar form given j)
 
--- these bytes decide the answer: the reader ended after them, and they are the text; or each text that begins with them
--- has it
-abbrev pub DecidesLines : LineForm → Input → List ℕ → Result (List AskedLine) LinesFault → Input → Type 0
-DecidesLines form old given answer new =
-    (new.failures ≡ old.failures) × ((HasEnded new × (asked_by form given ≡ answer)) ⊎ ((more : List ℕ) → asked_by form (given ++ more) ≡ answer))
-
--- these bytes were read of a text of such lines, and decide the answer, unless reading stopped before
-pub record ReadsLines (form : LineForm) (old : Input) (answer : Result (List AskedLine) LinesFault) (new : Input) : Type 0 where
-  pub given : List ℕ
-  pub gives : Gives old given new
-  pub answered : IsErrAnd answer (λ fault. StopsReading form old given fault new) ⊎ DecidesLines form old given answer new
+-- reading a text of such lines to its end, or up to its first bad line, a fault of its reader or a failed allocation
+abbrev pub ReadsLines : LineForm → Input → Result (List AskedLine) LinesFault → Input → Type 0
+ReadsLines form =
+    let text : List ℕ → Bool → Result (List AskedLine) LinesFault = λ bytes ended. asked_by form bytes in
+    ReadsBytes (EndsText text (λ asked answer. asked ≡ answer)) (BreaksLines form) (RefusesText text (λ f. f ≡ Read) (λ f. f ≡ NoMemory))
 
 -- the lines of a text ask this, and none is bad
 abbrev pub HasLines : LineForm → List ℕ → Result (List AskedLine) LinesFault → Type 0
