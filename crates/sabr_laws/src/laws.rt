@@ -13,7 +13,6 @@ pub fn fewer_contacts_take_their_routes()
 
 /// States that the listing of a plan without a contact is the listing without the routes that have the contact. The
 /// others deliver as they did.
-#[tactic(auto, using(crate::proofs::FewerContacts::lost_contacts_take_their_routes))]
 pub fn lost_contacts_take_their_routes()
     ensures { LostContactsTakeTheirRoutes }
 {}
