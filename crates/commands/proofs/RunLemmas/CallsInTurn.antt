@@ -104,10 +104,10 @@ ran : (name : CommandName) (Has : Found → Type 0) (files : Files) (c : Call) �
 ran name Has files c (named, has) (inl unread) = elim unread.0 [ inl (text, faults, reports, ends) ↦ absurd cc | inr (reports, ends) ↦ absurd cc ]
 ran name Has files c (named, has) (inr read) =
     let n = read.1 in
-    let is : Some n.name ≡ Some name = sym n.named ∙ named in
+    let is : Some n.name ≡ Some name = sym n.is.named ∙ named in
     let same : n.name ≡ name = cc in
     elim n.does [
-      | inl runs ↦ (n.found, has n.found n.rows, subst (λ m. RunsCommand m (over files) n.found [] c.left c.out c.out₁ c.err c.err₁ status.Done) same runs)
+      | inl runs ↦ (n.found, has n.found n.is.rows, subst (λ m. RunsCommand m (over files) n.found [] c.left c.out c.out₁ c.err c.err₁ status.Done) same runs)
       | inr before ↦ absurd (never_done before.why (sym before.ends))
     ]
 

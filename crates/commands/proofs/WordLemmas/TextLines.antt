@@ -72,7 +72,7 @@ line_refused form old new text f gives fine refused = record {
 
 -- the reader failed, and no line that it gave is bad
 pub reader_failed : (form : LineForm) (old new : Input) (text : List ℕ) (j : Judged) → Gives old text new → new.failures ≡ old.failures + 1 → IsGoodSoFar form text j → ReadsLines form old (Err Read) new
-reader_failed form old new text j gives fails good = record { given = text; gives = gives; told = inr (inl (refl, (fails, (j, good)))) }
+reader_failed form old new text j gives fails good = record { given = text; gives = gives; told = inr (inl (refl, fails, (j, good))) }
 
 -- a bad line is the first bad one before all others
 pub bad_first : (n : ℕ) (line : List ℕ) (a : Result Asked LineKind) (rest : Result (List AskedLine) LinesFault) (kind : LineKind) → fault_of a ≡ Some kind → fault_of (put_first n line a rest) ≡ Some (Line n kind)
