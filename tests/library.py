@@ -101,7 +101,7 @@ def the_header(room):
     statuses = {name: value for name, value in header.declared_statuses(text).items() if name not in header.OUTER}
     yield "the statuses are the header's", statuses, lambda: {
         name: value for name, value in header.stated_statuses(source).items() if name not in header.INNER}
-    limits = header.stated_limits(source)
+    limits = header.stated_limits()
     yield "the limits are the header's", header.declared_limits(text), lambda: {
         name: limits.get(name) for name in header.declared_limits(text)}
     structs = {next(iter(c)): header.stated_structs(source).get(rust) for rust, c in pairs.items()}

@@ -94,10 +94,13 @@ def stated_statuses(text):
     return {DONE if name == "DONE" else name: value for name, value in found.items()}
 
 
-def stated_limits(text):
-    """The limits of the crate, and those of plans and requests, by the header's names."""
-    with open(f"{TOP}/crates/sabr_model/src/limits.rt", encoding="utf-8") as file:
-        found = re.findall(r"^pub const ((?:MOST|MAX|LAST)_\w+): u\w+ = ([\d_]+);", text + file.read(), re.M)
+def stated_limits():
+    """The limits of plans, requests and pages, by the header's names."""
+    text = ""
+    for path in "sabr_model/src/limits.rt", "sabr_frontier/src/session.rt":
+        with open(f"{TOP}/crates/{path}", encoding="utf-8") as file:
+            text += file.read()
+    found = re.findall(r"^pub const ((?:MAX|LAST)_\w+): u\w+ = ([\d_]+);", text, re.M)
     return {name.replace("MAX_", "MOST_"): int(value.replace("_", "")) for name, value in found}
 
 
