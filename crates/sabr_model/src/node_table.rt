@@ -218,7 +218,7 @@ fn take_out<A: Allocator + Copy>(numbers: &mut Vec<u32, A>, number: u32)
 /// Removes the node from the table unless it is in use.
 fn keep_node<A: Allocator + Copy>(table: &mut NodeTable<A>, node: u64, used: bool)
     requires { IsUnique nat_eq table.old }
-    ensures kept { IsTrue used → keys table.new ≡ keys table.old }
+    ensures same_nodes { IsTrue used → keys table.new ≡ keys table.old }
     ensures lists { (q : ℕ) → list_at table.new q ≡ (if q == node && not used then None else list_at table.old q) }
     ensures unique { IsUnique nat_eq table.new }
 {
@@ -245,7 +245,7 @@ pub fn forget_contact<A: Allocator + Copy>(
     requires stands { find (λ c. c.number == contact.now.number) contacts.now ≡ Some contact.now }
     requires table { IsTableOf contacts.now table.old }
     ensures table { IsTableOf (without_number contact.now.number contacts.now) table.new }
-    ensures kept { IsTrue result → keys table.new ≡ keys table.old }
+    ensures same_nodes { IsTrue result → keys table.new ≡ keys table.old }
 {
     take_number(table, contact.from, contact.number);
     let from_used = is_in_use(contacts, contact.number, contact.from);

@@ -137,6 +137,15 @@ impl<A: Allocator + Copy> Plan<A> {
         &self.ranges
     }
 
+    /// Puts these ranges in place of the plan's. It doesn't allocate.
+    pub fn set_ranges(&mut self, ranges: Vec<Range, A>)
+        requires { IsPlan (record { contacts = self.old.plan.contacts; ranges = ranges.items; largest = self.old.plan.largest }) }
+        ensures { self.new ≡ record { plan = record { contacts = self.old.plan.contacts; ranges = ranges.items; largest = self.old.plan.largest }; table = self.old.table } }
+    {
+        self.lights.clear();
+        self.ranges = ranges;
+    }
+
     /// The largest number ever assigned to a contact, 0 at first.
     pub fn largest(&self) -> u32
         ensures { result ≡ self.now.plan.largest }

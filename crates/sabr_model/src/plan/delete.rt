@@ -34,9 +34,15 @@ impl<A: Allocator + Copy> Plan<A> {
             return Err(AddFault::NothingToDelete);
         };
         let contact = self.contacts[place];
-        let kept = forget_contact(&mut self.table, &self.contacts, &contact);
+        let same_nodes = forget_contact(&mut self.table, &self.contacts, &contact);
         self.contacts.remove(place);
-        remove_ends(&self.table, &self.contacts, &mut self.ends, place, kept);
+        remove_ends(
+            &self.table,
+            &self.contacts,
+            &mut self.ends,
+            place,
+            same_nodes,
+        );
         self.lights.remove(place);
         self.openings.remove(place);
         Ok(contact.number)

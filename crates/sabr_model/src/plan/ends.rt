@@ -71,23 +71,23 @@ fn look_up_ends<A: Allocator + Copy>(
     }
 }
 
-/// Removes the ends of a contact that was deleted. If both its nodes are still in the table (`kept`), all nodes have
+/// Removes the ends of a contact that was deleted. If both its nodes are still in the table (`same_nodes`), all nodes have
 /// their old indexes. Otherwise all ends are looked up again.
 pub fn remove_ends<A: Allocator + Copy>(
     table: &NodeTable<A>,
     contacts: &[Contact],
     ends: &mut Vec<Ends, A>,
     place: usize,
-    kept: bool,
+    same_nodes: bool,
 )
     requires table { IsTableOf contacts.now table.now }
     requires few { length contacts.now ≤ most_records }
     requires room { length contacts.now ≤ vec_capacity ends.old }
     requires place { place < length ends.old.items }
-    requires kept { IsTrue kept → AreEnds (keys table.now) contacts.now (remove ends.old.items place) }
+    requires same_nodes { IsTrue same_nodes → AreEnds (keys table.now) contacts.now (remove ends.old.items place) }
     ensures { AreEnds (keys table.now) contacts.now ends.new.items }
 {
-    if kept {
+    if same_nodes {
         ends.remove(place);
     } else {
         look_up_ends(table, contacts, ends);

@@ -24,8 +24,8 @@ index-requires g c =
     let lt = subst (λ (cs : List Contact). c.in-Some.place < length cs) c.deref.ensures.value c.in-Some.ensures.0 in
     omega (arith, lt, c.self.inside.contacts.ok.0)
 
-pub forget_contact-kept-requires : goal.forget_contact-kept-requires
-forget_contact-kept-requires g c =
+pub forget_contact-same_nodes-requires : goal.forget_contact-same_nodes-requires
+forget_contact-same_nodes-requires g c =
     let cs = c.self.inside.contacts.items in
     let x = c.index.result.now in
     let there = found_there (opens c.args.from c.args.to c.args.start) cs c.deref.result.now c.in-Some.place x c.deref.ensures.value c.in-Some.ensures c.index.ensures in
@@ -46,7 +46,7 @@ remove_ends-requires-clause-table g c =
     let x = c.index.result.now in
     let there = found_there (opens c.args.from c.args.to c.args.start) cs c.deref.result.now c.in-Some.place x c.deref.ensures.value c.in-Some.ensures c.index.ensures in
     let left = others cs c.in-Some.place x c.self.invariant.0.numbers_rise there.0 c.index.ensures in
-    rw (c.deref-3.ensures.value, c.remove.ensures.items, left) (rw c.deref-2.ensures.value at c.forget_contact-kept.ensures.table)
+    rw (c.deref-3.ensures.value, c.remove.ensures.items, left) (rw c.deref-2.ensures.value at c.forget_contact-same_nodes.ensures.table)
 
 pub remove_ends-requires-clause-few : goal.remove_ends-requires-clause-few
 remove_ends-requires-clause-few g c =
@@ -66,12 +66,12 @@ remove_ends-requires-clause-place g c =
     let many = c.self.invariant.2.ends.as_many in
     omega (arith, lt, many)
 
-pub remove_ends-requires-clause-kept : goal.remove_ends-requires-clause-kept
-remove_ends-requires-clause-kept g c = λ same.
+pub remove_ends-requires-clause-same_nodes : goal.remove_ends-requires-clause-same_nodes
+remove_ends-requires-clause-same_nodes g c = λ same.
     let cs = c.self.inside.contacts.items in
     let x = c.index.result.now in
     let there = found_there (opens c.args.from c.args.to c.args.start) cs c.deref.result.now c.in-Some.place x c.deref.ensures.value c.in-Some.ensures c.index.ensures in
-    rw (c.deref-3.ensures.value, c.remove.ensures.items, c.forget_contact-kept.ensures.kept same)
+    rw (c.deref-3.ensures.value, c.remove.ensures.items, c.forget_contact-same_nodes.ensures.same_nodes same)
     (ends_removed (keys c.self.inside.table) cs c.self.inside.ends.items c.in-Some.place there.0 c.self.invariant.2.ends)
 
 pub invariant_of-self : goal.invariant_of-self
@@ -84,9 +84,9 @@ invariant_of-self g c =
     let kept = c.remove.ensures.items ∙ left in
     rw (kept, c.remove-2.ensures.items) (
       IsPlan-fewer_contacts p (λ d. not (eqb d.number x.number)) c.self.invariant.0,
-      rw c.deref-2.ensures.value at c.forget_contact-kept.ensures.table,
+      rw c.deref-2.ensures.value at c.forget_contact-same_nodes.ensures.table,
       record {
-        ends = subst (λ (ds : List Contact). AreEnds (keys c.forget_contact-kept.new.table) ds c.remove_ends.new.ends.items) (c.deref-3.ensures.value ∙ kept) c.remove_ends.ensures;
+        ends = subst (λ (ds : List Contact). AreEnds (keys c.forget_contact-same_nodes.new.table) ds c.remove_ends.new.ends.items) (c.deref-3.ensures.value ∙ kept) c.remove_ends.ensures;
         lights = subst (λ (ds : List Contact). BeginLights p.ranges ds (remove c.self.inside.lights c.in-Some.place)) left (lights_removed p.ranges cs c.self.inside.lights c.in-Some.place there.0 c.self.invariant.2.lights);
       },
       rw (c.remove-3.ensures.numbers, c.remove-3.ensures.noted)
