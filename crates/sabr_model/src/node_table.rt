@@ -25,7 +25,7 @@ const ROOM_AT_FIRST: usize = 16;
 pub type NodeTable<A> = IndexMap<u64, Vec<u32, A>, BuildHasherDefault<FoldHasher>, A>;
 
 /// Returns true if the node has this index in the table. It computes no hash.
-fn stands_at<A: Allocator + Copy>(table: &NodeTable<A>, node: u64, place: usize) -> bool
+pub fn stands_at<A: Allocator + Copy>(table: &NodeTable<A>, node: u64, place: usize) -> bool
     ensures index { IsTrue result → slice_get (keys table.now) place ≡ Some node }
     ensures found { IsTrue result → IsTrue (is_some (get nat_eq table.now node)) }
 {

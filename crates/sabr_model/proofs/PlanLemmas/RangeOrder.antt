@@ -18,7 +18,7 @@ use Rattle.sabr_model.specs.declared.contact.Range.{Range}
 use Rattle.sabr_model.specs.plan.Adding.{range_refusal, by_range_key}
 use Rattle.sabr_model.specs.Order.{by_key, put_in}
 use Rattle.sabr_model.specs.plan.Plan.{ContactPlan, IsPlan, IsWindow, overlap, none_twice, range_key}
-use Rattle.sabr_model.specs.plan.Light.{is_within, is_rising, light_of_pair, or_else, light_of}
+use Rattle.sabr_model.specs.plan.Light.{is_within, holds_both_ways, light_of_pair, or_else, light_of}
 use Rattle.sabr_model.specs.plan.RangeOrder.{IsRangeList, IsCountUntil}
 use Rattle.sabr_model.proofs.PlanLemmas.Deletions.{any_none, all_found}
 use Rattle.sabr_model.proofs.PlanLemmas.RangeLemmas.{all_at, accepted_range, insert_is_put, same_key_overlaps}
@@ -162,12 +162,12 @@ module _ (rs : List Range) (h : IsRangeList rs) where
           ∙ ap (λ b. option_map (λ (r : Range). r.light) (cond b (Some e) None)) now
 
   -- if all are written from the lesser node, none is of a pair that begins with the greater
-  pub none_back : (one other t : ℕ) → list_all is_rising rs ≡ true → other ≤ one → light_of_pair rs one other t ≡ None
+  pub none_back : (one other t : ℕ) → list_all holds_both_ways rs ≡ true → other ≤ one → light_of_pair rs one other t ≡ None
   none_back one other t rising back =
       ap (option_map (λ (r : Range). r.light)) (find_none (in_force one other t) rs (λ k d lt now.
       let parts = force_parts one other t (get_or rs k d) now in
-      let here = list_all_at is_rising rs k d lt (le-ltb _ _ (omega (arith, parts.0, parts.1, back))) in
-      both_ways (list_all is_rising rs) here rising))
+      let here = list_all_at holds_both_ways rs k d lt (le-ltb _ _ (omega (arith, parts.0, parts.1, back))) in
+      both_ways (list_all holds_both_ways rs) here rising))
 
   -- no range gives a light time where none comes by then
   pub light_none : (one other t count : ℕ) → IsCountUntil rs (one, other, t) count → count ≡ 0 → light_of_pair rs one other t ≡ None

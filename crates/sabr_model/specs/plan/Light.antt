@@ -13,8 +13,8 @@ abbrev pub is_within : ℕ → ℕ → ℕ → Bool
 is_within start end t = nat_le start t && nat_lt t end
 
 -- whether a range is written from the smaller node, so that it holds both ways
-abbrev pub is_rising : Range → Bool
-is_rising r = nat_lt r.one r.other
+abbrev pub holds_both_ways : Range → Bool
+holds_both_ways r = nat_lt r.one r.other
 
 -- the light time of the range of this ordered pair that is in force at t
 abbrev pub light_of_pair : List Range → ℕ → ℕ → ℕ → Option ℕ

@@ -13,7 +13,7 @@ fn window_of_number(contacts: &[Contact], number: u32) -> (usize, usize)
     requires { IsTrue (rises_above 0 (map (λ c. c.number) contacts.now)) }
     ensures within { result.1 ≤ length contacts.now }
     ensures before { (k : ℕ) (d : Contact) → k < length contacts.now → k < result.0 → (slice_index_or contacts.now k d).number < number }
-    ensures behind { (k : ℕ) (d : Contact) → k < length contacts.now → result.1 ≤ k → number < (slice_index_or contacts.now k d).number }
+    ensures after { (k : ℕ) (d : Contact) → k < length contacts.now → result.1 ≤ k → number < (slice_index_or contacts.now k d).number }
 {
     let count = contacts.len();
     let Some(last) = contacts.last() else {

@@ -20,7 +20,8 @@ impl<A: Allocator + Copy> Plan<A> {
     /// The start is in seconds since 1970-01-01T00:00:00Z.
     ///
     /// It doesn't allocate, and moves the later contacts. It is a pass over the contacts, unless a contact was added by
-    /// a call before. If one of the nodes has no other contact, the nodes of all contacts are looked up.
+    /// a call before. If one of the nodes has no other contact, it is a pass more, and a node whose
+    /// index has changed is looked up for each of its contacts.
     ///
     /// # Errors
     ///

@@ -1,6 +1,6 @@
 //! The ends of contacts, as indexes in the table of nodes.
 
-ghost use Rattle.std.specs.Prelude.{◌≡◌, ◌<◌, ◌≤◌, ◌^◌, Some, IsTrue, length, remove, slice_get, slice_index_or, vec_capacity};
+ghost use Rattle.std.specs.Prelude.{◌≡◌, ◌<◌, ◌≤◌, ◌^◌, Some, IsTrue, length, remove, slice_get, slice_index_or};
 ghost use Rattle.indexmap.specs.IndexMap.{keys};
 ghost use Rattle.sabr_model.specs.declared.contact.Contact.{Contact};
 ghost use Rattle.sabr_model.specs.plan.Plan.{has, most_records};
@@ -9,7 +9,7 @@ ghost use Rattle.sabr_model.specs.plan.ContactEnds.{AreEnds};
 
 use super::Plan;
 use crate::contact::Contact;
-use crate::node_table::NodeTable;
+use crate::node_table::{NodeTable, stands_at};
 use std::alloc::Allocator;
 
 /// The indexes of a contact's sender and receiver in the table of nodes, which has at most 40000 nodes.
@@ -52,27 +52,28 @@ impl<A: Allocator + Copy> Plan<A> {
     }
 }
 
-/// Looks up the indexes of the nodes of each contact. It doesn't allocate.
-fn look_up_ends<A: Allocator + Copy>(
+/// Looks up each node that no longer has its index in the table.
+fn renew_ends<A: Allocator + Copy>(
     table: &NodeTable<A>,
     contacts: &[Contact],
     ends: &mut Vec<Ends, A>,
 )
     requires table { IsTableOf contacts.now table.now }
     requires few { length contacts.now ≤ most_records }
-    requires room { length contacts.now ≤ vec_capacity ends.old }
+    requires as_many { length ends.old.items ≡ length contacts.now }
     ensures { AreEnds (keys table.now) contacts.now ends.new.items }
 {
-    ends.clear();
-    for contact in contacts {
-        let from = index_of(table, contact.from);
-        let to = index_of(table, contact.to);
-        ends.push_reserved(Ends::of(from, to));
+    for place in 0..contacts.len() {
+        let contact = contacts[place];
+        let old = ends[place];
+        let from = index_of(table, contact.from, old.from as usize);
+        let to = index_of(table, contact.to, old.to as usize);
+        ends[place] = Ends::of(from, to);
     }
 }
 
-/// Removes the ends of a contact that was deleted. If both its nodes are still in the table (`same_nodes`), all nodes have
-/// their old indexes. Otherwise all ends are looked up again.
+/// Removes the ends of a contact that was deleted. If one of its nodes is no longer in the table, another node may have
+/// its index, and all ends are renewed.
 pub fn remove_ends<A: Allocator + Copy>(
     table: &NodeTable<A>,
     contacts: &[Contact],
@@ -82,22 +83,24 @@ pub fn remove_ends<A: Allocator + Copy>(
 )
     requires table { IsTableOf contacts.now table.now }
     requires few { length contacts.now ≤ most_records }
-    requires room { length contacts.now ≤ vec_capacity ends.old }
     requires place { place < length ends.old.items }
+    requires as_many { length (remove ends.old.items place) ≡ length contacts.now }
     requires same_nodes { IsTrue same_nodes → AreEnds (keys table.now) contacts.now (remove ends.old.items place) }
     ensures { AreEnds (keys table.now) contacts.now ends.new.items }
 {
-    if same_nodes {
-        ends.remove(place);
-    } else {
-        look_up_ends(table, contacts, ends);
+    ends.remove(place);
+    if !same_nodes {
+        renew_ends(table, contacts, ends);
     }
 }
 
-/// Returns the index of a node of the table.
-fn index_of<A: Allocator + Copy>(table: &NodeTable<A>, node: u64) -> usize
+/// Returns the index of a node of the table. It computes a hash unless the guess is right.
+fn index_of<A: Allocator + Copy>(table: &NodeTable<A>, node: u64, guess: usize) -> usize
     requires { IsTrue (has node (keys table.now)) }
     ensures { slice_get (keys table.now) result ≡ Some node }
 {
+    if stands_at(table, node, guess) {
+        return guess;
+    }
     table.get_index_of(&node).unwrap_or(0)
 }

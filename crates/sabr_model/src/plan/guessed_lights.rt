@@ -4,7 +4,7 @@ ghost use Rattle.std.specs.Prelude.{◌≡◌, ◌≤◌, [], IfOk, IfSome, Some
 ghost use Rattle.std.specs.List.{list_all, AllByRecursion};
 ghost use Rattle.sabr_model.specs.plan.Plan.{most_light};
 ghost use Rattle.sabr_model.specs.plan.Known.{AreLights};
-ghost use Rattle.sabr_model.specs.plan.Light.{light_of, light_of_pair, is_rising};
+ghost use Rattle.sabr_model.specs.plan.Light.{light_of, light_of_pair, holds_both_ways};
 ghost use Rattle.sabr_model.specs.plan.RangeOrder.{IsRangeList};
 
 use super::light_times::{LightTimes, word_of};
@@ -32,12 +32,12 @@ pub fn lights_of<A: Allocator + Copy>(
     requires limit { AllByRecursion (λ r. r.light ≤ most_light) ranges.now }
     ensures { IfOk result (λ lights. AreLights ranges.now contacts.now lights) }
 {
-    let rising = are_rising(ranges);
+    let both_ways = all_hold_both_ways(ranges);
     let mut words = Vec::new(alloc);
     words.reserve(contacts.len())?;
     let mut guesses = guesses_of(alloc, ranges)?;
     for contact in contacts {
-        let light = light_of_contact_guessed(ranges, contact, rising, &mut guesses);
+        let light = light_of_contact_guessed(ranges, contact, both_ways, &mut guesses);
         words.push_reserved(word_of(light));
     }
     Ok(LightTimes::of(words))
@@ -71,29 +71,29 @@ fn note_guess(guesses: &mut [u16], slot: usize, place: usize) {
 }
 
 /// Returns true if each range is written from the smaller node, so that it holds both ways.
-fn are_rising(ranges: &[Range]) -> bool
-    ensures { result ≡ list_all is_rising ranges.now }
+fn all_hold_both_ways(ranges: &[Range]) -> bool
+    ensures { result ≡ list_all holds_both_ways ranges.now }
 {
     ranges.iter().all(|r| r.one < r.other)
 }
 
-/// Returns the light time that these ranges state for a contact. `rising` means that each is written from the smaller
+/// Returns the light time that these ranges state for a contact. `both_ways` means that each is written from the smaller
 /// node.
 fn light_of_contact_guessed(
     ranges: &[Range],
     contact: &Contact,
-    rising: bool,
+    both_ways: bool,
     guesses: &mut [u16],
 ) -> Option<u32>
     requires ranges { IsRangeList ranges.now }
-    requires rising { IsTrue rising → IsTrue (list_all is_rising ranges.now) }
+    requires both_ways { IsTrue both_ways → IsTrue (list_all holds_both_ways ranges.now) }
     ensures { result ≡ light_of (record { contacts = []; ranges = ranges.now; largest = 0 }) contact.now }
 {
     let (from, to, start) = (contact.from, contact.to, contact.start);
     if from <= to {
         return light_guessed(ranges, from, to, start, guesses);
     }
-    if !rising {
+    if !both_ways {
         let light = light_guessed(ranges, from, to, start, guesses);
         if light.is_some() {
             return light;

@@ -25,7 +25,7 @@ loop-low-preserved-then-found-number-2 c =
             | inr (inl under) ↦ let apart = numbers_apart 0 c.args.contacts.now k middle d d c.requires under within in omega (arith, apart, at, less, under)
             | inr (inr over) ↦ absurd (omega (arith, over, below))
           ];
-      behind = c.loop-low.invariant.behind;
+      after = c.loop-low.invariant.after;
     }
 
 pub loop-low-preserved : goal.loop-low-preserved
@@ -35,7 +35,7 @@ loop-low-preserved c =
     record {
       within = omega (arith, within);
       before = c.loop-low.invariant.before;
-      behind = λ k d lt above.
+      after = λ k d lt above.
           let at = c.number_at-found.ensures d in
           let least = c.if-found-number-2.false in
           let other = c.if-found-number.false in
@@ -54,5 +54,5 @@ returns c =
     found_nowhere cs n (λ k d within is.
     elim (cases_lt k c.loop-low.low) [
       | inl lt ↦ let below = c.loop-low.invariant.before k d within lt in omega (arith, below, is)
-      | inr le ↦ let above = c.loop-low.invariant.behind k d within (omega (arith, le, test)) in omega (arith, above, is)
+      | inr le ↦ let above = c.loop-low.invariant.after k d within (omega (arith, le, test)) in omega (arith, above, is)
     ])

@@ -6,7 +6,7 @@ abbrev pub invariant-loop-low : goal.invariant-loop-low
 invariant-loop-low l = record {
   within : l.high ≤ length l.contacts;
   before : (k : ℕ) (d : Contact) → k < length l.contacts → k < l.low → (slice_index_or l.contacts k d).number < l.number;
-  behind : (k : ℕ) (d : Contact) → k < length l.contacts → l.high ≤ k → l.number < (slice_index_or l.contacts k d).number;
+  after : (k : ℕ) (d : Contact) → k < length l.contacts → l.high ≤ k → l.number < (slice_index_or l.contacts k d).number;
 }
 
 abbrev pub decreases-loop-low : goal.decreases-loop-low

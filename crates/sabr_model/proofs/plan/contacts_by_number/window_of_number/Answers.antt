@@ -22,8 +22,8 @@ returns-clause-before c = λ k d within lt.
           omega (arith, apart, own, number, low, missing, lt, within)
     ]
 
-pub returns-clause-behind : goal.returns-clause-behind
-returns-clause-behind c = λ k d within le.
+pub returns-clause-after : goal.returns-clause-after
+returns-clause-after c = λ k d within le.
     let above = number_above 0 c.args.contacts.now k d c.requires within in
     let least = c.min.ensures in
     omega (arith, above, least, le, within)
