@@ -31,7 +31,7 @@ pub record IsBefore (x y : Pass) : Type 0 where
 
 -- y, some places after x, has the number as far after that of x, where it stands in the row that x knows
 abbrev pub IsInRow : Pass → ℕ → Pass → Type 0
-IsInRow x behind y = behind ≤ x.next_numbers → y.number ≡ x.number + behind
+IsInRow x places y = places ≤ x.next_numbers → y.number ≡ x.number + places
 
 -- the pass keeps within the bounds of its link
 pub record IsWithin (b : LinkBounds) (x : Pass) : Type 0 where
