@@ -18,7 +18,7 @@ use Rattle.std.proofs.lemmas.Bool.Decides.{nat_tests}
 use Rattle.std.proofs.lemmas.Cmp.{tied_itself}
 use Rattle.std.proofs.lemmas.Map.Entries.{lookup_head, lookup_tail}
 use Rattle.std.proofs.lemmas.Option.{none-some, same_Some}
-use Rattle.std.proofs.lemmas.List.{get_or-drop, get_or_default}
+use Rattle.std.proofs.lemmas.List.{get_or-drop, get_or_default, drop_more}
 use Rattle.std.proofs.lemmas.List.Recursion.{or_from_places}
 use Rattle.sabr_model.specs.declared.contact.Range.{Range}
 use Rattle.sabr_model.specs.Order.{by_key, put_in}
@@ -50,6 +50,15 @@ insert_keyed r (s ∷ rs) none =
       | Less ↦ λ n. refl
       | Equal ↦ λ n. absurd (n refl)
       | Greater ↦ λ n. ap (λ es. keyed s ∷ es) (insert_keyed r rs none.1)
+    ]) none.0
+
+pub length_put : (r : Range) (rs : List Range) → AllByRecursion (λ s. by_range_key r s ≡ Equal → ⊥) rs → length (put_in by_range_key r rs) ≡ length rs + 1
+length_put r [] none = refl
+length_put r (s ∷ rs) none =
+    (elim (by_range_key r s) as (λ o. (o ≡ Equal → ⊥) → length (elim o as (λ _. List Range) [ Less ↦ r ∷ s ∷ rs | Equal ↦ s ∷ rs | Greater ↦ s ∷ put_in by_range_key r rs ]) ≡ suc (length rs) + 1) [
+      | Less ↦ λ n. omega arith
+      | Equal ↦ λ n. absurd (n refl)
+      | Greater ↦ λ n. let one = length_put r rs none.1 in omega (arith, one)
     ]) none.0
 
 -- ---- one less
@@ -219,6 +228,16 @@ module _ (m : BTreeMap Key Range) (rs : List Range) (holds : m.entries ≡ map k
             ∙ ap (overlap r) (at e.1)
       ]
 
+-- ---- the list of the ranges
+
+-- what is left of a list begins with the element at its place
+pub left_at : {X : Type 0} (xs : List X) (i : ℕ) (d x : X) (left : List X) → drop i xs ≡ x ∷ left → (i < length xs) × (get_or xs i d ≡ x) × (drop (i + 1) xs ≡ left)
+left_at xs i d x left is =
+    let many : length (drop i xs) ≡ suc (length left) = ap length is in
+    let lt : i < length xs = omega (arith, many, length-drop i xs) in
+    let parts = sym (drop_more xs i d lt) ∙ is in
+    (lt, ap (λ ys. get_or ys 0 d) parts, ap (drop 1) parts)
+
 -- ---- trees
 
 -- a tree of a plan's ranges
@@ -265,6 +284,11 @@ module _ (m n : BTreeMap Key Range) (h : IsRangeTree m) where
       tree_of n (put_in by_range_key r rs)
       (is ∙ ap (λ es. insert_entry by_key es (range_key r) r) h.0 ∙ insert_keyed r rs (no_tie r rs a.window h.1.range_windows a.new))
       (IsPlan-range (plan_of_ranges rs) r h.1 one other ends light accept)
+
+  pub tree_longer : (r : Range) → range_refusal (plan_of_ranges rs) r ≡ None → length (put_in by_range_key r rs) ≡ length rs + 1
+  tree_longer r accept =
+      let a = accepted_range (plan_of_ranges rs) r accept in
+      length_put r rs (no_tie r rs a.window h.1.range_windows a.new)
 
   -- one less
   pub tree_less : (one other start : ℕ) → n.entries ≡ remove_entry (is_at (by_key (one, other, start))) m.entries → IsRangeTree n × (values n ≡ filter (λ r. not (begins one other start r)) rs)

@@ -35,6 +35,7 @@ mod chains;
 mod duplicate_check;
 mod gathered_contacts;
 mod gathered_ranges;
+mod growing_ranges;
 mod known_ranges;
 mod opening_tree;
 mod range_tree;
@@ -42,6 +43,7 @@ mod sorted_ranges;
 
 pub use gathered_contacts::GatheredContacts;
 pub use gathered_ranges::GatheredRanges;
+pub use growing_ranges::GrowingRanges;
 use sabr_model::{NoMemory, Plan};
 use std::alloc::Allocator;
 

@@ -54,6 +54,7 @@ mod words;
 
 pub use canonical_text::{canonical, digest};
 pub use day_text::DayText;
+pub use gathering::GrowingRanges;
 pub use fault::{PlanFault, PlanKind};
 pub use laws::spelled_plans_obey;
 pub use number::{MAX_U32, leading_number, number_within};

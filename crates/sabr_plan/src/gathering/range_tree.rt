@@ -1,6 +1,6 @@
 //! Ranges in a tree, where some are deleted, or come in no order.
 
-ghost use Rattle.std.specs.Prelude.{◌≡◌, ◌<◌, ◌≤◌, [], None, Some, Err, OnOk, OnErr, IfOk, IsTrue, IsFalse, IsOkUnless, filter, not};
+ghost use Rattle.std.specs.Prelude.{◌≡◌, ◌<◌, ◌≤◌, ◌+◌, [], None, Some, Err, OnOk, OnErr, IfOk, IsTrue, IsFalse, IsOkUnless, filter, length, not};
 ghost use Rattle.std.specs.List.{list_any};
 ghost use Rattle.sabr_model.specs.plan.Plan.{last_time, IsPlan, most_light, overlap};
 ghost use Rattle.sabr_model.specs.Order.{put_in};
@@ -48,16 +48,24 @@ impl<A: Allocator + Copy> RangeTree<A> {
 
         // It is among the ranges. An error changes nothing.
         ensures ok { OnOk result (self.new ≡ put_in by_range_key range self.old) }
+        ensures longer { OnOk result (length self.new ≡ length self.old + 1) }
         ensures err { OnErr result (self.new ≡ self.old) }
     {
-        let overlaps = self.overlaps(&range);
-        if let Some(fault) = range.refusal(overlaps, self.ranges.len()) {
+        if let Some(fault) = self.refusal(&range) {
             return Err(fault);
         }
         match self.ranges.insert(range.key(), range) {
             Ok(_) => Ok(()),
             Err(_) => Err(AddFault::NoMemory),
         }
+    }
+
+    /// Returns the first reason to refuse a range, or `None`, in O(log n).
+    pub fn refusal(&self, range: &Range) -> Option<AddFault>
+        ensures { result ≡ range_refusal (plan_of_ranges self.now) range.now }
+    {
+        let overlaps = self.overlaps(range);
+        range.refusal(overlaps, self.ranges.len())
     }
 
     /// Returns true if a range overlaps one of its ordered pair: if any, the last that begins before its end.
@@ -85,6 +93,19 @@ impl<A: Allocator + Copy> RangeTree<A> {
         }
     }
 
+    /// Writes the ranges over as many others, in ascending order of pair and start.
+    pub fn write_over(&self, list: &mut Vec<Range, A>)
+        requires { length list.old.items ≡ length self.now }
+        ensures value { list.new.items ≡ self.now }
+        ensures rules { IsPlan (plan_of_ranges self.now) }
+    {
+        let mut place = 0;
+        for range in self.ranges.values() {
+            list[place] = *range;
+            place += 1;
+        }
+    }
+
     /// Returns the ranges, in ascending order of pair and start.
     pub fn into_ranges(self, alloc: A) -> Result<Vec<Range, A>, AllocError>
         ensures value { IfOk result (λ v. v.items ≡ self) }
@@ -109,7 +130,7 @@ pub fn range_tree<A: Allocator + Copy>(
 }
 
 /// Makes the tree of ranges in order. It begins with the last one, so that each comes before all that the tree has.
-fn plant<A: Allocator + Copy>(alloc: A, ranges: &[Range]) -> Result<RangeTree<A>, AllocError>
+pub fn plant<A: Allocator + Copy>(alloc: A, ranges: &[Range]) -> Result<RangeTree<A>, AllocError>
     requires { IsPlan (plan_of_ranges ranges.now) }
     ensures { IfOk result (λ t. t ≡ ranges.now) }
 {
