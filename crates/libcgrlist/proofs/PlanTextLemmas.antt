@@ -25,7 +25,7 @@ use Rattle.sabr_model.specs.plan.Adding.{by_range_key, first_refusal}
 use Rattle.sabr_model.specs.declared.fault.AddFault.TheVariants as add
 use Rattle.sabr_model.proofs.PlanLemmas.RangeLemmas.{overlap_flip}
 use Rattle.sabr_plan.specs.Feeding.{Fed, nothing_fed, outcome}
-use Rattle.sabr_plan.specs.Reading.{Reading, judged, limited, most_lines, obeyed}
+use Rattle.sabr_plan.specs.Reading.{Reading, line_executed, limited, most_lines, executed}
 use Rattle.sabr_plan.specs.declared.command.Command.{Command}
 use Rattle.sabr_plan.specs.declared.command.Command.TheVariants.{Add, Delete}
 use Rattle.sabr_plan.specs.declared.command.Addition.{Addition}
@@ -68,17 +68,17 @@ leads_wider k j r r₁ bytes le p = λ n h.
     let few = a.few in
     record { at = a.at; few = omega (arith, few, le); same = a.same }
 
-limited_is : (n : ℕ) (r : Reading) (line : List ℕ) → n ≤ 1000000 → length line ≤ 255 → limited n r line ≡ judged r line
+limited_is : (n : ℕ) (r : Reading) (line : List ℕ) → n ≤ 1000000 → length line ≤ 255 → limited n r line ≡ line_executed r line
 unfolding limited
 limited_is n r line few short = grind (arith, nat_tests, few, short)
 
-judged_is : (r r₁ : Reading) (line : List ℕ) (bytes : List ℕ) (command : Command) (is : IsLineOf bytes command) → obeyed r command ≡ Ok r₁ → judged r is.line ≡ Ok r₁
-unfolding judged
-judged_is r r₁ line bytes command is e = rw (is.has r.reference) e
+line_executed_is : (r r₁ : Reading) (line : List ℕ) (bytes : List ℕ) (command : Command) (is : IsLineOf bytes command) → executed r command ≡ Ok r₁ → line_executed r is.line ≡ Ok r₁
+unfolding line_executed
+line_executed_is r r₁ line bytes command is e = rw (is.has r.reference) e
 
-leads_line : (r r₁ : Reading) (bytes : List ℕ) (command : Command) → IsLineOf bytes command → obeyed r command ≡ Ok r₁ → Leads 1 r bytes r₁
+leads_line : (r r₁ : Reading) (bytes : List ℕ) (command : Command) → IsLineOf bytes command → executed r command ≡ Ok r₁ → Leads 1 r bytes r₁
 leads_line r r₁ bytes command is e = λ n h.
-    let read : limited (n + 1) r is.line ≡ Ok r₁ = limited_is (n + 1) r is.line (omega (arith, h)) is.short ∙ judged_is r r₁ is.line bytes command is e in
+    let read : limited (n + 1) r is.line ≡ Ok r₁ = limited_is (n + 1) r is.line (omega (arith, h)) is.short ∙ line_executed_is r r₁ is.line bytes command is e in
     record {
       at = n + 1;
       few = omega arith;
@@ -144,13 +144,13 @@ module _ (s : ℕ) where
   fills n = eq-eqb s s refl
 
   module _ (front : List Contact) (low : ℕ) (free : list_any (opens 1 2 s) front ≡ false) where
-    fill_obeyed : low < 20000 → obeyed (reading front [] low) (Add target.Contact filling) ≡ Ok (reading (front ++ filler (low + 1) ∷ []) [] (low + 1))
-    unfolding obeyed
-    fill_obeyed room = rw (no_refusal 1 2 s (s + 1) (list_any (opens 1 2 s) front) low (omega arith) (omega arith) free room) refl
+    fill_executed : low < 20000 → executed (reading front [] low) (Add target.Contact filling) ≡ Ok (reading (front ++ filler (low + 1) ∷ []) [] (low + 1))
+    unfolding executed
+    fill_executed room = rw (no_refusal 1 2 s (s + 1) (list_any (opens 1 2 s) front) low (omega arith) (omega arith) free room) refl
 
-    empty_obeyed : obeyed (reading (front ++ filler (low + 1) ∷ []) [] (low + 1)) (Delete target.Contact emptying) ≡ Ok (reading front [] (low + 1))
-    unfolding obeyed
-    empty_obeyed = rw (named (find (opens 1 2 s) (front ++ filler (low + 1) ∷ [])) (finds_last (opens 1 2 s) front (filler (low + 1)) (fills (low + 1))), filter_last (opens 1 2 s) front (filler (low + 1)) free (fills (low + 1))) refl
+    empty_executed : executed (reading (front ++ filler (low + 1) ∷ []) [] (low + 1)) (Delete target.Contact emptying) ≡ Ok (reading front [] (low + 1))
+    unfolding executed
+    empty_executed = rw (named (find (opens 1 2 s) (front ++ filler (low + 1) ∷ [])) (finds_last (opens 1 2 s) front (filler (low + 1)) (fills (low + 1))), filter_last (opens 1 2 s) front (filler (low + 1)) free (fills (low + 1))) refl
       where
         named : (o : Option Contact) → is_some o ≡ true → is_some (option_map (λ c. c.number) o) ≡ true
         named (Some c) e = refl
@@ -166,8 +166,8 @@ module _ (s : ℕ) where
         let r = reading front [] low in
         let r₁ = reading (front ++ filler (low + 1) ∷ []) [] (low + 1) in
         let r₂ = reading front [] (low + 1) in
-        let one = leads_line r r₁ (addition_line (codes "contact") s (s + 1) 1 2 0) (Add target.Contact filling) (addition_line_is target.Contact filling filling_limits) (fill_obeyed front low free room) in
-        let two = leads_line r₁ r₂ (deletion_line s 1 2) (Delete target.Contact emptying) (deletion_line_is emptying (omega (arith, late)) (omega arith, omega arith) (omega arith, omega arith)) (empty_obeyed front low free) in
+        let one = leads_line r r₁ (addition_line (codes "contact") s (s + 1) 1 2 0) (Add target.Contact filling) (addition_line_is target.Contact filling filling_limits) (fill_executed front low free room) in
+        let two = leads_line r₁ r₂ (deletion_line s 1 2) (Delete target.Contact emptying) (deletion_line_is emptying (omega (arith, late)) (omega arith, omega arith) (omega arith, omega arith)) (empty_executed front low free) in
         leads_more 1 1 r r₁ r₂ (addition_line (codes "contact") s (s + 1) 1 2 0) (deletion_line s 1 2) one two
 
     gap_lead : (front : List Contact) (low n : ℕ) → list_any (opens 1 2 s) front ≡ false → low + n ≤ 20000 → Leads (2 * n) (reading front [] low) (gap_text s n) (reading front [] (low + n))
@@ -225,9 +225,9 @@ module _ (c : Contact) (window : IsWindow c.start c.end) (pair : IsPair c.from c
       addition_line_is target.Contact (adding c)
       (let before = window.0 in let end = window.1 in record { start = omega (arith, before, end); end = end; first = pair.0; second = pair.1; value = omega (arith, rate) })
 
-  contact_obeyed : (front : List Contact) (low : ℕ) → list_any (same_opening c) front ≡ false → low < 20000 → low + 1 ≡ c.number → obeyed (reading front [] low) (Add target.Contact (adding c)) ≡ Ok (reading (front ++ c ∷ []) [] c.number)
-  unfolding obeyed
-  contact_obeyed front low new room number =
+  contact_executed : (front : List Contact) (low : ℕ) → list_any (same_opening c) front ≡ false → low < 20000 → low + 1 ≡ c.number → executed (reading front [] low) (Add target.Contact (adding c)) ≡ Ok (reading (front ++ c ∷ []) [] c.number)
+  unfolding executed
+  contact_executed front low new room number =
       rw (no_refusal c.from c.to c.start c.end (list_any (same_opening c) front) low window.0 pair.2 new room, number) refl
 
 module _ (s largest : ℕ) (late : s + 1 ≤ last_time) (room : largest ≤ 20000) where
@@ -250,7 +250,7 @@ module _ (s largest : ℕ) (late : s + 1 ≤ last_time) (room : largest ≤ 2000
       let r₁ = reading front [] (c.number - 1) in
       let r₂ = reading (front ++ c ∷ []) [] c.number in
       let r₃ = reading ((front ++ c ∷ []) ++ cs) [] largest in
-      let line = leads_line r₁ r₂ (contact_line c) (Add target.Contact (adding c)) (contact_line_is c next.windows.0 next.nodes.0 next.rates.0) (contact_obeyed c next.windows.0 next.nodes.0 next.rates.0 front (c.number - 1) new (omega (arith, above, most, room)) number) in
+      let line = leads_line r₁ r₂ (contact_line c) (Add target.Contact (adding c)) (contact_line_is c next.windows.0 next.nodes.0 next.rates.0) (contact_executed c next.windows.0 next.nodes.0 next.rates.0 front (c.number - 1) new (omega (arith, above, most, room)) number) in
       let rest = contacts_lead cs (front ++ c ∷ []) c.number most (next_after s largest low front cs c next) in
       let back = leads_more 1 (2 * (largest - c.number)) r₁ r₂ r₃ (contact_line c) (contacts_text s largest c.number cs) line rest in
       let whole = leads_more (2 * n) (1 + 2 * (largest - c.number)) r r₁ r₃ (gap_text s n) (contact_line c ++ contacts_text s largest c.number cs) gap back in
@@ -310,10 +310,10 @@ module _ (r : Range) (window : IsWindow r.start r.end) (pair : IsPair r.one r.ot
       addition_line_is target.Range (adding_range r)
       (let before = window.0 in let end = window.1 in record { start = omega (arith, before, end); end = end; first = pair.0; second = pair.1; value = light })
 
-  range_obeyed : (contacts : List Contact) (largest : ℕ) (front : List Range) → list_any (overlap r) front ≡ false → length front < 20000 → AllByRecursion (λ s. by_range_key s r ≡ Less) front
-      → obeyed (reading contacts front largest) (Add target.Range (adding_range r)) ≡ Ok (reading contacts (front ++ r ∷ []) largest)
-  unfolding obeyed
-  range_obeyed contacts largest front new room behind =
+  range_executed : (contacts : List Contact) (largest : ℕ) (front : List Range) → list_any (overlap r) front ≡ false → length front < 20000 → AllByRecursion (λ s. by_range_key s r ≡ Less) front
+      → executed (reading contacts front largest) (Add target.Range (adding_range r)) ≡ Ok (reading contacts (front ++ r ∷ []) largest)
+  unfolding executed
+  range_executed contacts largest front new room behind =
       rw (no_range_refusal r.one r.other r.start r.end (list_any (overlap r) front) (length front) window.0 pair.2 new room, put_behind r front behind) refl
 
 module _ (contacts : List Contact) (largest : ℕ) where
@@ -325,7 +325,7 @@ module _ (contacts : List Contact) (largest : ℕ) where
       let r₀ = reading contacts front largest in
       let r₁ = reading contacts (front ++ r ∷ []) largest in
       let r₂ = reading contacts ((front ++ r ∷ []) ++ rs) largest in
-      let line = leads_line r₀ r₁ (range_line r) (Add target.Range (adding_range r)) (range_line_is r next.windows.0 next.nodes.0 next.lights.0) (range_obeyed r next.windows.0 next.nodes.0 next.lights.0 contacts largest front new (omega (arith, few)) next.behind.0) in
+      let line = leads_line r₀ r₁ (range_line r) (Add target.Range (adding_range r)) (range_line_is r next.windows.0 next.nodes.0 next.lights.0) (range_executed r next.windows.0 next.nodes.0 next.lights.0 contacts largest front new (omega (arith, few)) next.behind.0) in
       let whole = leads_more 1 (length rs) r₀ r₁ r₂ (range_line r) (flat_map range_line rs) line (ranges_lead rs (front ++ r ∷ []) (next_range front rs r next)) in
       let wide = leads_wider (1 + length rs) (suc (length rs)) r₀ r₂ (range_line r ++ flat_map range_line rs) (omega arith) whole in
       subst (λ xs. Leads (suc (length rs)) r₀ (range_line r ++ flat_map range_line rs) (reading contacts xs largest)) (append_assoc front (r ∷ []) rs) wide

@@ -1,5 +1,5 @@
 -- Reading a text piece by piece: the bytes of a line that are held, and where a line ends.
-use Rattle.std.proofs.Common.{◌≡◌, ℕ, ◌+◌, ◌*◌, ◌-◌, ◌<◌, ◌≤◌, true, Result, Ok, Err, ◌⊎◌, not, eqb, List, [], ◌++◌, length, take, get_or, refl, sym, ap, ◌∙◌, arith, length-take, get_or-take, ◌≢◌, inl, inr, Bool, ◌∷◌, append_assoc, OnOk, IfErr, length-append, false, Option, Some, None, is_some, ok_or, subst, append-nil}
+use Rattle.std.proofs.Common.{◌≡◌, ℕ, ◌+◌, ◌*◌, ◌-◌, ◌<◌, ◌≤◌, true, Result, Ok, Err, ◌⊎◌, not, eqb, List, [], ◌++◌, length, take, get_or, refl, sym, ap, ◌∙◌, arith, length-take, get_or-take, ◌≢◌, inl, inr, Bool, ◌∷◌, append_assoc, OnOk, IfErr, length-append, false, Option, Some, None, is_some, ok_or, subst}
 use Rattle.std.proofs.lemmas.Bool.Decides.{nat_tests}
 use Rattle.std.proofs.lemmas.Grind.{get_or_default_zero}
 use Rattle.std.proofs.lemmas.List.Sums.{list_all-from_AllPass}
@@ -8,7 +8,7 @@ use borrow.Author.Tests.{le-ltb}
 use Rattle.sabr_plan.specs.declared.fault.PlanKind.{PlanKind}
 use Rattle.sabr_plan.specs.Words.{is_one_line}
 use Rattle.sabr_plan.specs.Feeding.{Fed, EndsLine, outcome, IsFed, weight, nothing_fed, Answers}
-use Rattle.sabr_plan.specs.Reading.{Reading, Leaves, most_line_bytes, most_lines, judged, limited, broken_line, read_line, kind_of, changed, unless_named, plan_of}
+use Rattle.sabr_plan.specs.Reading.{Reading, Leaves, most_line_bytes, most_lines, line_executed, limited, broken_line, read_line, kind_of, changed, unless_named, plan_of}
 use Rattle.sabr_plan.specs.declared.fault.PlanFault.{PlanFault}
 use Rattle.sabr_plan.specs.Steps.{and_then}
 use Rattle.sabr_plan.proofs.Outcomes.{outcome-line, outcome-held, outcome-refused, plan_of-outcome}
@@ -43,29 +43,29 @@ pub broken_held : (lines : ℕ) (held : List ℕ) → lines ≤ most_lines → l
 broken_held lines held within room limit = grind (arith, nat_tests)
 
 -- a line within the limits is read
-pub limited-judged : (n : ℕ) (r : Reading) (line : List ℕ) → n ≤ most_lines → length line ≤ most_line_bytes → limited n r line ≡ judged r line
+pub limited-line_executed : (n : ℕ) (r : Reading) (line : List ℕ) → n ≤ most_lines → length line ≤ most_line_bytes → limited n r line ≡ line_executed r line
 unfolding limited
-limited-judged n r line few short = rw (le-ltb most_lines n few, le-ltb most_line_bytes (length line) short) refl
+limited-line_executed n r line few short = rw (le-ltb most_lines n few, le-ltb most_line_bytes (length line) short) refl
 
 -- also when all of it is held
-pub held_judged : {U : Type 0} (s new : Fed) (back : List ℕ) (r : Result U PlanKind) (after : Reading) → new ≡ record { lines = s.lines; reading = s.reading; held = s.held ++ back } → s.lines < most_lines → length new.held ≤ most_line_bytes → Leaves (judged new.reading new.held) r after → Leaves (limited (s.lines + 1) s.reading (s.held ++ back)) r after
-held_judged s new back r after e few short is =
+pub held_line_executed : {U : Type 0} (s new : Fed) (back : List ℕ) (r : Result U PlanKind) (after : Reading) → new ≡ record { lines = s.lines; reading = s.reading; held = s.held ++ back } → s.lines < most_lines → length new.held ≤ most_line_bytes → Leaves (line_executed new.reading new.held) r after → Leaves (limited (s.lines + 1) s.reading (s.held ++ back)) r after
+held_line_executed s new back r after e few short is =
     let held : new.held ≡ s.held ++ back = ap (λ (s : Fed). s.held) e in
     let reading : new.reading ≡ s.reading = ap (λ (s : Fed). s.reading) e in
-    rw (limited-judged (s.lines + 1) s.reading (s.held ++ back) (omega arith) (rw held at short)) (rw (reading, held) at is)
+    rw (limited-line_executed (s.lines + 1) s.reading (s.held ++ back) (omega arith) (rw held at short)) (rw (reading, held) at is)
 
--- a line within the limits that is all there is, as it was judged
+-- a line within the limits that is all there is, as it was line_executed
 module _ (s new : Fed) (line : List ℕ) (none : s.held ≡ []) (few : s.lines < most_lines) (short : length line ≤ most_line_bytes) where
-  told : limited (s.lines + 1) s.reading (s.held ++ line) ≡ judged s.reading line
-  told = rw none (limited-judged (s.lines + 1) s.reading line (omega (arith, few)) short)
+  told : limited (s.lines + 1) s.reading (s.held ++ line) ≡ line_executed s.reading line
+  told = rw none (limited-line_executed (s.lines + 1) s.reading line (omega (arith, few)) short)
 
   one : is_one_line s.held ≡ true
   one = rw none refl
 
-  pub known_refused : {U : Type 0} (k : PlanKind) → (k ≡ kind.NoMemory) ⊎ (judged s.reading line ≡ Err k) → new.lines ≡ s.lines → EndsLine {U = U} s line (Err k) new
+  pub known_refused : {U : Type 0} (k : PlanKind) → (k ≡ kind.NoMemory) ⊎ (line_executed s.reading line ≡ Err k) → new.lines ≡ s.lines → EndsLine {U = U} s line (Err k) new
   known_refused k is lines = record { value = rw told is; refused = lines; rest = tt; fits = tt; one = one }
 
-  pub known_read : {U : Type 0} (x : U) → judged s.reading line ≡ Ok new.reading → new.lines ≡ s.lines + 1 → new.held ≡ [] → EndsLine s line (Ok x) new
+  pub known_read : {U : Type 0} (x : U) → line_executed s.reading line ≡ Ok new.reading → new.lines ≡ s.lines + 1 → new.held ≡ [] → EndsLine s line (Ok x) new
   known_read x e lines held = record { value = told ∙ e; refused = tt; rest = (lines, held); fits = omega (arith, ap length none, short); one = one }
 
 -- ---- pieces of a text, fed one after the other

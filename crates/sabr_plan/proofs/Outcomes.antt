@@ -6,8 +6,6 @@ use borrow.Author.Tests.{not-true}
 use Rattle.sabr_plan.specs.Words.{TextLines, is_one_line, before_lines, lines_of, has_bytes}
 use Rattle.std.proofs.lemmas.Bool.Decides.{nat_tests}
 use Rattle.std.proofs.lemmas.List.Folds.{list_all-append}
-use Rattle.sabr_model.specs.plan.Plan.{ContactPlan}
-use Rattle.sabr_plan.specs.declared.fault.PlanFault.{PlanFault}
 use Rattle.sabr_plan.specs.Steps.{and_then}
 use Rattle.sabr_plan.specs.Reading.{Reading, nothing_read, limited, read_line, read_lines, broken_line, last_line, plan_of}
 use Rattle.sabr_plan.specs.Feeding.{Fed, nothing_fed, outcome}
@@ -76,11 +74,6 @@ still_lf_at_end text line rest parts lf some =
 pub and_then-and_then : {A B C E : Type 0} (r : Result A E) (f : A → Result B E) (g : B → Result C E) → and_then (and_then r f) g ≡ and_then r (λ x. and_then (f x) g)
 and_then-and_then (Ok x) f g = refl
 and_then-and_then (Err e) f g = refl
-
--- second steps with the same results
-pub and_then-same : {A B E : Type 0} (r : Result A E) {f g : A → Result B E} → ((x : A) → f x ≡ g x) → and_then r f ≡ and_then r g
-and_then-same (Ok x) same = same x
-and_then-same (Err e) same = refl
 
 -- such steps take the lines of a text in turn
 pub record TakeInTurn {R F : Type 0} (lines : ℕ → R → List (List ℕ) → Result R F) (line : ℕ → R → List ℕ → Result R F) : Type 0 where

@@ -22,7 +22,7 @@ use Rattle.sabr_plan.specs.Numbers.{number_within}
 use Rattle.sabr_plan.specs.Times.{time_of}
 use Rattle.sabr_plan.specs.Operands.{relative_of, after_reference, absolute_time, time_at, node_of, largest_value, value_of, both_of}
 use Rattle.sabr_plan.specs.Commands.{addition_of, deletion_of, target_of, targeted, reference_of, command_of, line_command, HasBounds}
-use Rattle.sabr_plan.specs.Reading.{Reading, most_line_bytes, most_lines, nothing_read, kind_of, changed, obeyed, at_line, limited, judged, read_line, read_lines, ended_line, last_line, plan_of}
+use Rattle.sabr_plan.specs.Reading.{Reading, most_line_bytes, most_lines, nothing_read, kind_of, changed, executed, at_line, limited, line_executed, read_line, read_lines, ended_line, last_line, plan_of}
 use Rattle.sabr_plan.proofs.Spelling.{time_of_tells}
 use Rattle.sabr_plan.proofs.SpelledNumbers.{number_within-range}
 use Rattle.std.proofs.lemmas.List.{take_more, take-append-drop}
@@ -155,29 +155,29 @@ changed_gives : (refusal : Option AddFault) (reference : Option ℕ) (p : Contac
 changed_gives (Some f) reference p good = kind_not f
 changed_gives None reference p good = good refl
 
-obeyed_gives : (r : Reading) (command : Command) → IsPlan r.plan → HasBounds command → Gives Obeys (obeyed r command)
-unfolding obeyed
-obeyed_gives r Nothing good bounds = good
-obeyed_gives r (SetReference t) good bounds = good
-obeyed_gives r (Add Contact a) good bounds =
+executed_gives : (r : Reading) (command : Command) → IsPlan r.plan → HasBounds command → Gives Obeys (executed r command)
+unfolding executed
+executed_gives r Nothing good bounds = good
+executed_gives r (SetReference t) good bounds = good
+executed_gives r (Add Contact a) good bounds =
     changed_gives (contact_refusal r.plan a.first a.second a.start a.end) r.reference (with_contact r.plan (next_contact r.plan a.first a.second a.start a.end a.value))
     (IsPlan-push r.plan a.first a.second a.start a.end a.value good bounds.0 bounds.1 (let most = bounds.3 in omega (arith, most)) bounds.2)
-obeyed_gives r (Add Range a) good bounds =
+executed_gives r (Add Range a) good bounds =
     let range = new_range a.first a.second a.start a.end a.value in
     changed_gives (range_refusal r.plan range) r.reference (with_range r.plan range) (IsPlan-range r.plan range good bounds.0 bounds.1 bounds.2 bounds.3)
-obeyed_gives r (Delete Contact d) good bounds =
+executed_gives r (Delete Contact d) good bounds =
     changed_gives _ r.reference (without_contact r.plan d.first d.second d.start) (λ _. IsPlan-fewer_contacts r.plan (λ c. not (opens d.first d.second d.start c)) good)
-obeyed_gives r (Delete Range d) good bounds =
+executed_gives r (Delete Range d) good bounds =
     changed_gives _ r.reference (without_range r.plan d.first d.second d.start) (λ _. IsPlan-fewer_ranges r.plan (λ s. not (begins d.first d.second d.start s)) good)
 
 -- ---- so do the lines of a text
 
 limited_gives : (n : ℕ) (r : Reading) (line : List ℕ) → IsPlan r.plan → Gives Obeys (limited n r line)
-unfolding limited judged
+unfolding limited line_executed
 limited_gives n r line good =
     if_gives NotRead Obeys (nat_lt most_lines n) _ _ (λ _. tt)
     (if_gives NotRead Obeys (nat_lt most_line_bytes (length line)) _ _ (λ _. tt)
-    (then_gives NotRead HasBounds Obeys (line_command r.reference line) (obeyed r) (line_gives r.reference line) (λ command bounds. obeyed_gives r command good bounds)))
+    (then_gives NotRead HasBounds Obeys (line_command r.reference line) (executed r) (line_gives r.reference line) (λ command bounds. executed_gives r command good bounds)))
 
 -- if the text's reader ended, it isn't refused as one whose reader failed
 module _ (ended : Bool) where

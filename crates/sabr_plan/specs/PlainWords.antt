@@ -47,6 +47,6 @@ name_of Range = codes "range"
 
 -- a text begins with `a` and the name of what is added, and continues with the rest
 pub record AddsAhead (target : Target) (text rest : List ℕ) : Type 0 where
-  pub behind : List ℕ
-  pub first : IsAfterBlanks text (97 ∷ behind)
-  pub name : IsAhead (λ word. word ≡ name_of target) behind rest
+  pub after_letter : List ℕ
+  pub first : IsAfterBlanks text (97 ∷ after_letter)
+  pub name : IsAhead (λ word. word ≡ name_of target) after_letter rest

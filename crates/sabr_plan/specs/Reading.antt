@@ -42,25 +42,25 @@ abbrev pub unless_named : Bool → Option AddFault
 unless_named named = if named then None else Some add.NothingToDelete
 
 -- the state after a command is carried out
-unfoldable pub obeyed : Reading → Command → Result Reading PlanKind
-obeyed r Nothing = Ok r
-obeyed r (SetReference t) = Ok (record { plan = r.plan; reference = Some t })
-obeyed r (Add Contact a) =
+unfoldable pub executed : Reading → Command → Result Reading PlanKind
+executed r Nothing = Ok r
+executed r (SetReference t) = Ok (record { plan = r.plan; reference = Some t })
+executed r (Add Contact a) =
     changed (contact_refusal r.plan a.first a.second a.start a.end) r.reference
     (with_contact r.plan (next_contact r.plan a.first a.second a.start a.end a.value))
-obeyed r (Add Range a) =
+executed r (Add Range a) =
     changed (range_refusal r.plan (new_range a.first a.second a.start a.end a.value)) r.reference
     (with_range r.plan (new_range a.first a.second a.start a.end a.value))
-obeyed r (Delete Contact d) =
+executed r (Delete Contact d) =
     changed (unless_named (is_some (number_of_opening r.plan d.first d.second d.start))) r.reference
     (without_contact r.plan d.first d.second d.start)
-obeyed r (Delete Range d) =
+executed r (Delete Range d) =
     changed (unless_named (list_any (begins d.first d.second d.start) r.plan.ranges)) r.reference
     (without_range r.plan d.first d.second d.start)
 
 -- the state after a line is read and its command carried out
-unfoldable pub judged : Reading → List ℕ → Result Reading PlanKind
-judged r line = and_then (line_command r.reference line) (obeyed r)
+unfoldable pub line_executed : Reading → List ℕ → Result Reading PlanKind
+line_executed r line = and_then (line_command r.reference line) (executed r)
 
 -- a call leaves the state that is wanted, or the refusal, or an allocation failed
 abbrev pub Leaves : {S U : Type 0} → Result S PlanKind → Result U PlanKind → S → Type 0
@@ -82,7 +82,7 @@ most_line_bytes = 255
 
 -- line n is read if n and its length are within the limits
 unfoldable pub limited : ℕ → Reading → List ℕ → Result Reading PlanKind
-limited n r line = if nat_lt most_lines n then Err kind.TooMany else if nat_lt most_line_bytes (length line) then Err kind.LineTooLong else judged r line
+limited n r line = if nat_lt most_lines n then Err kind.TooMany else if nat_lt most_line_bytes (length line) then Err kind.LineTooLong else line_executed r line
 
 -- line n
 abbrev pub read_line : ℕ → Reading → List ℕ → Result Reading PlanFault

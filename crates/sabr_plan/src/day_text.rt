@@ -3,10 +3,7 @@
 ghost use Rattle.std.specs.Prelude.{◌≡◌, ◌+◌, ◌%◌, ◌<◌, ◌≤◌};
 ghost use Rattle.sabr_plan.specs.Times.{last_spelled, time_text_of};
 
-use crate::time::{digit, time_text};
-
-/// The number of seconds of a day.
-const DAY_SECONDS: u64 = 86400;
+use crate::time::{DAY_SECONDS, digit, time_text};
 
 /// The text of the first second of a day. A writer of times keeps it, since most times that come one after another have
 /// one day.

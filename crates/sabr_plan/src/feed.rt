@@ -19,7 +19,7 @@ use std::marker::Model;
 const MAX_LINE_BYTES: usize = 255;
 
 /// The largest number of lines of a text (this project's profile).
-const MAX_LINES: u32 = 1000000;
+pub const MAX_LINES: u32 = 1000000;
 
 /// The plan that the lines so far build, the number of these lines, and the bytes of the line after them.
 #[derive(Drop)]

@@ -8,10 +8,7 @@ ghost use Rattle.sabr_plan.specs.Times.{time_text_of};
 ghost use Rattle.sabr_plan.specs.Times.{IsDate};
 
 use crate::eight_digits::{first_eight, mark_from_ten};
-use crate::time::parse_time;
-
-/// The number of seconds of a day.
-const DAY_SECONDS: u64 = 86400;
+use crate::time::{DAY_SECONDS, parse_time};
 
 /// The bytes `1970/01/` as one number, of which the first byte is the lowest.
 const FIRST_MONTH: u64 = 0x2f31_302f_3037_3931;

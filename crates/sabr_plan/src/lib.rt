@@ -54,11 +54,13 @@ mod words;
 
 pub use canonical_text::{canonical, digest};
 pub use day_text::DayText;
-pub use gathering::GrowingRanges;
 pub use fault::{PlanFault, PlanKind};
+pub use feed::MAX_LINES;
+pub use gathering::GrowingRanges;
 pub use laws::spelled_plans_obey;
 pub use number::{MAX_U32, leading_number, number_within};
 pub use pieces::{ended_line, first_piece, line_end};
 pub use read::{parse_plan, read_plan};
 pub use time::{parse_time, time_text};
 pub use without_light::contacts_without_light;
+pub use words::is_word;

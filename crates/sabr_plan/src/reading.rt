@@ -70,7 +70,7 @@ fn kind_of(fault: AddFault) -> PlanKind
 }
 
 impl<A: Allocator + Copy> PlanReading<A> {
-    ghost use Rattle.sabr_plan.specs.Reading.{nothing_read, obeyed, judged};
+    ghost use Rattle.sabr_plan.specs.Reading.{nothing_read, executed, line_executed};
 
     /// Returns the reading before the first line.
     pub fn new(alloc: A) -> PlanReading<A>
@@ -120,9 +120,9 @@ impl<A: Allocator + Copy> PlanReading<A> {
     /// Reads a line without its LF, and executes its command.
     #[cold]
     #[inline(never)]
-    #[tactic(auto, using(crate::proofs::SpelledPlans::line_bounds), unfolding(crate::specs::Reading::judged))]
+    #[tactic(auto, using(crate::proofs::SpelledPlans::line_bounds), unfolding(crate::specs::Reading::line_executed))]
     pub fn execute_line(&mut self, line: &[u8]) -> Result<(), PlanKind>
-        ensures { Leaves (judged self.old line.now) result self.new }
+        ensures { Leaves (line_executed self.old line.now) result self.new }
     {
         let command = line_command(&self.reference, line)?;
         self.execute(command)
@@ -130,20 +130,20 @@ impl<A: Allocator + Copy> PlanReading<A> {
 
     /// Executes the command of a line, which was read.
     #[inline(always)]
-    #[tactic(auto, using(crate::proofs::SpelledPlans::line_bounds), unfolding(crate::specs::Reading::judged))]
+    #[tactic(auto, using(crate::proofs::SpelledPlans::line_bounds), unfolding(crate::specs::Reading::line_executed))]
     pub fn execute_known(&mut self, line: &[u8], command: Command) -> Result<(), PlanKind>
         requires { line_command self.old.reference line.now ≡ Ok command }
-        ensures { Leaves (judged self.old line.now) result self.new }
+        ensures { Leaves (line_executed self.old line.now) result self.new }
     {
         self.execute(command)
     }
 
     /// Executes the command of a line.
     #[inline(always)]
-    #[tactic(auto, unfolding(crate::specs::Reading::obeyed))]
+    #[tactic(auto, unfolding(crate::specs::Reading::executed))]
     fn execute(&mut self, command: Command) -> Result<(), PlanKind>
         requires { HasBounds command }
-        ensures { Leaves (obeyed self.old command) result self.new }
+        ensures { Leaves (executed self.old command) result self.new }
     {
         match command {
             Command::Nothing => Ok(()),
@@ -161,7 +161,7 @@ impl<A: Allocator + Copy> PlanReading<A> {
     #[inline(always)]
     fn add_contact(&mut self, a: Addition) -> Result<(), PlanKind>
         requires { HasBounds (Add target.Contact a) }
-        ensures { Leaves (obeyed self.old (Add target.Contact a)) result self.new }
+        ensures { Leaves (executed self.old (Add target.Contact a)) result self.new }
     {
         answered(
             self.contacts
@@ -172,20 +172,20 @@ impl<A: Allocator + Copy> PlanReading<A> {
     #[inline(never)]
     fn add_range(&mut self, a: Addition) -> Result<(), PlanKind>
         requires { HasBounds (Add target.Range a) }
-        ensures { Leaves (obeyed self.old (Add target.Range a)) result self.new }
+        ensures { Leaves (executed self.old (Add target.Range a)) result self.new }
     {
         let light = a.value as u32;
         answered(self.ranges.add(a.first, a.second, a.start, a.end, light))
     }
 
     fn delete_contact(&mut self, d: Deletion) -> Result<(), PlanKind>
-        ensures { Leaves (obeyed self.old (Delete target.Contact d)) result self.new }
+        ensures { Leaves (executed self.old (Delete target.Contact d)) result self.new }
     {
         answered(self.contacts.delete(d.first, d.second, d.start))
     }
 
     fn delete_range(&mut self, d: Deletion) -> Result<(), PlanKind>
-        ensures { Leaves (obeyed self.old (Delete target.Range d)) result self.new }
+        ensures { Leaves (executed self.old (Delete target.Range d)) result self.new }
     {
         answered(self.ranges.delete(d.first, d.second, d.start))
     }

@@ -8,6 +8,9 @@ ghost use Rattle.sabr_plan.specs.Times.{is_pair, has_shape, fields_at, HasWidth}
 use jiff::civil::Date;
 use sabr_model::LAST_TIME;
 
+/// The number of seconds of a day.
+pub const DAY_SECONDS: u64 = 86400;
+
 /// The number of days from the first day of jiff's calendar to 1970/01/01.
 const DAYS_BEFORE_EPOCH: u32 = 4371587;
 
@@ -33,8 +36,8 @@ fn fields_of(second: u64) -> TimeFields
     requires { second ≤ last_spelled }
     ensures { result ≡ fields_of second }
 {
-    let days = second / 86400;
-    let clock = (second % 86400) as u32;
+    let days = second / DAY_SECONDS;
+    let clock = (second % DAY_SECONDS) as u32;
     let date = jiff_core::civil::Date::from_days_since_min(days as u32 + DAYS_BEFORE_EPOCH);
     TimeFields {
         year: date.year as u16,
@@ -74,7 +77,7 @@ fn second_of(fields: TimeFields) -> Option<u64>
         return None;
     }
     let clock = fields.hour as u64 * 3600 + fields.minute as u64 * 60 + fields.second as u64;
-    let second = days as u64 * 86400 + clock;
+    let second = days as u64 * DAY_SECONDS + clock;
     if second > LAST_TIME {
         return None;
     }

@@ -2,19 +2,11 @@
 
 ghost use Rattle.std.specs.Prelude.{◌≡◌, ◌==◌, ◌≤◌, ◌∷◌, ◌<◌, [], length, Some, IfSome};
 ghost use Rattle.std.specs.Option.{option_copied};
-ghost use Rattle.std.specs.Str.{bytes_eq};
 ghost use Rattle.sabr_plan.specs.Numbers.{number_within};
 ghost use Rattle.sabr_session.specs.SessionWords.{words_of, words_after, most_number};
 
 use itoa::Buffer;
 use sabr_plan::{MAX_U32, first_piece, leading_number, number_within};
-
-/// Returns whether the word is this text.
-pub(crate) fn is_word(word: &[u8], text: &[u8]) -> bool
-    ensures { result ≡ bytes_eq word.now text.now }
-{
-    word == text
-}
 
 /// Reads the first word in one pass, if it has 1 to 19 digits without a leading zero, with a value from 1 to
 /// 4294967295. Returns the word, the number, and the text after its space. `None` means: use the general reader.

@@ -23,7 +23,7 @@ said reference Contact line name operands a comment plain words named value = rw
 said reference Range line name operands a comment plain words named value = rw (comment, plain, words, named) value
 
 pub time_ahead-requires-clause-ended : goal.time_ahead-requires-clause-ended
-time_ahead-requires-clause-ended c = let adds = c.in_ok-target.ensures.adds in ended_ahead adds.name (still_ended (97 ∷ []) adds.behind refl (ended_blanks adds.first c.requires))
+time_ahead-requires-clause-ended c = let adds = c.in_ok-target.ensures.adds in ended_ahead adds.name (still_ended (97 ∷ []) adds.after_letter refl (ended_blanks adds.first c.requires))
 
 pub returns : goal.returns
 returns c =

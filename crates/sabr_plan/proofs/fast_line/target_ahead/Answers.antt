@@ -15,7 +15,7 @@ graphic_name Range = refl
 -- `a`, a space and a name
 adds_plain : (target : Target) (count : ℕ) (line : List ℕ) → take count line ≡ 97 ∷ 32 ∷ name_of target → AddsAhead target line (drop count line)
 adds_plain target count line front = record {
-  behind = 32 ∷ (name_of target ++ drop count line);
+  after_letter = 32 ∷ (name_of target ++ drop count line);
   first = record { blanks = []; parts = sym (take-append-drop count line) ∙ ap (λ f. f ++ drop count line) front; blank = refl };
   name = record {
     start = name_of target ++ drop count line;

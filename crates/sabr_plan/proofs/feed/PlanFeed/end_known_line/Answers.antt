@@ -1,4 +1,4 @@
--- A line within the limits is judged.
+-- A line within the limits is line_executed.
 use Rattle.std.proofs.Common.{refl, sym, ap, ◌∙◌, ◌<◌, arith}
 use Rattle.sabr_plan.specs.Reading.{most_lines}
 use Rattle.sabr_plan.specs.Feeding.{Fed}

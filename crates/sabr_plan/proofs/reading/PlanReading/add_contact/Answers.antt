@@ -3,12 +3,12 @@ use Rattle.std.proofs.Common.{ap, inl}
 use Rattle.std.proofs.lemmas.Result.{on_ok_weaker}
 use Rattle.sabr_model.specs.plan.Plan.{ContactPlan}
 use Rattle.sabr_model.specs.plan.Adding.{contact_refusal, next_contact, with_contact}
-use Rattle.sabr_plan.specs.Reading.{obeyed}
+use Rattle.sabr_plan.specs.Reading.{executed}
 use Rattle.sabr_plan.proofs.Held.{IsAnswered, changed_leaves}
 use Rattle.sabr_plan.proofs.reading.PlanReading.add_contact.Goals as goal
 
 pub returns : goal.returns
-unfolding obeyed
+unfolding executed
 returns g c =
     let q = c.self.inside.contacts in
     let of : ContactPlan → ContactPlan = λ p. record { contacts = p.contacts; ranges = c.self.inside.ranges; largest = p.largest } in

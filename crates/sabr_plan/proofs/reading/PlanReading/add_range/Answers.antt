@@ -4,12 +4,12 @@ use Rattle.sabr_model.specs.declared.contact.Range.{Range}
 use Rattle.sabr_model.specs.plan.Plan.{ContactPlan}
 use Rattle.std.proofs.lemmas.Result.{on_ok_weaker}
 use Rattle.sabr_model.specs.plan.Adding.{range_refusal, new_range, with_range}
-use Rattle.sabr_plan.specs.Reading.{obeyed}
+use Rattle.sabr_plan.specs.Reading.{executed}
 use Rattle.sabr_plan.proofs.Held.{IsAnswered, changed_leaves}
 use Rattle.sabr_plan.proofs.reading.PlanReading.add_range.Goals as goal
 
 pub returns : goal.returns
-unfolding obeyed
+unfolding executed
 returns g c =
     let q = c.self.inside.contacts in
     let of : List Range → ContactPlan = λ rs. record { contacts = q.contacts; ranges = rs; largest = q.largest } in

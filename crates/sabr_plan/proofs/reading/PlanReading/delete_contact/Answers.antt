@@ -3,12 +3,12 @@ use Rattle.std.proofs.Common.{ap}
 use Rattle.std.proofs.lemmas.Result.{on_ok_weaker}
 use Rattle.sabr_model.specs.plan.Plan.{ContactPlan}
 use Rattle.sabr_model.specs.plan.Adding.{number_of_opening, without_contact}
-use Rattle.sabr_plan.specs.Reading.{obeyed}
+use Rattle.sabr_plan.specs.Reading.{executed}
 use Rattle.sabr_plan.proofs.Held.{changed_leaves, contact_deleted}
 use Rattle.sabr_plan.proofs.reading.PlanReading.delete_contact.Goals as goal
 
 pub returns : goal.returns
-unfolding obeyed
+unfolding executed
 returns g c =
     let q = c.self.inside.contacts in
     let of : ContactPlan → ContactPlan = λ p. record { contacts = p.contacts; ranges = c.self.inside.ranges; largest = p.largest } in

@@ -5,12 +5,12 @@ use Rattle.sabr_model.specs.plan.Plan.{ContactPlan}
 use Rattle.std.proofs.lemmas.Result.{on_ok_weaker}
 use Rattle.sabr_model.specs.plan.Adding.{begins, without_range}
 use Rattle.std.specs.List.{list_any}
-use Rattle.sabr_plan.specs.Reading.{obeyed}
+use Rattle.sabr_plan.specs.Reading.{executed}
 use Rattle.sabr_plan.proofs.Held.{changed_leaves, range_deleted}
 use Rattle.sabr_plan.proofs.reading.PlanReading.delete_range.Goals as goal
 
 pub returns : goal.returns
-unfolding obeyed
+unfolding executed
 returns g c =
     let q = c.self.inside.contacts in
     let of : List Range → ContactPlan = λ rs. record { contacts = q.contacts; ranges = rs; largest = q.largest } in

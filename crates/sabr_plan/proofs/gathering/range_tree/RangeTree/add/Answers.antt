@@ -1,5 +1,5 @@
 -- A range that isn't refused goes to its key.
-use Rattle.std.proofs.Common.{◌≡◌, ◌∙◌, ◌+◌, List, length, sym, ap, subst, arith}
+use Rattle.std.proofs.Common.{◌≡◌, ◌∙◌, ◌+◌, List, length, sym, ap, arith}
 use Rattle.std.specs.Prelude.{None}
 use Rattle.std.specs.BTreeMap.{values, insert_entry}
 use Rattle.sabr_model.specs.declared.contact.Range.{Range}

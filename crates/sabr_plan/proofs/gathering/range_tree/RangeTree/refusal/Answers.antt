@@ -1,7 +1,6 @@
 use Rattle.std.proofs.Common.{◌∙◌, ap, arith}
 use Rattle.std.specs.BTreeMap.{values}
 use Rattle.std.proofs.lemmas.Map.Entries.{length-values_of}
-use Rattle.sabr_model.specs.declared.contact.Range.{Range}
 use Rattle.sabr_model.specs.plan.Adding.{range_refusal}
 use Rattle.sabr_plan.specs.Gathering.{plan_of_ranges}
 use Rattle.sabr_plan.proofs.RangeTrees.{refused_by}
