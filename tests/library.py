@@ -8,6 +8,7 @@
     threads     calls with a const plan in several threads, also under helgrind and the compiler's sanitizer of threads
     closed      the use of what was closed, which the library for debugging notices
     memory      each allocation refused in turn
+    growing     ranges that are added one by one, and wait for their place
     fuzzed      drawn calls with drawn plans and texts, by seeds; under valgrind, and under the compiler's sanitizers
     examples    the programs of examples/, in C and in Rust
     wrapped     the wrappers for C++, Rust and Python
@@ -179,6 +180,13 @@ def threads(room):
         yield f"no two of them race, by {compiler}", "200 of 200", lambda: room.run([checked, relay]).all()
 
 
+def growing(room):
+    program = room.compiled("growing", "growing.c")
+    for seed in (1, 2, 3):
+        yield f"ranges that wait for their place, by seed {seed}", "3000 of 3000 additions, all plans\n", lambda: re.sub(
+            r"(\d+) of \1 plans", "all plans", room.run([program, str(seed)]).all())
+
+
 def closed(room):
     if not os.path.exists(f"{room.folder}/libcgrlist-debug.a"):
         print("note: this library has none for debugging")
@@ -309,4 +317,4 @@ def checks(asked):
         print("note: library is left out, since a trial compiles no library; --library names the folder of one")
         return ()
     return checks_of("library", Calling(asked), [
-        the_header, the_libraries, refusals, texts, names, nulls, threads, closed, drawn_plans, refused_memory, fuzzed, examples, wrapped, larger_plans])
+        the_header, the_libraries, refusals, texts, names, nulls, threads, growing, closed, drawn_plans, refused_memory, fuzzed, examples, wrapped, larger_plans])

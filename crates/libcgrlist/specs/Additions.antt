@@ -13,6 +13,10 @@ use Rattle.libcgrlist.specs.declared.views.RangeRow.{RangeRow}
 abbrev pub range_of : RangeRow → Range
 range_of r = record { one = r.one; other = r.other; start = r.start; end = r.end; light = r.light }
 
+-- a plan with these ranges in place of its own
+abbrev pub over_ranges : ContactPlan → List Range → ContactPlan
+over_ranges p ranges = record { contacts = p.contacts; ranges = ranges; largest = p.largest }
+
 -- a plan with it, or the status of its refusal
 abbrev pub row_put : ContactPlan → RangeRow → Result ContactPlan ℕ
 row_put p r = range_put p (range_of r)

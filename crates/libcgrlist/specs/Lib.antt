@@ -3,6 +3,7 @@ pub mod Answers
 pub mod Buffers
 pub mod Changes
 pub mod Following
+pub mod Held
 pub mod Listings
 pub mod Open
 pub mod Opened

@@ -2,7 +2,7 @@
 use Rattle.std.specs.Prelude.{◌≡◌, ◌⊎◌, ℕ, true, Bool, false, Result, Ok, Err, Option, None, Some, ◌+◌, List, [], ◌∷◌, length, map, nat_lt}
 use Rattle.sabr_model.specs.plan.Plan.{ContactPlan, IsPlan}
 use Rattle.sabr_plan.specs.declared.fault.PlanFault.{PlanFault}
-use Rattle.libcgrlist.specs.Opened.{OpenPlan}
+use Rattle.libcgrlist.specs.declared.held.Held.{Held}
 use Rattle.libcgrlist.specs.declared.handle.PlanHandle.{PlanHandle}
 use Rattle.libcgrlist.specs.Status.{already_open, done, line_status, no_memory}
 use Rattle.std.specs.List.{filter}
@@ -10,9 +10,9 @@ use Rattle.sabr_model.specs.declared.contact.Contact.{Contact}
 use Rattle.sabr_model.specs.declared.contact.Range.{Range}
 
 -- behind the handle is this plan, which obeys the rules of plans, with no listing
-abbrev pub IsPlanAlone : ContactPlan → Option OpenPlan → Type 0
+abbrev pub IsPlanAlone : ContactPlan → Option Held → Type 0
 IsPlanAlone p None = ⊥
-IsPlanAlone p (Some o) = (o.plan.plan ≡ p) × IsPlan o.plan.plan × (o.listing ≡ None)
+IsPlanAlone p (Some h) = (h.growing ≡ None) × (h.opened.plan.plan ≡ p) × IsPlan h.opened.plan.plan × (h.opened.listing ≡ None)
 
 -- this plan is open, or an allocation failed and the handle stays closed
 abbrev pub Makes : ContactPlan → ℕ → PlanHandle → Type 0

@@ -1,7 +1,8 @@
 //! Adding contacts and ranges, many at once: all or none.
 
 ghost use Rattle.std.specs.Prelude.{◌≡◌, IfOk, IsFalse, is_some};
-ghost use Rattle.libcgrlist.specs.Additions.{AddsAll, Makes, Puts, PutsAll, TakesOver, all_put, all_refused, contacts_added, ranges_added, row_put};
+ghost use Rattle.sabr_model.specs.plan.Plan.{ContactPlan, IsPlan};
+ghost use Rattle.libcgrlist.specs.Additions.{AddsAll, Makes, Puts, PutsAll, TakesOver, all_put, all_refused, contacts_added, over_ranges, ranges_added, row_put};
 ghost use Rattle.libcgrlist.specs.Changes.{contact_put};
 ghost use Rattle.libcgrlist.specs.Open.{Calls, IsWhole};
 
@@ -10,7 +11,8 @@ use crate::handle::{PlanHandle, over_plan};
 use crate::opened::{NewContact, Opened, copy_of};
 use crate::status::{CLOSED, DONE, LISTING, MEMORY, VALUE_LIGHT, of_change};
 use crate::views::RangeRow;
-use sabr_model::{MAX_LIGHT, Plan};
+use sabr_model::{MAX_LIGHT, NoMemory, Plan, Range};
+use sabr_plan::GrowingRanges;
 use std::alloc::Global;
 
 /// A record that is refused: its place among those to add, from 0, and the status.
@@ -43,8 +45,8 @@ fn put_contact(plan: &mut Plan<Global>, new: &NewContact) -> Result<(), u32>
 }
 
 /// Adds a range, or returns the status of its refusal.
-fn put_range(plan: &mut Plan<Global>, new: &RangeRow) -> Result<(), u32>
-    ensures { Puts (row_put plan.old.plan new.now) result plan.new.plan }
+fn put_range(growing: &mut GrowingRanges<Global>, new: &RangeRow) -> Result<(), u32>
+    ensures { (p : ContactPlan) → Puts (row_put (over_ranges p growing.old) new.now) result (over_ranges p growing.new) }
 {
     if let Some(status) = value_refusal(new.one, new.other, new.start, new.end) {
         return Err(status);
@@ -52,7 +54,14 @@ fn put_range(plan: &mut Plan<Global>, new: &RangeRow) -> Result<(), u32>
     if new.light > MAX_LIGHT {
         return Err(VALUE_LIGHT);
     }
-    match plan.add_range(new.one, new.other, new.start, new.end, new.light) {
+    let range = Range {
+        one: new.one,
+        other: new.other,
+        start: new.start,
+        end: new.end,
+        light: new.light,
+    };
+    match growing.add(range) {
         Ok(()) => Ok(()),
         Err(fault) => Err(of_change(fault)),
     }
@@ -71,11 +80,14 @@ fn put_contacts(plan: &mut Plan<Global>, contacts: &[NewContact]) -> Result<(), 
 }
 
 /// Adds ranges one after another, up to the first that is refused.
-fn put_ranges(plan: &mut Plan<Global>, ranges: &[RangeRow]) -> Result<(), RefusedRecord>
-    ensures { PutsAll (all_put row_put 0 plan.old.plan ranges.now) result plan.new.plan }
+fn put_ranges(
+    growing: &mut GrowingRanges<Global>,
+    ranges: &[RangeRow],
+) -> Result<(), RefusedRecord>
+    ensures { (p : ContactPlan) → PutsAll (all_put row_put 0 (over_ranges p growing.old) ranges.now) result (over_ranges p growing.new) }
 {
     for place in 0..ranges.len() {
-        if let Err(status) = put_range(plan, &ranges[place]) {
+        if let Err(status) = put_range(growing, &ranges[place]) {
             return Err(RefusedRecord { place, status });
         }
     }
@@ -103,6 +115,19 @@ fn with_contacts(
     }
 }
 
+/// Returns a copy of a plan with other ranges.
+fn copy_over(
+    alloc: Global,
+    plan: &Plan<Global>,
+    ranges: Vec<Range, Global>,
+) -> Result<Plan<Global>, NoMemory>
+    requires { IsPlan (over_ranges plan.now.plan ranges.items) }
+    ensures { IfOk result (λ p. p.plan ≡ over_ranges plan.now.plan ranges.items) }
+{
+    let contacts = Vec::from_slice(alloc, plan.contacts())?;
+    Plan::of_parts(alloc, contacts, ranges, plan.largest())
+}
+
 /// Returns a copy of the plan with more ranges.
 fn with_ranges(
     alloc: Global,
@@ -115,12 +140,15 @@ fn with_ranges(
     if opened.has_listing() {
         return Err(RefusedRecord::all(LISTING));
     }
-    let Ok(mut plan) = copy_of(alloc, opened.plan()) else {
+    let plan = opened.plan();
+    plan.rules_hold();
+    let Ok(mut growing) = GrowingRanges::of(alloc, plan.ranges()) else {
         return Err(RefusedRecord::all(MEMORY));
     };
-    match put_ranges(&mut plan, ranges) {
-        Ok(()) => Ok(plan),
-        Err(refused) => Err(refused),
+    put_ranges(&mut growing, ranges)?;
+    match copy_over(alloc, plan, growing.into_ranges()) {
+        Ok(made) => Ok(made),
+        Err(_refused) => Err(RefusedRecord::all(MEMORY)),
     }
 }
 
@@ -181,7 +209,7 @@ pub extern "C" fn cgrlist_plan_add_contacts(
     ensures change { Calls handle.old handle.new result (λ o n. AddsAll o (contacts_added o contacts.now) result place.old place.new n) }
     ensures closed { IsFalse handle.old.is_open → place.new ≡ place.old }
 {
-    over_plan!(handle, alloc, opened => add_contacts(alloc, &mut opened, contacts, place))
+    over_plan!(handle, alloc, opened => add_contacts(alloc, opened, contacts, place))
 }
 
 /// Adds ranges in their order, or none of them, and gives the place of the first that is refused.
@@ -196,5 +224,5 @@ pub extern "C" fn cgrlist_plan_add_ranges(
     ensures change { Calls handle.old handle.new result (λ o n. AddsAll o (ranges_added o ranges.now) result place.old place.new n) }
     ensures closed { IsFalse handle.old.is_open → place.new ≡ place.old }
 {
-    over_plan!(handle, alloc, opened => add_ranges(alloc, &mut opened, ranges, place))
+    over_plan!(handle, alloc, opened => add_ranges(alloc, opened, ranges, place))
 }

@@ -133,5 +133,5 @@ pub extern "C" fn cgrlist_best(
     ensures kept { UnlessWritten result ((row.new ≡ row.old) × (contacts.new ≡ contacts.old)) }
 {
     let request = asked.request(avoid);
-    over_plan!(handle, alloc, opened => give_best(alloc, &mut opened, request, row, contacts))
+    over_plan!(handle, alloc, opened => give_best(alloc, opened, request, row, contacts))
 }

@@ -50,25 +50,6 @@ fn add_contact(opened: &mut Opened, new: &NewContact, number: &mut u32) -> u32
     }
 }
 
-/// Adds a range.
-fn add_range(opened: &mut Opened, new: &Range) -> u32
-    ensures { ChangesInMemory opened.old (range_added opened.old new.now) result opened.new }
-{
-    if opened.has_listing() {
-        return LISTING;
-    }
-    if let Some(status) = value_refusal(new.one, new.other, new.start, new.end) {
-        return status;
-    }
-    if new.light > MAX_LIGHT {
-        return VALUE_LIGHT;
-    }
-    match opened.add_range(new) {
-        Ok(()) => DONE,
-        Err(fault) => of_change(fault),
-    }
-}
-
 /// Deletes a contact, and gives the number that it had.
 fn delete_contact(opened: &mut Opened, from: u64, to: u64, start: u64, number: &mut u32) -> u32
     ensures change { Changes opened.old (contact_deleted opened.old from to start) result opened.new }
@@ -148,7 +129,7 @@ pub extern "C" fn cgrlist_plan_add_contact(
         end,
         rate,
     };
-    over_plan!(handle, alloc, opened => add_contact(&mut opened, &new, number))
+    over_plan!(handle, alloc, opened => add_contact(opened, &new, number))
 }
 
 /// Adds a range.
@@ -172,7 +153,13 @@ pub extern "C" fn cgrlist_plan_add_range(
         end,
         light,
     };
-    over_plan!(handle, alloc, opened => add_range(&mut opened, &new))
+    if !handle.is_open {
+        return CLOSED;
+    }
+    let mut held = handle.take(alloc);
+    let status = held.add_range(alloc, &new);
+    handle.give(held);
+    status
 }
 
 /// Deletes a contact, and gives the number that it had.
@@ -190,7 +177,7 @@ pub extern "C" fn cgrlist_plan_delete_contact(
     ensures given { Calls handle.old handle.new result (λ o n. result ≡ 0 → number_of_opening o.plan.plan from to start ≡ Some number.new) }
     ensures kept { result ≢ 0 → number.new ≡ number.old }
 {
-    over_plan!(handle, alloc, opened => delete_contact(&mut opened, from, to, start, number))
+    over_plan!(handle, alloc, opened => delete_contact(opened, from, to, start, number))
 }
 
 /// Deletes the contact with a number.
@@ -203,7 +190,7 @@ pub extern "C" fn cgrlist_plan_delete_number(
     requires { IsWhole handle.old }
     ensures change { Calls handle.old handle.new result (λ o n. Changes o (number_deleted o number) result n) }
 {
-    over_plan!(handle, alloc, opened => delete_number(&mut opened, number))
+    over_plan!(handle, alloc, opened => delete_number(opened, number))
 }
 
 /// Deletes a range.
@@ -218,5 +205,5 @@ pub extern "C" fn cgrlist_plan_delete_range(
     requires { IsWhole handle.old }
     ensures change { Calls handle.old handle.new result (λ o n. Changes o (range_deleted o one other start) result n) }
 {
-    over_plan!(handle, alloc, opened => delete_range(&mut opened, one, other, start))
+    over_plan!(handle, alloc, opened => delete_range(opened, one, other, start))
 }

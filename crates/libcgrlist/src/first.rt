@@ -104,21 +104,22 @@ pub extern "C" fn cgrlist_first(
     if !handle.is_open {
         return CLOSED;
     }
-    let mut opened = handle.take(alloc);
+    let mut held = handle.take(alloc);
+    held.settle();
     if MAX_ROUTES < count {
-        handle.give(opened);
+        handle.give(held);
         return VALUE_COUNT;
     }
     let request = match asked.request(avoid) {
         Ok(request) => request,
         Err(error) => {
-            handle.give(opened);
+            handle.give(held);
             return of_request(error);
         }
     };
     let wanted = FirstRoutes { request, count };
-    let found = find_first(alloc, &mut opened, wanted, rows, contacts);
-    handle.give(opened);
+    let found = find_first(alloc, &mut held.opened, wanted, rows, contacts);
+    handle.give(held);
     match found {
         Ok(found) => {
             *page = found;

@@ -6,7 +6,7 @@ mod place;
 ghost use Rattle.std.specs.Prelude.{◌≡◌, IsTrue, is_some, None, Some, true};
 ghost use Rattle.sabr_model.specs.plan.Plan.{IsPlan};
 
-use crate::opened::Opened;
+use crate::held::Held;
 pub use loose::Loose;
 pub use place::Place;
 use std::alloc::Global;
@@ -27,9 +27,11 @@ macro_rules! over_plan {
         if !$handle.is_open {
             return CLOSED;
         }
-        let mut $opened = $handle.take($alloc);
+        let mut held = $handle.take($alloc);
+        held.settle();
+        let $opened = &mut held.opened;
         let made = $call;
-        $handle.give($opened);
+        $handle.give(held);
         made
     }};
 }
@@ -38,7 +40,7 @@ pub(crate) use over_plan;
 
 impl PlanHandle {
     /// Takes the plan out of an open handle, which stays open. The caller gives it back.
-    pub fn take(&mut self, alloc: Global) -> Box<Opened, Global>
+    pub fn take(&mut self, alloc: Global) -> Box<Held, Global>
         requires { IsTrue (is_some self.old.place.held) }
         ensures taken { self.old.place.held ≡ Some result.value }
         ensures open { self.new.is_open ≡ self.old.is_open }
@@ -50,12 +52,12 @@ impl PlanHandle {
     }
 
     /// Puts a plan into a handle, which is open then.
-    pub fn give(&mut self, held: Box<Opened, Global>)
+    pub fn give(&mut self, held: Box<Held, Global>)
         ensures open { self.new.is_open ≡ true }
         ensures held { self.new.place.held ≡ Some held.value }
-        ensures rules { IsPlan held.value.plan.plan }
+        ensures rules { IsPlan held.value.opened.plan.plan }
     {
-        held.plan().rules_hold();
+        held.opened.plan().rules_hold();
         self.place = Place::of(Loose::of(held));
         self.is_open = true;
     }

@@ -27,6 +27,7 @@ mod changes;
 mod first;
 mod follow;
 mod handle;
+mod held;
 mod listing;
 mod opened;
 mod plan_text;

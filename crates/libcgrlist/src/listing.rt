@@ -173,7 +173,7 @@ pub extern "C" fn cgrlist_listing_open(
     ensures listing { Calls handle.old handle.new result (λ o n. OpensListing o (refused_or (second_refusal o.listing) (asked_status (asked_request asked.now avoid.now))) result n) }
 {
     let request = asked.request(avoid);
-    over_plan!(handle, alloc, opened => open_asked(alloc, &mut opened, request))
+    over_plan!(handle, alloc, opened => open_asked(alloc, opened, request))
 }
 
 /// Gives the next page of the listing. If there is no room for all of it, the listing stays where it was.
@@ -193,18 +193,19 @@ pub extern "C" fn cgrlist_listing_next(
     if !handle.is_open {
         return CLOSED;
     }
-    let mut opened = handle.take(alloc);
+    let mut held = handle.take(alloc);
+    held.settle();
     // NO_LISTING comes before VALUE_COUNT, and that before MEMORY. Each return gives the plan back.
-    if !opened.has_listing() {
-        handle.give(opened);
+    if !held.opened.has_listing() {
+        handle.give(held);
         return NO_LISTING;
     }
     if MAX_ROUTES < count {
-        handle.give(opened);
+        handle.give(held);
         return VALUE_COUNT;
     }
-    let given = next_page(alloc, &mut opened, count, rows, contacts);
-    handle.give(opened);
+    let given = next_page(alloc, &mut held.opened, count, rows, contacts);
+    handle.give(held);
     match given {
         Ok(given) => {
             *page = given;
@@ -220,7 +221,7 @@ pub extern "C" fn cgrlist_listing_back(alloc: Global, handle: &mut PlanHandle) -
     requires { IsWhole handle.old }
     ensures back { Calls handle.old handle.new result (λ o n. AnswersBack o result n) }
 {
-    let gone = over_plan!(handle, alloc, opened => go_back(alloc, &mut opened));
+    let gone = over_plan!(handle, alloc, opened => go_back(alloc, opened));
     match gone {
         Ok(true) => DONE,
         Ok(false) => NO,
@@ -255,7 +256,7 @@ pub extern "C" fn cgrlist_listing_close(alloc: Global, handle: &mut PlanHandle) 
     requires { IsWhole handle.old }
     ensures close { Calls handle.old handle.new result (λ o n. ClosesListing o result n) }
 {
-    over_plan!(handle, alloc, opened => close_listing(&mut opened))
+    over_plan!(handle, alloc, opened => close_listing(opened))
 }
 
 /// States where a listing stands in the list of all routes of its request. One that was opened begins before the first

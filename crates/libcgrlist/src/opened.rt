@@ -41,7 +41,6 @@ impl Model for Opened {
     ghost use Rattle.sabr_plan.specs.Canonical.{digest_of};
     ghost use Rattle.sabr_frontier.specs.session.Paused.{IsPausedOver};
     ghost use Rattle.sabr_index.specs.Index.{AreLinksOfPlan};
-    ghost use Rattle.sabr_index.specs.Index.{AreLinksOfPlan};
     ghost use Rattle.sabr_plan.specs.WithoutLight.{contacts_without_light};
     ghost use Rattle.libcgrlist.specs.Opened.{OpenPlan, listing_over};
 
@@ -239,11 +238,12 @@ pub struct NewContact {
 impl Opened {
     ghost use Rattle.std.specs.Prelude.{◌≡◌, ◌+◌, ◌<◌, ◌≤◌, ◌↔◌, None, Some, Err, IfOk, IfErr, IsOk, OnOk, OnErr, IsFalse, IsOkUnless, IsTrue, is_some, ok_or};
     ghost use Rattle.std.specs.List.{list_any};
-    ghost use Rattle.sabr_model.specs.plan.Plan.{last_time, most_light};
+    ghost use Rattle.sabr_model.specs.plan.Plan.{IsPlan, last_time, most_light};
     ghost use Rattle.sabr_model.specs.declared.fault.AddFault.{AddFault};
     ghost use Rattle.sabr_model.specs.declared.fault.AddFault.TheVariants as fault;
     ghost use Rattle.sabr_model.specs.plan.Adding.{begins, next_contact, contact_refusal, with_contact, range_refusal, with_range, number_of_opening, without_contact, without_range};
     ghost use Rattle.libcgrlist.specs.Changes.{Becomes};
+    ghost use Rattle.libcgrlist.specs.Held.{with_ranges};
 
     /// Adds a contact, and returns its number.
     ///
@@ -335,6 +335,18 @@ impl Opened {
         self.digest = None;
         self.without_light = None;
         Ok(())
+    }
+
+    /// Puts these ranges in place of the plan's. It doesn't allocate.
+    pub fn set_ranges(&mut self, ranges: Vec<Range, Global>)
+        requires listing { IsFalse (is_some self.old.listing) }
+        requires rules { IsPlan (record { contacts = self.old.plan.plan.contacts; ranges = ranges.items; largest = self.old.plan.plan.largest }) }
+        ensures { self.new ≡ with_ranges (Some ranges.items) self.old }
+    {
+        self.plan.set_ranges(ranges);
+        self.links = None;
+        self.digest = None;
+        self.without_light = None;
     }
 
     /// Puts another plan in place of this one.

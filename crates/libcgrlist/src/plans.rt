@@ -7,6 +7,7 @@ ghost use Rattle.libcgrlist.specs.Plans.{Makes, Opens, Reads, Refused};
 ghost use Rattle.libcgrlist.specs.Status.{done, no_memory};
 
 use crate::handle::{PlanHandle, over_plan};
+use crate::held::Held;
 use crate::opened::Opened;
 use crate::status::{CLOSED, DONE, MEMORY, OPEN, of_line};
 use sabr_model::Plan;
@@ -19,9 +20,9 @@ pub fn open(alloc: Global, handle: &mut PlanHandle, opened: Opened) -> u32
     requires alone { opened.listing ≡ None }
     ensures { Makes opened.plan.plan result handle.new }
 {
-    match Box::new(alloc, opened) {
-        Ok(opened) => {
-            handle.give(opened);
+    match Box::new(alloc, Held::of(opened)) {
+        Ok(held) => {
+            handle.give(held);
             DONE
         }
         Err(_) => MEMORY,
@@ -96,7 +97,7 @@ pub extern "C" fn cgrlist_plan_copy(
     ensures copied { Calls handle.old handle.new result (λ o n. (n ≡ o) × Opens copy.old copy.new result (Makes o.plan.plan result copy.new)) }
     ensures closed { IsFalse handle.old.is_open → (copy.new.is_open ≡ copy.old.is_open) × (copy.new.place.held ≡ copy.old.place.held) }
 {
-    over_plan!(handle, alloc, opened => copy_to(alloc, &opened, copy))
+    over_plan!(handle, alloc, opened => copy_to(alloc, opened, copy))
 }
 
 /// Makes what serves until a plan changes: its index, its digest and its counts.

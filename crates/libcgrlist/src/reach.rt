@@ -168,5 +168,5 @@ pub extern "C" fn cgrlist_best_each(
     ensures closed { IsFalse handle.old.is_open → reaches.new ≡ reaches.old }
 {
     let destinations = Destinations { asked, avoid, to };
-    over_plan!(handle, alloc, opened => give_reaches(alloc, &mut opened, &destinations, reaches))
+    over_plan!(handle, alloc, opened => give_reaches(alloc, opened, &destinations, reaches))
 }

@@ -94,7 +94,7 @@ pub extern "C" fn cgrlist_listing_text(
     ensures text { Calls handle.old handle.new result (λ o n. (n ≡ o) × AnswersText o.listing result text.old text.new bytes.old bytes.new) }
     ensures closed { IsFalse handle.old.is_open → GivesNoText text.old text.new bytes.old bytes.new }
 {
-    let given = over_plan!(handle, alloc, opened => text_of_place(alloc, &mut opened));
+    let given = over_plan!(handle, alloc, opened => text_of_place(alloc, opened));
     match given {
         Ok(given) => {
             *bytes = given.len();
@@ -161,7 +161,7 @@ pub extern "C" fn cgrlist_listing_load(
     ensures no_line { IsFalse handle.old.is_open → line.new ≡ 0 }
 {
     *line = 0;
-    over_plan!(handle, alloc, opened => open_text(alloc, &mut opened, text, line))
+    over_plan!(handle, alloc, opened => open_text(alloc, opened, text, line))
 }
 
 /// Verifies that bytes are the session text of a place over the plan. It writes nothing into a plan that has its links
@@ -183,7 +183,7 @@ pub extern "C" fn cgrlist_verify(alloc: Global, handle: &mut PlanHandle, text: &
     requires { IsWhole handle.old }
     ensures verify { Calls handle.old handle.new result (λ o n. (n ≡ o) × IsVerified o.plan.plan text.now result) }
 {
-    let verified = over_plan!(handle, alloc, opened => verify_text(alloc, &mut opened, text));
+    let verified = over_plan!(handle, alloc, opened => verify_text(alloc, opened, text));
     match verified {
         Ok(true) => DONE,
         Ok(false) => NO,

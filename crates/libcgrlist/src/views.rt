@@ -146,7 +146,7 @@ pub extern "C" fn cgrlist_plan_counts(
     ensures counts { Calls handle.old handle.new result (λ o n. (n ≡ o) × (result ≡ done) × (counts.new ≡ counts_of o.plan.plan)) }
     ensures kept { result ≢ 0 → counts.new ≡ counts.old }
 {
-    *counts = over_plan!(handle, alloc, opened => counted(&mut opened));
+    *counts = over_plan!(handle, alloc, opened => counted(opened));
     DONE
 }
 

@@ -1,11 +1,11 @@
 -- Following a list of contacts hop by hop.
-use Rattle.std.proofs.Common.{◌≡◌, ◌≢◌, ℕ, zero, suc, ◌+◌, ◌-◌, ◌<◌, ◌≤◌, max, Bool, true, false, cond, ◌||◌, eqb, List, [], ◌∷◌, ◌++◌, length, get_or, take, drop, slice_get, inl, inr, refl, sym, ap, subst, ◌∙◌, arith, add-one, drop-cons, append-nil}
-use Rattle.std.specs.Prelude.{IfSome, IsTrue, is_none, is_some, nat_lt, unwrap_or}
-use Rattle.std.specs.Option.{option_map, option_map_or}
+use Rattle.std.proofs.Common.{◌≡◌, ◌≢◌, ℕ, zero, suc, ◌+◌, ◌<◌, ◌≤◌, max, Bool, true, false, cond, ◌||◌, eqb, List, [], ◌∷◌, ◌++◌, length, get_or, take, drop, slice_get, inl, inr, refl, sym, ap, ◌∙◌, arith, add-one, drop-cons}
+use Rattle.std.specs.Prelude.{IsTrue, is_none, is_some, nat_lt}
+use Rattle.std.specs.Option.{option_map}
 use Rattle.std.specs.declared.option.Option.{Option}
 use Rattle.std.specs.declared.option.Option.TheVariants.{Some, None}
 use Rattle.std.proofs.lemmas.Bool.{cases_Bool, eqb-true, eq-eqb, false_from_ne_true, ltb-true}
-use Rattle.std.proofs.lemmas.List.{drop_all, length-take-le, take_more, take_all}
+use Rattle.std.proofs.lemmas.List.{take_more, take_all}
 use Rattle.std.proofs.lemmas.List.Folds.{list_any-append}
 use Rattle.std.proofs.lemmas.Option.{get_or_from_slice_get, slice_get_within}
 use Rattle.sabr_model.specs.declared.contact.Contact.{Contact}
@@ -17,9 +17,9 @@ use Rattle.sabr_model.specs.declared.route_summary.RouteSummary.{RouteSummary}
 use Rattle.sabr_model.specs.plan.Plan.{ContactPlan, TabledPlan, IsPlan, contact_named, has}
 use Rattle.sabr_model.specs.plan.Light.{light_of}
 use Rattle.sabr_model.specs.plan.Tabled.{IsHopOf, IsTabled}
-use Rattle.sabr_model.specs.routes.Arrival.{RouteRequest, arrival, arrival_after, cost}
+use Rattle.sabr_model.specs.routes.Arrival.{RouteRequest, arrival, cost}
 use Rattle.sabr_model.specs.routes.Hops.{IsSmall, hop_arrival}
-use Rattle.sabr_model.specs.routes.Route.{receivers, delivery_of, ends_at, is_route}
+use Rattle.sabr_model.specs.routes.Route.{receivers, ends_at, is_route}
 use Rattle.sabr_model.specs.routes.Following.{IsReachedBy}
 use Rattle.sabr_model.specs.routes.Telling.{summary_of}
 use Rattle.sabr_model.specs.routes.Fault.{fault_at, fault_of, fault_or, first_fault}
@@ -32,7 +32,7 @@ use Rattle.sabr_model.proofs.PlanLemmas.Tabled.{place_one}
 use Rattle.sabr_model.proofs.RouteLemmas.Follows.{ends_elsewhere, ends_in_time, ends_there, front_is_good, path_behind}
 use Rattle.sabr_model.proofs.RouteLemmas.Prefixes.{empty_is_path}
 use Rattle.sabr_session.specs.declared.hops.node_set.NodeSet.{NodeSet}
-use Rattle.sabr_session.specs.Hops.{has_index, most_nodes, IsFollowed, PlacedHop, hop_after, placed_after, told_after, told_of}
+use Rattle.sabr_session.specs.Hops.{has_index, most_nodes, IsFollowed, placed_after, told_after, told_of}
 
 -- the hop of a contact is small
 pub hop_is_small : (p : TabledPlan) (n : ℕ) (c : Contact) (h : Hop) → IsPlan p.plan → contact_named p.plan n ≡ Some c → IsHopOf p c h → IsSmall h
@@ -73,30 +73,6 @@ at_place s i n e =
       behind = drop-cons s i 0 less ∙ ap (λ m. m ∷ drop (suc i) s) is ∙ ap (λ k. n ∷ drop k s) (sym (add-one i));
       more = take_more s i 0 less ∙ ap (λ m. take i s ++ m ∷ []) is;
     }
-
--- the next hop is the first of those that are left
-pub next_hop : (p : ContactPlan) (r : RouteRequest) (s : List ℕ) (i n : ℕ) (c : Contact) (h : PlacedHop) → slice_get s i ≡ Some n
-    → fault_at p r (take i s) n ≡ None → contact_named p n ≡ Some c → h.place ≡ i + 1 → h.hop.contact ≡ c
-    → h.hop.sent ≡ max (delivery_of p r (take i s)) c.start → arrival_after p r r.at (take i s ++ n ∷ []) ≡ Some h.hop.arrival
-    → told_of placed_after p r (take i s) (drop i s) ≡ h ∷ told_of placed_after p r (take (i + 1) s) (drop (i + 1) s)
-next_hop p r s i n c h e good named place contact sent arrives =
-    let at = at_place s i n e in
-    let front = take i s in
-    let rest = told_of placed_after p r (front ++ n ∷ []) (drop (i + 1) s) in
-    let is : record { place = length front + 1; hop = hop_after p r front n c } ≡ h =
-    ap (λ k. record { place = k; hop = hop_after p r front n c }) (ap (λ k. k + 1) (length-take-le i s (let l = at.less in omega arith)) ∙ sym place)
-    ∙ ap (λ (d : Contact). record { place = h.place; hop = record { contact = d; sent = max (delivery_of p r front) c.start; arrival = delivery_of p r (front ++ n ∷ []) } }) (sym contact)
-    ∙ ap (λ t. record { place = h.place; hop = record { contact = h.hop.contact; sent = t; arrival = delivery_of p r (front ++ n ∷ []) } }) (sym sent)
-    ∙ ap (λ o. record { place = h.place; hop = record { contact = h.hop.contact; sent = h.hop.sent; arrival = unwrap_or o 0 } }) arrives in
-    rw (at.behind)
-    (ap (λ o. cond (is_none o) (told_after placed_after p r front n ++ rest) []) good
-    ∙ ap (λ o. option_map_or (λ (d : Contact). placed_after front (hop_after p r front n d)) o [] ++ rest) named
-    ∙ ap (λ x. x ∷ rest) is
-    ∙ ap (λ q. h ∷ told_of placed_after p r q (drop (i + 1) s)) (sym at.more))
-
--- no hop is left at the end
-pub none_at_end : (p : ContactPlan) (r : RouteRequest) (s : List ℕ) (i : ℕ) → length s ≤ i → told_of placed_after p r (take i s) (drop i s) ≡ []
-none_at_end p r s i over = rw (drop_all i s over) refl
 
 -- the first fault of the numbers of a list is the list's
 on_the_way : (p : ContactPlan) (r : RouteRequest) (s : List ℕ) (f : HopFault) → 0 < length s → first_fault p r [] s ≡ Some f → fault_of p r s ≡ Some f

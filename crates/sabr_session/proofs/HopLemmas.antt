@@ -1,5 +1,5 @@
 -- What is told of hops, in two parts, and sets of nodes as bits.
-use Rattle.std.proofs.Common.{◌≡◌, ℕ, List, [], ◌∷◌, ◌++◌, ◌+◌, Bool, true, false, cond, length, refl, sym, ap, ◌∙◌, append_assoc, append-nil, ◌≢◌, zero, suc, ◌*◌, ◌/◌, ◌%◌, ◌^◌, ◌<◌, eqb, replicate, slice_index_or, slice_set, bit_and, bit_or, w64, inl, inr, arith}
+use Rattle.std.proofs.Common.{◌≡◌, ℕ, List, [], ◌∷◌, ◌++◌, ◌+◌, true, false, cond, length, refl, sym, ap, ◌∙◌, append_assoc, append-nil, ◌≢◌, zero, suc, ◌*◌, ◌/◌, ◌%◌, ◌^◌, ◌<◌, eqb, replicate, slice_index_or, slice_set, bit_and, bit_or, w64, inl, inr, arith}
 use Rattle.std.specs.Prelude.{is_none}
 use Rattle.std.specs.List.{flat_map}
 use Rattle.std.specs.Option.{option_map_or}

@@ -1,5 +1,5 @@
 -- The hops of a list of contacts, up to the first fault, and the nodes that they visit.
-use Rattle.std.specs.Prelude.{ℕ, ◌≡◌, ◌+◌, ◌++◌, ◌||◌, ◌==◌, ◌≤◌, Bool, IfSome, IsTrue, List, [], ◌∷◌, drop, length, max, is_none, slice_get, take, if◌then◌else◌, ◌/◌, ◌%◌, ◌*◌, slice_index_or}
+use Rattle.std.specs.Prelude.{ℕ, ◌≡◌, ◌+◌, ◌++◌, ◌==◌, ◌≤◌, Bool, IfSome, IsTrue, List, [], ◌∷◌, drop, length, max, is_none, slice_get, take, if◌then◌else◌, ◌/◌, ◌%◌, slice_index_or}
 use Rattle.std.specs.Option.{option_map_or}
 use Rattle.std.specs.declared.option.Option.{Option}
 use Rattle.std.specs.declared.option.Option.TheVariants.{Some}
@@ -7,7 +7,7 @@ use Rattle.sabr_model.specs.declared.contact.Contact.{Contact}
 use Rattle.sabr_model.specs.declared.fault.HopFault.{HopFault}
 use Rattle.sabr_model.specs.declared.following.Reached.{Reached}
 use Rattle.sabr_model.specs.declared.route_summary.RouteSummary.{RouteSummary}
-use Rattle.sabr_model.specs.plan.Plan.{ContactPlan, TabledPlan, IsPlan, contact_named, has, most_records}
+use Rattle.sabr_model.specs.plan.Plan.{ContactPlan, TabledPlan, IsPlan, contact_named, has}
 use Rattle.sabr_model.specs.plan.Tabled.{IsTabled}
 use Rattle.sabr_model.specs.routes.Arrival.{RouteRequest}
 use Rattle.sabr_model.specs.routes.Following.{IsReachedBy}

@@ -32,7 +32,7 @@ pub struct FollowedHop<'p> {
 
 /// The hops of a list of contacts, one after another, up to the first fault. It doesn't allocate.
 ///
-/// Each contact is read once, and its receiver is looked up in a set of the nodes that were met. So a list is followed
+/// Each contact is looked up by its number, and its receiver in a set of the nodes that were met. So a list is followed
 /// in time that grows with its length. Contracts see the list, how much of it was followed, and whether that is all.
 #[derive(Drop)]
 pub struct Hops<'a, A: Allocator + Copy = Global> {

@@ -3,8 +3,8 @@
 //! A [`Session`](sabr_frontier::Session) lists the routes of a request page by page, best first. [`write_session`]
 //! saves one, and [`read_session`] or, chunk by chunk, [`SessionFeed`] reads it again, so that a later run goes on
 //! where an earlier one ended. [`verify`] tests by searches that a saved session is the text after some number of the
-//! best routes. [`read_paused`] and [`verify_over`] do so over an index that the caller keeps. [`write_report`] writes
-//! the lines of a page. [`Hops`] follows a list of contacts hop by hop.
+//! best routes. [`verify_over`] does so over an index that the caller keeps, and [`read_paused`] makes none.
+//! [`write_report`] writes the lines of a page. [`Hops`] follows a list of contacts hop by hop.
 //!
 //! **Format.** A saved session has the digest of its plan, the request, the number of emitted routes, the last of them,
 //! and the parts of the listing that are left, each with its prefix, its excluded contacts and its best route. Version

@@ -16,7 +16,6 @@ use Rattle.commands.specs.declared.words.lines.LineForm.{LineForm}
 use Rattle.commands.specs.declared.words.lines.LineForm.TheVariants.{Requests, Lists}
 use Rattle.commands.specs.declared.words.lines.Judged.{Judged}
 use Rattle.commands.specs.declared.words.request_line.Listed.{Listed}
-use Rattle.commands.specs.declared.words.request_line.ListWords.{ListWords}
 use Rattle.sabr_plan.specs.Words.{is_one_line}
 use Rattle.sabr_plan.specs.Pieces.{pieces_of}
 use Rattle.sabr_plan.specs.TextReading.{EndsText, ReadsBytes, RefusesText}
@@ -113,12 +112,6 @@ list_texts_in line = if nat_lt most_list_bytes (length line) then None else list
 -- the contacts and the request of a line of lists, or what is bad in it
 unfoldable pub list_in : List ℕ → Result Asked LineKind
 list_in line = list_where_given (list_texts_in line)
-
--- these are the words of a line of lists: the text lists contacts, and the line asks about them
-pub record IsListOf (line : List ℕ) (words : ListWords) : Type 0 where
-  pub numbers : List ℕ
-  pub listed : numbers_within 1 most_number words.contacts.now ≡ Some numbers
-  pub asks : list_in line ≡ Ok (record { contacts = numbers; request = words.request })
 
 -- what was read of a line of lists, without the memory that holds it
 abbrev pub seen_list : {A : Type 0} → Listed A → Asked

@@ -5,14 +5,11 @@ ghost use Rattle.sabr_plan.specs.Words.{is_one_line};
 ghost use Rattle.commands.specs.words.Lines.{HasLines, IsGoodSoFar, IsJudged, IsRefused, ReadsLines, AskedLine, asked_at, fault_in, fault_of, is_bad_rest, most_bytes, most_lines, kind_of};
 ghost use Rattle.commands.specs.declared.words.lines.LinesFault.{LinesFault};
 
-use crate::words::request_line::{MAX_LINE_BYTES, MAX_LIST_BYTES, list_words, request_in};
+use crate::words::request_line::{MAX_LINE_BYTES, MAX_LIST_BYTES, list_fault, request_in};
 use crate::words::value_fault::{ValueFault, ValueName};
 use sabr_model::{Failed, Read};
-use sabr_plan::{ended_line, line_end};
+use sabr_plan::{MAX_LINES, ended_line, line_end};
 use std::alloc::Allocator;
-
-/// The most lines of a text.
-const MAX_LINES: u32 = 1000000;
 
 /// The size of the buffer that the reader fills, in bytes. Not varied in measurements. To vary it: `bench/many.py`.
 const PIECE_BYTES: usize = 65536;
@@ -113,11 +110,12 @@ fn fault_at(form: LineForm, number: u32, line: &[u8]) -> Option<LineKind>
     }
     match form {
         LineForm::Requests => request_in(line).err(),
-        LineForm::Lists => list_words(line).err(),
+        LineForm::Lists => list_fault(line),
     }
 }
 
-/// Whether the line of this number, with `bytes` bytes so far, is too long or one too many, whatever bytes follow.
+/// Whether the line of this number, with `bytes` bytes so far, is too long or comes after the last
+/// that a text may have. No byte that follows changes that.
 fn is_bad_rest(form: LineForm, number: u32, bytes: usize) -> bool
     ensures { result ≡ is_bad_rest form number bytes }
 {

@@ -5,7 +5,7 @@ ghost use Rattle.std.specs.Option.{option_copied, option_map};
 ghost use Rattle.std.specs.Result.{result_ok};
 ghost use Rattle.sabr_plan.specs.Pieces.{pieces_after, pieces_of};
 ghost use Rattle.commands.specs.words.Values.{texts_given};
-ghost use Rattle.commands.specs.words.Lines.{IsListOf, fault_of, list_in, list_texts_in, list_texts_of, or_kind, request_by, request_in, seen_list, texts_of, space};
+ghost use Rattle.commands.specs.words.Lines.{fault_of, list_in, list_texts_in, list_texts_of, or_kind, request_by, request_in, seen_list, texts_of, space};
 
 use crate::words::lines::LineKind;
 use crate::words::pieces::{are_contacts, contacts_listed, next_word};
@@ -20,15 +20,6 @@ pub const MAX_LINE_BYTES: usize = 411;
 
 /// The most bytes of a line of lists: 20000 numbers of ten digits, each with a byte after it, and such a line.
 pub const MAX_LIST_BYTES: usize = 220411;
-
-/// The words of a line of lists that is good.
-#[derive(Drop)]
-pub struct ListWords<'a> {
-    /// The text of the contacts.
-    pub contacts: &'a [u8],
-    /// The request.
-    pub request: Request,
-}
 
 /// What a line of lists asks about.
 #[derive(Drop)]
@@ -118,23 +109,18 @@ pub fn request_in(line: &[u8]) -> Result<Request, LineKind>
     request_or_kind(&texts)
 }
 
-/// Reads the words of a line of lists without its LF. It allocates nothing.
-///
-/// # Errors
-///
-/// What is bad in the line: the first that holds, in the order of the words.
-pub fn list_words(line: &[u8]) -> Result<ListWords<'_>, LineKind>
-    ensures good { IfOk result (IsListOf line.now) }
-    ensures fault { fault_of result ≡ fault_of (list_in line.now) }
+/// Finds what is bad in a line of lists without its LF: the first that holds, in the order of the words. It doesn't
+/// allocate.
+pub fn list_fault(line: &[u8]) -> Option<LineKind>
+    ensures { result ≡ fault_of (list_in line.now) }
 {
     let Some((contacts, texts)) = list_texts_in(line) else {
-        return Err(LineKind::BadLine);
+        return Some(LineKind::BadLine);
     };
     if !are_contacts(contacts) {
-        return Err(LineKind::BadContacts);
+        return Some(LineKind::BadContacts);
     }
-    let request = request_or_kind(&texts)?;
-    Ok(ListWords { contacts, request })
+    request_or_kind(&texts).err()
 }
 
 /// Reads the contacts and the request of a line of lists without its LF. `None` if the line is bad.
@@ -145,12 +131,14 @@ pub fn list_words(line: &[u8]) -> Result<ListWords<'_>, LineKind>
 pub fn list_in<A: Allocator + Copy>(alloc: A, line: &[u8]) -> Result<Option<Listed<A>>, NoMemory>
     ensures { IfOk result (λ found. option_map seen_list found ≡ result_ok (list_in line.now)) }
 {
-    let Ok(words) = list_words(line) else {
+    let Some((contacts, texts)) = list_texts_in(line) else {
         return Ok(None);
     };
-    let Some(contacts) = contacts_listed(alloc, words.contacts)? else {
+    let Some(contacts) = contacts_listed(alloc, contacts)? else {
         return Ok(None);
     };
-    let request = words.request;
-    Ok(Some(Listed { contacts, request }))
+    match request_or_kind(&texts) {
+        Ok(request) => Ok(Some(Listed { contacts, request })),
+        Err(_kind) => Ok(None),
+    }
 }

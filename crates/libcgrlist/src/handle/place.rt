@@ -2,11 +2,11 @@
 
 ghost use Rattle.std.specs.Prelude.{◌≡◌, IsTrue, is_some, Option, None, Some};
 ghost use Rattle.std.specs.Coded.{coded_option};
-ghost use Rattle.libcgrlist.specs.declared.opened.Opened.{Opened};
-ghost use Rattle.libcgrlist.specs.contracts.opened.Opened.{the_row};
+ghost use Rattle.libcgrlist.specs.declared.held.Held.{Held};
+ghost use Rattle.libcgrlist.specs.contracts.held.Held.{the_row};
 
 use super::loose::Loose;
-use crate::opened::Opened;
+use crate::held::Held;
 use std::alloc::Global;
 use std::marker::Model;
 use std::ptr::null_mut;
@@ -18,13 +18,13 @@ use std::ptr::null_mut;
 pub struct Place {
     at: *mut u8,
     alloc: Global,
-    pub ghost held: { Option Opened } by { coded_option the_row.coded },
+    pub ghost held: { Option Held } by { coded_option the_row.coded },
 }
 
 impl Model for Place {
     ghost use Rattle.std.specs.contracts.impls.GlobalAllocator.TheImpl.{ghosts};
     ghost use Rattle.libcgrlist.specs.Owned.{owned};
-    ghost use Rattle.libcgrlist.specs.contracts.opened.Opened.{the_row};
+    ghost use Rattle.libcgrlist.specs.contracts.held.Held.{the_row};
 
     ghost also_owns = { λ h. owned (ghosts.dealloc_token h.alloc) the_row h.at h.held };
 }
@@ -41,7 +41,7 @@ impl Place {
     }
 
     /// The place of a value.
-    pub fn of(value: Loose<Opened, Global>) -> Place
+    pub fn of(value: Loose<Held, Global>) -> Place
         ensures held { result.held ≡ Some value.value }
     {
         let Loose { at, alloc } = value;
@@ -52,13 +52,13 @@ impl Place {
     }
 
     /// The value.
-    pub fn into_loose(self) -> Loose<Opened, Global>
+    pub fn into_loose(self) -> Loose<Held, Global>
         requires { IsTrue (is_some self.held) }
         ensures { self.held ≡ Some result.value }
     {
         let Place { at, alloc } = self;
         Loose {
-            at: at as *mut Opened,
+            at: at as *mut Held,
             alloc,
         }
     }

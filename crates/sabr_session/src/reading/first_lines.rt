@@ -7,9 +7,9 @@ ghost use Rattle.sabr_session.specs.SessionWords.{words_of, words_after};
 ghost use Rattle.sabr_session.specs.SessionLines.{after_label, header_of, is_digest_digit, is_digest, digest_named, four_of, unlimited_of, limited_of, values_of, request_of, emitted_of, last_listed, count_of, is_end};
 
 use crate::reading::lists::{list_to_end, nodes_of};
-use crate::reading::words::{count_within, is_word};
+use crate::reading::words::count_within;
 use sabr_model::{MAX_HOPS, NoMemory, NodeList, Numbers, RequestValues};
-use sabr_plan::{MAX_U32, first_piece, number_within, parse_time};
+use sabr_plan::{MAX_U32, first_piece, is_word, number_within, parse_time};
 use std::alloc::Allocator;
 
 /// The number of digits of a digest.

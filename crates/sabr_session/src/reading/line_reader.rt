@@ -13,7 +13,7 @@ use crate::reading::session_lines::SessionLines;
 use crate::session_fault::SessionFault;
 use sabr_frontier::PausedSession;
 use sabr_model::{NoMemory, Plan};
-use sabr_plan::line_end;
+use sabr_plan::ended_line;
 use sabr_search::BestOf;
 use std::alloc::Allocator;
 use std::marker::Model;
@@ -98,10 +98,9 @@ impl<'p, B: BestOf<A>, A: Allocator + Copy> LineReader<'p, B, A> {
         ensures bound { OnOk result (weight self.new < weight_bound) }
     {
         let mut rest = piece;
-        while let Some(end) = line_end(rest) {
-            let (front, back) = rest.split_at(end);
-            self.end_line(front)?;
-            rest = &back[1..];
+        while let Some((line, after)) = ended_line(rest) {
+            self.end_line(line)?;
+            rest = after;
         }
         self.hold(rest)
     }

@@ -4,9 +4,9 @@ ghost use Rattle.std.specs.Prelude.{◌≡◌, None, Some, if◌then◌else◌, 
 ghost use Rattle.sabr_session.specs.SessionWords.{words_of, contacts_of, is_dash, node_numbers, nodes_of};
 ghost use Rattle.sabr_session.specs.SessionLists.{FindsDash, FindsList, FindsNumbers};
 
-use crate::reading::words::{first_number, is_word};
+use crate::reading::words::first_number;
 use sabr_model::{MAX_RECORDS, NoMemory, NodeList};
-use sabr_plan::{first_piece, number_within};
+use sabr_plan::{first_piece, is_word, number_within};
 use std::alloc::Allocator;
 
 /// How a list ends: whether at `/`, and the words after it.

@@ -1,4 +1,4 @@
-use Rattle.std.proofs.Common.{◌≡◌, ◌<◌, Some, length, sym, subst, ◌∙◌}
+use Rattle.std.proofs.Common.{◌≡◌, Some, length, sym, subst, ◌∙◌}
 use Rattle.std.specs.Prelude.{IsTrue}
 use Rattle.sabr_model.specs.declared.fault.HopFault.TheVariants.{WrongEnd}
 use Rattle.sabr_model.specs.routes.Fault.{fault_of}

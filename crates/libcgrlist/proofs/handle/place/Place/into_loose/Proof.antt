@@ -21,7 +21,7 @@ use Rattle.std.specs.contracts.alloc.Global as heap
 use Rattle.std.proofs.alloc.Global.TheLaws as heap_laws
 use Rattle.std.specs.contracts.impls.GlobalAllocator.TheImpl.{ghosts}
 use Rattle.std.proofs.raw_atomic.Walks.{proved_at, leaves}
-use Rattle.libcgrlist.specs.contracts.opened.Opened as opened
+use Rattle.libcgrlist.specs.contracts.held.Held as held
 use Rattle.libcgrlist.proofs.Values.{both, loose_good, loose_in, place_out, some_of}
 use Rattle.libcgrlist.specs.contracts.handle.place.Place as place
 use Rattle.libcgrlist.specs.contracts.handle.place.Place.into_loose.{ended, clauses}
@@ -31,7 +31,7 @@ use Rattle.libcgrlist.proofs.handle.place.Place.into_loose.Code as code
 
 pub into_loose_spec : {M : Type 1} → statement M
 into_loose_spec 𝓤 𝓛 𝓜 𝓡 wired =
-    let H = 𝓛.H in let 𝓣 = tables 𝓤 H 𝓜 𝓡 𝓡.env in let R : RattleType = opened.the_row in let Z : RattleType = heap.the_row in let LZ = heap_laws.the_row_laws in
+    let H = 𝓛.H in let 𝓣 = tables 𝓤 H 𝓜 𝓡 𝓡.env in let R : RattleType = held.the_row in let Z : RattleType = heap.the_row in let LZ = heap_laws.the_row_laws in
     let c = clauses 𝓛 𝓜.mem 𝓡.returns in let fn = code.function in
     let hs : Stays ended.signature.params ended.kept = (stay_dropped (plain (λ _. place.the_row)) yes, tt) in
     proved_at 𝓛 ended hs c 𝓜 𝓡 (Goes-dropped 𝓛 0 (plain (λ _. place.the_row)) yes (λ κs x f. refl), tt) #self fn (code.unfolded 𝓤 H 𝓜 𝓡 wired) (λ z are.

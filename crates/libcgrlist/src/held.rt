@@ -1,0 +1,117 @@
+//! What stands behind an open handle: a plan, and the ranges that calls add one after another.
+
+ghost use Rattle.std.specs.Prelude.{◌≡◌, ◌<◌, ◌≤◌, None, Some, Err, OnOk, OnErr, IsFalse, IsOkUnless, is_some};
+ghost use Rattle.sabr_model.specs.plan.Plan.{IsPlan, last_time, most_light};
+ghost use Rattle.sabr_model.specs.plan.Adding.{range_refusal, with_range};
+ghost use Rattle.sabr_model.specs.declared.fault.AddFault.{AddFault};
+ghost use Rattle.sabr_model.specs.declared.fault.AddFault.TheVariants as fault;
+ghost use Rattle.libcgrlist.specs.Changes.{Becomes, ChangesInMemory, range_added};
+ghost use Rattle.libcgrlist.specs.Held.{CanGrow, standing};
+
+use crate::changes::value_refusal;
+use crate::opened::Opened;
+use crate::status::{DONE, LISTING, VALUE_LIGHT, of_change};
+use sabr_model::{AddFault, MAX_LIGHT, Range};
+use sabr_plan::GrowingRanges;
+use std::alloc::Global;
+
+/// The number of ranges that are put in place one by one before the next ones wait.
+const FIRST_RANGES: u32 = 16;
+
+/// An open plan. Of many ranges that calls add, one after another, all but the first wait until a call needs them in
+/// their place, since each would move those that come after it.
+#[derive(Drop)]
+pub struct Held {
+    /// The plan, without the ranges that wait.
+    pub opened: Opened,
+    /// All ranges, if some wait.
+    pub growing: Option<GrowingRanges<Global>>,
+    /// The number of ranges that were put in place one by one since ranges waited.
+    pub placed: u32,
+}
+
+impl Held {
+    /// Holds a plan of which no range waits.
+    pub fn of(opened: Opened) -> Held
+        ensures { result ≡ record { opened = opened; growing = None; placed = 0 } }
+    {
+        Held {
+            opened,
+            growing: None,
+            placed: 0,
+        }
+    }
+
+    /// Puts the ranges that wait in their place. It doesn't allocate.
+    pub fn settle(&mut self)
+        requires { CanGrow self.old }
+        ensures opened { self.new.opened ≡ standing self.old }
+        ensures settled { self.new.growing ≡ None }
+    {
+        if self.growing.is_none() {
+            return;
+        }
+        if let Some(growing) = self.growing.take() {
+            self.opened.set_ranges(growing.into_ranges());
+        }
+        self.placed = 0;
+    }
+
+    /// Adds a range, and returns the status.
+    pub fn add_range(&mut self, alloc: Global, new: &Range) -> u32
+        requires { CanGrow self.old }
+        ensures change { ChangesInMemory (standing self.old) (range_added (standing self.old) new.now) result (standing self.new) }
+        ensures grows { CanGrow self.new }
+    {
+        if self.opened.has_listing() {
+            return LISTING;
+        }
+        if let Some(status) = value_refusal(new.one, new.other, new.start, new.end) {
+            return status;
+        }
+        if new.light > MAX_LIGHT {
+            return VALUE_LIGHT;
+        }
+        match self.put_range(alloc, new) {
+            Ok(()) => DONE,
+            Err(fault) => of_change(fault),
+        }
+    }
+
+    /// Puts a range in its place, or among those that wait. The errors are those of `Plan::add_range`.
+    fn put_range(&mut self, alloc: Global, new: &Range) -> Result<(), AddFault>
+        requires listing { IsFalse (is_some self.old.opened.listing) }
+        requires one { 0 < new.now.one }
+        requires other { 0 < new.now.other }
+        requires end { new.now.end ≤ last_time }
+        requires light { new.now.light ≤ most_light }
+        ensures refused { (f : AddFault) → range_refusal (standing self.old).plan.plan new.now ≡ Some f → result ≡ Err f }
+        ensures accepted { range_refusal (standing self.old).plan.plan new.now ≡ None → IsOkUnless result fault.NoMemory }
+        ensures ok { OnOk result (Becomes (standing self.old) (with_range (standing self.old).plan.plan new.now) (standing self.new)) }
+        ensures err { OnErr result (standing self.new ≡ standing self.old) }
+        ensures listing { self.new.opened.listing ≡ self.old.opened.listing }
+    {
+        self.grow(alloc);
+        match &mut self.growing {
+            Some(growing) => growing.add(*new),
+            None => {
+                self.placed = self.placed.saturating_add(1);
+                self.opened.add_range(new)
+            }
+        }
+    }
+
+    /// Lets ranges wait if many were put in place, unless an allocation fails.
+    fn grow(&mut self, alloc: Global)
+        ensures { standing self.new ≡ standing self.old }
+        ensures opened { self.new.opened ≡ self.old.opened }
+    {
+        if self.growing.is_some() || self.placed < FIRST_RANGES {
+            return;
+        }
+        self.opened.plan().rules_hold();
+        if let Ok(growing) = GrowingRanges::of(alloc, self.opened.plan().ranges()) {
+            self.growing = Some(growing);
+        }
+    }
+}
