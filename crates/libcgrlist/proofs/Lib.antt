@@ -1,6 +1,7 @@
 mod AdditionLemmas
 mod AnswerLemmas
 mod FollowLemmas
+mod GrowingLemmas
 mod PageLemmas
 mod PlanLemmas
 mod PlanTextLemmas

@@ -80,10 +80,7 @@ fn put_contacts(plan: &mut Plan<Global>, contacts: &[NewContact]) -> Result<(), 
 }
 
 /// Adds ranges one after another, up to the first that is refused.
-fn put_ranges(
-    growing: &mut GrowingRanges<Global>,
-    ranges: &[RangeRow],
-) -> Result<(), RefusedRecord>
+fn put_ranges(growing: &mut GrowingRanges<Global>, ranges: &[RangeRow]) -> Result<(), RefusedRecord>
     ensures { (p : ContactPlan) → PutsAll (all_put row_put 0 (over_ranges p growing.old) ranges.now) result (over_ranges p growing.new) }
 {
     for place in 0..ranges.len() {
@@ -145,7 +142,9 @@ fn with_ranges(
     let Ok(mut growing) = GrowingRanges::of(alloc, plan.ranges()) else {
         return Err(RefusedRecord::all(MEMORY));
     };
-    put_ranges(&mut growing, ranges)?;
+    if let Err(refused) = put_ranges(&mut growing, ranges) {
+        return Err(refused);
+    }
     match copy_over(alloc, plan, growing.into_ranges()) {
         Ok(made) => Ok(made),
         Err(_refused) => Err(RefusedRecord::all(MEMORY)),

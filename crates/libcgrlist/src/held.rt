@@ -72,39 +72,43 @@ impl Held {
         if new.light > MAX_LIGHT {
             return VALUE_LIGHT;
         }
-        match self.put_range(alloc, new) {
+        match self.put_range(alloc, *new) {
             Ok(()) => DONE,
             Err(fault) => of_change(fault),
         }
     }
 
     /// Puts a range in its place, or among those that wait. The errors are those of `Plan::add_range`.
-    fn put_range(&mut self, alloc: Global, new: &Range) -> Result<(), AddFault>
+    fn put_range(&mut self, alloc: Global, new: Range) -> Result<(), AddFault>
+        requires grows { CanGrow self.old }
         requires listing { IsFalse (is_some self.old.opened.listing) }
-        requires one { 0 < new.now.one }
-        requires other { 0 < new.now.other }
-        requires end { new.now.end ≤ last_time }
-        requires light { new.now.light ≤ most_light }
-        ensures refused { (f : AddFault) → range_refusal (standing self.old).plan.plan new.now ≡ Some f → result ≡ Err f }
-        ensures accepted { range_refusal (standing self.old).plan.plan new.now ≡ None → IsOkUnless result fault.NoMemory }
-        ensures ok { OnOk result (Becomes (standing self.old) (with_range (standing self.old).plan.plan new.now) (standing self.new)) }
+        requires one { 0 < new.one }
+        requires other { 0 < new.other }
+        requires end { new.end ≤ last_time }
+        requires light { new.light ≤ most_light }
+        ensures refused { (f : AddFault) → range_refusal (standing self.old).plan.plan new ≡ Some f → result ≡ Err f }
+        ensures accepted { range_refusal (standing self.old).plan.plan new ≡ None → IsOkUnless result fault.NoMemory }
+        ensures ok { OnOk result (Becomes (standing self.old) (with_range (standing self.old).plan.plan new) (standing self.new)) }
         ensures err { OnErr result (standing self.new ≡ standing self.old) }
-        ensures listing { self.new.opened.listing ≡ self.old.opened.listing }
+        ensures grows { CanGrow self.new }
     {
         self.grow(alloc);
         match &mut self.growing {
-            Some(growing) => growing.add(*new),
+            Some(growing) => growing.add(new),
             None => {
                 self.placed = self.placed.saturating_add(1);
-                self.opened.add_range(new)
+                self.opened.add_range(&new)
             }
         }
     }
 
     /// Lets ranges wait if many were put in place, unless an allocation fails.
     fn grow(&mut self, alloc: Global)
-        ensures { standing self.new ≡ standing self.old }
+        requires grows { CanGrow self.old }
+        requires listing { IsFalse (is_some self.old.opened.listing) }
+        ensures same { standing self.new ≡ standing self.old }
         ensures opened { self.new.opened ≡ self.old.opened }
+        ensures grows { CanGrow self.new }
     {
         if self.growing.is_some() || self.placed < FIRST_RANGES {
             return;
