@@ -5,8 +5,8 @@ use Rattle.std.specs.Option.{option_copied}
 use Rattle.commands.specs.words.Values.{first_of, TextsGiven, numbers_within}
 use Rattle.sabr_plan.specs.Pieces.{pieces_of, pieces_after}
 use Rattle.sabr_plan.proofs.TextPieces.{some_piece}
-use Rattle.std.specs.Result.{result_ok}
-use Rattle.commands.specs.words.Lines.{Asked, texts_of, after_contacts, after_listed, fault_of, list_in, list_texts_in, list_where_given, or_kind, request_by}
+use Rattle.std.specs.Result.{result_err}
+use Rattle.commands.specs.words.Lines.{texts_of, after_contacts, after_listed, fault_of, list_in, list_texts_in, list_where_given, or_kind, request_by}
 use Rattle.std.specs.declared.option.Option.{Option}
 use Rattle.std.specs.declared.option.Option.TheVariants.{Some, None}
 use Rattle.sabr_model.specs.routes.Arrival.{RouteRequest}
@@ -121,10 +121,6 @@ some_there None e = absurd cc
 some_there (Some contacts) e = (contacts, refl)
 
 -- a line with a fault asks nothing
-pub none_asked : (r : Result Asked LineKind) (kind : LineKind) → Some kind ≡ fault_of r → None ≡ result_ok r
-none_asked (Ok a) kind e = absurd cc
-none_asked (Err other) kind e = refl
-
 module _ (line : List ℕ) where
   -- a line that is too long, or has too few words or too many
   pub not_texts : None ≡ list_texts_in line → list_in line ≡ Err BadLine
@@ -147,14 +143,14 @@ module _ (line : List ℕ) where
         let (contacts, there) = some_there (numbers_within 1 most_number numbers) some in
         (contacts, there, by_numbers ∙ ap (λ o. after_listed o (or_kind (request_by texts))) there ∙ ap (after_contacts contacts) is)
 
-    -- contacts, and then what is bad in a request
-    pub bad_request : is_some (numbers_within 1 most_number numbers) ≡ true → (kind : LineKind) → or_kind (request_by texts) ≡ Err kind → list_in line ≡ Err kind
-    bad_request some kind is = (with_contacts some (Err kind) is).2
+    -- what the line asks, from what was found of both
+    pub asked_by : (found : Option (List ℕ)) → numbers_within 1 most_number numbers ≡ found → (r : Result RouteRequest LineKind) → or_kind (request_by texts) ≡ r → list_in line ≡ after_listed found r
+    asked_by found is r same = by_numbers ∙ ap₂ after_listed is same
 
-    -- contacts, and then a request
-    pub good_list : is_some (numbers_within 1 most_number numbers) ≡ true → (r : RouteRequest) → or_kind (request_by texts) ≡ Ok r
-        → (contacts : List ℕ) × (numbers_within 1 most_number numbers ≡ Some contacts) × (list_in line ≡ Ok (record { contacts = contacts; request = r }))
-    good_list some r is = with_contacts some (Ok r) is
+    -- contacts, and then what is bad is what is bad in the request
+    pub fault_listed : is_some (numbers_within 1 most_number numbers) ≡ true → (r : Result RouteRequest LineKind) → or_kind (request_by texts) ≡ r → fault_of (list_in line) ≡ result_err r
+    fault_listed some (Ok q) is = ap fault_of (with_contacts some (Ok q) is).2
+    fault_listed some (Err kind) is = ap fault_of (with_contacts some (Err kind) is).2
 
 -- ---- at most 16 numbers
 

@@ -12,4 +12,6 @@ returns-then-not-are_contacts c =
     sym (ap fault_of (not_contacts c.args.line.now c.in-Some.contacts.now (texts_given c.in-Some.texts) (rw c.in-Some.is at c.list_texts_in.ensures) (sym c.are_contacts.ensures ∙ c.if-not-are_contacts.true)))
 
 pub returns : goal.returns
-returns c = ?
+returns c =
+    c.err.ensures.value
+    ∙ sym (fault_listed c.args.line.now c.in-Some.contacts.now (texts_given c.in-Some.texts) (rw c.in-Some.is at c.list_texts_in.ensures) (sym c.are_contacts.ensures ∙ c.if-not-are_contacts.false) c.request_or_kind.result (sym c.request_or_kind.ensures))
