@@ -19,31 +19,6 @@ use Rattle.sabr_session.specs.Verifying.{BreaksVerified, EndsVerified, IsSession
 abbrev bytes_at : List ℕ → List ℕ → Bool → Input
 bytes_at rest given ended = record { remaining = Some rest; given = given; ended = ended; failures = 0 }
 
--- the reader ended, since it never fails, or the text was refused with any bytes after it; so the answer
--- is that of all its bytes
-pub session_of_bytes : (p : TabledPlan) (text rest before after : List ℕ) (b e : Bool) (answer : Result Seen SessionFault)
-    → ReadsSession p (bytes_at text before b) answer (bytes_at rest after e) → IsSessionFrom p (said_over p text true) answer
-session_of_bytes p text rest before after b e answer reads = told answer reads.told
-  where
-    parts : text ≡ reads.given ++ rest
-    parts = reads.gives.1
-
-    ends : (a : Result Seen SessionFault) → rest ≡ [] → IsSessionFrom p (said_over p reads.given true) a → IsSessionFrom p (said_over p text true) a
-    ends a none h = subst (λ w. IsSessionFrom p (said_over p w true) a) (sym (parts ∙ ap (λ w. reads.given ++ w) none ∙ append-nil reads.given)) h
-
-    comes : (f : SessionFault) → said_over p text true ≡ Err f → ComesTo p.plan (said_over p text true) (Err f)
-    comes f law = subst (λ w. ComesTo p.plan w (Err f)) (sym law) refl
-
-    told : (a : Result Seen SessionFault)
-        → EndsText p (bytes_at text before b) reads.given a (bytes_at rest after e) ⊎ (BreaksText p (bytes_at text before b) reads.given a (bytes_at rest after e) ⊎ RefusesText p (bytes_at text before b) reads.given a (bytes_at rest after e))
-        → IsSessionFrom p (said_over p text true) a
-    told a (inl (ended, same, h)) = ends a ended.1 h
-    told (Ok s) (inr (inl h)) = absurd h
-    told (Err f) (inr (inl h)) = absurd (omega (arith, h.0))
-    told (Ok s) (inr (inr h)) = absurd h
-    told (Err f) (inr (inr (same, inl memory))) = inl memory
-    told (Err f) (inr (inr (same, inr (other, law)))) = inr (comes f (ap (λ w. said_over p w true) parts ∙ law rest true))
-
 -- what is behind the handle once the session of a text is there
 pub loaded : (o n : OpenPlan) (text : List ℕ) (s t : Seen)
     → IsSessionFrom o.plan (said_over o.plan text true) (Ok s) → t ≡ listing_of s → n ≡ record o { listing = Some t } → IsLoaded o text n

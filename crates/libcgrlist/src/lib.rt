@@ -3,8 +3,9 @@
 //! `cgrlist_proved_`, `alloc` is no argument, and a slice is two: a pointer and a length.
 //!
 //! A [`PlanHandle`] is what C has of a plan: whether it is open, and where it lies. An open one has an [`Opened`]: the
-//! plan, a listing over it if one is open, and what serves until the plan changes, which is the index of searches, the
-//! digest and the counts. Each export takes it out of the handle, asks it, and gives it back:
+//! plan, a listing over it if one is open, and what serves until the plan changes, which is its links, its digest and
+//! its counts. Of the ranges that calls add one after another most wait, in a [`Held`], until another call needs them in
+//! their place. Each export takes the plan out of the handle, asks it, and gives it back:
 //!
 //! - [`cgrlist_plan_new`], [`cgrlist_plan_read`], [`cgrlist_plan_copy`] and [`cgrlist_plan_renumber`] open a handle,
 //!   [`cgrlist_plan_prepare`] makes what serves until the next change, and [`cgrlist_plan_close`] frees all of it.
@@ -48,6 +49,7 @@ pub use changes::{
 pub use first::cgrlist_first;
 pub use follow::{cgrlist_follow, cgrlist_hops};
 pub use handle::{Loose, Place, PlanHandle};
+pub use held::Held;
 pub use listing::{
     ListingPlace, cgrlist_listing_back, cgrlist_listing_close, cgrlist_listing_next,
     cgrlist_listing_open, cgrlist_listing_place, listings_stand,

@@ -2,7 +2,7 @@
 
 use crate::answers::{done, refused};
 use crate::words::{Words, number, small_number};
-use sabr_model::{Request, RequestError};
+use sabr_model::{MAX_HOPS, Request, RequestError};
 use std::alloc::Global;
 
 /// The values of a request, which may be refused.
@@ -25,7 +25,7 @@ impl Asked {
             to: 3,
             at: 0,
             margin_ppm: 0,
-            max_hops: 20000,
+            max_hops: MAX_HOPS,
             avoided: [0; 17],
             avoids: 0,
         }

@@ -6,7 +6,7 @@ use crate::failing::Ration;
 use crate::harness::Harness;
 use crate::over_plan::steps_over;
 use crate::words::{Words, number, small_number};
-use sabr_model::{AddFault, LAST_TIME, Plan};
+use sabr_model::{AddFault, LAST_TIME, MAX_LIGHT, Plan};
 use sabr_plan::{canonical, digest, read_plan};
 use sabr_search::{Layered, Settled};
 use std::alloc::{Allocator, Global};
@@ -173,7 +173,7 @@ fn add_range<A: Allocator + Copy>(
     let (one, other) = (number(words)?, number(words)?);
     let (start, end) = (number(words)?, number(words)?);
     let light = small_number(words)?;
-    if one < 1 || other < 1 || start > LAST_TIME || end > LAST_TIME || light > 1000000 {
+    if one < 1 || other < 1 || start > LAST_TIME || end > LAST_TIME || light > MAX_LIGHT {
         return None;
     }
     Some(plan.add_range(one, other, start, end, light))
