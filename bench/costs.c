@@ -98,26 +98,54 @@ static void add_ranges(void) {
         must(cgrlist_plan_add_range(plan, ranges[i].one, ranges[i].other, ranges[i].start, ranges[i].end, ranges[i].light));
 }
 
+static void read_anew(const char *of, size_t bytes) {
+    cgrlist_plan_close(plan);
+    must(cgrlist_plan_read(&plan, of, bytes, NULL));
+}
+
 static void delete_some(size_t count) {
     for (size_t i = 0; i < count; i++) must(cgrlist_plan_delete_contact(plan, contacts[i].from, contacts[i].to, contacts[i].start, NULL));
+}
+
+static void delete_ranges(size_t count) {
+    for (size_t i = 0; i < count; i++) must(cgrlist_plan_delete_range(plan, ranges[i].one, ranges[i].other, ranges[i].start));
+}
+
+/* The text of a plan with as many contacts, of which the first 1000 go from each node to a node of its own. */
+static size_t text_with_own_nodes(void) {
+    size_t bytes = 0;
+    anew();
+    for (uint64_t i = 1; i <= NODES; i++) must(cgrlist_plan_add_contact(plan, i, NODES + i, BEGIN, BEGIN + 86400, 1000, NULL));
+    must(cgrlist_plan_add_contacts(plan, contacts, contacts_count - NODES, NULL));
+    must(cgrlist_plan_add_ranges(plan, ranges, ranges_count, NULL));
+    must(cgrlist_plan_text(plan, spelled, TEXT, &bytes));
+    return bytes;
+}
+
+/* Deletes these contacts, each the only one of a node. */
+static void delete_own_nodes(void) {
+    for (uint64_t i = 1; i <= NODES; i++) must(cgrlist_plan_delete_contact(plan, i, NODES + i, BEGIN, NULL));
 }
 
 /* ---- The costs ---- */
 
 static void costs_of_changes(size_t bytes) {
     char name[64];
+    size_t own_bytes = text_with_own_nodes();
+    COST("plan_new, and plan_close of an empty one", 1000, (void)0, for (int i = 0; i < 1000; i++) anew());
     COST("plan_read, whole", 1, cgrlist_plan_close(plan), must(cgrlist_plan_read(&plan, text, bytes, NULL)));
+    COST("plan_close", 1, read_anew(text, bytes), (cgrlist_plan_close(plan), plan = NULL));
     snprintf(name, sizeof name, "add_contact, all %zu", contacts_count);
     COST(name, 1, anew(), add_contacts());
     snprintf(name, sizeof name, "add_range, all %zu", ranges_count);
     COST(name, 1, anew(), add_ranges());
     COST("add_contacts, all at once", 1, anew(), must(cgrlist_plan_add_contacts(plan, contacts, contacts_count, NULL)));
     COST("add_ranges, all at once", 1, anew(), must(cgrlist_plan_add_ranges(plan, ranges, ranges_count, NULL)));
-    COST("delete_contact, each of the first 1000", 1000, cgrlist_plan_close(plan); must(cgrlist_plan_read(&plan, text, bytes, NULL)), delete_some(1000));
-    COST("delete_contact, the last", 1, cgrlist_plan_close(plan); must(cgrlist_plan_read(&plan, text, bytes, NULL)),
-         must(cgrlist_plan_delete_number(plan, (uint32_t)contacts_count)));
-    cgrlist_plan_close(plan);
-    must(cgrlist_plan_read(&plan, text, bytes, NULL));
+    COST("delete_contact, each of the first 1000", 1000, read_anew(text, bytes), delete_some(1000));
+    COST("delete_contact, each the last of a node", NODES, read_anew(spelled, own_bytes), delete_own_nodes());
+    COST("delete_number, the last", 1, read_anew(text, bytes), must(cgrlist_plan_delete_number(plan, (uint32_t)contacts_count)));
+    COST("delete_range, each of the first 1000", 1000, read_anew(text, bytes), delete_ranges(1000));
+    read_anew(text, bytes);
 }
 
 /* A change that leaves the plan as it was. */
@@ -214,7 +242,8 @@ static void costs_of_listings(void) {
     cgrlist_listing_close(listing), listing = NULL;
     COST("listing_load of that text", 1, cgrlist_listing_close(listing), must(cgrlist_listing_load(plan, session, bytes, &listing, NULL)));
     COST("verify of that text", 1, (void)0, must(cgrlist_verify(plan, session, bytes)));
-    cgrlist_listing_close(listing);
+    cgrlist_listing_close(listing), listing = NULL;
+    COST("listing_close", 1, must(cgrlist_listing_open(plan, &request, &listing)), cgrlist_listing_close(listing));
 }
 
 int main(int argc, char **argv) {
