@@ -145,15 +145,18 @@ def refused_memory(room):
     wrapped = "-Wl,--wrap=malloc,--wrap=realloc"
     refuse = room.compiled("refuse", "refuse.c", wrapped)
     calls = ("read", "new", "best", "first", "open", "load", "next", "text", "plan text", "copy", "verify", "add contact", "add range", "delete contact", "delete range",
-             "renumber", "add contacts", "add ranges", "nodes", "prepare", "best each", "delete number", "place")
+             "renumber", "add contacts", "add ranges", "nodes", "prepare", "best each", "delete number", "place", "back", "loaded next",
+             "loaded back", "loaded text", "contact at", "range at", "greatest")
     ran = room.run([refuse], relay)
     yield "nothing is lost", "", lambda: ran.err
     for call in calls:
         yield f"each allocation of {call} refused", f"{call}: good", lambda: re.sub(
             "[0-9]+ refused", "good", "".join(re.findall(f"^{call}: .*$", ran.out, re.M)))
-    for call in ("read", "first", "open", "load", "next", "plan text", "copy", "renumber", "add contacts", "nodes", "prepare"):
+    for call in ("read", "first", "open", "load", "next", "plan text", "copy", "renumber", "add contacts", "nodes", "prepare",
+                 "loaded next", "loaded back", "loaded text"):
         yield f"{call} takes memory", "", lambda: unlike(r"[1-9]\d*", "".join(re.findall(rf"^{call}: (\d+) refused$", ran.out, re.M)))
-    yield "place does not allocate", ["place: 0 refused"], lambda: re.findall("^place: .*$", ran.out, re.M)
+    for call in ("place", "back", "contact at", "range at", "greatest"):
+        yield f"{call} does not allocate", [f"{call}: 0 refused"], lambda: re.findall(f"^{call}: .*$", ran.out, re.M)
     if has("valgrind"):
         yield "no memory leaks", "", lambda: room.run("valgrind -q --leak-check=full --error-exitcode=7", [refuse], relay).err
 

@@ -106,6 +106,23 @@ static void call_place(answer *a) {
     a->status = cgrlist_listing_place(listing, &place);
     a->bytes = (size_t)place.given;
 }
+/* That there is no page to undo is an answer, too. */
+static void call_back(answer *a) {
+    a->status = cgrlist_listing_back(listing);
+    a->number = a->status == CGRLIST_NO;
+    if (a->number) a->status = CGRLIST_OK;
+}
+static void call_contact_at(answer *a) {
+    cgrlist_contact contact = {0, 0, 0, 0, 0, 0, 0, false};
+    a->status = cgrlist_plan_contact_at(plan, 2, &contact);
+    a->number = contact.number;
+}
+static void call_range_at(answer *a) {
+    cgrlist_range range = {0, 0, 0, 0, 0};
+    a->status = cgrlist_plan_range_at(plan, 2, &range);
+    a->bytes = (size_t)range.end;
+}
+static void call_greatest(answer *a) { a->status = cgrlist_plan_greatest(plan, &a->number); }
 static void call_delete_number(answer *a) { a->status = cgrlist_plan_delete_number(plan, 1); }
 static void call_verify(answer *a) { a->status = cgrlist_verify(plan, session_text, session_bytes); }
 static void call_add_contact(answer *a) { a->status = cgrlist_plan_add_contact(plan, 7001, 7002, 5, 9, 1, &a->number); }
@@ -140,6 +157,9 @@ static bool a_listing(void) {
     if (!a_plan() || !is_made(cgrlist_listing_open(plan, &request, &listing))) return false;
     return is_made(cgrlist_listing_next(listing, 5, a.routes, ROUTES, a.contacts, CONTACTS, &a.page));
 }
+static bool a_loaded_listing(void) {
+    return a_plan() && is_made(cgrlist_listing_load(plan, session_text, session_bytes, &listing, NULL));
+}
 
 static const struct { const char *name; bool (*before)(void); void (*call)(answer *); } CALLS[] = {
     {"read", nothing, call_read}, {"new", nothing, call_new}, {"best", a_plan, call_best},
@@ -152,6 +172,9 @@ static const struct { const char *name; bool (*before)(void); void (*call)(answe
     {"add contacts", an_asked_plan, call_add_contacts}, {"add ranges", an_asked_plan, call_add_ranges},
     {"nodes", a_plan, call_nodes}, {"prepare", a_plan, call_prepare}, {"best each", a_plan, call_best_each},
     {"delete number", an_asked_plan, call_delete_number}, {"place", a_listing, call_place},
+    {"back", a_listing, call_back}, {"loaded next", a_loaded_listing, call_next}, {"loaded back", a_loaded_listing, call_back},
+    {"loaded text", a_loaded_listing, call_text}, {"contact at", a_plan, call_contact_at}, {"range at", a_plan, call_range_at},
+    {"greatest", a_plan, call_greatest},
 };
 
 /* ---- Comparing: member by member, since what lies between members may be anything ---- */
@@ -180,9 +203,13 @@ static int failed(const char *name, long place, const char *what) {
     return 1;
 }
 
-/* What a call returns, and what stands after it, if nothing is refused. */
+/* What stands before a call, what the call returns, and what stands after it, if nothing is refused. The call is made over
+ * a plan and a listing that weren't looked at before, since a look may make an index. */
 static bool make_ever(size_t call) {
     memset(&ever, 0, sizeof ever);
+    if (!CALLS[call].before()) return false;
+    see(&before);
+    close_all();
     if (!CALLS[call].before()) return false;
     CALLS[call].call(&ever);
     see(&ever_after);
@@ -194,7 +221,6 @@ static bool make_ever(size_t call) {
 static int refuse(size_t call, long place, bool *is_last) {
     const char *name = CALLS[call].name;
     if (!CALLS[call].before()) return failed(name, place, "the plan can't be made");
-    see(&before);
     memset(&found, 0, sizeof found);
     left = place;
     met = 0;
