@@ -198,7 +198,8 @@ def closed(room):
     yield "nothing is used after it was closed", "done", lambda: room.run([program]).all()
     for what, wanted in (("plan", "cgrlist_plan_counts: it was closed before\n"), ("twice", "cgrlist_plan_close: it was closed before\n"),
                          ("listing", "cgrlist_listing_back: it was closed before\n"),
-                         ("copied", "cgrlist_plan_counts: it is a copy, or none of the library's\n")):
+                         ("copied", "cgrlist_plan_counts: it is a copy, or none of the library's\n"),
+                         ("copied-listing", "cgrlist_listing_place: it is a copy, or none of the library's\n")):
         yield f"use after it was closed: {what}", wanted, lambda: room.run([program, what]).err
 
 

@@ -14,6 +14,10 @@ int main(int argc, char **argv) {
         memcpy(bytes, plan, 32);
         cgrlist_plan_counts((cgrlist_plan *)bytes, NULL);
     }
+    if (!strcmp(what, "copied-listing")) {
+        memcpy(bytes, listing, 24);
+        cgrlist_listing_place((cgrlist_listing *)bytes, NULL);
+    }
     cgrlist_plan_close(plan);
     if (!strcmp(what, "plan")) cgrlist_plan_counts(plan, NULL);
     if (!strcmp(what, "twice")) cgrlist_plan_close(plan);
