@@ -1,6 +1,7 @@
 """Asks what wrapped.cpp asks, by tools/cgrlist/libcgrlist.py alone. Its words: the path of the library, and that of relay.txt."""
 
 import sys
+from concurrent.futures import ThreadPoolExecutor
 
 from libcgrlist import Library, Refusal, request
 
@@ -35,6 +36,10 @@ renewed.add_ranges([(1, 7001, 3, 4, 5)])
 renewed.delete_number(1)
 print(renewed.counts().contacts, renewed.counts().ranges)
 print(f"{plan.verify(plan.listing(asked).text()):d}{plan.verify(listing.text()):d}")
+several = [request(31, 1, 1893458700 + 60 * it) for it in range(200)]
+alone = [(plan.best(it), plan.first(it, 3)) for it in several]
+with ThreadPoolExecutor(4) as pool:  # the plan is prepared
+    assert [*pool.map(lambda it: (plan.best(it), plan.first(it, 3)), several)] == alone
 empty = library.new()
 print(empty.add_contact(1, 2, 3, 4, 5), f"{empty.best(request(1, 2, 3)) is not None:d}")
 for call, text in ((plan.load, listing.text()), (plan.add_contacts, [(7001, 7002, 3, 4, 5), (7001, 7002, 4, 4, 5)]), (library.read, b"a\n")):

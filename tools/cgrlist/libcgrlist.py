@@ -13,6 +13,7 @@ threads may make calls that don't change a plan at the same time.
 
 import ctypes
 import operator
+import threading
 from ctypes import POINTER, byref, c_bool, c_char_p, c_size_t, c_uint8, c_uint32, c_uint64, c_void_p
 from typing import NamedTuple, Optional, Tuple
 
@@ -225,14 +226,20 @@ class Library:
         getattr(self._c, f"cgrlist_{name}")(place)
 
 
+class _Buffers(threading.local):
+    """What the calls of a thread write into: as long as its longest answer so far."""
+
+    def __init__(self):
+        self.routes, self.numbers = (_Route * 64)(), (c_uint32 * 1024)()
+
+
 class _Opened:
     """What the library opened, and closes at the end of a `with` or when nothing holds it any more."""
 
     _close = ""
 
     def __init__(self, library, place):
-        self._library, self._place = library, place
-        self._routes, self._numbers = (_Route * 64)(), (c_uint32 * 1024)()
+        self._library, self._place, self._buffers = library, place, _Buffers()
 
     def __enter__(self):
         return self
@@ -259,12 +266,12 @@ class _Opened:
         return text.raw
 
     def _page(self, name, *given):
-        page = _Page()
-        while self._call(name, *given, self._routes, len(self._routes), self._numbers, len(self._numbers), byref(page)) == ROOM:
-            self._routes = (_Route * max(page.routes, len(self._routes)))()
-            self._numbers = (c_uint32 * max(page.contacts, len(self._numbers)))()
-        numbers = self._numbers[: page.contacts]
-        return Page(tuple(_route(it, numbers) for it in self._routes[: page.routes]), page.more)
+        page, own = _Page(), self._buffers
+        while self._call(name, *given, own.routes, len(own.routes), own.numbers, len(own.numbers), byref(page)) == ROOM:
+            own.routes = (_Route * max(page.routes, len(own.routes)))()
+            own.numbers = (c_uint32 * max(page.contacts, len(own.numbers)))()
+        numbers = own.numbers[: page.contacts]
+        return Page(tuple(_route(it, numbers) for it in own.routes[: page.routes]), page.more)
 
 
 class Plan(_Opened):
@@ -373,12 +380,12 @@ class Plan(_Opened):
 
     def best(self, asked):
         """The best route of a request; None if there is none."""
-        row = _Route()
+        row, own = _Route(), self._buffers
         while True:
-            status = self._call("best", byref(asked), byref(row), self._numbers, len(self._numbers))
+            status = self._call("best", byref(asked), byref(row), own.numbers, len(own.numbers))
             if status != ROOM:
-                return _route(row, self._numbers) if status == OK else None
-            self._numbers = (c_uint32 * row.hops)()
+                return _route(row, own.numbers) if status == OK else None
+            own.numbers = (c_uint32 * row.hops)()
 
     def best_each(self, asked, to):
         """The best route to each destination, in place of the request's."""
