@@ -130,8 +130,8 @@ def _followed(plan, asked, contacts):
 class InProcess(Router):
     """The library over a plan's text, which may be that of a file. It answers as `program.Program` does, and is refused alike.
 
-    The plan is read once, at the first question. Threads may ask together, and wait for each other. A function gives the
-    program over the same plan.
+    The plan is read once, at the first question. Threads may ask together, and wait for each other: the plan isn't prepared
+    for calls at the same time, which takes longer than reading it. A function gives the program over the same plan.
     """
 
     at_once = 1
