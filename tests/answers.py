@@ -291,7 +291,7 @@ report: 2 routes are shown of 3 looked at""", room.read_report, paged, "--distin
     following = ["report --plan examples/a.txt --from 1 --to 3 --hops --report", [room.file("next", NEXT)], "--at"]
     yield ("hops of a report", f"{HEAD}\n{row_3}\n      hop 1  contact 3  1 > 3  send {DAY}-00:00:50  arrive {DAY}-00:01:30\nend",
            room.told, *following, "2030-01-01")
-    yield ("another request", f"report: route 3 isn't one of this request: cgrlist explain says delivery {DAY}-00:01:31 hops 1 \
+    yield ("another request", f"report: route 3 isn't one of this request: cgrlist follow says delivery {DAY}-00:01:31 hops 1 \
 entry 3 until {DAY}-00:01:30 contacts 3\nstatus 4", room.told, *following, "2030-01-01T00:00:51Z")
     yield ("room is a choice", "rank,delivery,hops,entry,until,contacts,nodes\n3,2030-01-01 00:01:30,1,3,2030-01-01 00:01:30,3,1 > 3",
            room.read_report, NEXT, "--csv")

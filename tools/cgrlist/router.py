@@ -97,5 +97,5 @@ def _as_listed(route, told):
     """A listed route with the hops that were told of its contacts."""
     if isinstance(told, Fault) or told.told != route.told:
         found = told.text if isinstance(told, Fault) else told.text()
-        raise Refused(f"route {route.rank} isn't one of this request: cgrlist explain says {found}")
+        raise Refused(f"route {route.rank} isn't one of this request: cgrlist follow says {found}")
     return route.having(hops=told.hops)
