@@ -1,6 +1,6 @@
 """Holds the manual pages to what mandoc asks of them, if mandoc is there. That of the program has each fault and each message
-of the tables in docs/formats.md. That of the library has the functions and the statuses of its header. Those of the tools are
-made by tools/manual_pages."""
+of the tables in docs/formats.md, and the value of each option in the form that help shows. That of the library has the
+functions and the statuses of its header. Those of the tools are made by tools/manual_pages."""
 
 import re
 import shutil
@@ -35,6 +35,24 @@ def of_the_program(room):
         yield f"each {what} has its place", [], lambda: [it for it in sorted(names) if not re.search(rf"\b{re.escape(it)}\b", page)]
 
 
+def in_page(form):
+    """The form of a value in the program's help, as the page has it."""
+    return re.sub(r"^([a-z]+),\1\.\.$", r"\1 , Ns Ar ...", form.lower())
+
+
+def of_the_options(_):
+    """The page of the program names values as the table of words does."""
+    page, words = read("cgrlist.1"), re.findall(r'name: "(.*)",\s+form: "(.*)"', read("../crates/commands/src/words/table.rt"))
+    entries = re.split(r"^\.It ", page.partition(".Ss Options")[2].partition(".Sh ")[0], flags=re.M)
+    yield "there are words with values", 10, lambda: min(len(words), 10)
+    for name, form in words:
+        value = rf"\bAr {re.escape(in_page(form))}(?! , Ns)( ,|$)"
+        yield f"the options have --{name} {form}", [], lambda: [] if any(
+            f"Fl -{name} Ar " in it and re.search(value, it, re.M) for it in entries) else [it for it in entries if f"Fl -{name}" in it]
+    named = set(re.findall(r"\bFl -([a-z-]+) Ar ([a-z]+(?: , Ns Ar \.\.\.)?)", page))
+    yield "each option has one value in all places", sorted(name for name, _ in words), lambda: sorted(name for name, _ in named)
+
+
 def of_the_library(room):
     """Its page has the functions and the statuses of the header."""
     page, functions = read("cgrlist.3"), declared_functions(read_header())
@@ -63,4 +81,4 @@ def of_the_tools(room):
 def checks(_):
     room = Room()
     room.run("tools/manual_pages", [room.path])
-    return checks_of("manual", room, [of_the_program, of_the_library, of_the_tools])
+    return checks_of("manual", room, [of_the_program, of_the_options, of_the_library, of_the_tools])
