@@ -57,7 +57,6 @@ uint32_t cgrlist_proved_listing_next(handle *plan, uint32_t count, cgrlist_route
 uint32_t cgrlist_proved_listing_back(handle *plan);
 uint32_t cgrlist_proved_listing_place(handle *plan, cgrlist_place *place);
 uint32_t cgrlist_proved_listing_text(handle *plan, uint8_t *text, size_t room, size_t *bytes);
-uint32_t cgrlist_proved_listing_close(handle *plan);
 uint32_t cgrlist_proved_verify(handle *plan, const uint8_t *text, size_t bytes);
 
 #endif

@@ -104,7 +104,3 @@ AnswersBackOf (Some s) o status n = ((status ≡ no_memory) × (n ≡ o)) ⊎ ((
 
 abbrev pub AnswersBack : OpenPlan → ℕ → OpenPlan → Type 0
 AnswersBack o status n = AnswersBackOf o.listing o status n
-
--- closing it
-abbrev pub ClosesListing : OpenPlan → ℕ → OpenPlan → Type 0
-ClosesListing o status n = (status ≡ (if is_some o.listing then done else no_listing)) × (n ≡ record o { listing = None })

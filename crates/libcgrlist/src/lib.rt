@@ -51,7 +51,7 @@ pub use follow::{cgrlist_follow, cgrlist_hops};
 pub use handle::{Loose, Place, PlanHandle};
 pub use held::Held;
 pub use listing::{
-    ListingPlace, cgrlist_listing_back, cgrlist_listing_close, cgrlist_listing_next,
+    ListingPlace, cgrlist_listing_back, cgrlist_listing_next,
     cgrlist_listing_open, cgrlist_listing_place, listings_stand,
 };
 pub use opened::Opened;

@@ -6,7 +6,7 @@ ghost use Rattle.sabr_frontier.specs.session.Session.{started};
 ghost use Rattle.sabr_search.specs.questions.Calls.{no_calls};
 ghost use Rattle.libcgrlist.specs.Answers.{UnlessWritten, asked_request, asked_status, page_status};
 ghost use Rattle.libcgrlist.specs.Buffers.{IsPage, buffers};
-ghost use Rattle.libcgrlist.specs.Listings.{AnswersBack, AnswersNext, AnswersPlace, ClosesListing, GivesNext, GoesBack, OpensListing, TakesUp, goes_on, listing_then, next_records, second_refusal};
+ghost use Rattle.libcgrlist.specs.Listings.{AnswersBack, AnswersNext, AnswersPlace, GivesNext, GoesBack, OpensListing, TakesUp, goes_on, listing_then, next_records, second_refusal};
 ghost use Rattle.libcgrlist.specs.Open.{Calls, IsWhole};
 ghost use Rattle.libcgrlist.specs.Opened.{listing_of};
 ghost use Rattle.libcgrlist.specs.Standing.{BackActs, LoadedBegin, NextActs, OpenedBegin};
@@ -151,16 +151,6 @@ fn go_back(alloc: Global, opened: &mut Opened) -> Result<bool, u32>
     Ok(gone)
 }
 
-/// Closes the listing, and returns the status.
-fn close_listing(opened: &mut Opened) -> u32
-    ensures { ClosesListing opened.old result opened.new }
-{
-    match opened.take_listing() {
-        Some(_closed) => DONE,
-        None => NO_LISTING,
-    }
-}
-
 /// Opens the listing of a request.
 #[unsafe(no_mangle)]
 pub extern "C" fn cgrlist_listing_open(
@@ -248,15 +238,6 @@ pub extern "C" fn cgrlist_listing_place(
         }
         None => NO_LISTING,
     }
-}
-
-/// Closes the listing. The plan stays open.
-#[unsafe(no_mangle)]
-pub extern "C" fn cgrlist_listing_close(alloc: Global, handle: &mut PlanHandle) -> u32
-    requires { IsWhole handle.old }
-    ensures close { Calls handle.old handle.new result (λ o n. ClosesListing o result n) }
-{
-    over_plan!(handle, alloc, opened => close_listing(opened))
 }
 
 /// States where a listing stands in the list of all routes of its request. One that was opened begins before the first
