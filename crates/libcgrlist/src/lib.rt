@@ -10,7 +10,7 @@
 //! - [`cgrlist_plan_new`], [`cgrlist_plan_read`], [`cgrlist_plan_copy`] and [`cgrlist_plan_renumber`] open a handle,
 //!   [`cgrlist_plan_prepare`] makes what serves until the next change, and [`cgrlist_plan_close`] frees all of it.
 //! - [`cgrlist_plan_add_contact`] and the like change the plan: wholly, or not at all.
-//! - [`cgrlist_plan_counts`] and the like, and [`cgrlist_plan_text`], show it.
+//! - [`cgrlist_plan_counts`] and the like, [`cgrlist_plan_text`] and [`cgrlist_plan_canonical`], show it.
 //! - [`cgrlist_best`], [`cgrlist_best_each`] and [`cgrlist_first`] search; [`cgrlist_follow`] and [`cgrlist_hops`] follow
 //!   a list of contacts.
 //! - [`cgrlist_listing_open`] and [`cgrlist_listing_load`] open a listing, of a request or of a session text. It waits as
@@ -24,9 +24,11 @@
 mod additions;
 mod best;
 mod buffers;
+mod canonical_text;
 mod changes;
 mod first;
 mod follow;
+mod gathered;
 mod handle;
 mod held;
 mod listing;
@@ -42,6 +44,7 @@ mod views;
 pub use additions::{RefusedRecord, cgrlist_plan_add_contacts, cgrlist_plan_add_ranges};
 pub use best::cgrlist_best;
 pub use buffers::{Page, RouteRow};
+pub use canonical_text::cgrlist_plan_canonical;
 pub use changes::{
     cgrlist_plan_add_contact, cgrlist_plan_add_range, cgrlist_plan_delete_contact,
     cgrlist_plan_delete_number, cgrlist_plan_delete_range,

@@ -8,62 +8,15 @@ ghost use Rattle.libcgrlist.specs.Open.{Calls, IsWhole};
 ghost use Rattle.libcgrlist.specs.SessionTexts.{AnswersLoad, AnswersText, IsLoaded, IsRefusal, IsVerified, Verifies, session_line};
 
 use crate::buffers::put_whole;
+use crate::gathered::Gathered;
 use crate::handle::{PlanHandle, over_plan};
 use crate::listing::{over_listing, take_up};
 use crate::opened::{Opened, paused};
 use crate::status::{CLOSED, DONE, LISTING, MEMORY, NO, of_session};
 use host::Bytes;
-use sabr_model::{Failed, GhostCount, Write};
 use sabr_search::Settled;
 use sabr_session::{SessionFault, read_paused, verify_over, write_session};
 use std::alloc::Global;
-
-/// A writer that keeps the bytes that it takes. It fails if an allocation does.
-#[derive(Drop)]
-struct Gathered {
-    /// The bytes that it took.
-    bytes: Vec<u8, Global>,
-    /// How often it failed, for proofs alone.
-    failures: GhostCount,
-}
-
-impl Gathered {
-    /// Returns a writer that took no bytes yet. It doesn't allocate.
-    fn new(alloc: Global) -> Gathered
-        ensures bytes { result.bytes.items ≡ [] }
-        ensures failures { result.failures.count ≡ 0 }
-    {
-        Gathered {
-            bytes: Vec::new(alloc),
-            failures: GhostCount::new(),
-        }
-    }
-
-    /// The bytes that it took.
-    fn into_bytes(self) -> Vec<u8, Global>
-        ensures { result.items ≡ self.bytes.items }
-    {
-        self.bytes
-    }
-}
-
-impl Write for Gathered {
-    ghost output = { λ w. record { contents = Some w.bytes.items; taken = w.bytes.items; failures = w.failures.count; flushed = true } };
-
-    fn write(&mut self, buf: &[u8]) -> Result<usize, Failed> {
-        match self.bytes.extend_from_slice(buf) {
-            Ok(()) => Ok(buf.len()),
-            Err(_refused) => {
-                self.failures.add();
-                Err(Failed)
-            }
-        }
-    }
-
-    fn flush(&mut self) -> Result<(), Failed> {
-        Ok(())
-    }
-}
 
 /// Returns the session text of the listing's place.
 fn text_of_place(alloc: Global, opened: &mut Opened) -> Result<Vec<u8, Global>, u32>
