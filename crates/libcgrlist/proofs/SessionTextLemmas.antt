@@ -1,11 +1,10 @@
 -- Session texts that lie in memory: the listing of one, and whether it is verified.
 use Rattle.std.proofs.Common.{◌≡◌, ℕ, ◌⊎◌, inl, inr, Bool, true, List, [], ◌++◌, append-nil, sym, ap, subst, ◌∙◌, refl, arith, Result, Ok, Err, Some, false}
 use Rattle.sabr_model.specs.Devices.{Input}
-use Rattle.sabr_model.specs.plan.Plan.{TabledPlan, ContactPlan}
+use Rattle.sabr_model.specs.plan.Plan.{ContactPlan}
 use Rattle.sabr_frontier.specs.session.Session.{Seen}
 use Rattle.sabr_session.specs.SessionFed.{IsSessionFrom}
-use Rattle.sabr_session.specs.SessionGiven.{BreaksText, EndsText, ReadsSession, RefusesText, said_over}
-use Rattle.sabr_session.specs.SessionRead.{ComesTo}
+use Rattle.sabr_session.specs.SessionGiven.{said_over}
 use Rattle.sabr_session.specs.declared.session_fault.SessionFault.{SessionFault}
 use Rattle.libcgrlist.specs.SessionTexts.{IsLoaded, IsRefusal, IsRefusedText, session_line, session_status, Verifies}
 use Rattle.libcgrlist.specs.Opened.{OpenPlan, listing_of}

@@ -54,8 +54,8 @@ pub use follow::{cgrlist_follow, cgrlist_hops};
 pub use handle::{Loose, Place, PlanHandle};
 pub use held::Held;
 pub use listing::{
-    ListingPlace, cgrlist_listing_back, cgrlist_listing_next,
-    cgrlist_listing_open, cgrlist_listing_place, listings_stand,
+    ListingPlace, cgrlist_listing_back, cgrlist_listing_next, cgrlist_listing_open,
+    cgrlist_listing_place, listings_stand,
 };
 pub use opened::Opened;
 pub use plan_text::{cgrlist_plan_text, plan_texts_read_back};
