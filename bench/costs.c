@@ -174,6 +174,7 @@ static void costs_of_looks(void) {
     COST("plan_prepare, the first after a change", 1, touch(), must(cgrlist_plan_prepare(plan)));
     COST("plan_nodes", 1, (void)0, must(cgrlist_plan_nodes(plan, nodes, NODES, &count)));
     COST("plan_text", 1, (void)0, must(cgrlist_plan_text(plan, spelled, TEXT, &bytes)));
+    COST("plan_canonical", 1, (void)0, must(cgrlist_plan_canonical(plan, spelled, TEXT, &bytes)));
     COST("plan_copy", 1, cgrlist_plan_close(copy), must(cgrlist_plan_copy(plan, &copy)));
     COST("plan_renumber", 1, cgrlist_plan_close(copy), must(cgrlist_plan_renumber(plan, 0, &copy, numbers, ROOM)));
     cgrlist_plan_close(copy);

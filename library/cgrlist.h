@@ -181,6 +181,9 @@ cgrlist_status cgrlist_plan_prepare(cgrlist_plan *plan);
 /* The plan as a text from which cgrlist_plan_read makes it again, with the numbers of its contacts and the largest one
  * given: *bytes is its length; ROOM if it doesn't fit (nothing is written then). */
 cgrlist_status cgrlist_plan_text(const cgrlist_plan *plan, char *text, size_t room, size_t *bytes);
+/* The canonical text, of which the digest is the SHA-256: one for all plans with the same contacts, numbers and ranges.
+ * It isn't read back. *bytes is its length; ROOM if it doesn't fit (nothing is written then). */
+cgrlist_status cgrlist_plan_canonical(const cgrlist_plan *plan, char *text, size_t room, size_t *bytes);
 cgrlist_status cgrlist_plan_counts(const cgrlist_plan *plan, cgrlist_counts *counts);
 /* The largest contact number given, 0 at first. */
 cgrlist_status cgrlist_plan_greatest(const cgrlist_plan *plan, uint32_t *number);

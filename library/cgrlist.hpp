@@ -195,6 +195,11 @@ public:
         return detail::text_of([&](auto... given) { return cgrlist_plan_text(get(), given...); });
     }
 
+    // The canonical text, of which the digest is the SHA-256. It isn't read back.
+    std::string canonical() const {
+        return detail::text_of([&](auto... given) { return cgrlist_plan_canonical(get(), given...); });
+    }
+
     cgrlist_counts counts() const {
         cgrlist_counts found = {};
         detail::checked(cgrlist_plan_counts(get(), &found));

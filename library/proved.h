@@ -29,6 +29,7 @@ uint32_t cgrlist_proved_plan_add_contacts(handle *plan, const cgrlist_new_contac
 uint32_t cgrlist_proved_plan_add_ranges(handle *plan, const cgrlist_range *ranges, size_t count, size_t *place);
 uint32_t cgrlist_proved_plan_prepare(handle *plan);
 uint32_t cgrlist_proved_plan_text(handle *plan, uint8_t *text, size_t room, size_t *bytes);
+uint32_t cgrlist_proved_plan_canonical(handle *plan, uint8_t *text, size_t room, size_t *bytes);
 uint32_t cgrlist_proved_plan_counts(handle *plan, cgrlist_counts *counts);
 uint32_t cgrlist_proved_plan_greatest(handle *plan, uint32_t *number);
 uint32_t cgrlist_proved_plan_digest(handle *plan, uint8_t digest[32]);

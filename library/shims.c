@@ -149,6 +149,12 @@ cgrlist_status cgrlist_plan_text(const cgrlist_plan *plan, char *text, size_t ro
     return cgrlist_proved_plan_text(SEEN(plan), TEXT(text, room), bytes != NULL ? bytes : &unwanted);
 }
 
+cgrlist_status cgrlist_plan_canonical(const cgrlist_plan *plan, char *text, size_t room, size_t *bytes) {
+    size_t unwanted = 0;
+    if (plan == NULL) return CGRLIST_NO_PLAN;
+    return cgrlist_proved_plan_canonical(SEEN(plan), TEXT(text, room), bytes != NULL ? bytes : &unwanted);
+}
+
 cgrlist_status cgrlist_plan_counts(const cgrlist_plan *plan, cgrlist_counts *counts) {
     cgrlist_counts unwanted = {0, 0, 0, 0, 0};
     if (plan == NULL) return CGRLIST_NO_PLAN;

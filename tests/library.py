@@ -144,7 +144,7 @@ def refused_memory(room):
     relay = f"{TOP}/examples/relay.txt 31 1 1893458700"
     wrapped = "-Wl,--wrap=malloc,--wrap=realloc"
     refuse = room.compiled("refuse", "refuse.c", wrapped)
-    calls = ("read", "new", "best", "first", "open", "load", "next", "text", "plan text", "copy", "verify", "add contact", "add range", "delete contact", "delete range",
+    calls = ("read", "new", "best", "first", "open", "load", "next", "text", "plan text", "canonical text", "copy", "verify", "add contact", "add range", "delete contact", "delete range",
              "renumber", "add contacts", "add ranges", "nodes", "prepare", "best each", "delete number", "place", "back", "loaded next",
              "loaded back", "loaded text", "contact at", "range at", "greatest")
     ran = room.run([refuse], relay)
@@ -152,7 +152,7 @@ def refused_memory(room):
     for call in calls:
         yield f"each allocation of {call} refused", f"{call}: good", lambda: re.sub(
             "[0-9]+ refused", "good", "".join(re.findall(f"^{call}: .*$", ran.out, re.M)))
-    for call in ("read", "first", "open", "load", "next", "plan text", "copy", "renumber", "add contacts", "nodes", "prepare",
+    for call in ("read", "first", "open", "load", "next", "plan text", "canonical text", "copy", "renumber", "add contacts", "nodes", "prepare",
                  "loaded next", "loaded back", "loaded text"):
         yield f"{call} takes memory", "", lambda: unlike(r"[1-9]\d*", "".join(re.findall(rf"^{call}: (\d+) refused$", ran.out, re.M)))
     for call in ("place", "back", "contact at", "range at", "greatest"):
@@ -273,7 +273,7 @@ Libs: -L{room.folder} -lcgrlist
 
 # What wrapped.cpp, wrapped.rs and wrapped.py ask over relay.txt: the best route and the first two; the hops and the fault of a part
 # of it; its first contact is lost; the best route then, and the third of a listing that was open before, with a page back; the
-# plan's text and copy; a renumbered copy, its nodes, and the best routes to three destinations; records added to the copy; two session
+# plan's texts and copy; a renumbered copy, its nodes, and the best routes to three destinations; records added to the copy; two session
 # texts; an empty plan; a session text of the plan before, an array with a bad record, and a bad line.
 WRAPPED = """\
 1893466042 1893464400 22 4 11 2
@@ -284,7 +284,7 @@ WRAPPED = """\
 1893479242 1893467940 21 5 12 2
 1893479242 1893474720 21 6 12 2
 12
-1 21 19 14 6
+1 21 19 14 6 1228
 15 1 6 1893479242 21 3 16 17
 16 15
 10

@@ -5,6 +5,7 @@ import lzma
 import os
 import random
 import re
+from hashlib import sha256
 
 from checking import TOP
 from library_drawn import drawn_texts
@@ -118,21 +119,24 @@ def changes_of(draws, contacts):
 
 
 def beside_changes(room, path, text, requests, draws, contacts):
-    """A plan that is changed by calls between questions, beside the plan with the lines of those changes that were taken."""
+    """A plan that is changed by calls between questions, beside the plan with the lines of those changes that were taken. Its
+    canonical text has its digest."""
     calls, lines = zip(*changes_of(draws, contacts))
     script = [f"plan_read {path}", f"best {requests[0]}"]
     for change, request in zip(calls, requests):
         script += [change, f"best {request}"]
-    script += [*(f"first 3 {it}" for it in requests), "plan_counts", "plan_text written", "plan_copy 1", "use 1", "plan_counts",
-               "use 2", "plan_read written", "plan_counts"]
-    *given, _, _, _, copied, _, _, read = room.answers(script)
+    script += [*(f"first 3 {it}" for it in requests), "plan_counts", "plan_text written", "plan_canonical canonical",
+               "plan_copy 1", "use 1", "plan_counts", "use 2", "plan_read written", "plan_counts"]
+    *given, _, _, _, _, copied, _, _, read = room.answers(script)
     taken = [line for line, answer in zip(lines, given[2 : 2 + 2 * len(calls) : 2]) if answer.startswith("OK")]
     changed = f"{text}\n{''.join(taken)}"
     wanted = by_requests(room.asked("many --count 3", plan=changed, requests="".join(f"{it}\n" for it in requests)))
     counts = room.asked("check", plan=changed)
     found = given[-1 - len(requests) :]
-    return [len(taken) > 0, *(f"OK\n{it}" for it in wanted), f"OK\n{counts}", found[-1], found[-1], counts], [
-        len(taken) > 0, *found[:-1], re.sub("greatest .*\n", "", found[-1]), copied, read, room.asked("check", plan=room.read("written"))]
+    digest = re.search("digest (.*)", found[-1])[1]
+    return [len(taken) > 0, *(f"OK\n{it}" for it in wanted), f"OK\n{counts}", found[-1], found[-1], counts, digest], [
+        len(taken) > 0, *found[:-1], re.sub("greatest .*\n", "", found[-1]), copied, read, room.asked("check", plan=room.read("written")),
+        sha256(room.read("canonical").encode()).hexdigest()]
 
 
 def is_alike(pair):

@@ -136,6 +136,7 @@ def script_of(room, case, from_text):
     nodes = max(plan.nodes() | {2})
     for turn in range(2):
         say_counts(script, plan)
+        script.say("plan_canonical", "OK", plan.canonical().rstrip("\n"))
         say_contact(script, plan, draws.below(18))
         say_renumbered(script, plan, draws.one_of([0, *(it.end for it in plan.contacts.values())]) if turn else 0)
         script.say("plan_nodes", "OK", " ".join(map(str, ["nodes", *sorted(plan.nodes())])))

@@ -9,6 +9,14 @@ from checking import TOP
 AT = "2030/01/01-00:45:00"
 LATEST = 253370764799
 
+# The canonical text of examples/a.txt, but for its last range and the end.
+CONTACTS = """cgr-plan 1
+c 1 1893456000 1893456100 1 2 1000
+c 2 1893456020 1893456060 2 3 1000
+c 3 1893456050 1893456090 1 3 1000
+c 4 1893456000 1893456200 2 3 1000""".replace("\n", " | ")
+RANGES = "r 1 2 1893456000 1893457000 10 | r 1 3 1893456000 1893457000 40"
+
 # Calls over examples/a.txt, and what each returns: its first line, and the next ones behind bars.
 REFUSED = f"""
 best 3 3 {AT} | SAME_NODE
@@ -92,6 +100,7 @@ plan_add_range 1 {2**64 - 1} 0 {LATEST} 1000000 | OK
 plan_greatest | OK | greatest 7
 plan_contact_at 5 | OK | contact 7 from 1 to {2**64 - 1} start 1970/01/01-00:00:00 end 9998/12/31-23:59:59 rate {2**64 - 1} light 1000000
 best 1 {2**64 - 1} 0 1000000 | OK | delivery 1970/01/24-03:33:20 hops 1 entry {2**64 - 1} until 9998/12/31-23:59:59 contacts 7
+plan_canonical | OK | {CONTACTS} | c 5 1893456000 1893456100 3 1 1 | c 7 0 {LATEST} 1 {2**64 - 1} {2**64 - 1} | {RANGES} | r 1 {2**64 - 1} 0 {LATEST} 1000000 | r 2 3 1893456000 1893457000 5 | end
 """
 
 # Buffers that are too small over examples/a.txt: how long they are, the call, and what it returns.
@@ -116,6 +125,9 @@ CRAMPED = f"""
 3 | plan_nodes | OK | nodes 1 2 3
 0 | plan_text | ROOM | needs 400 bytes
 399 | plan_text | ROOM | needs 400 bytes
+0 | plan_canonical | ROOM | needs 247 bytes
+246 | plan_canonical | ROOM | needs 247 bytes
+247 | plan_canonical | OK | {CONTACTS} | {RANGES} | r 2 3 1893456000 1893457000 5 | end
 0 | listing_open 1 3 1893456000 | OK
 0 0 | listing_next 2 | ROOM | needs 2 routes, 4 contacts; written 0 | more
 1 4 | listing_next 2 | ROOM | needs 2 routes, 4 contacts; written 1 | 1 {ROUTE_1} | more
@@ -169,7 +181,7 @@ listing_open 1 3 1893456000 | NO_PLAN
 
 # What there is without a plan and without a listing.
 NOTHING_OPEN = f"""plan_add_contact 1 2 0 1 1;plan_add_range 1 2 0 1 1;plan_delete_contact 1 2 0;plan_delete_range 1 2 0;plan_counts;plan_digest
-plan_copy 1;plan_renumber 1 0;plan_delete_number 1;plan_add_contacts;plan_add_ranges;plan_prepare;plan_nodes;best_each 1 1 3 {AT};plan_text;plan_greatest;plan_contact_at 0;plan_range_at 0;plan_contact 1;best 1 3 {AT};first 1 1 3 {AT};follow 1 1 3 {AT};hops 1 1 3 {AT}
+plan_copy 1;plan_renumber 1 0;plan_delete_number 1;plan_add_contacts;plan_add_ranges;plan_prepare;plan_nodes;best_each 1 1 3 {AT};plan_text;plan_canonical;plan_greatest;plan_contact_at 0;plan_range_at 0;plan_contact 1;best 1 3 {AT};first 1 1 3 {AT};follow 1 1 3 {AT};hops 1 1 3 {AT}
 listing_open 1 3 {AT};listing_load a.txt;verify a.txt;best 0 0 {AT};first 10001 0 0 {AT};listing_next 1;listing_next 10001;listing_back;listing_place;listing_text"""
 
 # A refused line of a plan's text, and its status.

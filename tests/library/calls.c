@@ -453,6 +453,10 @@ static uint32_t plan_text_of(char *text, size_t room, size_t *bytes) {
     return cgrlist_plan_text(here->plan, text, room, bytes);
 }
 
+static uint32_t canonical_of(char *text, size_t room, size_t *bytes) {
+    return cgrlist_plan_canonical(here->plan, text, room, bytes);
+}
+
 static uint32_t session_text_of(char *text, size_t room, size_t *bytes) {
     return cgrlist_listing_text(here->listing, text, room, bytes);
 }
@@ -480,6 +484,7 @@ static void put_text(uint32_t (*text_of)(char *, size_t, size_t *)) {
 
 static void listing_text(void) { put_text(session_text_of); }
 static void plan_text(void) { put_text(plan_text_of); }
+static void plan_canonical(void) { put_text(canonical_of); }
 
 /* Copies the plan to another slot. */
 static void plan_copy(void) {
@@ -528,8 +533,8 @@ static const struct { const char *name; void (*call)(void); } CALLS[] = {
     {"plan_add_range", add_range}, {"plan_delete_contact", delete_contact}, {"plan_delete_range", delete_range},
     {"plan_delete_number", delete_number}, {"plan_add_contacts", add_contacts}, {"plan_add_ranges", add_ranges},
     {"plan_prepare", prepare}, {"plan_nodes", nodes}, {"plan_renumber", renumber}, {"best_each", best_each},
-    {"plan_copy", plan_copy}, {"plan_text", plan_text}, {"plan_counts", counts}, {"plan_greatest", greatest},
-    {"plan_digest", digest}, {"plan_contact", contact}, {"plan_contact_at", contact_at},
+    {"plan_copy", plan_copy}, {"plan_text", plan_text}, {"plan_canonical", plan_canonical}, {"plan_counts", counts},
+    {"plan_greatest", greatest}, {"plan_digest", digest}, {"plan_contact", contact}, {"plan_contact_at", contact_at},
     {"plan_range_at", range_at}, {"best", best}, {"first", first},
     {"follow", follow}, {"hops", hops}, {"listing_open", listing_open}, {"listing_load", listing_load},
     {"listing_next", listing_next}, {"listing_back", listing_back}, {"listing_place", listing_place},

@@ -28,6 +28,7 @@ static void no_plan(const cgrlist_request *asked) {
     WANT(CGRLIST_NO_PLAN, cgrlist_plan_renumber(NULL, 0, NULL, NULL, 0));
     WANT(CGRLIST_NO_PLAN, cgrlist_plan_nodes(NULL, NULL, 0, NULL));
     WANT(CGRLIST_NO_PLAN, cgrlist_plan_text(NULL, NULL, 0, NULL));
+    WANT(CGRLIST_NO_PLAN, cgrlist_plan_canonical(NULL, NULL, 0, NULL));
     WANT(CGRLIST_NO_PLAN, cgrlist_plan_counts(NULL, NULL));
     WANT(CGRLIST_NO_PLAN, cgrlist_plan_greatest(NULL, NULL));
     WANT(CGRLIST_NO_PLAN, cgrlist_plan_digest(NULL, NULL));
@@ -66,6 +67,8 @@ static void no_output(cgrlist_plan *plan, const cgrlist_request *asked) {
     WANT(CGRLIST_OK, cgrlist_best_each(plan, asked, &asked->to, 9, NULL));
     WANT(CGRLIST_ROOM, cgrlist_plan_text(plan, NULL, sizeof spelled, NULL));
     WANT(CGRLIST_OK, cgrlist_plan_text(plan, spelled, sizeof spelled, NULL));
+    WANT(CGRLIST_ROOM, cgrlist_plan_canonical(plan, NULL, sizeof spelled, NULL));
+    WANT(CGRLIST_OK, cgrlist_plan_canonical(plan, spelled, sizeof spelled, NULL));
     WANT(CGRLIST_OK, cgrlist_plan_counts(plan, NULL));
     WANT(CGRLIST_OK, cgrlist_plan_greatest(plan, NULL));
     WANT(CGRLIST_OK, cgrlist_plan_digest(plan, NULL));

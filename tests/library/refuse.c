@@ -73,6 +73,7 @@ static void call_next(answer *a) {
 }
 static void call_text(answer *a) { a->status = cgrlist_listing_text(listing, a->text, BYTES, &a->bytes); }
 static void call_plan_text(answer *a) { a->status = cgrlist_plan_text(plan, a->text, BYTES, &a->bytes); }
+static void call_canonical(answer *a) { a->status = cgrlist_plan_canonical(plan, a->text, BYTES, &a->bytes); }
 static void call_copy(answer *a) {
     cgrlist_plan *copy;
     a->status = cgrlist_plan_copy(plan, &copy);
@@ -165,8 +166,8 @@ static const struct { const char *name; bool (*before)(void); void (*call)(answe
     {"read", nothing, call_read}, {"new", nothing, call_new}, {"best", a_plan, call_best},
     {"best", an_asked_plan, call_best}, {"first", a_plan, call_first}, {"open", a_plan, call_open},
     {"load", a_plan, call_load}, {"next", a_listing, call_next}, {"text", a_listing, call_text},
-    {"plan text", an_asked_plan, call_plan_text}, {"copy", a_listing, call_copy},
-    {"verify", a_plan, call_verify}, {"add contact", an_asked_plan, call_add_contact},
+    {"plan text", an_asked_plan, call_plan_text}, {"canonical text", an_asked_plan, call_canonical},
+    {"copy", a_listing, call_copy}, {"verify", a_plan, call_verify}, {"add contact", an_asked_plan, call_add_contact},
     {"add range", an_asked_plan, call_add_range}, {"delete contact", an_asked_plan, call_delete_contact},
     {"delete range", an_asked_plan, call_delete_range}, {"renumber", an_asked_plan, call_renumber},
     {"add contacts", an_asked_plan, call_add_contacts}, {"add ranges", an_asked_plan, call_add_ranges},

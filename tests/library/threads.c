@@ -6,7 +6,7 @@
 #include <stdio.h>
 #include <string.h>
 
-enum { THREADS = 4, TURNS = 50, CALLS = 21, CONTACTS = 64, BYTES = 1 << 14 };
+enum { THREADS = 4, TURNS = 50, CALLS = 22, CONTACTS = 64, BYTES = 1 << 14 };
 
 /* What the calls return and write. */
 typedef struct seen {
@@ -14,7 +14,7 @@ typedef struct seen {
     cgrlist_counts counts;
     uint8_t digest[32];
     cgrlist_outcome outcome;
-    size_t bytes, nodes, hops, session;
+    size_t bytes, canonical, nodes, hops, session;
     uint64_t all[CONTACTS], line, given, reached;
     cgrlist_route routes[5];
 } seen;
@@ -50,6 +50,7 @@ static void look(const cgrlist_plan *it, seen *out) {
     *status++ = cgrlist_follow(it, &request, contacts, route.hops, &out->outcome);
     *status++ = cgrlist_hops(it, &request, contacts, route.hops, hops, CONTACTS, &out->hops);
     *status++ = cgrlist_plan_text(it, spelled, sizeof spelled, &out->bytes);
+    *status++ = cgrlist_plan_canonical(it, spelled, sizeof spelled, &out->canonical);
     *status++ = cgrlist_plan_copy(it, &copy);
     *status++ = cgrlist_plan_renumber(it, 0, &other, out->renumbered, CONTACTS);
     *status++ = cgrlist_plan_greatest(other, &out->last);

@@ -27,7 +27,7 @@ int main(int, char **argv) {
     std::cout << listing.back() << listing.place().given << "\n";
     auto copy = cgrlist::plan::read(plan.text());
     std::cout << (copy.digest() == plan.copy().digest()) << " " << copy.greatest() << " " << copy.contacts().size() << " "
-              << copy.ranges().size() << " " << copy.counts().nodes << "\n";
+              << copy.ranges().size() << " " << copy.counts().nodes << " " << copy.canonical().size() << "\n";
     auto renewed = plan.renumber(1893480000);
     auto reach = seen.best_each(asked, {1, 31, 0});
     plan.prepare();

@@ -2,6 +2,7 @@
 
 import sys
 from concurrent.futures import ThreadPoolExecutor
+from hashlib import sha256
 
 from libcgrlist import Library, Refusal, request
 
@@ -26,7 +27,9 @@ show(listing.next(9).routes[0])
 print(f"{listing.back():d}{listing.place().given}")
 copy = library.read(plan.text())
 counts = copy.counts()
-print(f"{copy.digest() == plan.copy().digest():d}", counts.greatest, len(list(copy.contacts())), len(list(copy.ranges())), counts.nodes)
+print(f"{copy.digest() == plan.copy().digest():d}", counts.greatest, len(list(copy.contacts())), len(list(copy.ranges())), counts.nodes,
+      len(copy.canonical()))
+assert sha256(copy.canonical()).digest() == copy.digest()
 renewed, numbers = plan.renumber(1893480000)
 reach = plan.best_each(asked, (1, 31, 0))
 plan.prepare()

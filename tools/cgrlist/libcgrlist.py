@@ -137,6 +137,7 @@ _CALLS = {  # the types of the arguments of each call that returns a status
     "plan_greatest": [c_void_p, _NUMBERS],
     "plan_nodes": [c_void_p, _NODES, c_size_t, _BYTES],
     "plan_text": [c_void_p, *_TEXT, _BYTES],
+    "plan_canonical": [c_void_p, *_TEXT, _BYTES],
     "plan_counts": [c_void_p, POINTER(_Counts)],
     "plan_digest": [c_void_p, POINTER(c_uint8)],
     "plan_contact": [c_void_p, c_uint32, POINTER(_Contact)],
@@ -347,6 +348,10 @@ class Plan(_Opened):
     def text(self):
         """The plan as a text, as bytes, from which `Library.read` makes it again."""
         return self._text("plan_text")
+
+    def canonical(self):
+        """The canonical text, as bytes, of which the digest is the SHA-256. `Library.read` doesn't read it."""
+        return self._text("plan_canonical")
 
     def counts(self):
         found = _Counts()

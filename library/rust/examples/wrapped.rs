@@ -25,7 +25,8 @@ fn main() -> Result<(), Box<dyn Error>> {
     println!("{}{}", u8::from(listing.back()?), listing.place()?.given);
     let copy = Plan::read(&plan.text()?)?;
     let (is_same, counts) = (copy.digest()? == plan.copy()?.digest()?, copy.counts()?);
-    println!("{} {} {} {} {}", u8::from(is_same), counts.greatest, copy.contacts().count(), copy.ranges().count(), counts.nodes);
+    let (contacts, ranges, bytes) = (copy.contacts().count(), copy.ranges().count(), copy.canonical()?.len());
+    println!("{} {} {contacts} {ranges} {} {bytes}", u8::from(is_same), counts.greatest, counts.nodes);
     let (mut renewed, numbers) = plan.renumber(1893480000)?;
     let reach = plan.best_each(&asked, &[1, 31, 0])?;
     let (to_1, statuses) = (reach[0], (reach[1].status, reach[2].status));

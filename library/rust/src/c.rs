@@ -84,6 +84,7 @@ unsafe extern "C" {
     pub fn cgrlist_plan_greatest(plan: *const Plan, number: *mut u32) -> u32;
     pub fn cgrlist_plan_nodes(plan: *const Plan, nodes: *mut u64, room: usize, count: *mut usize) -> u32;
     pub fn cgrlist_plan_text(plan: *const Plan, text: *mut u8, room: usize, bytes: *mut usize) -> u32;
+    pub fn cgrlist_plan_canonical(plan: *const Plan, text: *mut u8, room: usize, bytes: *mut usize) -> u32;
     pub fn cgrlist_plan_counts(plan: *const Plan, counts: *mut crate::Counts) -> u32;
     pub fn cgrlist_plan_digest(plan: *const Plan, digest: *mut u8) -> u32;
     pub fn cgrlist_plan_contact(plan: *const Plan, number: u32, contact: *mut Contact) -> u32;

@@ -100,6 +100,11 @@ impl Plan {
         list_of(|text, bytes| unsafe { c::cgrlist_plan_text(self.0, text.as_mut_ptr(), text.len(), bytes) })
     }
 
+    /// The canonical text, of which the digest is the SHA-256. [`Plan::read`] doesn't read it.
+    pub fn canonical(&self) -> Result<Vec<u8>, Error> {
+        list_of(|text, bytes| unsafe { c::cgrlist_plan_canonical(self.0, text.as_mut_ptr(), text.len(), bytes) })
+    }
+
     /// What the plan has.
     pub fn counts(&self) -> Result<Counts, Error> {
         let mut counts = Counts::default();
