@@ -144,16 +144,17 @@ def refused_memory(room):
     relay = f"{TOP}/examples/relay.txt 31 1 1893458700"
     wrapped = "-Wl,--wrap=malloc,--wrap=realloc"
     refuse = room.compiled("refuse", "refuse.c", wrapped)
-    calls = ("read", "new", "best", "first", "open", "load", "next", "text", "plan text", "canonical text", "copy", "verify", "add contact", "add range", "delete contact", "delete range",
-             "renumber", "add contacts", "add ranges", "nodes", "prepare", "best each", "delete number", "place", "back", "loaded next",
-             "loaded back", "loaded text", "contact at", "range at", "greatest")
+    calls = ("read", "new", "best", "first", "open", "load", "next", "text", "plan text", "canonical text", "copy", "verify",
+             "add contact", "add range", "add in turn", "delete contact", "delete range", "renumber", "add contacts", "add ranges",
+             "nodes", "prepare", "best each", "delete number", "place", "back", "loaded next", "loaded back", "loaded text",
+             "contact at", "range at", "greatest")
     ran = room.run([refuse], relay)
     yield "nothing is lost", "", lambda: ran.err
     for call in calls:
         yield f"each allocation of {call} refused", f"{call}: good", lambda: re.sub(
             "[0-9]+ refused", "good", "".join(re.findall(f"^{call}: .*$", ran.out, re.M)))
-    for call in ("read", "first", "open", "load", "next", "plan text", "canonical text", "copy", "renumber", "add contacts", "nodes", "prepare",
-                 "loaded next", "loaded back", "loaded text"):
+    for call in ("read", "first", "open", "load", "next", "plan text", "canonical text", "copy", "add in turn", "renumber",
+                 "add contacts", "nodes", "prepare", "loaded next", "loaded back", "loaded text"):
         yield f"{call} takes memory", "", lambda: unlike(r"[1-9]\d*", "".join(re.findall(rf"^{call}: (\d+) refused$", ran.out, re.M)))
     for call in ("place", "back", "contact at", "range at", "greatest"):
         yield f"{call} does not allocate", [f"{call}: 0 refused"], lambda: re.findall(f"^{call}: .*$", ran.out, re.M)

@@ -128,6 +128,13 @@ static void call_delete_number(answer *a) { a->status = cgrlist_plan_delete_numb
 static void call_verify(answer *a) { a->status = cgrlist_verify(plan, session_text, session_bytes); }
 static void call_add_contact(answer *a) { a->status = cgrlist_plan_add_contact(plan, 7001, 7002, 5, 9, 1, &a->number); }
 static void call_add_range(answer *a) { a->status = cgrlist_plan_add_range(plan, 7001, 7002, 5, 9, 1); }
+/* Adds 40 ranges one after another, so that most wait for their place. If one isn't added, the others are deleted. */
+static void call_add_in_turn(answer *a) {
+    uint64_t start = 40;
+    while (start && !(a->status = cgrlist_plan_add_range(plan, 8001, 8002, start, start + 1, 1))) start--;
+    while (start && start < 40)
+        if (cgrlist_plan_delete_range(plan, 8001, 8002, ++start)) a->status = CGRLIST_NOTHING_TO_DELETE;
+}
 static void call_delete_contact(answer *a) { a->status = cgrlist_plan_delete_contact(plan, 7001, 7003, 5, &a->number); }
 static void call_delete_range(answer *a) { a->status = cgrlist_plan_delete_range(plan, 7001, 7003, 5); }
 
@@ -147,6 +154,13 @@ static bool a_plan(void) {
            is_made(cgrlist_plan_add_contact(plan, 7001, 7003, 5, 9, 1, NULL)) &&
            is_made(cgrlist_plan_add_range(plan, 7001, 7003, 5, 9, 1));
 }
+/* A plan to which ranges were added one after another, the last of which wait for their place. */
+static bool a_growing_plan(void) {
+    bool made = a_plan();
+    for (uint64_t start = 20; start && made; start--)
+        made = is_made(cgrlist_plan_add_range(plan, 8001, 8002, start, start + 1, 1));
+    return made;
+}
 static bool an_asked_plan(void) {
     static answer a;
     if (!a_plan()) return false;
@@ -164,11 +178,13 @@ static bool a_loaded_listing(void) {
 
 static const struct { const char *name; bool (*before)(void); void (*call)(answer *); } CALLS[] = {
     {"read", nothing, call_read}, {"new", nothing, call_new}, {"best", a_plan, call_best},
-    {"best", an_asked_plan, call_best}, {"first", a_plan, call_first}, {"open", a_plan, call_open},
-    {"load", a_plan, call_load}, {"next", a_listing, call_next}, {"text", a_listing, call_text},
-    {"plan text", an_asked_plan, call_plan_text}, {"canonical text", an_asked_plan, call_canonical},
+    {"best", an_asked_plan, call_best}, {"best", a_growing_plan, call_best}, {"first", a_plan, call_first},
+    {"open", a_plan, call_open}, {"load", a_plan, call_load}, {"next", a_listing, call_next},
+    {"text", a_listing, call_text}, {"plan text", an_asked_plan, call_plan_text},
+    {"plan text", a_growing_plan, call_plan_text}, {"canonical text", an_asked_plan, call_canonical},
     {"copy", a_listing, call_copy}, {"verify", a_plan, call_verify}, {"add contact", an_asked_plan, call_add_contact},
-    {"add range", an_asked_plan, call_add_range}, {"delete contact", an_asked_plan, call_delete_contact},
+    {"add range", an_asked_plan, call_add_range}, {"add range", a_growing_plan, call_add_range},
+    {"add in turn", a_plan, call_add_in_turn}, {"delete contact", an_asked_plan, call_delete_contact},
     {"delete range", an_asked_plan, call_delete_range}, {"renumber", an_asked_plan, call_renumber},
     {"add contacts", an_asked_plan, call_add_contacts}, {"add ranges", an_asked_plan, call_add_ranges},
     {"nodes", a_plan, call_nodes}, {"prepare", a_plan, call_prepare}, {"best each", a_plan, call_best_each},
