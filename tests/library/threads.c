@@ -1,6 +1,6 @@
-/* Makes all calls with a const plan in four threads at the same time, over a plan that was only prepared, and prints how many
- * of them returned what they return over another plan of the same text, alone and not prepared. Its word: a plan's text, over
- * which 31 1 1893458700 has three routes. */
+/* Makes all calls with a const plan in four threads at the same time, over a plan to which ranges were added one by one, and
+ * that was then only prepared. Prints how many of them returned what they return over another such plan, alone and not
+ * prepared. Its word: a plan's text, over which 31 1 1893458700 has three routes. */
 #include "cgrlist.h"
 #include <pthread.h>
 #include <stdio.h>
@@ -79,6 +79,13 @@ static void *run(void *place) {
     return NULL;
 }
 
+/* The plan of the text, with ranges that wait for their place. */
+static bool make(cgrlist_plan **made, size_t bytes) {
+    bool good = !cgrlist_plan_read(made, text, bytes, NULL);
+    for (uint64_t start = 20; start && good; start--) good = !cgrlist_plan_add_range(*made, 8001, 8002, start, start + 1, 1);
+    return good;
+}
+
 int main(int argc, char **argv) {
     pthread_t threads[THREADS];
     int all = 0;
@@ -86,8 +93,8 @@ int main(int argc, char **argv) {
     if (!file) return 2;
     size_t bytes = fread(text, 1, sizeof text, file);
     fclose(file);
-    if (cgrlist_plan_read(&alone, text, bytes, NULL) || cgrlist_best(alone, &request, &route, contacts, CONTACTS)) return 2;
-    if (cgrlist_plan_read(&plan, text, bytes, NULL) || cgrlist_plan_prepare(plan)) return 2;
+    if (!make(&alone, bytes) || cgrlist_best(alone, &request, &route, contacts, CONTACTS)) return 2;
+    if (!make(&plan, bytes) || cgrlist_plan_prepare(plan)) return 2;
     look(alone, &first);
     for (int i = 0; i < CALLS; i++)
         if (first.statuses[i]) return 2;
