@@ -3,7 +3,8 @@
  * A plan and a listing are opaque. What makes one writes its place, or NULL if it refuses; the caller closes it. The
  * library has no global state: threads may use different plans and listings at the same time, each by one call at a
  * time. After cgrlist_plan_prepare, and until the next call that takes the plan without const, any number of calls with a
- * const plan may run at the same time. A listing has its own copy of its plan.
+ * const plan may run at the same time. Prepare after the last change, also after cgrlist_plan_add_range: each leaves work to
+ * the next call. A listing has its own copy of its plan.
  *
  * No call prints, blocks, or calls back, and none aborts as long as the stack suffices. With any status but CGRLIST_OK,
  * plans and listings are as they were. With any but CGRLIST_OK and CGRLIST_ROOM, so are records and buffers, unless the
@@ -175,8 +176,8 @@ cgrlist_status cgrlist_plan_delete_range(cgrlist_plan *plan, uint64_t one, uint6
 cgrlist_status cgrlist_plan_add_contacts(cgrlist_plan *plan, const cgrlist_new_contact *contacts, size_t count,
                                          size_t *place);
 cgrlist_status cgrlist_plan_add_ranges(cgrlist_plan *plan, const cgrlist_range *ranges, size_t count, size_t *place);
-/* Makes what serves until a plan changes: the index of searches, the digest, and the counts. What is missing is made by the
- * first call that needs it. */
+/* Puts ranges that were added one by one in their place, and makes what serves until a plan changes: the index of searches,
+ * the digest, and the counts. What is missing is made by the first call that needs it. */
 cgrlist_status cgrlist_plan_prepare(cgrlist_plan *plan);
 /* The plan as a text from which cgrlist_plan_read makes it again, with the numbers of its contacts and the largest one
  * given: *bytes is its length; ROOM if it doesn't fit (nothing is written then). */
