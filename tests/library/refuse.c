@@ -221,9 +221,11 @@ static int failed(const char *name, long place, const char *what) {
 }
 
 /* What stands before a call, what the call returns, and what stands after it, if nothing is refused. The call is made over
- * a plan and a listing that weren't looked at before, since a look may make an index. */
+ * a plan and a listing that weren't looked at before, since a look may make an index. They are also closed so. */
 static bool make_ever(size_t call) {
     memset(&ever, 0, sizeof ever);
+    if (!CALLS[call].before()) return false;
+    close_all();
     if (!CALLS[call].before()) return false;
     see(&before);
     close_all();
