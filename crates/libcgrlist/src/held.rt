@@ -15,7 +15,7 @@ use sabr_model::{AddFault, MAX_LIGHT, Range};
 use sabr_plan::GrowingRanges;
 use std::alloc::Global;
 
-/// The number of ranges that are put in place one by one before the next ones wait.
+/// The number of additions after which ranges wait.
 const FIRST_RANGES: u32 = 16;
 
 /// An open plan. Of many ranges that calls add, one after another, all but the first wait until a call needs them in
@@ -26,7 +26,7 @@ pub struct Held {
     pub opened: Opened,
     /// All ranges, if some wait.
     pub growing: Option<GrowingRanges<Global>>,
-    /// The number of ranges that were put in place one by one since ranges waited.
+    /// The number of additions, also of those that were refused, since ranges waited.
     pub placed: u32,
 }
 
@@ -102,7 +102,7 @@ impl Held {
         }
     }
 
-    /// Lets ranges wait if many were put in place, unless an allocation fails.
+    /// Lets ranges wait after some additions, unless an allocation fails.
     fn grow(&mut self, alloc: Global)
         requires grows { CanGrow self.old }
         requires listing { IsFalse (is_some self.old.opened.listing) }
