@@ -1,6 +1,6 @@
 /* Adds drawn ranges one by one to a plan, as many as wait for their place, and each by an array to another plan. At drawn
- * times it compares both plans, as texts, and makes a call that needs the ranges in their place. It prints how many
- * additions had one status in both, and how often the plans were the same. Its word: a seed. */
+ * times it makes a call that needs the ranges in their place, over both, and compares the plans, as texts. It prints how
+ * many additions had one status in both, and how often the plans were the same. Its word: a seed. */
 #include "cgrlist.h"
 #include <stdio.h>
 #include <stdlib.h>
@@ -41,7 +41,10 @@ static bool is_same_call(const cgrlist_range *last) {
                    cgrlist_plan_delete_range(other, last->one, last->other, last->start);
     case 1: return cgrlist_plan_range_at(one, place, &found) == cgrlist_plan_range_at(other, place, &others) &&
                    found.one == others.one && found.other == others.other && found.start == others.start;
-    case 2: return cgrlist_plan_counts(one, &counts) == cgrlist_plan_counts(other, &other_counts) && counts.ranges == other_counts.ranges;
+    case 2:
+        must(cgrlist_plan_counts(one, &counts));
+        must(cgrlist_plan_counts(other, &other_counts));
+        return counts.ranges == other_counts.ranges;
     case 3: return cgrlist_plan_add_contact(one, last->one, last->other, last->start, last->end, 1, &number) ==
                    cgrlist_plan_add_contact(other, last->one, last->other, last->start, last->end, 1, &number);
     default: return true;
@@ -54,8 +57,8 @@ int main(int words, char **word) {
     must(cgrlist_plan_new(&one));
     must(cgrlist_plan_new(&other));
     for (size_t i = 0; i < ADDITIONS; i++) {
-        uint64_t start = draw(SPAN) * 10;
-        cgrlist_range it = {1 + draw(9), 1 + draw(9), start, start + draw(15), (uint32_t)draw(1000)};
+        uint64_t start = draw(SPAN) * 10, end = start + draw(15), from = 1 + draw(9), to = 1 + draw(9);
+        cgrlist_range it = {from, to, start, end, (uint32_t)draw(1000)};
         alike += cgrlist_plan_add_range(one, it.one, it.other, it.start, it.end, it.light) == cgrlist_plan_add_ranges(other, &it, 1, NULL);
         if (draw(40) != 0) continue;
         seen++;
