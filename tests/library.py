@@ -187,7 +187,7 @@ def threads(room):
 def growing(room):
     program = room.compiled("growing", "growing.c")
     for seed in (1, 2, 3):
-        yield f"ranges that wait for their place, by seed {seed}", "3000 of 3000 additions, all plans\n", lambda: re.sub(
+        yield f"ranges that wait for their place, by seed {seed}", "3000 of 3000 additions, all plans", lambda: re.sub(
             r"(\d+) of \1 plans", "all plans", room.run([program, str(seed)]).all())
 
 
