@@ -21,7 +21,7 @@ from .told import explanations, report_text, seeds_of, texts_of
 FOLDER = Path(__file__).resolve().parent / "html"
 ENGINE = FOLDER.parent.parent / "engine"
 RUNS = ("errors", "program", "engine", "texts")  # of the engine, in the order in which they run
-SCRIPTS = ("plan", "times", "answers", "routes", "view", "svg", "colours", "picture", "traces", "sheets", "words", "starts")
+SCRIPTS = ("plan", "times", "answers", "routes", "view", "svg", "picture", "traces", "sheets", "words", "starts")
 SCRIPTS += ("timetable", "hands", "find", "ask", "open", "about")
 PANELS = ("panel", "faults", "choices", "judge", "session", "export", "link")
 # Those of routes that stand back: as far towards the ground as eyes can follow a line.
@@ -101,7 +101,7 @@ def page_html():
 
 def page_style():
     """The styles of the page and its panels."""
-    return "".join(read(FOLDER / name) for name in ("page.css", "panels.css"))
+    return read(FOLDER / "page.css")
 
 
 def engine_script():

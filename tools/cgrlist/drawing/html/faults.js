@@ -3,7 +3,7 @@
 
 const MOST_FAULTS = 200; // bad lines that are looked for
 const MOST_SHOWN = 80; // characters of a line
-const LINE_HEIGHT = 18; // pixels, as panels.css has it
+const LINE_HEIGHT = 18; // pixels, as page.css has it
 const REST = 400; // milliseconds without a key, after which a changed text is checked
 
 // ---- Bad lines --------------------------------------------------------------------------------------------------
