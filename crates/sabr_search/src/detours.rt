@@ -256,25 +256,19 @@ impl<A: Allocator + Copy> SearchCache<A> {
         let Some((last, front)) = route.split_last() else {
             return Ok(false);
         };
-        self.open_path(plan, request)?;
-        let Some(prefix_path) = &mut self.prefix_path else {
+        let Some(mut prefix_path) = self.take_path(plan, request)? else {
             return Ok(false);
         };
         looks.take_many(front.len() as u64);
-        let went = prefix_path.go(&mut Looks::many(), plan, request, front);
-        let Ok(stop) = went else {
-            self.prefix_path = None;
-            return Err(NoMemory);
-        };
-        let Some(prefix_path) = &self.prefix_path else {
-            unreachable!();
-        };
-        let task = Task::new(plan, request, prefix_path, Excluded::of(excluded), stop);
+        let stop = prefix_path.go(&mut Looks::many(), plan, request, front)?;
+        let task = Task::new(plan, request, &prefix_path, Excluded::of(excluded), stop);
         let end = RouteEnd {
             task: &task,
             front,
             last: *last,
         };
-        Ok(end.ends_otherwise(looks))
+        let otherwise = end.ends_otherwise(looks);
+        self.prefix_path = Some(prefix_path);
+        Ok(otherwise)
     }
 }

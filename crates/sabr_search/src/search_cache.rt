@@ -1,10 +1,11 @@
 //! The cache of the searches of one plan and request.
 
-ghost use Rattle.std.specs.Prelude.{ℕ, List, IfOk, IfNone, IsTrue};
+ghost use Rattle.std.specs.Prelude.{ℕ, List, IfOk, IfNone, IfSome, IsTrue};
 ghost use Rattle.sabr_model.specs.plan.Plan.{TabledPlan, IsPlan};
 ghost use Rattle.sabr_model.specs.routes.Arrival.{RouteRequest};
 ghost use Rattle.sabr_model.specs.routes.Route.{is_route};
 ghost use Rattle.sabr_search.specs.answers.SearchCache.{IsSearchCache};
+ghost use Rattle.sabr_search.specs.questions.PrefixPath.{IsPrefixPath};
 
 use crate::early::Memory;
 use crate::prefix_path::PrefixPath;
@@ -34,22 +35,23 @@ impl<A: Allocator + Copy> SearchCache<A> {
         }
     }
 
-    /// Opens the prefix path if there is none. There is none afterwards unless the plan has both the source and the
-    /// destination.
-    pub fn open_path(
+    /// Takes the prefix path out, or opens one if there is none. Returns none unless the plan has both the source and
+    /// the destination.
+    pub fn take_path(
         &mut self,
         plan: &CountedPlan<'_, A>,
         request: &Request,
-    ) -> Result<(), NoMemory>
+    ) -> Result<Option<PrefixPath<A>>, NoMemory>
         requires cache { IsSearchCache plan.now request.now self.old }
         ensures cache { IsSearchCache plan.now request.now self.new }
         ensures plan { IsPlan plan.now.plan }
-        ensures none { IfOk result (λ _. IfNone self.new.prefix_path ((s : List ℕ) → IsTrue (is_route plan.now.plan request.now s) → ⊥)) }
+        ensures some { IfOk result (λ o. IfSome o (IsPrefixPath plan.now request.now)) }
+        ensures none { IfOk result (λ o. IfNone o ((s : List ℕ) → IsTrue (is_route plan.now.plan request.now s) → ⊥)) }
     {
         plan.rules_hold();
-        if let None = &self.prefix_path {
-            self.prefix_path = PrefixPath::open(self.memory.alloc, plan, request)?;
-        }
-        Ok(())
+        let Some(prefix_path) = self.prefix_path.take() else {
+            return PrefixPath::open(self.memory.alloc, plan, request);
+        };
+        Ok(Some(prefix_path))
     }
 }

@@ -82,22 +82,17 @@ impl<A: Allocator + Copy> Settled<A> {
         ensures cache { IsSearchCache index.now request.now cache.new }
         ensures cut { IfOk result (IsCutUpTo index.now.plan request.now.max_hops part.entry.bound part.entry.prefix.now (looks_taken self.new.looks)) }
     {
-        cache.open_path(index, request)?;
-        let went = match &mut cache.prefix_path {
-            Some(prefix_path) => prefix_path.go(&mut self.looks, index, request, part.prefix),
-            None => return Ok(Sought::None),
+        let Some(mut prefix_path) = cache.take_path(index, request)? else {
+            return Ok(Sought::None);
         };
-        let Ok(stop) = went else {
-            cache.prefix_path = None;
-            return Err(NoMemory);
-        };
-        let Some(prefix_path) = &cache.prefix_path else {
-            unreachable!();
-        };
-        let task = Task::new(index, request, prefix_path, part.excluded, stop);
+        let stop = prefix_path.go(&mut self.looks, index, request, part.prefix)?;
+        let task = Task::new(index, request, &prefix_path, part.excluded, stop);
         let asked = Question::of(&task, part, stop.summary);
-        self.search
-            .find_route(&mut cache.memory, &asked, &mut self.looks)
+        let answer = self
+            .search
+            .find_route(&mut cache.memory, &asked, &mut self.looks);
+        cache.prefix_path = Some(prefix_path);
+        answer
     }
 
     /// Finds the best route of a part, without an upper bound.

@@ -11,25 +11,25 @@ take_many-requires g c =
     let front = front_of_route c.args.index.now.plan c.args.request.now c.args.route.now c.in-Some.front.now c.in-Some.last.now (c.in-Some.ensures {u = tt}).cases.0 c.requires.route in
     omega (arith, c.requires.few, front.2)
 
-pub go-went-requires-clause-fits : goal.go-went-requires-clause-fits
-go-went-requires-clause-fits g c =
+pub go-requires-clause-fits : goal.go-requires-clause-fits
+go-requires-clause-fits g c =
     let front = front_of_route c.args.index.now.plan c.args.request.now c.args.route.now c.in-Some.front.now c.in-Some.last.now (c.in-Some.ensures {u = tt}).cases.0 c.requires.route in
     rw c.counted-plan.ensures front.0
 
-pub go-went-requires-clause-few : goal.go-went-requires-clause-few
-go-went-requires-clause-few g c =
+pub go-requires-clause-few : goal.go-requires-clause-few
+go-requires-clause-few g c =
     let p = c.args.index.now.plan in
     let r = c.args.request.now in
     let s = c.in-Some.front.now in
     let front = front_of_route p r c.args.route.now s c.in-Some.last.now (c.in-Some.ensures {u = tt}).cases.0 c.requires.route in
-    omega (arith, c.many.ensures, contacts_few p (rw c.counted-plan.ensures at c.open_path.ensures.plan), prefix_few p r s (prefix_facts p r s front.0))
+    omega (arith, c.many.ensures, contacts_few p (rw c.counted-plan.ensures at c.take_path.ensures.plan), prefix_few p r s (prefix_facts p r s front.0))
 
-pub ends_otherwise-requires-clause-end : goal.ends_otherwise-requires-clause-end
-ends_otherwise-requires-clause-end g c =
+pub ends_otherwise-otherwise-requires-clause-end : goal.ends_otherwise-otherwise-requires-clause-end
+ends_otherwise-otherwise-requires-clause-end g c =
     let p = c.args.index.now in
     let s = c.in-Some.front.now in
     let front = front_of_route p.plan c.args.request.now c.args.route.now s c.in-Some.last.now (c.in-Some.ensures {u = tt}).cases.0 c.requires.route in
-    let both = subst (λ o. IfSome o (λ path. IsEntered c.counted-plan.result.now c.args.request.now s path.forbidden c.in-Ok.stop.node c.in-Ok.stop.at path.goal)) c.in-Some-prefix_path-2.is c.in-Ok.ensures.entered c.of.result.numbers.now in
+    let both = c.in_ok-stop.ensures.entered c.of.result.numbers.now in
     rw c.new-task.ensures (record {
       asked = record { task_is = both.0; behind = both.1; fits = rw c.counted-plan.ensures front.0 };
       room = front.1;
@@ -40,5 +40,5 @@ returns-clause-yes g c so = record {
   front = c.in-Some.front.now;
   last = c.in-Some.last.now;
   numbers_are = (c.in-Some.ensures {u = tt}).cases.0;
-  way = rw (c.new-task.ensures, c.of.ensures, c.counted-plan.ensures) at (c.ends_otherwise.ensures.yes so);
+  way = rw (c.new-task.ensures, c.of.ensures, c.counted-plan.ensures) at (c.ends_otherwise-otherwise.ensures.yes so);
 }
