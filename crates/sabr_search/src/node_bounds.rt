@@ -73,12 +73,11 @@ fn soonest_of<A: Allocator + Copy>(
 pub struct NodeBounds<A: Allocator + Copy> {
     /// For each node, a second from which on no way leads to the destination; none is known after the list's end.
     late: Vec<u64, A>,
-    /// For each node, a second from which on no way delivers before `until`. The list is empty if none is known.
-    late_until: Vec<u64, A>,
-    /// The second for which `late_until` was last looked for; `UNDELIVERED` before the first time.
-    until: u64,
-    /// Whether the other lists were looked for.
-    is_begun: bool,
+    /// The second for which last seconds were last looked for: at first the one after every arrival, for which `late`
+    /// has them. None before the lists were looked for.
+    until: Option<u64>,
+    /// For each node, a second from which on no way delivers before `until`, if `late` isn't all that is known.
+    late_until: Option<Vec<u64, A>>,
     /// For each node, a number of seconds that each way to the destination takes at least; 0 after the list's end.
     pub costs: Vec<u64, A>,
     /// For each node, the hops of such a way, as far as the list goes.
@@ -98,9 +97,8 @@ impl<A: Allocator + Copy> NodeBounds<A> {
     {
         NodeBounds {
             late: Vec::new(alloc),
-            late_until: Vec::new(alloc),
-            until: UNDELIVERED,
-            is_begun: false,
+            until: None,
+            late_until: None,
             costs: Vec::new(alloc),
             hops: Vec::new(alloc),
             soon: Vec::new(alloc),
@@ -113,8 +111,11 @@ impl<A: Allocator + Copy> NodeBounds<A> {
     pub fn late_for(&self, until: u64) -> &[u64]
         ensures { (p : TabledPlan) (r : RouteRequest) → AreNodeBounds p r self.now → AreLateFor p r until result.now }
     {
-        if until <= self.until && !self.late_until.is_empty() {
-            return &self.late_until;
+        if let Some(last) = self.until
+            && until <= last
+            && let Some(late) = &self.late_until
+        {
+            return late;
         }
         &self.late
     }
@@ -130,7 +131,9 @@ impl<A: Allocator + Copy> NodeBounds<A> {
             self.wait -= 1;
             return false;
         }
-        if self.is_begun && until >= self.until {
+        if let Some(last) = self.until
+            && until >= last
+        {
             return false;
         }
         self.wait = self.gap;
@@ -147,9 +150,9 @@ impl<A: Allocator + Copy> NodeBounds<A> {
         requires node_bounds { AreNodeBounds (tabled_of task.now) task.now.request self.old }
         ensures { AreNodeBounds (tabled_of task.now) task.now.request self.new }
     {
-        if self.is_begun {
-            self.late_until = latest_by(alloc, task, looks, until).unwrap_or(Vec::new(alloc));
-            self.until = until;
+        if let Some(_) = self.until {
+            self.late_until = latest_by(alloc, task, looks, until).ok();
+            self.until = Some(until);
             return;
         }
         let late = latest_by(alloc, task, looks, NEVER).unwrap_or(Vec::new(alloc));
@@ -160,6 +163,7 @@ impl<A: Allocator + Copy> NodeBounds<A> {
         self.costs = costs;
         self.hops = hops;
         self.soon = soon;
-        self.is_begun = true;
+        self.until = Some(UNDELIVERED);
+        self.late_until = None;
     }
 }

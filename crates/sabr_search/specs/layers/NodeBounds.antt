@@ -1,5 +1,5 @@
 -- What bounds every search of a request over a plan, over the whole graph.
-use Rattle.std.specs.Prelude.{◌≡◌, ◌≢◌, ℕ, ◌+◌, ◌≤◌, ◌<◌, List, [], true, false, length, slice_get, slice_index, slice_index_or}
+use Rattle.std.specs.Prelude.{◌≡◌, ◌≢◌, ℕ, ◌+◌, ◌≤◌, ◌<◌, List, [], true, false, length, slice_get, slice_index, slice_index_or, IfSome}
 use Rattle.std.specs.declared.option.Option.TheVariants.{Some}
 use Rattle.sabr_model.specs.declared.contact.Contact.{Contact}
 use Rattle.sabr_model.specs.plan.Plan.{TabledPlan, contact_named, has}
@@ -46,6 +46,6 @@ AreSoonFor p r soon =
 -- what is known of the ways of every question of the request is true
 pub record AreNodeBounds {A : Type 0} (p : TabledPlan) (r : RouteRequest) (node_bounds : NodeBounds A) : Type 0 where
   pub late : AreLateFor p r never node_bounds.late.items
-  pub late_until : AreLateFor p r node_bounds.until node_bounds.late_until.items
+  pub late_until : IfSome node_bounds.until (λ until. IfSome node_bounds.late_until (λ late. AreLateFor p r until late.items))
   pub costs : AreCostsFor p r node_bounds.costs.items
   pub soon : AreSoonFor p r node_bounds.soon.items

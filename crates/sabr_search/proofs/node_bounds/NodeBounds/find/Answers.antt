@@ -1,6 +1,6 @@
 use Rattle.std.proofs.Common.{arith}
-use Rattle.std.specs.Prelude.{IfOk}
-use Rattle.std.specs.Result.{result_unwrap_or}
+use Rattle.std.specs.Prelude.{IfOk, IfSome}
+use Rattle.std.specs.Result.{result_ok, result_unwrap_or}
 use Rattle.std.specs.declared.result.Result.{Result}
 use Rattle.std.specs.declared.result.Result.TheVariants.{Ok, Err}
 use Rattle.sabr_search.specs.questions.FirstSteps.{tabled_of}
@@ -15,6 +15,11 @@ known_is : {V E : Type 0} (found : Result V E) (P : V → Type 0) (empty : V) �
 known_is (Ok v) P empty is none = is
 known_is (Err e) P empty is none = none
 
+-- what holds of what was found holds of the option
+ok_is : {V E : Type 0} (found : Result V E) (P : V → Type 0) → IfOk found P → IfSome (result_ok found) P
+ok_is (Ok v) P is = is
+ok_is (Err e) P is = tt
+
 pub latest_by-requires : goal.latest_by-requires
 latest_by-requires g c = record { whole = whole_task _ c.requires.asked.task_is c.requires.asked.behind c.requires.none }
 
@@ -28,19 +33,18 @@ pub soonest_of-requires : goal.soonest_of-requires
 soonest_of-requires g c = record {
   whole = whole_task _ c.requires.asked.task_is c.requires.asked.behind c.requires.none;
   source = c.requires.asked.behind;
-  late = rw (c.deref.ensures.value, c.unwrap_or-late.ensures) (known_is c.latest_by-2.result (λ v. AreLateFor (tabled_of c.args.task.now) c.args.task.now.request never v.items) _ c.latest_by-2.ensures.late (none_late (tabled_of c.args.task.now) c.args.task.now.request never _ (omega arith) c.new-2.ensures.items));
+  late = rw (c.deref.ensures.value, c.unwrap_or-late.ensures) (known_is c.latest_by-2.result (λ v. AreLateFor (tabled_of c.args.task.now) c.args.task.now.request never v.items) _ c.latest_by-2.ensures.late (none_late (tabled_of c.args.task.now) c.args.task.now.request never _ (omega arith) c.new.ensures.items));
 }
 
-pub returns-then-self : goal.returns-then-self
-returns-then-self g c =
+pub returns-in-Some : goal.returns-in-Some
+returns-in-Some g c =
     let was = c.requires.node_bounds in
-    let late = known_is c.latest_by.result (λ v. AreLateFor (tabled_of c.args.task.now) c.args.task.now.request c.args.until v.items) _ c.latest_by.ensures.late (none_late (tabled_of c.args.task.now) c.args.task.now.request c.args.until _ (omega (arith, c.ranges.until)) c.new.ensures.items) in
-    record { late = was.late; late_until = rw c.unwrap_or.ensures late; costs = was.costs; soon = was.soon }
+    record { late = was.late; late_until = rw c.ok.ensures.value (ok_is c.latest_by.result _ c.latest_by.ensures.late); costs = was.costs; soon = was.soon }
 
 pub returns : goal.returns
 returns g c = record {
-  late = rw c.unwrap_or-late.ensures (known_is c.latest_by-2.result (λ v. AreLateFor (tabled_of c.args.task.now) c.args.task.now.request never v.items) _ c.latest_by-2.ensures.late (none_late (tabled_of c.args.task.now) c.args.task.now.request never _ (omega arith) c.new-2.ensures.items));
-  late_until = c.requires.node_bounds.late_until;
-  costs = rw c.unwrap_or-costs.ensures (known_is c.costs_of.result (λ v. AreCostsFor (tabled_of c.args.task.now) c.args.task.now.request v.0.items) _ c.costs_of.ensures.costs (no_costs (tabled_of c.args.task.now) c.args.task.now.request _ c.new-4.ensures.items));
-  soon = rw c.unwrap_or-soon.ensures (known_is c.soonest_of.result (λ v. AreSoonFor (tabled_of c.args.task.now) c.args.task.now.request v.items) _ c.soonest_of.ensures.soon (none_soon (tabled_of c.args.task.now) c.args.task.now.request _ c.new-3.ensures.items));
+  late = rw c.unwrap_or-late.ensures (known_is c.latest_by-2.result (λ v. AreLateFor (tabled_of c.args.task.now) c.args.task.now.request never v.items) _ c.latest_by-2.ensures.late (none_late (tabled_of c.args.task.now) c.args.task.now.request never _ (omega arith) c.new.ensures.items));
+  late_until = tt;
+  costs = rw c.unwrap_or-costs.ensures (known_is c.costs_of.result (λ v. AreCostsFor (tabled_of c.args.task.now) c.args.task.now.request v.0.items) _ c.costs_of.ensures.costs (no_costs (tabled_of c.args.task.now) c.args.task.now.request _ c.new-3.ensures.items));
+  soon = rw c.unwrap_or-soon.ensures (known_is c.soonest_of.result (λ v. AreSoonFor (tabled_of c.args.task.now) c.args.task.now.request v.items) _ c.soonest_of.ensures.soon (none_soon (tabled_of c.args.task.now) c.args.task.now.request _ c.new-2.ensures.items));
 }
