@@ -1,7 +1,7 @@
 //! A search by layers alone: forward for the earliest delivery within a limit on hops, and backward for its best way.
 
 ghost use Rattle.std.specs.Prelude.{◌+◌, ◌*◌, ◌≤◌, ◌<◌, IfOk, length};
-ghost use Rattle.sabr_search.specs.questions.Task.{IsTask, most_nodes};
+ghost use Rattle.sabr_search.specs.questions.Task.{IsTask};
 ghost use Rattle.sabr_search.specs.answers.Asked.{bound_left, hops_left};
 ghost use Rattle.sabr_search.specs.answers.Answers.{IsEnough, IsFound, found_hops};
 ghost use Rattle.sabr_search.specs.layers.Late.{AreArrivals, AreSince, IsNoneSooner, HasWayAt};
@@ -63,85 +63,90 @@ impl<A: Allocator + Copy> LayerSearch<A> {
         let task = asked.task;
         task.first_steps(looks, first)?;
         let since = Since::soonest(task.forbidden().len(), soon);
-        let aim = Aim {
-            task,
-            since: &since,
-            first: first.as_slice(),
-            delivery: 0,
-        };
-        let (hops, bound) = (asked.hops_left(), asked.bound_left());
-        self.best_within(&aim, looks, hops, bound)
+        self.best_within(asked, &since, first.as_slice(), 0, looks)
     }
 
-    /// Returns the best way of at most `hops` hops if it is up to the bound, and otherwise that each such way is above
-    /// the bound. The earliest delivery of these ways is `aim.delivery`.
+    /// Returns the best way of a question if it is up to its bound, and otherwise that each way is above the bound. The
+    /// earliest delivery of these ways is `delivery`.
+    #[tactic(auto, using(crate::proofs::AnswerLemmas::Answered::left_fewer))]
     pub fn best_at(
         &mut self,
-        aim: &Aim<'_, '_, '_, A>,
+        asked: &Question<'_, '_, '_, A>,
+        since: &Since<'_>,
+        first: &[Visit],
+        delivery: u64,
         looks: &mut Looks,
-        hops: usize,
-        bound: Bound,
     ) -> Result<Found<FoundWay<A>>, Stopped>
-        requires task { IsTask aim.now.task.now }
-        requires nodes { hops ≤ most_nodes }
-        requires arrivals { AreArrivals aim.now.task.now aim.now.since.now }
-        requires steps { AreFirstSteps aim.now.task.now aim.now.first.now }
-        requires real { AreReal aim.now.task.now aim.now.first.now }
-        requires least { IsNoneSooner aim.now.task.now hops aim.now.delivery }
-        requires some { HasWayAt aim.now.task.now hops aim.now.delivery }
-        ensures counted { looks.old.left ≤ looks.new.left + 2 * (hops * length aim.now.task.now.plan.contacts) }
-        ensures cut { IfOk result (λ f. looks.old.left ≤ looks.new.left + 2 * (found_hops bound f * length aim.now.task.now.plan.contacts)) }
-        ensures found { IfOk result (IsFound aim.now.task.now hops) }
-        ensures enough { IfOk result (IsEnough bound) }
-        ensures stops { StopsOnlyIf result (looks.old.left < 2 * (hops * length aim.now.task.now.plan.contacts)) }
+        requires task { IsTask asked.now.task.now }
+        requires arrivals { AreArrivals asked.now.task.now since.now }
+        requires steps { AreFirstSteps asked.now.task.now first.now }
+        requires real { AreReal asked.now.task.now first.now }
+        requires least { IsNoneSooner asked.now.task.now (hops_left asked.now) delivery }
+        requires some { HasWayAt asked.now.task.now (hops_left asked.now) delivery }
+
+        // The best way.
+        ensures found { IfOk result (IsFound asked.now.task.now (hops_left asked.now)) }
+        ensures enough { IfOk result (IsEnough (bound_left asked.now)) }
+
+        // The looks.
+        ensures counted { looks.old.left ≤ looks.new.left + 2 * (hops_left asked.now * length asked.now.task.now.plan.contacts) }
+        ensures cut { IfOk result (λ f. looks.old.left ≤ looks.new.left + 2 * (found_hops (bound_left asked.now) f * length asked.now.task.now.plan.contacts)) }
+        ensures stops { StopsOnlyIf result (looks.old.left < 2 * (hops_left asked.now * length asked.now.task.now.plan.contacts)) }
     {
-        let most = bound.hops_at(aim.delivery, hops);
-        let Some(layer) = self.backward.make_back(aim, looks, most)? else {
+        let aim = Aim {
+            task: asked.task,
+            since,
+            first,
+            delivery,
+        };
+        let most = asked.bound_left().hops_at(delivery, asked.hops_left());
+        let Some(layer) = self.backward.make_back(&aim, looks, most)? else {
             return Ok(Found::Beyond(Bound {
-                delivery: aim.delivery,
+                delivery,
                 hops: most,
             }));
         };
-        self.walk.begin(aim.delivery);
-        let Some(way) = self.walk.pick(&self.backward, aim.task, looks, layer + 1)? else {
+        self.walk.begin(delivery);
+        let Some(way) = self
+            .walk
+            .pick(&self.backward, asked.task, looks, layer + 1)?
+        else {
             unreachable!();
         };
         Ok(Found::Way(way))
     }
 
-    /// Returns the best way of at most that many hops, if it is up to a bound; else that each is above it. No way
-    /// delivers sooner than is aimed at.
+    /// Returns the best way of a question if it is up to its bound, and otherwise that each way is above the bound. No
+    /// way delivers before `lower`.
     pub fn best_within(
         &mut self,
-        aim: &Aim<'_, '_, '_, A>,
+        asked: &Question<'_, '_, '_, A>,
+        since: &Since<'_>,
+        first: &[Visit],
+        lower: u64,
         looks: &mut Looks,
-        hops: usize,
-        bound: Bound,
     ) -> Result<Found<FoundWay<A>>, Stopped>
-        requires task { IsTask aim.now.task.now }
-        requires nodes { hops ≤ most_nodes }
-        requires arrivals { AreArrivals aim.now.task.now aim.now.since.now }
-        requires steps { AreFirstSteps aim.now.task.now aim.now.first.now }
-        requires real { AreReal aim.now.task.now aim.now.first.now }
-        requires lower { IsNoneBefore aim.now.task.now aim.now.delivery }
-        ensures counted { looks.old.left ≤ looks.new.left + 3 * (hops * length aim.now.task.now.plan.contacts) }
-        ensures found { IfOk result (IsFound aim.now.task.now hops) }
-        ensures enough { IfOk result (IsEnough bound) }
-        ensures stops { StopsOnlyIf result (looks.old.left < 3 * (hops * length aim.now.task.now.plan.contacts)) }
+        requires task { IsTask asked.now.task.now }
+        requires arrivals { AreArrivals asked.now.task.now since.now }
+        requires steps { AreFirstSteps asked.now.task.now first.now }
+        requires real { AreReal asked.now.task.now first.now }
+        requires lower { IsNoneBefore asked.now.task.now lower }
+
+        // The best way.
+        ensures found { IfOk result (IsFound asked.now.task.now (hops_left asked.now)) }
+        ensures enough { IfOk result (IsEnough (bound_left asked.now)) }
+
+        // The looks.
+        ensures counted { looks.old.left ≤ looks.new.left + 3 * (hops_left asked.now * length asked.now.task.now.plan.contacts) }
+        ensures stops { StopsOnlyIf result (looks.old.left < 3 * (hops_left asked.now * length asked.now.task.now.plan.contacts)) }
     {
-        let task = aim.task;
+        let bound = asked.bound_left();
         let made = self
             .forward
-            .make(task, looks, hops, aim.delivery, bound.until())?;
+            .make(asked.task, looks, asked.hops_left(), lower, bound.until())?;
         let Some(best) = made else {
             return Ok(Found::Beyond(bound.at_any_hops()));
         };
-        let earliest = Aim {
-            task,
-            since: aim.since,
-            first: aim.first,
-            delivery: best.delivery,
-        };
-        self.best_at(&earliest, looks, hops, bound)
+        self.best_at(asked, since, first, best.delivery, looks)
     }
 }

@@ -16,7 +16,6 @@ ghost use Rattle.sabr_search.specs.questions.Task.{IsAsked, IsOfRequest, IsTask}
 ghost use Rattle.sabr_search.specs.answers.Answers.{ForbidsFewer};
 ghost use Rattle.sabr_search.specs.questions.Stops.{StopsOnlyIf};
 
-use crate::backward::from_goal::Aim;
 use crate::backward::since::Since;
 use crate::bound::Sought;
 use crate::early::widening::Breadth;
@@ -125,17 +124,15 @@ impl<A: Allocator + Copy> Search<A> {
             soon: &node_bounds.soon,
             delivery: best.delivery,
         };
-        let aim = Aim {
-            task,
-            since: &since,
-            first: &self.first,
-            delivery: best.delivery,
-        };
+        let delivery = best.delivery;
         if best.hops > hops {
-            return self.layers.best_within(&aim, looks, hops, bound);
+            return self
+                .layers
+                .best_within(asked, &since, &self.first, delivery, looks);
         }
         self.settles.count_saved(1);
-        self.layers.best_at(&aim, looks, hops, bound)
+        self.layers
+            .best_at(asked, &since, &self.first, delivery, looks)
     }
 
     /// Searches for the answer to a wide question, which forbids the nodes in `memory.widening.forbidden`, and caches

@@ -32,8 +32,7 @@ pub struct Aim<'t, 'a, 's, A: Allocator + Copy> {
     /// Where the first steps come to, and when.
     pub first: &'s [Visit],
     /// The delivery that the layers are made for: over the whole graph the floor, and in a question's own search the
-    /// earliest. But `best_within` takes a lower bound on it, 0 if none is known, and makes the layers for the earliest
-    /// delivery within the limit on hops.
+    /// earliest.
     pub delivery: u64,
 }
 

@@ -11,11 +11,10 @@ ghost use Rattle.std.specs.Prelude.{◌≡◌, ◌^◌, ◌≤◌, ◌<◌, [], 
 ghost use Rattle.sabr_search.specs.questions.FirstSteps.{Leads};
 ghost use Rattle.sabr_search.specs.questions.Task.{IsTask, IsAsked, IsOfRequest, Takes};
 ghost use Rattle.sabr_search.specs.questions.FirstSteps.{tabled_of};
-ghost use Rattle.sabr_search.specs.answers.Asked.{AnswersAt, hops_left};
+ghost use Rattle.sabr_search.specs.answers.Asked.{AnswersAt, bound_left, hops_left};
 ghost use Rattle.sabr_search.specs.answers.Answers.{IsFound};
 ghost use Rattle.sabr_search.specs.answers.CachedAnswers.{AllForbidden, Covers, IsAnswerTo, IsAnswer, IsPut, AreAnswers, is_cached_after, most_answers};
 
-use crate::bound::Bound;
 use crate::early::answers::lists::Lists;
 use crate::early::widening::Breadth;
 use crate::found::{Found, FoundWay};
@@ -184,28 +183,26 @@ impl<A: Allocator + Copy> Answer<A> {
     /// its way passes a forbidden node, notes that.
     fn answers(
         &self,
-        task: &Task<'_, A>,
+        asked: &Question<'_, '_, '_, A>,
         looks: &mut Looks,
-        hops: usize,
-        bound: Bound,
         passed: &mut Option<usize>,
     ) -> bool
-        requires task { IsTask task.now }
-        requires goal { slice_get task.now.table task.now.goal ≡ Some task.now.request.destination }
-        requires answer { IsAnswer (tabled_of task.now) task.now.request self.now }
-        ensures { IsTrue result → IsAnswerTo self.now task.now hops bound }
+        requires asked { IsAsked asked.now.task.now asked.now.prefix.now }
+        requires answer { IsAnswer (tabled_of asked.now.task.now) asked.now.task.now.request self.now }
+        ensures { IsTrue result → IsAnswerTo self.now asked.now.task.now (hops_left asked.now) (bound_left asked.now) }
     {
-        if !self.covers(task, hops) {
+        let hops = asked.hops_left();
+        if !self.covers(asked.task, hops) {
             return false;
         }
         let delivery = match &self.found {
             Found::Way(delivery) => *delivery,
-            Found::Beyond(above) => return bound.is_within(*above),
+            Found::Beyond(above) => return asked.bound_left().is_within(*above),
         };
         if self.lists.way().len() > hops {
             return false;
         }
-        self.leads(task, looks, delivery, passed)
+        self.leads(asked.task, looks, delivery, passed)
     }
 }
 
@@ -232,10 +229,10 @@ fn put_at<A: Allocator + Copy>(
     lists
 }
 
-/// The bucket of a node and of the numbers that are excluded there.
-fn bucket_of(node: usize, excluded: &[u32]) -> usize {
-    let mut sum = node.wrapping_mul(7919);
-    for number in excluded {
+/// The bucket of a search: by the node where it starts, and the numbers that are excluded there.
+fn bucket_of<A: Allocator + Copy>(task: &Task<'_, A>) -> usize {
+    let mut sum = task.start().wrapping_mul(7919);
+    for number in task.excluded() {
         sum = sum.wrapping_add(*number as usize);
     }
     sum % SLOTS
@@ -277,16 +274,14 @@ impl<A: Allocator + Copy> Answers<A> {
         requires cached { All (IsAnswer (tabled_of asked.now.task.now) asked.now.task.now.request) self.now.slots.items }
         ensures { IfSome result.place (AnswersAt self.now.slots.items asked.now) }
     {
-        let task = asked.task;
-        let (hops, bound) = (asked.hops_left(), asked.bound_left());
         let mut near: Option<AlmostAnswer<'_>> = None;
-        let mut place = self.head(bucket_of(task.start(), task.excluded()));
+        let mut place = self.head(bucket_of(asked.task));
         for _ in 0..COMPARED {
             let Some(answer) = self.slots.get(place) else {
                 return Recalled { place: None, near };
             };
             let mut passed = None;
-            if answer.answers(task, looks, hops, bound, &mut passed) {
+            if answer.answers(asked, looks, &mut passed) {
                 return Recalled {
                     place: Some(place),
                     near: None,
@@ -316,8 +311,7 @@ impl<A: Allocator + Copy> Answers<A> {
         let Some(answer) = self.slots.get(place) else {
             return None;
         };
-        let (hops, bound) = (asked.hops_left(), asked.bound_left());
-        if answer.answers(asked.task, looks, hops, bound, &mut passed) {
+        if answer.answers(asked, looks, &mut passed) {
             return Some(place);
         }
         None
@@ -414,7 +408,7 @@ impl<A: Allocator + Copy> Answers<A> {
         if !self.make_heads() {
             return None;
         }
-        let bucket = bucket_of(asked.task.start(), asked.task.excluded());
+        let bucket = bucket_of(asked.task);
         let Some(answer) = self.made(asked, found, breadth, bucket) else {
             return None;
         };

@@ -20,9 +20,9 @@ returns-in_err-first_steps-clause-stops g c =
 pub returns-clause-counted : goal.returns-clause-counted
 returns-clause-counted g c =
     let task = c.args.asked.now.task.now in
-    omega (arith, rw c.hops_left-hops.ensures at c.best_within.ensures.counted, c.first_steps.ensures.counted, degree_at_most task task.start)
+    omega (arith, c.best_within.ensures.counted, c.first_steps.ensures.counted, degree_at_most task task.start)
 
 pub returns-clause-stops : goal.returns-clause-stops
 returns-clause-stops g c =
     let task = c.args.asked.now.task.now in
-    stops_weaker _ _ (λ few. omega (arith, few, c.first_steps.ensures.counted, degree_at_most task task.start)) c.best_within.result (rw c.hops_left-hops.ensures at c.best_within.ensures.stops)
+    stops_weaker _ _ (λ few. omega (arith, few, c.first_steps.ensures.counted, degree_at_most task task.start)) c.best_within.result c.best_within.ensures.stops

@@ -38,10 +38,10 @@ best_at-requires-clause-arrivals g c =
     (rw (c.deref-3.ensures.value, c.deref-4.ensures.value) (rw c.deref.ensures.value at by))
 
 pub best_within-requires-clause-steps : goal.best_within-requires-clause-steps
-best_within-requires-clause-steps g c = rw c.deref-6.ensures.value c.in_ok-reached.ensures.steps
+best_within-requires-clause-steps g c = rw c.deref-then-best-hops.ensures.value c.in_ok-reached.ensures.steps
 
 pub best_within-requires-clause-real : goal.best_within-requires-clause-real
-best_within-requires-clause-real g c = rw c.deref-6.ensures.value c.in_ok-reached.ensures.real
+best_within-requires-clause-real g c = rw c.deref-then-best-hops.ensures.value c.in_ok-reached.ensures.real
 
 pub best_at-requires-clause-steps : goal.best_at-requires-clause-steps
 best_at-requires-clause-steps g c = rw c.deref-6.ensures.value c.in_ok-reached.ensures.steps
@@ -53,10 +53,10 @@ pub returns-in_err-reached-clause-stops : goal.returns-in_err-reached-clause-sto
 returns-in_err-reached-clause-stops g c = stops_by _ _ (λ is. let few = rw is at c.in_err-reached.ensures.stops in omega (arith, few)) c.from_residual.result c.from_residual.ensures.1
 
 pub returns-then-best-hops-clause-stops : goal.returns-then-best-hops-clause-stops
-returns-then-best-hops-clause-stops g c = stops_weaker _ _ (λ few. omega (arith, few, c.run.ensures.counted)) c.best_within.result (rw c.hops_left-hops.ensures at c.best_within.ensures.stops)
+returns-then-best-hops-clause-stops g c = stops_weaker _ _ (λ few. omega (arith, few, c.run.ensures.counted)) c.best_within.result c.best_within.ensures.stops
 
 pub returns-clause-stops : goal.returns-clause-stops
-returns-clause-stops g c = stops_weaker _ _ (λ few. omega (arith, few, c.run.ensures.counted)) c.best_at.result (rw c.hops_left-hops.ensures at c.best_at.ensures.stops)
+returns-clause-stops g c = stops_weaker _ _ (λ few. omega (arith, few, c.run.ensures.counted)) c.best_at.result c.best_at.ensures.stops
 
 pub best_at-requires-clause-some : goal.best_at-requires-clause-some
 best_at-requires-clause-some g c =
@@ -70,7 +70,7 @@ returns-then-best-hops-clause-cut g c =
     IfOk-weaker c.best_within.result _ _ (λ found is all. absurd (omega (arith, all, first.few, c.if-best-hops.true, c.hops_left-hops.ensures))) c.best_within.ensures.found
 
 pub returns-clause-cut : goal.returns-clause-cut
-returns-clause-cut g c = IfOk-weaker c.best_at.result _ _ (λ found is all. omega (arith, is, c.run.ensures.counted)) (rw c.bound_left-bound.ensures at c.best_at.ensures.cut)
+returns-clause-cut g c = IfOk-weaker c.best_at.result _ _ (λ found is all. omega (arith, is, c.run.ensures.counted)) c.best_at.ensures.cut
 
 pub best_of-requires-clause-soon : goal.best_of-requires-clause-soon
 best_of-requires-clause-soon g c = rw c.as_slice.ensures.value c.requires.soon

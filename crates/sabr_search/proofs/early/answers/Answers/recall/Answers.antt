@@ -17,4 +17,4 @@ returns-then-answers g c =
     let answer = c.in-Some.answer.now in
     let lookup = c.in-Some.ensures.lookup in
     let there : slice_get items c.loop.place ≡ Some answer = slice_get-get_or items c.loop.place answer lookup.3.0 ∙ ap Some (sym lookup.1) in
-    (answer, rw c.deref.ensures.value at there, (rw (c.hops_left-hops.ensures, c.bound_left-bound.ensures) at c.if-answers.ensures) refl)
+    (answer, rw c.deref.ensures.value at there, c.if-answers.ensures refl)

@@ -17,4 +17,4 @@ returns-then-answers g c =
     let answer = c.in-Some.answer.now in
     let lookup = rw c.deref.ensures.value at c.in-Some.ensures.lookup in
     let there : slice_get items c.args.place ≡ Some answer = slice_get-get_or items c.args.place answer lookup.3.0 ∙ ap Some (sym lookup.1) in
-    (answer, there, (rw (c.hops_left-hops.ensures, c.bound_left-bound.ensures) at c.if-answers.ensures) refl)
+    (answer, there, c.if-answers.ensures refl)
