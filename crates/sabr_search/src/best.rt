@@ -92,8 +92,12 @@ pub trait BestOf<A: Allocator + Copy>: Drop {
         requires fits { IsTrue (is_prefix index.now.plan request.now part.prefix.now) }
         requires floor { IsFloor index.now.plan request.now part.prefix.now part.excluded.numbers.now part.floor }
         requires cache { IsSearchCache index.now request.now cache.old }
+
+        // The answer.
         ensures sought { IfOk result (IsSought index.now.plan request.now part.entry.prefix.now part.entry.excluded.numbers.now part.entry.bound) }
         ensures whole { IfOk result (IsWhole part.entry.bound) }
+
+        // The looks, and the cache.
         ensures bound { looks_of self.new ≤ (3 * node_count index.now.plan.contacts + 1) * length index.now.plan.contacts }
         ensures counted { IfOk result (λ answer. sought_hops answer ≤ looks_of self.new) }
         ensures called { calls_of self.new ≡ with_call (calls_of self.old) (looks_of self.new) }

@@ -144,12 +144,18 @@ impl<'t, 'a, 'f, A: Allocator + Copy> RouteEnd<'t, 'a, 'f, A> {
     fn takes(&self, looks: &mut Looks, link: WalkedLink<'_>) -> bool
         requires few { 2 ≤ looks.old.left }
         requires end { IsRouteEnd self.now }
+
+        // The link leads from the start, and there is room for two contacts.
         requires room { length self.now.front.now + 1 < self.now.task.now.request.max_hops }
         requires receiver { link.to < length self.now.task.now.table }
         requires link { IsLinkWithin self.now.task.now self.now.task.now.start link.to link.passes.now link.bounds }
+
+        // The looks.
         ensures most { looks.old.left ≤ looks.new.left + 2 }
         ensures fewer { looks.new.left ≤ looks.old.left }
         ensures both { IsTrue result → looks.new.left + 2 ≤ looks.old.left }
+
+        // The answer.
         ensures yes { IsTrue result → EndsOtherwise self.now }
     {
         let task = self.task;

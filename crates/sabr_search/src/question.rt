@@ -142,8 +142,12 @@ impl<'t, 'a, 'p, A: Allocator + Copy> Question<'t, 'a, 'p, A> {
         requires summary { self.now.summary ≡ summary_of self.now.task.now.plan self.now.prefix.now }
         requires few { looks_taken looks.old ≤ 3 * length self.now.task.now.table * length self.now.task.now.plan.contacts }
         requires least { IsBestWay self.now.task.now (hops_left self.now) (delivery + 1) way.now delivery }
+
+        // The answer.
         ensures sought { IfOk result (IsSought self.now.task.now.plan self.now.task.now.request self.now.prefix.now self.now.task.now.excluded self.now.bound) }
         ensures whole { IfOk result (IsWhole self.now.bound) }
+
+        // The looks.
         ensures bound { looks_taken looks.new ≤ (3 * length self.now.task.now.table + 1) * length self.now.task.now.plan.contacts }
         ensures counted { IfOk result (λ answer. sought_hops answer ≤ looks_taken looks.new) }
         ensures cut { IsCutBefore self.now (length way.now) (looks_taken looks.old) → IfOk result (IsCutAfter self.now (looks_taken looks.new)) }
@@ -183,8 +187,12 @@ impl<'t, 'a, 'p, A: Allocator + Copy> Question<'t, 'a, 'p, A> {
         requires few { looks_taken looks.old ≤ 3 * length self.now.task.now.table * length self.now.task.now.plan.contacts }
         requires found { IsFound self.now.task.now (hops_left self.now) found.now }
         requires enough { IsEnough (bound_left self.now) found.now }
+
+        // The answer.
         ensures sought { IfOk result (IsSought self.now.task.now.plan self.now.task.now.request self.now.prefix.now self.now.task.now.excluded self.now.bound) }
         ensures whole { IfOk result (IsWhole self.now.bound) }
+
+        // The looks.
         ensures bound { looks_taken looks.new ≤ (3 * length self.now.task.now.table + 1) * length self.now.task.now.plan.contacts }
         ensures counted { IfOk result (λ answer. sought_hops answer ≤ looks_taken looks.new) }
         ensures cut { IsCutBefore self.now (found_hops (bound_left self.now) found.now) (looks_taken looks.old) → IfOk result (IsCutAfter self.now (looks_taken looks.new)) }

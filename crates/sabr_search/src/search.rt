@@ -89,10 +89,14 @@ impl<A: Allocator + Copy> Search<A> {
         requires request { IsOfRequest asked.now.task.now }
         requires node_bounds { AreNodeBounds (tabled_of asked.now.task.now) asked.now.task.now.request node_bounds.now }
         requires soon { AreSince asked.now.task.now node_bounds.now.soon.items }
-        ensures counted { looks.old.left ≤ looks.new.left + (3 * hops_left asked.now + 1) * length asked.now.task.now.plan.contacts }
-        ensures cut { IfOk result (λ f. length asked.now.task.now.table ≤ hops_left asked.now + 1 → looks.old.left ≤ looks.new.left + (2 * found_hops (bound_left asked.now) f + 1) * length asked.now.task.now.plan.contacts) }
+
+        // The best way.
         ensures found { IfOk result (IsFound asked.now.task.now (hops_left asked.now)) }
         ensures enough { IfOk result (IsEnough (bound_left asked.now)) }
+
+        // The looks.
+        ensures counted { looks.old.left ≤ looks.new.left + (3 * hops_left asked.now + 1) * length asked.now.task.now.plan.contacts }
+        ensures cut { IfOk result (λ f. length asked.now.task.now.table ≤ hops_left asked.now + 1 → looks.old.left ≤ looks.new.left + (2 * found_hops (bound_left asked.now) f + 1) * length asked.now.task.now.plan.contacts) }
         ensures stops { StopsOnlyIf result (looks.old.left < (3 * hops_left asked.now + 1) * length asked.now.task.now.plan.contacts) }
     {
         let task = asked.task;
@@ -235,9 +239,13 @@ impl<A: Allocator + Copy> Search<A> {
         requires floor { IsNoneSooner asked.now.task.now (hops_left asked.now) asked.now.floor }
         requires few { looks_taken looks.old ≤ 2 * length asked.now.task.now.plan.contacts }
         requires memory { IsMemory (tabled_of asked.now.task.now) asked.now.task.now.request memory.old }
+
+        // The answer, and what is remembered.
         ensures memory { IsMemory (tabled_of asked.now.task.now) asked.now.task.now.request memory.new }
         ensures sought { IfOk result (IsSought asked.now.task.now.plan asked.now.task.now.request asked.now.prefix.now asked.now.task.now.excluded asked.now.bound) }
         ensures whole { IfOk result (IsWhole asked.now.bound) }
+
+        // The looks.
         ensures bound { looks_taken looks.new ≤ (3 * length asked.now.task.now.table + 1) * length asked.now.task.now.plan.contacts }
         ensures counted { IfOk result (λ answer. sought_hops answer ≤ looks_taken looks.new) }
         ensures cut { IfOk result (IsCutUpTo asked.now.task.now.plan asked.now.task.now.request.max_hops asked.now.bound asked.now.prefix.now (looks_taken looks.new)) }

@@ -74,8 +74,12 @@ impl<A: Allocator + Copy> Settled<A> {
         requires floor { IsFloor index.now.plan request.now part.prefix.now part.excluded.numbers.now part.floor }
         requires few { looks_taken self.old.looks ≤ length index.now.plan.contacts }
         requires cache { IsSearchCache index.now request.now cache.old }
+
+        // The answer.
         ensures sought { IfOk result (IsSought index.now.plan request.now part.entry.prefix.now part.entry.excluded.numbers.now part.entry.bound) }
         ensures whole { IfOk result (IsWhole part.entry.bound) }
+
+        // The looks, the calls and the cache.
         ensures bound { looks_taken self.new.looks ≤ (3 * node_count index.now.plan.contacts + 1) * length index.now.plan.contacts }
         ensures counted { IfOk result (λ answer. sought_hops answer ≤ looks_taken self.new.looks) }
         ensures calls { self.new.begun ≡ self.old.begun }
@@ -107,7 +111,11 @@ impl<A: Allocator + Copy> Settled<A> {
         requires fits { IsTrue (is_prefix index.now.plan request.now prefix.now) }
         requires few { looks_taken self.old.looks ≤ length index.now.plan.contacts }
         requires cache { IsSearchCache index.now request.now cache.old }
+
+        // The answer.
         ensures least { IfOk result (IsBestOf index.now.plan request.now prefix.now excluded.entry.numbers.now) }
+
+        // The looks, the calls and the cache.
         ensures bound { looks_taken self.new.looks ≤ (3 * node_count index.now.plan.contacts + 1) * length index.now.plan.contacts }
         ensures counted { IfOk result (λ answer. answer_hops answer ≤ looks_taken self.new.looks) }
         ensures calls { self.new.begun ≡ self.old.begun }
@@ -186,8 +194,12 @@ impl<A: Allocator + Copy> BestOf<A> for Settled<A> {
         requires fits { IsTrue (is_prefix index.now.plan request.now part.prefix.now) }
         requires floor { IsFloor index.now.plan request.now part.prefix.now part.excluded.numbers.now part.floor }
         requires cache { IsSearchCache index.now request.now cache.old }
+
+        // The answer.
         ensures sought { IfOk result (IsSought index.now.plan request.now part.entry.prefix.now part.entry.excluded.numbers.now part.entry.bound) }
         ensures whole { IfOk result (IsWhole part.entry.bound) }
+
+        // The looks, the calls and the cache.
         ensures bound { looks_taken self.new.looks ≤ (3 * node_count index.now.plan.contacts + 1) * length index.now.plan.contacts }
         ensures counted { IfOk result (λ answer. sought_hops answer ≤ looks_taken self.new.looks) }
         ensures called { begun_with self.new.begun.calls self.new.looks ≡ with_call (begun_with self.old.begun.calls self.old.looks) (looks_taken self.new.looks) }

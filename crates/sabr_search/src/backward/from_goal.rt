@@ -190,9 +190,13 @@ impl<A: Allocator + Copy> Deadlines<A> {
     fn first_back(&mut self, task: &Task<'_, A>, delivery: u64) -> Result<(), NoMemory>
         requires task { IsTask task.now }
         requires early { delivery < never }
+
+        // The layer.
         ensures ends { OnOk result (self.new.ends.items ≡ 0 ∷ 1 ∷ []) }
         ensures entries { OnOk result (self.new.entries.items ≡ record { node = task.now.goal; before = delivery + 1 } ∷ []) }
         ensures linked { OnOk result (self.new.fewer.items ≡ 0 ∷ []) }
+
+        // What is known of each node.
         ensures flags { OnOk result (length self.new.place.items ≡ length task.now.forbidden) }
         ensures place { OnOk result (slice_index self.new.place.items task.now.goal ≡ 0) }
         ensures many { OnOk result (length self.new.late.items ≡ length task.now.forbidden) }

@@ -135,14 +135,22 @@ impl<A: Allocator + Copy> Walk<A> {
         links: Links<'_>,
     ) -> Option<Step>
         requires task { IsTask task.now }
+
+        // What the layers and the dead ends show.
         requires whole_deadlines { AreWholeDeadlinesOf task.now self.now.delivery hops layers.now }
         requires ends { AreDeadEnds task.now self.now.delivery self.now.ends.items }
+
+        // Where the steps lead.
         requires here { (ns : List ℕ) × Leads (Takes task.now) task.now.start task.now.at ns from.node from.at }
         requires links { AreLinksAt task.now from.node links.links.now links.passes.now }
         requires goal { IsDeadEnd task.now self.now.delivery from.node from.at 0 }
         requires few { length links.passes.now ≤ looks.old.left }
+
+        // The looks.
         ensures looks { looks.old.left ≤ looks.new.left + length links.entry.passes.now }
         ensures looked { looks.new.left ≤ looks.old.left }
+
+        // The step.
         ensures some { IfSome result (IsStepOn task.now self.now.delivery hops from) }
         ensures in_time { IfSome result (λ s. IsInTimeWithin layers.now.ends.items layers.now.entries.items hops s.node s.at) }
         ensures none { IfNone result (IsDeadEnd task.now self.now.delivery from.node from.at (hops + 1)) }
@@ -180,13 +188,19 @@ impl<A: Allocator + Copy> Walk<A> {
     ) -> Result<Option<FoundWay<A>>, Stopped>
         requires task { IsTask task.now }
         requires some { 0 < hops }
+
+        // What the layers and the dead ends show.
         requires whole_deadlines { AreWholeDeadlinesOf task.now self.old.delivery (hops - 1) layers.now }
         requires floor { IsNoneSooner task.now hops self.old.delivery }
         requires ends { AreDeadEnds task.now self.old.delivery self.old.ends.items }
         requires fewer { IsDeadEnd task.now self.old.delivery task.now.start task.now.at (hops - 1) }
+
+        // The way, or that there is none.
         ensures delivery { self.new.delivery ≡ self.old.delivery }
         ensures ends { OnOk result (AreDeadEnds task.now self.old.delivery self.new.ends.items) }
         ensures walked { IfOk result (IsWalked task.now self.old.delivery hops) }
+
+        // The looks.
         ensures stops { StopsOnlyIf result (LeadOn task.now hops layers.now self.old → looks.old.left < hops * length task.now.plan.contacts) }
         ensures counted { LeadOn task.now hops layers.now self.old → looks.old.left ≤ looks.new.left + hops * length task.now.plan.contacts }
     {

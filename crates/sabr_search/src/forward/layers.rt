@@ -50,10 +50,14 @@ impl<A: Allocator + Copy> Layers<A> {
     /// Notes an earlier arrival at a node in the layer that begins at `begin`, once for each node.
     fn note(&mut self, node: usize, arrival: u64, begin: usize) -> Result<(), NoMemory>
         requires node { node < length self.old.arrival.items }
+
+        // The layers so far.
         requires placed { IsPlaced self.old.place.items self.old.reached.items }
         requires many { length self.old.place.items ≡ length self.old.arrival.items }
         requires layer { IsLayer begin self.old.place.items self.old.reached.items }
         requires later { 0 < begin }
+
+        // The arrival is noted in the layer that is made. Those before it stay.
         ensures arrivals { OnOk result (self.new.arrival.items ≡ slice_set self.old.arrival.items node arrival) }
         ensures placed { OnOk result (IsPlaced self.new.place.items self.new.reached.items) }
         ensures linked { OnOk result (StayLinked self.old self.new) }
@@ -83,12 +87,18 @@ impl<A: Allocator + Copy> Layers<A> {
         layer: Layer,
     ) -> Result<u64, NoMemory>
         requires task { IsTask task.now }
+
+        // The link leads from a node that is reached.
         requires link { IsLinkWithin task.now link.from link.to link.passes.now link.bounds }
         requires receiver { link.to < length task.now.table }
         requires since { task.now.at ≤ at }
         requires few { length link.passes.now ≤ looks.old.left }
+
+        // The layers so far.
         requires later { 0 < layer.begin }
         requires lists { AreLists task.now.forbidden task.now.goal task.now.at layer.begin self.old.arrival.items self.old.place.items self.old.reached.items }
+
+        // The looks, and what is known afterwards.
         ensures looks { looks.old.left ≤ looks.new.left + length link.entry.passes.now }
         ensures lowered { IfOk result (λ b. AreLowered task.now layer.begin (GivenAt task.now link.entry.from at) self.old layer.best self.new b) }
         ensures known { IfOk result (λ b. (n w x : ℕ) → HasNumber link.entry.passes.now n → Takes task.now n link.entry.from at w x → IsKnown task.now.goal self.new.arrival.items b w x) }
@@ -116,12 +126,18 @@ impl<A: Allocator + Copy> Layers<A> {
         best: u64,
     ) -> Result<u64, NoMemory>
         requires task { IsTask task.now }
+
+        // The node is reached.
         requires node { from.node < length task.now.table }
         requires since { task.now.at ≤ from.at }
         requires early { from.at ≤ latest_arrival }
         requires few { degree task.now from.node ≤ looks.old.left }
+
+        // The layers so far.
         requires later { 0 < begin }
         requires lists { AreLists task.now.forbidden task.now.goal task.now.at begin self.old.arrival.items self.old.place.items self.old.reached.items }
+
+        // The looks, and what is known afterwards.
         ensures looks { looks.old.left ≤ looks.new.left + degree task.now from.node }
         ensures lowered { IfOk result (λ b. AreLowered task.now begin (GivenAt task.now from.node from.at) self.old best self.new b) }
         ensures known { IfOk result (λ b. (n w x : ℕ) → Takes task.now n from.node from.at w x → IsKnown task.now.goal self.new.arrival.items b w x) }
@@ -155,10 +171,14 @@ impl<A: Allocator + Copy> Layers<A> {
     ) -> Result<u64, NoMemory>
         requires task { IsTask task.now }
         requires few { length task.now.plan.contacts ≤ looks.old.left }
+
+        // The layers so far.
         requires last { begin ≡ length self.old.reached.items }
         requires later { 0 < begin }
         requires sources { AreSources task.now self.old.reached.items first begin }
         requires lists { AreLists task.now.forbidden task.now.goal task.now.at begin self.old.arrival.items self.old.place.items self.old.reached.items }
+
+        // The looks, and what is known afterwards.
         ensures looks { looks.old.left ≤ looks.new.left + length task.now.plan.contacts }
         ensures lowered { IfOk result (λ b. AreLowered task.now begin (GivenFrom task.now self.old.reached.items first begin) self.old best self.new b) }
         ensures known { IfOk result (λ b. IsKnownFrom task.now self.old.reached.items first begin self.new.arrival.items b) }

@@ -100,15 +100,21 @@ impl<A: Allocator + Copy> Settling<A> {
     ) -> Result<Best, NoMemory>
         requires task { IsTask forward.now.task.now }
         requires receiver { step.node < length forward.now.task.now.table }
+
+        // The step is taken from the node of the event, and is news.
         requires later { event.at ≤ step.at }
         requires sooner { step.at + slice_index forward.now.costs.now step.node < best.delivery }
         requires news { step.node ≢ forward.now.task.now.goal → step.at < slice_index self.old.arrival.items step.node }
         requires step { slice_index_or forward.now.task.now.forbidden step.node false ≡ false → (n : ℕ) × Takes forward.now.task.now n event.node event.at step.node step.at }
         requires state { StaySettling forward.now self.old.settled.items event self.old best }
+
+        // What is known afterwards.
         ensures settled { self.new.settled ≡ self.old.settled }
         ensures state { IfOk result (StaySettling forward.now self.old.settled.items event self.new) }
         ensures fallen { IfOk result (λ b. IsFallen self.old.settled.items self.old.arrival.items best self.new.arrival.items b) }
         ensures known { IfOk result (λ b. IsKnown forward.now.task.now.goal self.new.arrival.items (b.delivery - slice_index forward.now.costs.now step.node) step.node step.at) }
+
+        // The events that wait.
         ensures pushes { OnOk result (length self.new.queue ≤ length self.old.queue + 1) }
     {
         let Visit { node, at } = step;
@@ -141,16 +147,22 @@ impl<A: Allocator + Copy> Settling<A> {
         best: Best,
     ) -> Result<Best, NoMemory>
         requires task { IsTask forward.now.task.now }
+
+        // The link leads from the node of the event.
         requires from { link.from ≡ event.node }
         requires link { IsLinkWithin forward.now.task.now link.from link.to link.passes.now link.bounds }
         requires receiver { link.to < length forward.now.task.now.table }
         requires few { length link.passes.now ≤ looks.old.left }
         requires state { StaySettling forward.now self.old.settled.items event self.old best }
+
+        // The looks, and what is known afterwards.
         ensures settled { self.new.settled ≡ self.old.settled }
         ensures looks { looks.old.left ≤ looks.new.left + length link.entry.passes.now }
         ensures state { IfOk result (StaySettling forward.now self.old.settled.items event self.new) }
         ensures fallen { IfOk result (λ b. IsFallen self.old.settled.items self.old.arrival.items best self.new.arrival.items b) }
         ensures known { IfOk result (λ b. IsKnownOver forward.now.task.now link.entry.passes.now link.entry.from event.at forward.now.costs.now self.new.arrival.items b.delivery) }
+
+        // The events that wait.
         ensures pushes { OnOk result (length self.new.queue + looks.new.left ≤ length self.old.queue + looks.old.left) }
     {
         let task = forward.task;
@@ -174,19 +186,29 @@ impl<A: Allocator + Copy> Settling<A> {
         best: Best,
     ) -> Result<Best, NoMemory>
         requires task { IsTask forward.now.task.now }
+
+        // The node is reached at the event, and not yet settled.
         requires node { event.node < length forward.now.task.now.table }
         requires many { length self.old.settled.items ≡ length forward.now.task.now.table }
         requires unsettled { slice_index_or self.old.settled.items event.node false ≡ false }
         requires reached { slice_index self.old.arrival.items event.node ≡ event.at }
+
+        // The links of the node.
         requires links { AreLinksAt forward.now.task.now event.node links.links.now links.passes.now }
         requires few { length links.passes.now ≤ looks.old.left }
+
+        // What is known so far.
         requires state { StaySettling forward.now (slice_set self.old.settled.items event.node true) event self.old best }
         requires taken { AreSettledTaken forward.now.task.now forward.now.costs.now self.old.settled.items self.old.arrival.items best.delivery }
+
+        // The looks, and what is known afterwards.
         ensures settled { self.new.settled.items ≡ slice_set self.old.settled.items event.node true }
         ensures looks { looks.old.left ≤ looks.new.left + length links.entry.passes.now }
         ensures state { IfOk result (StaySettling forward.now (slice_set self.old.settled.items event.node true) event self.new) }
         ensures fallen { IfOk result (λ b. IsFallen (slice_set self.old.settled.items event.node true) self.old.arrival.items best self.new.arrival.items b) }
         ensures taken { IfOk result (λ b. AreSettledTaken forward.now.task.now forward.now.costs.now (slice_set self.old.settled.items event.node true) self.new.arrival.items b.delivery) }
+
+        // The events that wait.
         ensures pushes { OnOk result (length self.new.queue + looks.new.left ≤ length self.old.queue + looks.old.left) }
     {
         self.settled[event.node] = true;
@@ -209,15 +231,23 @@ impl<A: Allocator + Copy> Settling<A> {
         first: &[Visit],
     ) -> Result<Best, NoMemory>
         requires task { IsTask forward.now.task.now }
+
+        // What bounds the search.
         requires until { forward.now.until ≤ latest_arrival + 1 }
         requires bound { IsBound forward.now.task.now forward.now.until forward.now.late.now forward.now.costs.now }
+
+        // All first steps.
         requires inside { (k : ℕ) (s : Visit) → slice_get first.now k ≡ Some s → s.node < length forward.now.task.now.table }
         requires steps { AreFirstSteps forward.now.task.now first.now }
         requires real { AreReal forward.now.task.now first.now }
+
+        // Nothing is reached yet.
         requires arrivals { AreOpened forward.now.task.now forward.now.late.now self.old.arrival.items }
         requires hops { length self.old.hops.items ≡ length forward.now.task.now.forbidden }
         requires settled { self.old.settled.items ≡ replicate (length forward.now.task.now.forbidden) false }
         requires queue { self.old.queue ≡ [] }
+
+        // What is known afterwards.
         ensures settled { self.new.settled.items ≡ slice_set self.old.settled.items forward.now.task.now.start true }
         ensures state { IfOk result (StaySettled forward.now self.new) }
     {

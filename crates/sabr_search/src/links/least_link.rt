@@ -38,9 +38,13 @@ impl<'a, A: Allocator + Copy> Task<'a, A> {
         requires task { IsTask self.now }
         requires link { IsLinkWithin self.now link.from link.to link.passes.now link.bounds }
         requires few { length link.passes.now ≤ looks.old.left }
+
+        // The looks.
         ensures looks { looks.old.left ≤ looks.new.left + length link.entry.passes.now }
         ensures looked { looks.new.left ≤ looks.old.left }
         ensures some_looks { (result ≡ least) ⊎ (looks.new.left < looks.old.left) }
+
+        // The step.
         ensures lower { (n : ℕ) → IsAtMost least n → IsAtMost result n }
         ensures sound { (result ≡ least) ⊎ IfSome result (IsStepOver self.now link.entry.from at link.entry.to before) }
         ensures full { (n w b : ℕ) → HasNumber link.entry.passes.now n → Takes self.now n link.entry.from at w b → b < before → IsAtMost result n }

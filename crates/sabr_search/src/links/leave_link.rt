@@ -56,8 +56,12 @@ impl<'a, A: Allocator + Copy> Task<'a, A> {
         requires link { IsLinkWithin self.now link.from link.to link.passes.now link.bounds }
         requires other { link.from ≢ self.now.start }
         requires few { length link.passes.now ≤ looks.old.left }
+
+        // The looks.
         ensures looks { looks.old.left ≤ looks.new.left + length link.entry.passes.now }
         ensures some_looks { latest < result → looks.new.left < looks.old.left }
+
+        // The second.
         ensures lower { latest ≤ result }
         ensures sound { (t : ℕ) → latest ≤ t → t < result → IsLeftBefore self.now link.entry.from link.entry.to before t }
         ensures full { (n t w b : ℕ) → HasNumber link.entry.passes.now n → Takes self.now n link.entry.from t w b → b < before → t < result }

@@ -109,9 +109,13 @@ impl<'a, A: Allocator + Copy> Task<'a, A> {
         requires task { IsTask self.now }
         requires link { IsLinkWithin self.now link.from link.to link.passes.now link.bounds }
         requires few { length link.passes.now ≤ looks.old.left }
+
+        // The looks.
         ensures looks { looks.old.left ≤ looks.new.left + length link.entry.passes.now }
         ensures looked { looks.new.left ≤ looks.old.left }
         ensures some_looks { result < before → looks.new.left < looks.old.left }
+
+        // The arrival.
         ensures upper { result ≤ before }
         ensures later { result < before → at ≤ result }
         ensures sound { result < before → slice_index_or self.now.forbidden link.entry.to false ≡ false → (n : ℕ) × Takes self.now n link.entry.from at link.entry.to result }
