@@ -104,11 +104,11 @@ pub trait BestOf<A: Allocator + Copy>: Drop {
         ensures cache { IsSearchCache index.now request.now cache.new }
     {
         let _cache = cache;
-        let whole = Part {
+        let unbounded = Part {
             prefix: part.prefix,
             excluded: part.excluded.numbers,
         };
-        let found = self.best(index.plan(), request, whole)?;
+        let found = self.best(index.plan(), request, unbounded)?;
         Ok(Sought::of(found))
     }
 

@@ -85,7 +85,7 @@ fn take_pass<A: Allocator + Copy>(
     requires task { IsTask task.now }
     requires few { 0 < looks.old.left }
     requires pass { IsPassAt task.now here.node to pass.now }
-    requires open { slice_index_or task.now.forbidden to false ≡ false }
+    requires permitted { slice_index_or task.now.forbidden to false ≡ false }
     ensures counted { looks.old.left ≡ looks.new.left + 1 }
     ensures takes { IfSome result (λ step. Takes task.now step.number here.node here.at to step.at) }
 {
@@ -164,16 +164,16 @@ impl<'t, 'a, 'f, A: Allocator + Copy> RouteEnd<'t, 'a, 'f, A> {
         }
         let here = self.here();
         let goal = task.goal();
-        let open = link
+        let unended = link
             .passes
             .partition_point(|pass| pass.latest_end <= here.at);
-        if open >= link.passes.len() {
+        if unended >= link.passes.len() {
             return false;
         }
         let Some(second) = last_pass(task, link.to, goal) else {
             return false;
         };
-        let Some(first) = take_pass(task, looks, here, link.to, &link.passes[open]) else {
+        let Some(first) = take_pass(task, looks, here, link.to, &link.passes[unended]) else {
             return false;
         };
         if first.number == self.last {

@@ -78,7 +78,7 @@ impl<A: Allocator + Copy> Memory<A> {
             return Ok(());
         }
         let (plan, request) = (asked.task.plan(), asked.task.request());
-        let Some(mut prefix_path) = PrefixPath::open(self.alloc, plan, request)? else {
+        let Some(mut prefix_path) = PrefixPath::at_source(self.alloc, plan, request)? else {
             return Ok(());
         };
         let source = prefix_path.go(looks, plan, request, &[])?;
@@ -86,13 +86,15 @@ impl<A: Allocator + Copy> Memory<A> {
             numbers: &[],
             rising: false,
         };
-        let whole = Task::new(plan, request, &prefix_path, excluded, source);
+        let whole_graph = Task::new(plan, request, &prefix_path, excluded, source);
         if are_bounds_due {
-            self.node_bounds.find(self.alloc, &whole, looks, until);
+            self.node_bounds
+                .find(self.alloc, &whole_graph, looks, until);
         }
         if are_deadlines_due {
             let soon = &self.node_bounds.soon;
-            self.whole_deadlines.make(&whole, looks, soon, asked.floor)?;
+            self.whole_deadlines
+                .make(&whole_graph, looks, soon, asked.floor)?;
         }
         Ok(())
     }

@@ -122,8 +122,7 @@ impl<A: Allocator + Copy> Layered<A> {
         ensures counted { IfOk result (λ answer. answer_hops answer ≤ looks_taken self.new.looks) }
         ensures calls { self.new.begun ≡ self.old.begun }
     {
-        let opened = PrefixPath::open(self.alloc, index, request)?;
-        let Some(mut prefix_path) = opened else {
+        let Some(mut prefix_path) = PrefixPath::at_source(self.alloc, index, request)? else {
             return Ok(None);
         };
         let stop = prefix_path.go(&mut self.looks, index, request, prefix)?;

@@ -52,8 +52,8 @@ fn common_front(one: &[u32], other: &[u32]) -> usize
 }
 
 impl<A: Allocator + Copy> PrefixPath<A> {
-    /// Opens the path of the empty prefix, at the source. None unless the plan has both the source and the destination.
-    pub fn open(
+    /// Makes the path of the empty prefix, at the source. None unless the plan has both the source and the destination.
+    pub fn at_source(
         alloc: A,
         plan: &CountedPlan<'_, A>,
         request: &Request,
@@ -71,7 +71,7 @@ impl<A: Allocator + Copy> PrefixPath<A> {
             return Ok(None);
         };
         let mut forbidden = ForbiddenNodes::new(alloc);
-        forbidden.open_all(nodes)?;
+        forbidden.reset(nodes)?;
         forbid_closed(&mut forbidden, plan, request)?;
         let mut stops = Vec::new(alloc);
         stops.push(Stop {
@@ -111,7 +111,7 @@ impl<A: Allocator + Copy> PrefixPath<A> {
             let Some(stop) = self.stops.pop() else {
                 unreachable!();
             };
-            self.forbidden.open(stop.node);
+            self.forbidden.allow(stop.node);
         }
         let mut here = self.stops[front];
         for place in front..prefix.len() {

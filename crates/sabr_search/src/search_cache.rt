@@ -35,7 +35,7 @@ impl<A: Allocator + Copy> SearchCache<A> {
         }
     }
 
-    /// Takes the prefix path out, or opens one if there is none. Returns none unless the plan has both the source and
+    /// Takes the prefix path out, or makes one if there is none. Returns none unless the plan has both the source and
     /// the destination.
     pub fn take_path(
         &mut self,
@@ -50,7 +50,7 @@ impl<A: Allocator + Copy> SearchCache<A> {
     {
         plan.rules_hold();
         let Some(prefix_path) = self.prefix_path.take() else {
-            return PrefixPath::open(self.memory.alloc, plan, request);
+            return PrefixPath::at_source(self.memory.alloc, plan, request);
         };
         Ok(Some(prefix_path))
     }

@@ -122,13 +122,13 @@ impl<A: Allocator + Copy> Settled<A> {
         ensures cache { IsSearchCache index.now request.now cache.new }
         ensures cut { IfOk result (IsCut index.now.plan request.now.max_hops prefix.now (looks_taken self.new.looks)) }
     {
-        let whole = BoundedPart {
+        let unbounded = BoundedPart {
             prefix,
             excluded,
             bound: Bound::none(),
             floor: 0,
         };
-        match self.find(cache, index, request, whole)? {
+        match self.find(cache, index, request, unbounded)? {
             Sought::Route(route) => Ok(Some(route)),
             Sought::None => Ok(None),
             Sought::Beyond => unreachable!(),

@@ -268,7 +268,7 @@ impl<'a, A: Allocator + Copy> Task<'a, A> {
     pub fn leave_before(&self, hop: &Hop, before: u64) -> u64
         requires small { IsSmall hop.now }
         requires window { hop.now.start < hop.now.end }
-        ensures kept { (t : ℕ) → t < result → (b : ℕ) × (hop_arrival self.now.request.margin t hop.now ≡ Some b) × (b < before) }
+        ensures in_time { (t : ℕ) → t < result → (b : ℕ) × (hop_arrival self.now.request.margin t hop.now ≡ Some b) × (b < before) }
         ensures missed { (t b : ℕ) → result ≤ t → hop_arrival self.now.request.margin t hop.now ≡ Some b → before ≤ b }
     {
         let Some(light) = hop.light else {

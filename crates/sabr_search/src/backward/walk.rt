@@ -113,14 +113,14 @@ impl<A: Allocator + Copy> Walk<A> {
         ensures upper { result ≤ before }
         ensures end { (result ≡ before) ⊎ ((k : ℕ) × (x : DeadEnd) × (slice_get self.now.ends.items k ≡ Some x) × (x.node ≡ node) × (hops ≤ x.hops) × (x.at ≡ result)) }
     {
-        let mut least = before;
+        let mut earliest = before;
         for place in 0..self.ends.len() {
             let end = self.ends[place];
-            if end.node == node && hops <= end.hops && end.at < least {
-                least = end.at;
+            if end.node == node && hops <= end.hops && end.at < earliest {
+                earliest = end.at;
             }
         }
-        least
+        earliest
     }
 
     /// Returns the step of smallest number from a visit after which that many hops may still lead to the goal in time,
@@ -156,7 +156,7 @@ impl<A: Allocator + Copy> Walk<A> {
         ensures none { IfNone result (IsDeadEnd task.now self.now.delivery from.node from.at (hops + 1)) }
     {
         let end = layers.end_of(hops);
-        let mut least: Option<Step> = None;
+        let mut best: Option<Step> = None;
         for place in 0..links.links.len() {
             let link = task.link(links, from.node, place);
             // Too late for any number of hops.
@@ -171,9 +171,9 @@ impl<A: Allocator + Copy> Walk<A> {
                 continue;
             }
             let before = self.before_end(link.to, hops, deadline);
-            least = task.least_over(looks, link, from.at, before, least);
+            best = task.least_over(looks, link, from.at, before, best);
         }
-        least
+        best
     }
 
     /// Picks the way of `hops` hops with the smallest numbers that is at the goal by the delivery of the layers. The

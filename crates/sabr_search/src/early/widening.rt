@@ -55,7 +55,7 @@ fn forbid_few<A: Allocator + Copy>(
     ensures fewer { OnOk result (ForbidsFewer task.now forbidden.new) }
     ensures request { OnOk result (IsOfRequest (narrowed task.now forbidden.new task.now.at)) }
 {
-    forbidden.open_all(task.forbidden().len())?;
+    forbidden.reset(task.forbidden().len())?;
     forbid_closed(forbidden, task.plan(), task.request())?;
     forbidden.put(task.start())?;
     Ok(())

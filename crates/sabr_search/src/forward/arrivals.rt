@@ -35,7 +35,7 @@ fn too_late<A: Allocator + Copy>(
 fn close_arrival<A: Allocator + Copy>(arrival: &mut Vec<u64, A>, forbidden: &[bool], node: usize)
     requires { length arrival.old.items ≡ length forbidden.now }
     ensures many { length arrival.new.items ≡ length arrival.old.items }
-    ensures kept { (k : ℕ) → slice_index_or forbidden.now k false ≡ false → slice_index arrival.new.items k ≡ slice_index arrival.old.items k }
+    ensures others { (k : ℕ) → slice_index_or forbidden.now k false ≡ false → slice_index arrival.new.items k ≡ slice_index arrival.old.items k }
     ensures falls { (k : ℕ) → slice_index arrival.new.items k ≤ slice_index arrival.old.items k }
     ensures zero { slice_index_or forbidden.now node false ≡ true → slice_index arrival.new.items node ≡ 0 }
 {
@@ -79,7 +79,7 @@ pub fn news_before(arrival: &[u64], costs: &[u64], node: usize, delivery: u64) -
 
 /// Adds a node and when it is reached, if it is reached at all.
 fn put_step<A: Allocator + Copy>(first: &mut Vec<Visit, A>, step: Visit) -> Result<(), NoMemory>
-    ensures kept { OnOk result ((k : ℕ) (s : Visit) → slice_get first.old.items k ≡ Some s → slice_get first.new.items k ≡ Some s) }
+    ensures stay { OnOk result ((k : ℕ) (s : Visit) → slice_get first.old.items k ≡ Some s → slice_get first.new.items k ≡ Some s) }
     ensures put { OnOk result (step.at < never → (k : ℕ) × (slice_get first.new.items k ≡ Some step)) }
     ensures only { OnOk result ((k : ℕ) (s : Visit) → slice_get first.new.items k ≡ Some s → (slice_get first.old.items k ≡ Some s) ⊎ ((step ≡ s) × (step.at < never))) }
 {

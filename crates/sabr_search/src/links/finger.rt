@@ -19,23 +19,23 @@ impl Finger {
     }
 
     /// Returns how many consecutive numbers from this one on are in the list: 0 if this one isn't, else at least half
-    /// of them. At most `behind` after this one are asked for. If the list isn't known to rise, only this number is
+    /// of them. At most `after` more are asked for. If the list isn't known to rise, only this number is
     /// looked for.
     #[inline(always)]
-    pub fn counts(&mut self, excluded: Excluded<'_>, number: u32, behind: u32) -> usize
+    pub fn counts(&mut self, excluded: Excluded<'_>, number: u32, after: u32) -> usize
         ensures none { result ≡ 0 → has number excluded.entry.numbers.now ≡ false }
         ensures some { (j : ℕ) → j < result → has (number + j) excluded.entry.numbers.now ≡ true }
-        ensures limit { result ≤ behind + 1 }
+        ensures limit { result ≤ after + 1 }
     {
         let numbers = excluded.numbers;
         let rising = excluded.rising;
         if !self.finds(numbers, rising, number) {
             return 0;
         }
-        if !rising || behind == 0 {
+        if !rising || after == 0 {
             return 1;
         }
-        let more = row_after(numbers, self.place, number, behind);
+        let more = row_after(numbers, self.place, number, after);
         self.place = self.place.saturating_add(more);
         more + 1
     }

@@ -13,11 +13,11 @@ use sabr_index::Looks;
 use std::alloc::Allocator;
 
 /// Returns true if there is a step and its number is at most this.
-fn is_at_most(least: Option<Step>, number: u32) -> bool
-    ensures at_most { IsTrue result → IsAtMost least number }
-    ensures above { result ≡ false → (n : ℕ) → IsAtMost least n → number ≤ n }
+fn is_at_most(best: Option<Step>, number: u32) -> bool
+    ensures at_most { IsTrue result → IsAtMost best number }
+    ensures above { result ≡ false → (n : ℕ) → IsAtMost best n → number ≤ n }
 {
-    match least {
+    match best {
         Some(step) => step.number <= number,
         None => false,
     }
@@ -25,7 +25,7 @@ fn is_at_most(least: Option<Step>, number: u32) -> bool
 
 impl<'a, A: Allocator + Copy> Task<'a, A> {
     /// Returns the step of smallest number over a link, for what is at its sender at `at`. It arrives sooner than
-    /// `before`, and its number is less than that of `least`. If there is no such step, returns `least`.
+    /// `before`, and its number is less than that of `best`. If there is no such step, returns `best`.
     #[inline(always)]
     pub fn least_over(
         &self,
@@ -33,7 +33,7 @@ impl<'a, A: Allocator + Copy> Task<'a, A> {
         link: WalkedLink<'_>,
         at: u64,
         before: u64,
-        least: Option<Step>,
+        best: Option<Step>,
     ) -> Option<Step>
         requires task { IsTask self.now }
         requires link { IsLinkWithin self.now link.from link.to link.passes.now link.bounds }
@@ -42,18 +42,18 @@ impl<'a, A: Allocator + Copy> Task<'a, A> {
         // The looks.
         ensures looks { looks.old.left ≤ looks.new.left + length link.entry.passes.now }
         ensures looked { looks.new.left ≤ looks.old.left }
-        ensures some_looks { (result ≡ least) ⊎ (looks.new.left < looks.old.left) }
+        ensures some_looks { (result ≡ best) ⊎ (looks.new.left < looks.old.left) }
 
         // The step.
-        ensures lower { (n : ℕ) → IsAtMost least n → IsAtMost result n }
-        ensures sound { (result ≡ least) ⊎ IfSome result (IsStepOver self.now link.entry.from at link.entry.to before) }
+        ensures lower { (n : ℕ) → IsAtMost best n → IsAtMost result n }
+        ensures sound { (result ≡ best) ⊎ IfSome result (IsStepOver self.now link.entry.from at link.entry.to before) }
         ensures full { (n w b : ℕ) → HasNumber link.entry.passes.now n → Takes self.now n link.entry.from at w b → b < before → IsAtMost result n }
     {
         if rules_out(link.bounds, at, before) {
-            return least;
+            return best;
         }
         let passes = link.passes;
-        let mut chosen = least;
+        let mut chosen = best;
         let mut finger = Finger::new();
         let mut place = first_unended(passes, at);
         while place < passes.len() {

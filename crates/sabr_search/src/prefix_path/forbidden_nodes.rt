@@ -55,7 +55,7 @@ impl<A: Allocator + Copy> ForbiddenNodes<A> {
     }
 
     /// Begins anew with `count` nodes, all open.
-    pub fn open_all(&mut self, count: usize) -> Result<(), NoMemory>
+    pub fn reset(&mut self, count: usize) -> Result<(), NoMemory>
         requires { count ≤ most_nodes }
         ensures many { OnOk result (length self.new ≡ count) }
         ensures none { OnOk result ((k : ℕ) → slice_index_or self.new k false ≡ false) }
@@ -78,8 +78,8 @@ impl<A: Allocator + Copy> ForbiddenNodes<A> {
         Ok(())
     }
 
-    /// Opens a node, in one step if it is the one that was forbidden last.
-    pub fn open(&mut self, node: usize)
+    /// Forbids a node no more, in one step if it is the one that was forbidden last.
+    pub fn allow(&mut self, node: usize)
         requires { node < length self.old }
         ensures { self.new ≡ slice_set self.old node false }
     {

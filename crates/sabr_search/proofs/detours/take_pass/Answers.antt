@@ -11,5 +11,5 @@ pub returns-clause-takes : goal.returns-clause-takes
 returns-clause-takes g c =
     let hop = c.hop_over-hop.result in
     rw c.number.ensures (pass_takes c.args.task.now c.requires.task c.args.here.node c.args.to c.args.here.at c.look-pass.result c.in-Some.at hop
-    (rw c.look-pass.ensures.same c.requires.pass) c.hop_over-hop.ensures.receiver c.hop_over-hop.ensures.value c.requires.open (c.excluded_from.ensures.none (omega arith))
+    (rw c.look-pass.ensures.same c.requires.pass) c.hop_over-hop.ensures.receiver c.hop_over-hop.ensures.value c.requires.permitted (c.excluded_from.ensures.none (omega arith))
     (ap (λ (r : RouteRequest). hop_arrival r.margin c.args.here.at hop) (sym c.request.ensures) ∙ sym c.arrive.ensures ∙ c.in-Some.is))

@@ -7,7 +7,7 @@ use Rattle.sabr_search.proofs.detours.RouteEnd.takes.Goals as goal
 
 pub take_pass-requires-clause-pass : goal.take_pass-requires-clause-pass
 take_pass-requires-clause-pass g c =
-    rw c.here-here.ensures.node (c.requires.link.0.each c.partition_point-open.result _ (slice_get-get_or c.args.link.passes.now c.partition_point-open.result no_pass (omega arith)))
+    rw c.here-here.ensures.node (c.requires.link.0.each c.partition_point-unended.result _ (slice_get-get_or c.args.link.passes.now c.partition_point-unended.result no_pass (omega arith)))
 
 pub returns-clause-yes : goal.returns-clause-yes
 returns-clause-yes g c so =

@@ -39,8 +39,8 @@ module _ (task : SearchTask) (is : IsTask task) (request : IsOfRequest task) (fo
         sym (are.flag k x at) ∙ sym (flag_other forbidden task.start k other) ∙ open';
   }
 
-pub open_all-requires : goal.open_all-requires
-open_all-requires g c = omega (arith, ap length c.forbidden.ensures, c.requires.task.as_many, c.requires.task.few)
+pub reset-requires : goal.reset-requires
+reset-requires g c = omega (arith, ap length c.forbidden.ensures, c.requires.task.as_many, c.requires.task.few)
 
 pub returns-clause-fewer : goal.returns-clause-fewer
 returns-clause-fewer g c = rw (c.in_ok-put.ensures, c.start.ensures) (fewer_forbidden c.args.task.now c.requires.task c.requires.request _ (rw (c.plan.ensures, c.request.ensures) at c.in_ok-forbid_closed.ensures))

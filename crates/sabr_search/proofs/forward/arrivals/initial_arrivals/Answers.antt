@@ -38,7 +38,7 @@ loop-place-preserved g c =
     let here : slice_get nodes i ≡ Some (slice_index nodes i) = slice_get-get_or nodes i 0 c.loop-place-test.true in
     record {
       many = forbidden.many ∙ so_far.many;
-      opened = λ k within off. forbidden.kept k (rw c.forbidden-forbidden.ensures off) ∙ so_far.opened k (omega (arith, within, forbidden.many)) off;
+      opened = λ k within off. forbidden.others k (rw c.forbidden-forbidden.ensures off) ∙ so_far.opened k (omega (arith, within, forbidden.many)) off;
       zero = λ j k less at on. elim (last_or_before j i less) [
         | inl before ↦ omega (arith, forbidden.falls k, so_far.zero j k before at on)
         | inr same ↦

@@ -12,27 +12,27 @@ use Rattle.sabr_search.proofs.WayLemmas.Shortness.{entered_looks}
 use Rattle.sabr_search.proofs.layered.Layered.find.Goals as goal
 
 pub go-requires-clause-prefix_path : goal.go-requires-clause-prefix_path
-go-requires-clause-prefix_path g c = rw c.in-Some.is at c.in_ok-opened.ensures.some
+go-requires-clause-prefix_path g c = rw c.in-Some.is at c.in_ok-prefix_path.ensures.some
 
 pub go-requires-clause-fits : goal.go-requires-clause-fits
 go-requires-clause-fits g c = c.requires.fits
 
 pub returns-in_err-stop-clause-bound : goal.returns-in_err-stop-clause-bound
 returns-in_err-stop-clause-bound g c =
-    let prefix_path = rw c.in-Some.is at c.in_ok-opened.ensures.some in
+    let prefix_path = rw c.in-Some.is at c.in_ok-prefix_path.ensures.some in
     entered_looks c.args.index.now c.args.request.now c.args.prefix.now prefix_path.tabled (prefix_facts c.args.index.now.plan c.args.request.now c.args.prefix.now c.requires.fits) (node_count c.args.index.now.plan.contacts) (looks_taken c.go.new.looks) prefix_path.nodes (omega (arith, c.go.ensures.looks, c.requires.few))
 
 pub returns-in_err-resize-clause-bound : goal.returns-in_err-resize-clause-bound
 returns-in_err-resize-clause-bound g c =
-    let prefix_path = rw c.in-Some.is at c.in_ok-opened.ensures.some in
+    let prefix_path = rw c.in-Some.is at c.in_ok-prefix_path.ensures.some in
     entered_looks c.args.index.now c.args.request.now c.args.prefix.now prefix_path.tabled (prefix_facts c.args.index.now.plan c.args.request.now c.args.prefix.now c.requires.fits) (node_count c.args.index.now.plan.contacts) (looks_taken c.go.new.looks) prefix_path.nodes (omega (arith, c.go.ensures.looks, c.requires.few))
 
 pub returns-in_default-clause-least : goal.returns-in_default-clause-least
 returns-in_default-clause-least g c =
     let p = c.args.index.now.plan in
     let r = c.args.request.now in
-    let none = rw c.in_default.is at c.in_ok-opened.ensures.none in
-    sym (ap (option_map (record_of p r)) (none_is p r c.args.prefix.now c.args.excluded.numbers.now (c.open.ensures.plan) (λ m route on. none m route)))
+    let none = rw c.in_default.is at c.in_ok-prefix_path.ensures.none in
+    sym (ap (option_map (record_of p r)) (none_is p r c.args.prefix.now c.args.excluded.numbers.now (c.at_source.ensures.plan) (λ m route on. none m route)))
 
 pub best_after-requires-clause-asked : goal.best_after-requires-clause-asked
 best_after-requires-clause-asked g c =
@@ -66,4 +66,4 @@ pub go-requires-clause-few : goal.go-requires-clause-few
 go-requires-clause-few g c =
     let p = c.args.index.now.plan in
     let facts = prefix_facts p c.args.request.now c.args.prefix.now c.requires.fits in
-    omega (arith, c.requires.few, contacts_few p (c.open.ensures.plan), prefix_few p c.args.request.now c.args.prefix.now facts)
+    omega (arith, c.requires.few, contacts_few p (c.at_source.ensures.plan), prefix_few p c.args.request.now c.args.prefix.now facts)

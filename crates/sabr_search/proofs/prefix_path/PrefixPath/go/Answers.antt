@@ -13,8 +13,8 @@ use Rattle.sabr_search.proofs.WayLemmas.PrefixPaths.{forbidden_more, closed_more
 use Rattle.sabr_search.proofs.WayLemmas.Shortness.{nodes_few}
 use Rattle.sabr_search.proofs.prefix_path.PrefixPath.go.Goals as goal
 
-pub open-requires : goal.open-requires
-open-requires g c =
+pub allow-requires : goal.allow-requires
+allow-requires g c =
     let stops = c.loop-self.self.stops.items in
     let k = vec_len c.loop-self.self.stops - 1 in
     let at : slice_get stops k ≡ Some c.in-Some.stop = slice_get-get_or stops k c.in-Some.stop (omega (arith, c.loop-self.invariant.front)) ∙ sym (c.pop.ensures.value c.in-Some.stop (omega (arith, c.loop-self.invariant.front))) ∙ c.in-Some.is in
@@ -42,7 +42,7 @@ loop-self-preserved g c =
       front = omega (arith, fewer, long);
       many = omega (arith, fewer, so_far.many);
       stops = λ j s old. so_far.stops j s (ap (slice_get stops) (start j) ∙ (part_at stops 0 _ j s (ap (λ xs. slice_get xs j) (sym c.pop.ensures.rest) ∙ old)).1);
-      forbids = rw c.open.ensures
+      forbids = rw c.allow.ensures
           (taken_back p r (has_nodes p c.requires.prefix_path.tabled) numbers c.requires.prefix_path.fits forbidden i stop (omega (arith, fewer, long, so_far.many))
           (subst (λ m. IsStop p r (take m numbers) stop) k_is (so_far.stops k stop at)) (subst (λ m. AreForbidden p.table forbidden (is_closed p.plan r (take m numbers))) last so_far.forbids));
       numbers = so_far.numbers;

@@ -48,7 +48,7 @@ loop-place-preserved g c =
         | inr is ↦ rw (← is.0) c.link-link.ensures.receiver
       ];
       come = λ j x n w b less at has s. elim (last_or_before j c.loop-place.place less) [
-        | inl before ↦ (let old = so_far.come j x n w b before at has s in (old.0, old.1, c.in_ok-put_step.ensures.kept old.0 old.1 old.2, old.3, old.4))
+        | inl before ↦ (let old = so_far.come j x n w b before at has s in (old.0, old.1, c.in_ok-put_step.ensures.stay old.0 old.1 old.2, old.3, old.4))
         | inr same ↦
             (let has' = link.own j x n at same has in
             let to = link.leads c.requires.task n c.at.result w b has' s in

@@ -4,8 +4,8 @@ use Rattle.sabr_search.specs.questions.Task.{SearchTask}
 use Rattle.sabr_search.proofs.LinkLemmas.PlanFacts.{hop_arrival_there}
 use Rattle.sabr_search.proofs.task.Task.leave_before.Goals as goal
 
-pub returns-clause-kept : goal.returns-clause-kept
-returns-clause-kept g c = λ t less.
+pub returns-clause-in_time : goal.returns-clause-in_time
+returns-clause-in_time g c = λ t less.
     let hop = c.args.hop.now in
     let margin = c.args.self.now.request.margin in
     let light = c.in-Some.light in

@@ -62,8 +62,8 @@ loop-back-preserved g c =
       sound = λ t from less. elim (cases_lt t c.loop-back.last) [
         | inl before ↦ so_far.sound t from before
         | inr behind ↦
-            (let kept = c.leave_before.ensures.kept t (omega (arith, c.max-last.ensures, less, behind)) in
-            (kept.0, kept.2, λ open'. (pass.number, pass_takes task c.requires.task u c.args.link.to t pass kept.0 hop (c.requires.link.0.each i pass here) c.hop_over-hop.ensures.receiver is_hop open' (λ same. absurd (c.requires.other same)) kept.1)))
+            (let sent = c.leave_before.ensures.in_time t (omega (arith, c.max-last.ensures, less, behind)) in
+            (sent.0, sent.2, λ open'. (pass.number, pass_takes task c.requires.task u c.args.link.to t pass sent.0 hop (c.requires.link.0.each i pass here) c.hop_over-hop.ensures.receiver is_hop open' (λ same. absurd (c.requires.other same)) sent.1)))
       ];
       full = λ k x t w b le at s less. elim (cases_eq k i) [
         | inl same ↦

@@ -10,8 +10,8 @@ use Rattle.sabr_search.proofs.LinkLemmas.OverLinks.{in_place}
 use Rattle.sabr_search.proofs.WayLemmas.RoutesAndWays.{takes_timely}
 use Rattle.sabr_search.proofs.backward.walk.Walk.next.Goals as goal
 
-pub least_over-least-requires-clause-few : goal.least_over-least-requires-clause-few
-least_over-least-requires-clause-few g c =
+pub least_over-best-requires-clause-few : goal.least_over-best-requires-clause-few
+least_over-best-requires-clause-few g c =
     let so_far = c.loop-place.invariant in
     let here = c.link-link.ensures.here in
     let link = in_place _ _ _ _ so_far.links _ _ _ here in
@@ -109,7 +109,7 @@ loop-place-preserved g c =
     let so_far = c.loop-place.invariant in
     let here = c.link-link.ensures.here in
     let link = in_place _ _ _ _ so_far.links _ _ _ here in
-    let over = c.least_over-least.ensures in
+    let over = c.least_over-best.ensures in
     let before = c.before_end-before.result in
     record {
       links = so_far.links;
@@ -119,7 +119,7 @@ loop-place-preserved g c =
       chosen = elim (rw c.link-link.ensures.from at over.sound) [
         | inl same ↦ rw same so_far.chosen
         | inr found ↦
-            step_over task layers.ends.items layers.entries.items c.args.hops from c.link-link.result.to before c.least_over-least.result (subst (λ xs. slice_index_or xs c.link-link.result.to false ≡ false) c.forbidden.ensures c.if-forbidden-link.false)
+            step_over task layers.ends.items layers.entries.items c.args.hops from c.link-link.result.to before c.least_over-best.result (subst (λ xs. slice_index_or xs c.link-link.result.to false ≡ false) c.forbidden.ensures c.if-forbidden-link.false)
             (λ b less.
             (let by : b < c.before-deadline.result = omega (arith, less, c.before_end-before.ensures.upper) in
             entry_within task c.requires.task d c.args.hops layers c.requires.whole_deadlines c.link-link.result.to c.before-deadline.result b (rw c.end_of-end.ensures at (c.before-deadline.ensures.met (omega (arith, by)))) by))
@@ -142,18 +142,18 @@ loop-place-preserved g c =
 pub returns-clause-some : goal.returns-clause-some
 returns-clause-some g c =
     let so_far = c.loop-place.invariant in
-    step_chosen c.args.task.now c.requires.task c.args.self.now.delivery c.args.hops c.args.layers.now c.requires.whole_deadlines c.args.from c.loop-place.least so_far.chosen
+    step_chosen c.args.task.now c.requires.task c.args.self.now.delivery c.args.hops c.args.layers.now c.requires.whole_deadlines c.args.from c.loop-place.best so_far.chosen
     (λ n w b s.
     (let on = so_far.links.whole n c.args.from.at w b s in
     so_far.least on.0 on.1 n w b (omega (arith, slice_get_within c.args.links.links.now on.0 on.1 on.2, c.loop-place-test.false)) on.2 on.3 s))
 
 pub returns-clause-in_time : goal.returns-clause-in_time
-returns-clause-in_time g c = chosen_in_time c.args.task.now c.args.layers.now.ends.items c.args.layers.now.entries.items c.args.hops c.args.from c.loop-place.least c.loop-place.invariant.chosen
+returns-clause-in_time g c = chosen_in_time c.args.task.now c.args.layers.now.ends.items c.args.layers.now.entries.items c.args.hops c.args.from c.loop-place.best c.loop-place.invariant.chosen
 
 pub returns-clause-none : goal.returns-clause-none
 returns-clause-none g c =
     let so_far = c.loop-place.invariant in
-    step_missing c.args.task.now c.requires.task c.args.self.now.delivery c.args.hops c.args.from c.loop-place.least c.requires.goal
+    step_missing c.args.task.now c.requires.task c.args.self.now.delivery c.args.hops c.args.from c.loop-place.best c.requires.goal
     (λ n w b s.
     (let on = so_far.links.whole n c.args.from.at w b s in
     so_far.least on.0 on.1 n w b (omega (arith, slice_get_within c.args.links.links.now on.0 on.1 on.2, c.loop-place-test.false)) on.2 on.3 s))

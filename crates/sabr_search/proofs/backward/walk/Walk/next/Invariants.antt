@@ -15,6 +15,6 @@ invariant-loop-place g l = record {
   counted : l.fn.looks.left ≤ l.looks.left + length l.links.passes.now;
   looked : l.looks.left ≤ l.fn.looks.left;
   placed : (k : ℕ) (x : Link) → l.place ≤ k → slice_get l.links.links.now k ≡ Some x → l.fn.looks.left ≤ l.looks.left + x.first;
-  chosen : IfSome l.least (λ s. Takes l.task s.number l.from.node l.from.at s.node s.at × IsInTimeWithin l.layers.ends.items l.layers.entries.items l.hops s.node s.at);
-  least : (j : ℕ) (x : Link) (n w b : ℕ) → j < l.place → slice_get l.links.links.now j ≡ Some x → HasNumber (passes_over l.links.passes.now x) n → Takes l.task n l.from.node l.from.at w b → IsDeadEnd l.task l.self.delivery w b l.hops ⊎ IsAtMost l.least n;
+  chosen : IfSome l.best (λ s. Takes l.task s.number l.from.node l.from.at s.node s.at × IsInTimeWithin l.layers.ends.items l.layers.entries.items l.hops s.node s.at);
+  least : (j : ℕ) (x : Link) (n w b : ℕ) → j < l.place → slice_get l.links.links.now j ≡ Some x → HasNumber (passes_over l.links.passes.now x) n → Takes l.task n l.from.node l.from.at w b → IsDeadEnd l.task l.self.delivery w b l.hops ⊎ IsAtMost l.best n;
 }

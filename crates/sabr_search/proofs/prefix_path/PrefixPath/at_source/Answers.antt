@@ -6,7 +6,7 @@ use Rattle.sabr_search.specs.questions.PrefixPath.{AreStops}
 use Rattle.sabr_search.proofs.LinkLemmas.PlanFacts.{has_nodes}
 use Rattle.sabr_search.proofs.WayLemmas.PrefixPaths.{no_source, no_destination, first_stop}
 use Rattle.sabr_search.proofs.WayLemmas.Shortness.{nodes_few}
-use Rattle.sabr_search.proofs.prefix_path.PrefixPath.open.Goals as goal
+use Rattle.sabr_search.proofs.prefix_path.PrefixPath.at_source.Goals as goal
 
 pub returns-in_default-clause-none : goal.returns-in_default-clause-none
 returns-in_default-clause-none g c =
@@ -16,8 +16,8 @@ pub returns-in_default-node_index-clause-none : goal.returns-in_default-node_ind
 returns-in_default-node_index-clause-none g c =
     no_destination c.args.plan.now.plan c.args.request.now c.args.plan.now.table (has_nodes c.args.plan.now c.nodes-nodes.ensures.tabled) (ap (λ x. has x c.args.plan.now.table) (sym c.to.ensures.value) ∙ c.in_default-node_index.ensures)
 
-pub open_all-requires : goal.open_all-requires
-open_all-requires g c = omega (arith, c.nodes-nodes.ensures.table, nodes_few c.args.plan.now c.rules_hold.ensures c.nodes-nodes.ensures.tabled)
+pub reset-requires : goal.reset-requires
+reset-requires g c = omega (arith, c.nodes-nodes.ensures.table, nodes_few c.args.plan.now c.rules_hold.ensures c.nodes-nodes.ensures.tabled)
 
 pub forbid_closed-requires-clause-nodes : goal.forbid_closed-requires-clause-nodes
 forbid_closed-requires-clause-nodes g c = has_nodes c.args.plan.now c.nodes-nodes.ensures.tabled

@@ -4,7 +4,7 @@ use Rattle.std.proofs.lemmas.Grind.{common_steps}
 use Rattle.std.proofs.lemmas.Option.{slice_get-get_or, slice_get_within, get_or_from_slice_get}
 use Rattle.sabr_search.specs.answers.CachedAnswers.{IsListing}
 use Rattle.sabr_search.proofs.WayLemmas.PrefixPaths.{off_here, off_other}
-use Rattle.sabr_search.proofs.prefix_path.forbidden_nodes.ForbiddenNodes.open.Goals as goal
+use Rattle.sabr_search.proofs.prefix_path.forbidden_nodes.ForbiddenNodes.allow.Goals as goal
 
 -- the last node takes the place of one that is opened
 module _ (flags : List Bool) (nodes nodes' : List ℕ) (node place : ℕ) (was : IsListing flags nodes) (at : slice_get nodes place ≡ Some node) (last : ℕ) (end : last + 1 ≡ length nodes) (less : length nodes' + 1 ≡ length nodes)
