@@ -3,7 +3,7 @@
 
 pub mod answers;
 pub mod whole_deadlines;
-pub mod widening;
+pub mod wide_questions;
 
 ghost use Rattle.sabr_model.specs.plan.Plan.{TabledPlan};
 ghost use Rattle.sabr_model.specs.routes.Arrival.{RouteRequest};
@@ -12,7 +12,7 @@ ghost use Rattle.sabr_search.specs.questions.FirstSteps.{tabled_of};
 
 use crate::early::answers::Answers;
 use crate::early::whole_deadlines::WholeDeadlines;
-use crate::early::widening::{Breadth, Widening};
+use crate::early::wide_questions::{Breadth, WideQuestions};
 use crate::found::{Found, FoundWay};
 use crate::node_bounds::NodeBounds;
 use crate::part::Excluded;
@@ -44,7 +44,7 @@ pub struct Memory<A: Allocator + Copy = Global> {
     /// Layers for one delivery.
     pub whole_deadlines: WholeDeadlines<A>,
     /// Which wide questions are asked before a question's own search.
-    pub widening: Widening<A>,
+    pub wide_questions: WideQuestions<A>,
 }
 
 impl<A: Allocator + Copy> Memory<A> {
@@ -57,7 +57,7 @@ impl<A: Allocator + Copy> Memory<A> {
             node_bounds: NodeBounds::new(alloc),
             answers: Answers::new(alloc),
             whole_deadlines: WholeDeadlines::new(alloc),
-            widening: Widening::new(alloc),
+            wide_questions: WideQuestions::new(alloc),
         }
     }
 
@@ -104,6 +104,6 @@ impl<A: Allocator + Copy> Memory<A> {
         ensures { (p : TabledPlan) (r : RouteRequest) → IsMemory p r self.old → IsMemory p r self.new }
     {
         self.whole_deadlines.learn(looks);
-        self.widening.learn(breadth, looks);
+        self.wide_questions.learn(breadth, looks);
     }
 }

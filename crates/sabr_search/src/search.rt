@@ -18,7 +18,7 @@ ghost use Rattle.sabr_search.specs.questions.Stops.{StopsOnlyIf};
 
 use crate::backward::since::Since;
 use crate::bound::Sought;
-use crate::early::widening::Breadth;
+use crate::early::wide_questions::Breadth;
 use crate::early::{Early, Memory};
 use crate::forward::settling::{Forward, Settling};
 use crate::found::{Found, FoundWay};
@@ -139,8 +139,8 @@ impl<A: Allocator + Copy> Search<A> {
             .best_at(asked, &since, &self.first, delivery, looks)
     }
 
-    /// Searches for the answer to a wide question, which forbids the nodes in `memory.widening.forbidden`, and caches
-    /// it. Returns the place of that answer in the cache, unless an allocation for it failed.
+    /// Searches for the answer to a wide question, which forbids the nodes in `memory.wide_questions.forbidden`, and
+    /// caches it. Returns the place of that answer in the cache, unless an allocation for it failed.
     fn run_wide(
         &mut self,
         memory: &mut Memory<A>,
@@ -149,19 +149,19 @@ impl<A: Allocator + Copy> Search<A> {
         breadth: Breadth,
     ) -> Result<Option<usize>, Stopped>
         requires asked { IsAsked asked.now.task.now asked.now.prefix.now }
-        requires request { IsOfRequest (narrowed asked.now.task.now memory.old.widening.forbidden asked.now.task.now.at) }
-        requires fewer { ForbidsFewer asked.now.task.now memory.old.widening.forbidden }
+        requires request { IsOfRequest (narrowed asked.now.task.now memory.old.wide_questions.forbidden asked.now.task.now.at) }
+        requires fewer { ForbidsFewer asked.now.task.now memory.old.wide_questions.forbidden }
         requires memory { IsMemory (tabled_of asked.now.task.now) asked.now.task.now.request memory.old }
         ensures memory { IsMemory (tabled_of asked.now.task.now) asked.now.task.now.request memory.new }
     {
-        let task = asked.task.with_forbidden(&memory.widening.forbidden);
+        let task = asked.task.with_forbidden(&memory.wide_questions.forbidden);
         let wide = asked.with_task(&task);
         let found = self.run(&wide, &memory.node_bounds, looks)?;
         Ok(memory.answers.cache(&wide, &found, breadth))
     }
 
-    /// Finds the answer to a wide question, which forbids the nodes in `memory.widening.forbidden`. Returns its place in
-    /// the cache if it is also the answer to the question `asked`.
+    /// Finds the answer to a wide question, which forbids the nodes in `memory.wide_questions.forbidden`. Returns its
+    /// place in the cache if it is also the answer to the question `asked`.
     fn find_wide(
         &mut self,
         memory: &mut Memory<A>,
@@ -170,8 +170,8 @@ impl<A: Allocator + Copy> Search<A> {
         breadth: Breadth,
     ) -> Result<Option<usize>, Stopped>
         requires asked { IsAsked asked.now.task.now asked.now.prefix.now }
-        requires fewer { ForbidsFewer asked.now.task.now memory.old.widening.forbidden }
-        requires request { IsOfRequest (narrowed asked.now.task.now memory.old.widening.forbidden asked.now.task.now.at) }
+        requires fewer { ForbidsFewer asked.now.task.now memory.old.wide_questions.forbidden }
+        requires request { IsOfRequest (narrowed asked.now.task.now memory.old.wide_questions.forbidden asked.now.task.now.at) }
         requires memory { IsMemory (tabled_of asked.now.task.now) asked.now.task.now.request memory.old }
         ensures memory { IsMemory (tabled_of asked.now.task.now) asked.now.task.now.request memory.new }
         ensures some { IfOk result (λ o. IfSome o (AnswersAt memory.new.answers.slots.items asked.now)) }
@@ -215,7 +215,7 @@ impl<A: Allocator + Copy> Search<A> {
         if let Some(found) = memory.whole_deadlines.answer(walk, asked, looks)? {
             return Ok(Some(Early::Found(found)));
         }
-        let Some(breadth) = memory.widening.next(recalled.near, asked)? else {
+        let Some(breadth) = memory.wide_questions.next(recalled.near, asked)? else {
             return Ok(None);
         };
         match self.find_wide(memory, asked, looks, breadth) {
@@ -257,7 +257,7 @@ impl<A: Allocator + Copy> Search<A> {
         match early {
             Some(Early::Cached(place)) => {
                 let answer = &memory.answers.slots[place];
-                memory.widening.count_answer(answer.breadth);
+                memory.wide_questions.count_answer(answer.breadth);
                 match &answer.found {
                     Found::Way(delivery) => {
                         return asked.route(self.alloc, looks, answer.lists.way(), *delivery);

@@ -16,7 +16,7 @@ ghost use Rattle.sabr_search.specs.answers.Answers.{IsFound};
 ghost use Rattle.sabr_search.specs.answers.CachedAnswers.{AllForbidden, Covers, IsAnswerTo, IsAnswer, IsPut, AreAnswers, is_cached_after, most_answers};
 
 use crate::early::answers::lists::Lists;
-use crate::early::widening::Breadth;
+use crate::early::wide_questions::Breadth;
 use crate::found::{Found, FoundWay};
 use crate::question::Question;
 use crate::task::Task;
@@ -50,18 +50,18 @@ const MAX_PREFIX: usize = 128;
 /// A cached answer that covers a question, but whose way passes a node that the question forbids. The way isn't
 /// followed past that node.
 #[derive(Clone, Copy)]
-pub struct AlmostAnswer<'a> {
+pub struct NearMiss<'a> {
     /// The nodes that its question forbids.
     pub forbidden: &'a [u32],
     /// The first forbidden node that its way passes.
     pub node: usize,
 }
 
-/// What the cache has for a question: the place of its answer, or else the near one whose question forbade most nodes.
+/// What the cache has for a question: the place of its answer, or else the near miss whose question forbade most nodes.
 #[derive(Clone, Copy)]
 pub struct Recalled<'a> {
     pub place: Option<usize>,
-    pub near: Option<AlmostAnswer<'a>>,
+    pub near: Option<NearMiss<'a>>,
 }
 
 /// What was asked, and the answer.
@@ -98,11 +98,8 @@ pub struct Answers<A: Allocator + Copy = Global> {
     spare: Lists<A>,
 }
 
-/// Of two near answers, the one whose question forbade more nodes, or else the second.
-fn more_forbidden<'a>(
-    first: Option<AlmostAnswer<'a>>,
-    second: AlmostAnswer<'a>,
-) -> Option<AlmostAnswer<'a>> {
+/// Of two near misses, the one whose question forbade more nodes, or else the second.
+fn more_forbidden<'a>(first: Option<NearMiss<'a>>, second: NearMiss<'a>) -> Option<NearMiss<'a>> {
     if let Some(other) = first
         && second.forbidden.len() < other.forbidden.len()
     {
@@ -267,14 +264,14 @@ impl<A: Allocator + Copy> Answers<A> {
         }
     }
 
-    /// The place of an answer that is the answer to this question, too; or else the near one whose question forbade
+    /// The place of an answer that is the answer to this question, too; or else the near miss whose question forbade
     /// most nodes.
     pub fn recall(&self, asked: &Question<'_, '_, '_, A>, looks: &mut Looks) -> Recalled<'_>
         requires asked { IsAsked asked.now.task.now asked.now.prefix.now }
         requires cached { All (IsAnswer (tabled_of asked.now.task.now) asked.now.task.now.request) self.now.slots.items }
         ensures { IfSome result.place (AnswersAt self.now.slots.items asked.now) }
     {
-        let mut near: Option<AlmostAnswer<'_>> = None;
+        let mut near: Option<NearMiss<'_>> = None;
         let mut place = self.head(bucket_of(asked.task));
         for _ in 0..COMPARED {
             let Some(answer) = self.slots.get(place) else {
@@ -289,7 +286,7 @@ impl<A: Allocator + Copy> Answers<A> {
             }
             if let Some(node) = passed {
                 let forbidden = answer.lists.forbidden();
-                near = more_forbidden(near, AlmostAnswer { forbidden, node });
+                near = more_forbidden(near, NearMiss { forbidden, node });
             }
             place = answer.next;
         }

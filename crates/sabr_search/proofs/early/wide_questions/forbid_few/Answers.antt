@@ -6,7 +6,7 @@ use Rattle.sabr_search.specs.questions.Task.{SearchTask, IsTask, IsOfRequest, is
 use Rattle.sabr_search.specs.questions.PrefixPath.{AreForbidden}
 use Rattle.sabr_search.specs.answers.Answers.{narrowed, ForbidsFewer}
 use Rattle.sabr_search.proofs.ForwardLemmas.Queues.{flag_here, flag_other, flag_many}
-use Rattle.sabr_search.proofs.early.widening.forbid_few.Goals as goal
+use Rattle.sabr_search.proofs.early.wide_questions.forbid_few.Goals as goal
 
 -- a flag past the end is off
 past_end : (flags : List Bool) (k : ℕ) → length flags ≤ k → slice_index_or flags k false ≡ false

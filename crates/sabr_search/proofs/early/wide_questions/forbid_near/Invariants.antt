@@ -1,6 +1,6 @@
 use Rattle.sabr_search.specs.questions.Task.{IsOfRequest}
 use Rattle.sabr_search.specs.answers.Answers.{narrowed, ForbidsFewer}
-use Rattle.sabr_search.proofs.early.widening.forbid_near.Given as goal
+use Rattle.sabr_search.proofs.early.wide_questions.forbid_near.Given as goal
 
 abbrev pub invariant-loop-node : goal.invariant-loop-node
 invariant-loop-node g l = record {

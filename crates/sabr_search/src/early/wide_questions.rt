@@ -5,7 +5,7 @@ ghost use Rattle.sabr_search.specs.questions.Task.{IsTask, IsOfRequest};
 ghost use Rattle.sabr_search.specs.answers.Answers.{narrowed};
 ghost use Rattle.sabr_search.specs.answers.Answers.{ForbidsFewer};
 
-use crate::early::answers::AlmostAnswer;
+use crate::early::answers::NearMiss;
 use crate::prefix_path::closed::forbid_closed;
 use crate::prefix_path::forbidden_nodes::ForbiddenNodes;
 use crate::question::Question;
@@ -23,20 +23,20 @@ const TRIES: u32 = 16;
 const PAUSE: u32 = 256;
 
 /// Which nodes a question forbids. `Own`: those of its prefix, and those to avoid. `Wide`: only those that each search
-/// from its start forbids. `Near`: those of `Wide`, and those that a near answer needs forbidden.
+/// from its start forbids. `NearMiss`: those of `Wide`, and those that a near miss needs forbidden.
 #[derive(Clone, Copy)]
 pub enum Breadth {
     Own,
     Wide,
-    Near,
+    NearMiss,
 }
 
 /// Wide questions, as long as they save more looks than they take.
 #[derive(Drop)]
-pub struct Widening<A: Allocator + Copy = Global> {
-    /// Whether those are asked that are near no answer.
+pub struct WideQuestions<A: Allocator + Copy = Global> {
+    /// Whether those are asked without a near miss.
     wide: Throttle,
-    /// Whether those are asked that are near an answer.
+    /// Whether those are asked after a near miss.
     near: Throttle,
     /// How many questions were searched as they are, and the looks of these searches.
     searched: u64,
@@ -80,11 +80,11 @@ fn forbid_if_forbidden<A: Allocator + Copy>(
     Ok(())
 }
 
-/// Forbids the nodes that a near answer needs forbidden, and the one that its way passes.
+/// Forbids the nodes that a near miss needs forbidden, and the one that its way passes.
 fn forbid_near<A: Allocator + Copy>(
     forbidden: &mut ForbiddenNodes<A>,
     task: &Task<'_, A>,
-    near: AlmostAnswer<'_>,
+    near: NearMiss<'_>,
 ) -> Result<(), NoMemory>
     requires task { IsTask task.now }
     requires fewer { ForbidsFewer task.now forbidden.old }
@@ -99,10 +99,10 @@ fn forbid_near<A: Allocator + Copy>(
     Ok(())
 }
 
-impl<A: Allocator + Copy> Widening<A> {
+impl<A: Allocator + Copy> WideQuestions<A> {
     /// Has asked no wide question. It doesn't allocate.
-    pub fn new(alloc: A) -> Widening<A> {
-        Widening {
+    pub fn new(alloc: A) -> WideQuestions<A> {
+        WideQuestions {
             wide: Throttle::new(TRIES, 0, PAUSE),
             near: Throttle::new(TRIES, 0, PAUSE),
             searched: 0,
@@ -111,13 +111,9 @@ impl<A: Allocator + Copy> Widening<A> {
         }
     }
 
-    /// Returns whether a wide question is to be asked for this one, to which an answer may be near: it must forbid
+    /// Returns whether a wide question is to be asked for this one, for which there may be a near miss: it must forbid
     /// fewer nodes, and such questions must save looks.
-    fn is_worth(
-        &mut self,
-        near: Option<AlmostAnswer<'_>>,
-        asked: &Question<'_, '_, '_, A>,
-    ) -> bool {
+    fn is_worth(&mut self, near: Option<NearMiss<'_>>, asked: &Question<'_, '_, '_, A>) -> bool {
         if asked.prefix.len() < 2 {
             return false;
         }
@@ -130,11 +126,11 @@ impl<A: Allocator + Copy> Widening<A> {
         self.near.allows()
     }
 
-    /// Forbids the nodes of the wide question to ask for this one, to which an answer may be near, and returns which
-    /// they are. None if no wide question is to be asked.
+    /// Forbids the nodes of the wide question to ask for this one, for which there may be a near miss, and returns
+    /// which they are. None if no wide question is to be asked.
     pub fn next(
         &mut self,
-        near: Option<AlmostAnswer<'_>>,
+        near: Option<NearMiss<'_>>,
         asked: &Question<'_, '_, '_, A>,
     ) -> Result<Option<Breadth>, NoMemory>
         requires task { IsTask asked.now.task.now }
@@ -150,7 +146,7 @@ impl<A: Allocator + Copy> Widening<A> {
             return Ok(Some(Breadth::Wide));
         };
         forbid_near(&mut self.forbidden, asked.task, answer)?;
-        Ok(Some(Breadth::Near))
+        Ok(Some(Breadth::NearMiss))
     }
 
     /// Learns that a search took that many looks.
@@ -161,7 +157,7 @@ impl<A: Allocator + Copy> Widening<A> {
                 self.looks = self.looks.saturating_add(looks);
             }
             Breadth::Wide => self.wide.count_cost(looks),
-            Breadth::Near => self.near.count_cost(looks),
+            Breadth::NearMiss => self.near.count_cost(looks),
         }
     }
 
@@ -172,7 +168,7 @@ impl<A: Allocator + Copy> Widening<A> {
         match breadth {
             Breadth::Own => {}
             Breadth::Wide => self.wide.count_saved(looks),
-            Breadth::Near => self.near.count_saved(looks),
+            Breadth::NearMiss => self.near.count_saved(looks),
         }
     }
 }
