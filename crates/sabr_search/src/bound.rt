@@ -103,7 +103,7 @@ pub struct BoundedPart<'a> {
     pub excluded: Excluded<'a>,
     /// What is asked up to.
     pub bound: Bound,
-    /// A second before which no route of the part delivers; 0 if none is known.
+    /// A second before which no route of the part delivers. 0 is one for each part.
     pub floor: u64,
 }
 

@@ -29,7 +29,7 @@ pub struct Question<'t, 'a, 'p, A: Allocator + Copy> {
     pub summary: RouteSummary,
     /// What is asked up to.
     pub bound: Bound,
-    /// A second before which no way after the prefix delivers; 0 if none is known.
+    /// A second before which no way after the prefix delivers. 0 is one for each question.
     pub floor: u64,
 }
 

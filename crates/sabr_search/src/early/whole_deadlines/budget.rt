@@ -52,7 +52,7 @@ impl WholeBudget {
     }
 
     /// Begins a question with a floor. Returns true if layers are to be made for it: there are none yet, and as much
-    /// was spent as is to be before.
+    /// was spent as is to be before. None are made for second 0, which rules out no delivery.
     pub fn is_due(&mut self, floor: u64) -> bool {
         if floor == 0 {
             return false;
