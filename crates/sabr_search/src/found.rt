@@ -1,14 +1,14 @@
 //! What a search for the best way finds.
 
-ghost use Rattle.std.specs.Prelude.{IsTrue};
+ghost use Rattle.std.specs.Prelude.{◌≡◌, IsTrue};
 ghost use Rattle.sabr_search.specs.answers.Answers.{IsEnough};
 ghost use Rattle.sabr_search.specs.layers.Lists.{IsFoundBest};
 
 use crate::bound::Bound;
 use std::alloc::{Allocator, Global};
 
-/// The earliest delivery, and the hops of a way with it. Until a search has found a way, `hops` is 0, and `delivery` is
-/// the second before which one is sought.
+/// The earliest delivery so far, and the hops of a way with it. It begins with [`Best::none`], and is read by
+/// [`found`](Best::found).
 #[derive(Clone, Copy)]
 pub struct Best {
     pub delivery: u64,
@@ -16,6 +16,16 @@ pub struct Best {
 }
 
 impl Best {
+    /// No way is found yet, and only deliveries before this second are sought. It has 0 hops, as no way has.
+    pub fn none(before: u64) -> Best
+        ensures { result ≡ record { delivery = before; hops = 0 } }
+    {
+        Best {
+            delivery: before,
+            hops: 0,
+        }
+    }
+
     /// This, if a way was found.
     pub fn found(self) -> Option<Best>
         ensures { IsFoundBest self result }

@@ -261,10 +261,7 @@ impl<A: Allocator + Copy> Layers<A> {
         ensures stops { StopsOnlyIf result (looks.old.left < hops * length task.now.plan.contacts) }
     {
         self.first_layer(task)?;
-        let mut best = Best {
-            delivery: until,
-            hops: 0,
-        };
+        let mut best = Best::none(until);
         let mut first = 0;
         for hop in 0..hops {
             if task.one_scan() > looks.left() {

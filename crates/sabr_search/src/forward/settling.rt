@@ -257,10 +257,7 @@ impl<A: Allocator + Copy> Settling<A> {
         };
         self.hops[event.node] = 0;
         self.settled[event.node] = true;
-        let mut best = Best {
-            delivery: forward.until,
-            hops: 0,
-        };
+        let mut best = Best::none(forward.until);
         for place in 0..first.len() {
             let step = first[place];
             let before = news_before(&self.arrival, forward.costs, step.node, best.delivery);

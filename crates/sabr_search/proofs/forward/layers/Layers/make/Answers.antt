@@ -7,10 +7,10 @@ use Rattle.sabr_search.proofs.forward.layers.Layers.make.Goals as goal
 pub loop-hop-init : goal.loop-hop-init
 loop-hop-init g c =
     let first = c.in_ok-first_layer.ensures in
-    record {
+    rw c.none-best.ensures (record {
       layers = (0 ∷ 1 ∷ [], refl, layers_first c.args.task.now c.args.until _ _ _ _ refl first.reached first.lists);
       counted = omega arith;
-    }
+    })
 
 pub next_layer-requires-clause-sources : goal.next_layer-requires-clause-sources
 next_layer-requires-clause-sources g c = made_sources c.args.task.now c.requires.task c.args.until c.loop-hop.hop c.loop-hop.first _ _ _ _ c.loop-hop.best c.loop-hop.invariant.layers (omega (arith, c.len-begin.ensures, c.loop-hop.self.reached.ok.0))

@@ -13,7 +13,7 @@ loop-place-init g c =
     let task = c.args.forward.now.task.now in
     record {
       settled = refl;
-      state = rw c.at.ensures (start_state task c.requires.task c.args.self.now.settled.items _ c.start.result c.requires.settled c.start.ensures refl _ _ _ _ c.requires.arrivals c.requires.bound _ _ _ c.requires.hops c.requires.queue refl refl c.requires.until);
+      state = rw (c.at.ensures, c.none-best.ensures) (start_state task c.requires.task c.args.self.now.settled.items _ c.start.result c.requires.settled c.start.ensures refl _ _ _ _ c.requires.arrivals c.requires.bound _ _ _ c.requires.hops c.requires.queue refl refl c.requires.until);
       fallen = record { lower = omega arith; lowered = λ k. omega arith; kept = λ k on. refl };
       known = λ k s less. absurd (omega (arith, less));
     }
@@ -83,7 +83,7 @@ returns-clause-state g c =
     let task = forward.task.now in
     let so_far = c.loop-place.invariant in
     start_settled task c.requires.task c.args.self.now.settled.items c.loop-place.self.settled.items c.start.result c.requires.settled c.start.ensures so_far.settled forward.until forward.late.now forward.costs.now c.args.self.now.arrival.items c.requires.arrivals
-    c.at.result c.loop-place.self.arrival.items c.loop-place.self.hops.items c.loop-place.self.queue (record { delivery = forward.until; hops = 0 }) c.loop-place.best (rw so_far.settled so_far.state) (rw so_far.settled so_far.fallen)
+    c.at.result c.loop-place.self.arrival.items c.loop-place.self.hops.items c.loop-place.self.queue (record { delivery = forward.until; hops = 0 }) c.loop-place.best (rw so_far.settled so_far.state) (rw so_far.settled (rw c.none-best.ensures at so_far.fallen))
     (λ n w x s.
     (let on = c.requires.steps n w x s in
     known_later task.goal _ _ w on.1.at x on.4 (rw on.3 at (so_far.known on.0 on.1 (omega (arith, slice_get_within c.args.first.now on.0 on.1 on.2, c.loop-place-test.false)) on.2))))
