@@ -82,10 +82,7 @@ impl<A: Allocator + Copy> Memory<A> {
             return Ok(());
         };
         let source = prefix_path.go(looks, plan, request, &[])?;
-        let excluded = Excluded {
-            numbers: &[],
-            rising: false,
-        };
+        let excluded = Excluded::of(&[]);
         let whole_graph = Task::new(plan, request, &prefix_path, excluded, source);
         if are_bounds_due {
             self.node_bounds
