@@ -106,6 +106,15 @@ fn take_pass<A: Allocator + Copy>(
 }
 
 impl<'t, 'a, 'f, A: Allocator + Copy> RouteEnd<'t, 'a, 'f, A> {
+    /// The end of a route whose last number is this one. The search starts after the numbers before it.
+    fn of(task: &'t Task<'a, A>, front: &'f [u32], last: u32) -> RouteEnd<'t, 'a, 'f, A>
+        ensures task { result.task.now ≡ task.now }
+        ensures front { result.front.now ≡ front.now }
+        ensures last { result.last ≡ last }
+    {
+        RouteEnd { task, front, last }
+    }
+
     /// Where and when the last contact is taken.
     fn here(&self) -> Visit
         ensures node { result.node ≡ self.now.task.now.start }
@@ -237,13 +246,13 @@ impl<A: Allocator + Copy> SearchCache<A> {
     /// # Errors
     ///
     /// [`NoMemory`] if an allocation failed.
-    pub fn goes_otherwise<'x>(
+    pub fn goes_otherwise(
         &mut self,
         looks: &mut Looks,
-        index: &'x Index<'x, A>,
-        request: &'x Request,
+        index: &Index<'_, A>,
+        request: &Request,
         route: &[u32],
-        excluded: &'x [u32],
+        excluded: &[u32],
     ) -> Result<bool, NoMemory>
         requires cache { IsSearchCache index.now request.now self.old }
         requires route { IsTrue (is_route index.now.plan request.now route.now) }
@@ -262,19 +271,17 @@ impl<A: Allocator + Copy> SearchCache<A> {
         let Some((last, front)) = route.split_last() else {
             return Ok(false);
         };
-        let Some(mut prefix_path) = self.take_path(plan, request)? else {
+        self.open_path(plan, request)?;
+        let Some(prefix_path) = self.prefix_path.as_mut() else {
             return Ok(false);
         };
         looks.take_many(front.len() as u64);
-        let stop = prefix_path.go(&mut Looks::many(), plan, request, front)?;
-        let task = Task::new(plan, request, &prefix_path, Excluded::of(excluded), stop);
-        let end = RouteEnd {
-            task: &task,
-            front,
-            last: *last,
+        let Ok(stop) = prefix_path.go(&mut Looks::many(), plan, request, front) else {
+            self.prefix_path = None;
+            return Err(NoMemory);
         };
-        let otherwise = end.ends_otherwise(looks);
-        self.prefix_path = Some(prefix_path);
-        Ok(otherwise)
+        let task = Task::new(plan, request, prefix_path, Excluded::of(excluded), stop);
+        let end = RouteEnd::of(&task, front, *last);
+        Ok(end.ends_otherwise(looks))
     }
 }

@@ -1,11 +1,10 @@
 //! The cache of the searches of one plan and request.
 
-ghost use Rattle.std.specs.Prelude.{ℕ, List, IfOk, IfNone, IfSome, IsTrue};
+ghost use Rattle.std.specs.Prelude.{ℕ, List, IfOk, IfNone, IsTrue};
 ghost use Rattle.sabr_model.specs.plan.Plan.{TabledPlan, IsPlan};
 ghost use Rattle.sabr_model.specs.routes.Arrival.{RouteRequest};
 ghost use Rattle.sabr_model.specs.routes.Route.{is_route};
 ghost use Rattle.sabr_search.specs.answers.SearchCache.{IsSearchCache};
-ghost use Rattle.sabr_search.specs.questions.PrefixPath.{IsPrefixPath};
 
 use crate::early::Memory;
 use crate::prefix_path::PrefixPath;
@@ -35,23 +34,22 @@ impl<A: Allocator + Copy> SearchCache<A> {
         }
     }
 
-    /// Takes the prefix path out, or makes one if there is none. Returns none unless the plan has both the source and
-    /// the destination.
-    pub fn take_path(
+    /// Makes the prefix path if there is none. There is none afterwards unless the plan has both the source and the
+    /// destination.
+    pub fn open_path(
         &mut self,
         plan: &CountedPlan<'_, A>,
         request: &Request,
-    ) -> Result<Option<PrefixPath<A>>, NoMemory>
+    ) -> Result<(), NoMemory>
         requires cache { IsSearchCache plan.now request.now self.old }
         ensures cache { IsSearchCache plan.now request.now self.new }
         ensures plan { IsPlan plan.now.plan }
-        ensures some { IfOk result (λ o. IfSome o (IsPrefixPath plan.now request.now)) }
-        ensures none { IfOk result (λ o. IfNone o ((s : List ℕ) → IsTrue (is_route plan.now.plan request.now s) → ⊥)) }
+        ensures none { IfOk result (λ _. IfNone self.new.prefix_path ((s : List ℕ) → IsTrue (is_route plan.now.plan request.now s) → ⊥)) }
     {
         plan.rules_hold();
-        let Some(prefix_path) = self.prefix_path.take() else {
-            return PrefixPath::at_source(self.memory.alloc, plan, request);
-        };
-        Ok(Some(prefix_path))
+        if let None = &self.prefix_path {
+            self.prefix_path = PrefixPath::at_source(self.memory.alloc, plan, request)?;
+        }
+        Ok(())
     }
 }

@@ -86,17 +86,18 @@ impl<A: Allocator + Copy> Settled<A> {
         ensures cache { IsSearchCache index.now request.now cache.new }
         ensures cut { IfOk result (IsCutUpTo index.now.plan request.now.max_hops part.entry.bound part.entry.prefix.now (looks_taken self.new.looks)) }
     {
-        let Some(mut prefix_path) = cache.take_path(index, request)? else {
+        cache.open_path(index, request)?;
+        let Some(prefix_path) = cache.prefix_path.as_mut() else {
             return Ok(Sought::None);
         };
-        let stop = prefix_path.go(&mut self.looks, index, request, part.prefix)?;
-        let task = Task::new(index, request, &prefix_path, part.excluded, stop);
+        let Ok(stop) = prefix_path.go(&mut self.looks, index, request, part.prefix) else {
+            cache.prefix_path = None;
+            return Err(NoMemory);
+        };
+        let task = Task::new(index, request, prefix_path, part.excluded, stop);
         let asked = Question::of(&task, part, stop.summary);
-        let answer = self
-            .search
-            .find_route(&mut cache.memory, &asked, &mut self.looks);
-        cache.prefix_path = Some(prefix_path);
-        answer
+        self.search
+            .find_route(&mut cache.memory, &asked, &mut self.looks)
     }
 
     /// Finds the best route of a part, without an upper bound.

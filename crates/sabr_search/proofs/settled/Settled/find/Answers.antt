@@ -15,62 +15,62 @@ pub returns-in_default-clause-sought : goal.returns-in_default-clause-sought
 returns-in_default-clause-sought g c =
     let p = c.args.index.now.plan in
     let r = c.args.request.now in
-    let none = rw c.in_default.is at c.in_ok-prefix_path.ensures.none in
-    sym (ap (option_map (record_of p r)) (none_is p r c.args.part.prefix.now c.args.part.excluded.numbers.now c.take_path.ensures.plan (λ m route on. none m route)))
+    let none = rw (sym c.as_mut.ensures.value, c.in_default.is) at c.in_ok-open_path.ensures.none in
+    sym (ap (option_map (record_of p r)) (none_is p r c.args.part.prefix.now c.args.part.excluded.numbers.now c.open_path.ensures.plan (λ m route on. none m route)))
 
 pub go-requires-clause-few : goal.go-requires-clause-few
 go-requires-clause-few g c =
     let p = c.args.index.now.plan in
     let facts = prefix_facts p c.args.request.now c.args.part.prefix.now c.requires.fits in
-    omega (arith, c.requires.few, contacts_few p c.take_path.ensures.plan, prefix_few p c.args.request.now c.args.part.prefix.now facts)
+    omega (arith, c.requires.few, contacts_few p c.open_path.ensures.plan, prefix_few p c.args.request.now c.args.part.prefix.now facts)
 
-pub returns-in_err-stop-clause-bound : goal.returns-in_err-stop-clause-bound
-returns-in_err-stop-clause-bound g c =
-    let prefix_path = rw c.in-Some.is at c.in_ok-prefix_path.ensures.some in
+pub returns-in_default-go-clause-bound : goal.returns-in_default-go-clause-bound
+returns-in_default-go-clause-bound g c =
+    let prefix_path = rw (sym c.as_mut.ensures.value, c.in-Some.is) at c.open_path.ensures.cache.0 in
     entered_looks c.args.index.now c.args.request.now c.args.part.prefix.now prefix_path.tabled (prefix_facts c.args.index.now.plan c.args.request.now c.args.part.prefix.now c.requires.fits) (node_count c.args.index.now.plan.contacts) (looks_taken c.go.new.looks) prefix_path.nodes (omega (arith, c.go.ensures.looks, c.requires.few))
 
-pub find_route-answer-requires-clause-asked : goal.find_route-answer-requires-clause-asked
-find_route-answer-requires-clause-asked g c =
-    let both = c.in_ok-stop.ensures.entered c.args.part.excluded.numbers.now in
+pub find_route-requires-clause-asked : goal.find_route-requires-clause-asked
+find_route-requires-clause-asked g c =
+    let both = c.in-Ok.ensures.entered c.args.part.excluded.numbers.now in
     rw (c.of-asked.ensures.task, c.of-asked.ensures.prefix, c.new-task.ensures) (record {
       task_is = both.0;
       behind = both.1;
       fits = c.requires.fits;
     })
 
-pub find_route-answer-requires-clause-summary : goal.find_route-answer-requires-clause-summary
-find_route-answer-requires-clause-summary g c = rw (c.of-asked.ensures.summary, c.of-asked.ensures.task, c.of-asked.ensures.prefix, c.new-task.ensures) (c.in_ok-stop.ensures.summary)
+pub find_route-requires-clause-summary : goal.find_route-requires-clause-summary
+find_route-requires-clause-summary g c = rw (c.of-asked.ensures.summary, c.of-asked.ensures.task, c.of-asked.ensures.prefix, c.new-task.ensures) (c.in-Ok.ensures.summary)
 
-pub find_route-answer-requires-clause-floor : goal.find_route-answer-requires-clause-floor
-find_route-answer-requires-clause-floor g c =
-    let both = c.in_ok-stop.ensures.entered c.args.part.excluded.numbers.now in
+pub find_route-requires-clause-floor : goal.find_route-requires-clause-floor
+find_route-requires-clause-floor g c =
+    let both = c.in-Ok.ensures.entered c.args.part.excluded.numbers.now in
     rw (c.of-asked.ensures.task, c.of-asked.ensures.prefix, c.of-asked.ensures.floor, c.new-task.ensures) (floor_of_ways _ c.args.part.prefix.now (record {
       task_is = both.0;
       behind = both.1;
       fits = c.requires.fits;
     }) c.args.part.floor c.requires.floor)
 
-pub find_route-answer-requires-clause-few : goal.find_route-answer-requires-clause-few
-find_route-answer-requires-clause-few g c =
+pub find_route-requires-clause-few : goal.find_route-requires-clause-few
+find_route-requires-clause-few g c =
     let facts = prefix_facts c.args.index.now.plan c.args.request.now c.args.part.prefix.now c.requires.fits in
     rw (c.of-asked.ensures.task, c.new-task.ensures) (omega (arith, c.go.ensures.looks, c.requires.few, prefix_few c.args.index.now.plan c.args.request.now c.args.part.prefix.now facts))
 
-pub find_route-answer-requires-clause-memory : goal.find_route-answer-requires-clause-memory
-find_route-answer-requires-clause-memory g c = rw (c.of-asked.ensures.task, c.new-task.ensures) c.take_path.ensures.cache.1
+pub find_route-requires-clause-memory : goal.find_route-requires-clause-memory
+find_route-requires-clause-memory g c = rw (c.of-asked.ensures.task, c.new-task.ensures) c.open_path.ensures.cache.1
 
 pub returns-clause-cache : goal.returns-clause-cache
-returns-clause-cache g c = (c.in_ok-stop.ensures.prefix_path, rw (c.of-asked.ensures.task, c.new-task.ensures) at c.find_route-answer.ensures.memory)
+returns-clause-cache g c = (c.in-Ok.ensures.prefix_path, rw (c.of-asked.ensures.task, c.new-task.ensures) at c.find_route.ensures.memory)
 
 pub returns-clause-sought : goal.returns-clause-sought
-returns-clause-sought g c = rw (c.of-asked.ensures.task, c.of-asked.ensures.prefix, c.of-asked.ensures.bound, c.new-task.ensures) at c.find_route-answer.ensures.sought
+returns-clause-sought g c = rw (c.of-asked.ensures.task, c.of-asked.ensures.prefix, c.of-asked.ensures.bound, c.new-task.ensures) at c.find_route.ensures.sought
 
 pub returns-clause-whole : goal.returns-clause-whole
-returns-clause-whole g c = rw c.of-asked.ensures.bound at c.find_route-answer.ensures.whole
+returns-clause-whole g c = rw c.of-asked.ensures.bound at c.find_route.ensures.whole
 
 pub returns-clause-cut : goal.returns-clause-cut
-returns-clause-cut g c = rw (c.of-asked.ensures.task, c.of-asked.ensures.prefix, c.of-asked.ensures.bound, c.new-task.ensures) at c.find_route-answer.ensures.cut
+returns-clause-cut g c = rw (c.of-asked.ensures.task, c.of-asked.ensures.prefix, c.of-asked.ensures.bound, c.new-task.ensures) at c.find_route.ensures.cut
 
 pub returns-clause-bound : goal.returns-clause-bound
 returns-clause-bound g c =
-    let prefix_path : IsPrefixPath c.args.index.now c.args.request.now c.go.new.self = (c.in_ok-stop.ensures.prefix_path) in
-    subst (λ n. looks_taken c.find_route-answer.new.looks ≤ (3 * n + 1) * length c.args.index.now.plan.contacts) prefix_path.nodes (rw (c.of-asked.ensures.task, c.new-task.ensures) at c.find_route-answer.ensures.bound)
+    let prefix_path : IsPrefixPath c.args.index.now c.args.request.now c.go.new.self = (c.in-Ok.ensures.prefix_path) in
+    subst (λ n. looks_taken c.find_route.new.looks ≤ (3 * n + 1) * length c.args.index.now.plan.contacts) prefix_path.nodes (rw (c.of-asked.ensures.task, c.new-task.ensures) at c.find_route.ensures.bound)
