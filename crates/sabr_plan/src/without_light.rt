@@ -11,8 +11,13 @@ use std::alloc::Allocator;
 pub fn contacts_without_light<A: Allocator + Copy>(plan: &Plan<A>) -> usize
     ensures { result ≡ contacts_without_light plan.now.plan }
 {
-    plan.contacts()
-        .iter()
-        .filter(|contact| plan.light(contact).is_none())
-        .count()
+    plan.rules_hold();
+    let mut count = 0;
+    for place in 0..plan.contacts().len() {
+        let (_number, hop) = plan.hop_at(place);
+        if hop.light.is_none() {
+            count += 1;
+        }
+    }
+    count
 }
