@@ -103,22 +103,3 @@ IsPlan-empty =
       count = omega arith;
       range_count = omega arith;
     }
-
--- the contacts of one plan and the ranges of another are a plan
-pub plan_of_both : (p q : ContactPlan) → IsPlan p → IsPlan q → IsPlan (record { contacts = p.contacts; ranges = q.ranges; largest = p.largest })
-plan_of_both p q h i =
-    record {
-      contact_windows = h.contact_windows;
-      contact_nodes = h.contact_nodes;
-      numbers_rise = h.numbers_rise;
-      numbers_given = h.numbers_given;
-      openings_differ = h.openings_differ;
-      range_windows = i.range_windows;
-      range_nodes = i.range_nodes;
-      rates = h.rates;
-      ranges_rise = i.ranges_rise;
-      lights = i.lights;
-      ranges_apart = i.ranges_apart;
-      count = h.count;
-      range_count = i.range_count;
-    }
