@@ -1,4 +1,4 @@
-//! What stands behind an open handle: a plan, and the ranges that calls add one after another.
+//! What stands behind an open handle: a plan, and the ranges that calls add to it. Ranges are inserted lazily.
 
 ghost use Rattle.std.specs.Prelude.{◌≡◌, ◌<◌, ◌≤◌, None, Some, Err, OnOk, OnErr, IsFalse, IsOkUnless, is_some};
 ghost use Rattle.sabr_model.specs.plan.Plan.{IsPlan, last_time, most_light};
@@ -15,23 +15,23 @@ use sabr_model::{AddFault, MAX_LIGHT, Range};
 use sabr_plan::GrowingRanges;
 use std::alloc::Global;
 
-/// The number of additions after which ranges wait.
+/// The number of calls of `add_range` whose ranges are inserted into the plan at once.
 const FIRST_RANGES: u32 = 16;
 
-/// An open plan. Of many ranges that calls add, one after another, all but the first wait until a call needs them in
-/// their place, since each would move those that come after it.
+/// An open plan. Inserting a range into the plan's list moves all ranges after it. So after a few calls of `add_range`,
+/// later ranges go into a tree, and a call that reads the plan inserts all of them at once.
 #[derive(Drop)]
 pub struct Held {
-    /// The plan, without the ranges that wait.
+    /// The plan, without the ranges that are only in the tree.
     pub opened: Opened,
-    /// All ranges, if some wait.
+    /// The tree of all ranges, if some aren't in the plan yet.
     pub growing: Option<GrowingRanges<Global>>,
-    /// The number of additions, also of those that were refused, since ranges waited.
+    /// The number of calls of `add_range`, refused ones among them, since ranges were last in the tree.
     pub placed: u32,
 }
 
 impl Held {
-    /// Holds a plan of which no range waits.
+    /// Holds a plan that has all its ranges.
     pub fn of(opened: Opened) -> Held
         ensures { result ≡ record { opened = opened; growing = None; placed = 0 } }
     {
@@ -42,7 +42,7 @@ impl Held {
         }
     }
 
-    /// Puts the ranges that wait in their place. It doesn't allocate.
+    /// Inserts the ranges of the tree into the plan. It doesn't allocate.
     pub fn settle(&mut self)
         requires { CanGrow self.old }
         ensures opened { self.new.opened ≡ standing self.old }
@@ -78,7 +78,7 @@ impl Held {
         }
     }
 
-    /// Puts a range in its place, or among those that wait. The errors are those of `Plan::add_range`.
+    /// Inserts a range into the plan, or into the tree. The errors are those of `Plan::add_range`.
     fn put_range(&mut self, alloc: Global, new: Range) -> Result<(), AddFault>
         requires grows { CanGrow self.old }
         requires listing { IsFalse (is_some self.old.opened.listing) }
@@ -102,7 +102,7 @@ impl Held {
         }
     }
 
-    /// Lets ranges wait after some additions, unless an allocation fails.
+    /// Makes the tree after some calls of `add_range`, unless an allocation fails.
     fn grow(&mut self, alloc: Global)
         requires grows { CanGrow self.old }
         requires listing { IsFalse (is_some self.old.opened.listing) }

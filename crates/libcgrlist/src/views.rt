@@ -75,14 +75,17 @@ fn counted(opened: &mut Opened) -> Counts
     }
 }
 
-/// Gives a contact of a plan, if there is one.
-fn give_contact(plan: &Plan<Global>, found: Option<&Contact>, row: &mut ContactRow) -> u32
-    ensures { Gives plan.now.plan (option_copied found.entry) result row.old row.new }
+/// Gives the standing contact with this number, if there is one. Its light time is the one that the plan stores.
+fn give_contact(plan: &Plan<Global>, number: u32, row: &mut ContactRow) -> u32
+    ensures { Gives plan.now.plan (contact_named plan.now.plan number) result row.old row.new }
 {
-    let Some(contact) = found else {
+    let Some(contact) = plan.contact(number) else {
         return NO;
     };
-    let light = plan.light(contact);
+    let light = match plan.hop(number) {
+        Some(hop) => hop.light,
+        None => None,
+    };
     *row = ContactRow {
         from: contact.from,
         to: contact.to,
@@ -94,6 +97,17 @@ fn give_contact(plan: &Plan<Global>, found: Option<&Contact>, row: &mut ContactR
         has_light: light.is_some(),
     };
     DONE
+}
+
+/// Gives the standing contact at a place, if there is one.
+fn give_contact_at(plan: &Plan<Global>, place: usize, row: &mut ContactRow) -> u32
+    ensures { Gives plan.now.plan (slice_get plan.now.plan.contacts place) result row.old row.new }
+{
+    let Some(contact) = plan.contacts().get(place) else {
+        return NO;
+    };
+    plan.rules_hold();
+    give_contact(plan, contact.number, row)
 }
 
 /// Gives a range, if there is one.
@@ -192,7 +206,7 @@ pub extern "C" fn cgrlist_plan_contact(
     ensures contact { Calls handle.old handle.new result (λ o n. (n ≡ o) × Gives o.plan.plan (contact_named o.plan.plan number) result contact.old contact.new) }
     ensures kept { result ≢ 0 → contact.new ≡ contact.old }
 {
-    over_plan!(handle, alloc, opened => give_contact(opened.plan(), opened.plan().contact(number), contact))
+    over_plan!(handle, alloc, opened => give_contact(opened.plan(), number, contact))
 }
 
 /// Gives the standing contact at this place, from 0, in the order of numbers.
@@ -207,7 +221,7 @@ pub extern "C" fn cgrlist_plan_contact_at(
     ensures contact { Calls handle.old handle.new result (λ o n. (n ≡ o) × Gives o.plan.plan (slice_get o.plan.plan.contacts place) result contact.old contact.new) }
     ensures kept { result ≢ 0 → contact.new ≡ contact.old }
 {
-    over_plan!(handle, alloc, opened => give_contact(opened.plan(), opened.plan().contacts().get(place), contact))
+    over_plan!(handle, alloc, opened => give_contact_at(opened.plan(), place, contact))
 }
 
 /// Gives the standing range at this place, from 0, in the order of pairs of nodes and starts.

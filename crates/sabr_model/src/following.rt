@@ -1,13 +1,15 @@
 //! Following a list of contacts: when it delivers, or why it is no route.
 
-ghost use Rattle.std.specs.Prelude.{◌≡◌, ℕ, ◌+◌, ◌<◌, ◌≤◌, ◌^◌, [], ◌∷◌, ◌++◌, Some, None, IfOk, IfErr, OnOk, IsTrue, length, take};
-ghost use Rattle.sabr_model.specs.plan.Plan.{has};
-ghost use Rattle.sabr_model.specs.routes.Arrival.{arrival_after};
-ghost use Rattle.sabr_model.specs.routes.Route.{receivers, is_path, is_route};
+ghost use Rattle.std.specs.Prelude.{◌≡◌, ℕ, false, ◌+◌, ◌<◌, ◌≤◌, ◌^◌, [], ◌∷◌, ◌++◌, Some, None, IfSome, IfOk, IfErr, OnOk, OnErr, IsTrue, length, slice_get, take};
+ghost use Rattle.sabr_model.specs.plan.Plan.{contact_named, has};
+ghost use Rattle.sabr_model.specs.routes.Arrival.{arrival, arrival_after};
+ghost use Rattle.sabr_model.specs.routes.Route.{is_path, is_route, receivers};
 ghost use Rattle.sabr_model.specs.routes.Fault.{fault_at, first_fault, fault_of};
-ghost use Rattle.sabr_model.specs.routes.Following.{AreMarked, IsReachedBy, receives};
+ghost use Rattle.sabr_model.specs.routes.Following.{AreMet, IsFollowedPath, IsReachedBy, has_index, most_nodes, receives};
 
+use crate::contact::Contact;
 use crate::fault::HopFault;
+use crate::node_set::NodeSet;
 use crate::plan::Plan;
 use crate::request::Request;
 use std::alloc::Allocator;
@@ -19,6 +21,31 @@ pub struct Reached {
     pub node: u64,
     /// The second of its arrival there, in seconds since 1970-01-01T00:00:00Z.
     pub at: u64,
+}
+
+/// A hop without a fault.
+#[derive(Clone, Copy)]
+pub struct NextHop<'p> {
+    /// Its contact.
+    pub contact: &'p Contact,
+    /// The index of its receiver in the table of nodes.
+    pub receiver: usize,
+    /// When the bundle arrives there, in seconds since 1970-01-01T00:00:00Z.
+    pub arrived: u64,
+}
+
+/// The most contacts of a list that is followed without a set of nodes. A list of 16 then takes half the instructions
+/// that it takes with a set, whose 5000 bytes are cleared first; a list of 24 takes as many, and of 64 five times as many:
+/// in a loop of plain Rust.
+const FEW: usize = 16;
+
+/// Where a path leads, and the nodes that it met on its way. It goes on by a contact in constant time.
+#[derive(Clone, Copy)]
+pub struct FollowedPath {
+    /// Where the path leads, and when.
+    pub here: Reached,
+    /// The receivers of its contacts. None for a path in a short list: there the contacts themselves are looked through.
+    met: Option<NodeSet>,
 }
 
 /// Returns true if the node receives the contact with this number.
@@ -43,129 +70,184 @@ fn is_received<A: Allocator + Copy>(plan: &Plan<A>, numbers: &[u32], node: u64) 
     false
 }
 
-/// Returns true if the node receives one of these contacts. `marks` has the remainders of their receivers by 64, so that
-/// most nodes need no search.
-fn is_again<A: Allocator + Copy>(
-    plan: &Plan<A>,
-    marks: &[bool; 64],
-    numbers: &[u32],
-    node: u64,
-) -> bool
-    requires { AreMarked marks.now (receivers plan.now.plan numbers.now) }
-    ensures { result ≡ has node (receivers plan.now.plan numbers.now) }
+/// Returns the empty set of nodes for a list of this many contacts. None for a short list.
+fn set_for(count: usize) -> Option<NodeSet>
+    ensures { IfSome result (λ met. (k : ℕ) → has_index met k ≡ false) }
 {
-    marks[(node % 64) as usize] && is_received(plan, numbers, node)
+    if count > FEW {
+        return Some(NodeSet::new());
+    }
+    None
 }
 
-/// What follows lists of contacts: the plan that has them, and the request.
-#[derive(Drop)]
-struct Follower<'a, A: Allocator + Copy> {
-    plan: &'a Plan<A>,
-    request: &'a Request,
+/// Returns the receivers of these contacts.
+fn met_by<A: Allocator + Copy>(plan: &Plan<A>, numbers: &[u32]) -> NodeSet
+    ensures { AreMet plan.now result numbers.now }
+{
+    // For the proof alone, by its contract.
+    plan.nodes();
+    let mut met = NodeSet::new();
+    for number in numbers {
+        if let Some(hop) = plan.hop(*number) {
+            met.insert(hop.receiver);
+        }
+    }
+    met
 }
 
-impl<'a, A: Allocator + Copy> Follower<'a, A> {
-    /// Adds a hop after those in `front`, which have no fault and lead to `here`.
-    fn take_hop(
+impl FollowedPath {
+    /// The empty path, at the source, which will go along a list of this many contacts.
+    pub fn at_source<A: Allocator + Copy>(
+        plan: &Plan<A>,
+        request: &Request,
+        count: usize,
+    ) -> FollowedPath
+        ensures { IsFollowedPath plan.now request.now [] result }
+    {
+        // Both calls are for the proof alone, by their contracts.
+        plan.rules_hold();
+        plan.nodes();
+        FollowedPath {
+            here: Reached {
+                node: request.from(),
+                at: request.at(),
+            },
+            met: set_for(count),
+        }
+    }
+
+    /// Returns whether the path, whose numbers are `front`, met the node at this index of the table.
+    fn has_met<A: Allocator + Copy>(
         &self,
-        marks: &[bool; 64],
+        plan: &Plan<A>,
         front: &[u32],
-        here: Reached,
+        node: u64,
+        index: usize,
+    ) -> bool
+        requires few { length plan.now.table ≤ most_nodes }
+        requires met { IfSome self.now.met (λ met. AreMet plan.now met front.now) }
+        requires index { slice_get plan.now.table index ≡ Some node }
+        ensures { result ≡ has node (receivers plan.now.plan front.now) }
+    {
+        match &self.met {
+            Some(met) => met.contains(index),
+            None => is_received(plan, front, node),
+        }
+    }
+
+    /// Returns the hop over the contact of this number, after the numbers of the path.
+    ///
+    /// # Errors
+    ///
+    /// The fault of the hop, in the order of [`follow`].
+    pub fn hop_over<'p, A: Allocator + Copy>(
+        &self,
+        plan: &'p Plan<A>,
+        request: &Request,
+        front: &[u32],
         number: u32,
-    ) -> Result<Reached, HopFault>
+    ) -> Result<NextHop<'p>, HopFault>
         requires place { length front.now + 1 < 2 ^ 64 }
-        requires marks { AreMarked marks.now (receivers self.now.plan.now.plan front.now) }
-        requires reached { IsReachedBy self.now.plan.now.plan self.now.request.now front.now here }
-        ensures good { IfOk result (λ _. fault_at self.now.plan.now.plan self.now.request.now front.now number ≡ None) }
-        ensures ok { IfOk result (IsReachedBy self.now.plan.now.plan self.now.request.now (front.now ++ number ∷ [])) }
-        ensures err { IfErr result (λ f. fault_at self.now.plan.now.plan self.now.request.now front.now number ≡ Some f) }
+        requires path { IsFollowedPath plan.now request.now front.now self.now }
+        ensures good { IfOk result (λ _. fault_at plan.now.plan request.now front.now number ≡ None) }
+        ensures contact { IfOk result (λ h. contact_named plan.now.plan number ≡ Some h.contact.now) }
+        ensures receiver { IfOk result (λ h. slice_get plan.now.table h.receiver ≡ Some h.contact.now.to) }
+        ensures arrives { IfOk result (λ h. arrival plan.now.plan request.now self.now.here.at h.contact.now ≡ Some h.arrived) }
+        ensures reached { IfOk result (λ h. IsReachedBy plan.now.plan request.now (front.now ++ number ∷ []) (record { node = h.contact.now.to; at = h.arrived })) }
+        ensures err { IfErr result (λ f. fault_at plan.now.plan request.now front.now number ≡ Some f) }
     {
         let place = front.len() + 1;
-        let Some((contact, light)) = self.plan.contact_with_light(number) else {
+        let Some(contact) = plan.contact(number) else {
             return Err(HopFault::NoSuchContact(place));
         };
-        if here.node != contact.from {
+        let Some(hop) = plan.hop(number) else {
+            return Err(HopFault::NoSuchContact(place));
+        };
+        if self.here.node != contact.from {
             return Err(HopFault::NotChained(place));
         }
-        if contact.to == self.request.from() || is_again(self.plan, marks, front, contact.to) {
+        if contact.to == request.from() || self.has_met(plan, front, contact.to, hop.receiver) {
             return Err(HopFault::NodeAgain(place));
         }
-        let Some(light) = light else {
+        if hop.light.is_none() {
             return Err(HopFault::NoLight(place));
-        };
-        let Some(at) = self
-            .request
-            .arrive_over(here.at, contact.start, contact.end, light)
-        else {
+        }
+        let Some(arrived) = hop.arrive(request, self.here.at) else {
             return Err(HopFault::TooLate(place));
         };
-        if self.request.avoids(contact.to) {
+        if request.avoids(contact.to) {
             return Err(HopFault::AvoidedNode(place));
         }
-        if place > self.request.max_hops() as usize {
+        if place > request.max_hops() as usize {
             return Err(HopFault::TooManyHops(place));
         }
-        Ok(Reached {
-            node: contact.to,
-            at,
+        Ok(NextHop {
+            contact,
+            receiver: hop.receiver,
+            arrived,
         })
     }
 
-    /// Continues along a list whose first `first` numbers have no fault and lead to `here`.
-    fn follow_rest(
-        &self,
-        marks: &mut [bool; 64],
-        numbers: &[u32],
-        first: usize,
-        mut here: Reached,
-    ) -> Result<Reached, HopFault>
-        requires within { first ≤ length numbers.now }
-        requires path { IsTrue (is_path self.now.plan.now.plan self.now.request.now (take first numbers.now)) }
-        requires reached { IsReachedBy self.now.plan.now.plan self.now.request.now (take first numbers.now) here }
-        requires marks { AreMarked marks.old (receivers self.now.plan.now.plan (take first numbers.now)) }
-
-        // It comes to the end of a path, or returns the first fault.
-        ensures path { IfOk result (λ _. IsTrue (is_path self.now.plan.now.plan self.now.request.now numbers.now)) }
-        ensures reached { IfOk result (IsReachedBy self.now.plan.now.plan self.now.request.now numbers.now) }
-        ensures marks { OnOk result (AreMarked marks.new (receivers self.now.plan.now.plan numbers.now)) }
-        ensures fault { IfErr result (λ f. first_fault self.now.plan.now.plan self.now.request.now [] numbers.now ≡ Some f) }
+    /// Goes on by the contact of this number, after the numbers of the path, and returns the hop over it.
+    ///
+    /// # Errors
+    ///
+    /// The fault of the hop, in the order of [`follow`].
+    pub fn go_on<'p, A: Allocator + Copy>(
+        &mut self,
+        plan: &'p Plan<A>,
+        request: &Request,
+        front: &[u32],
+        number: u32,
+    ) -> Result<NextHop<'p>, HopFault>
+        requires place { length front.now + 1 < 2 ^ 64 }
+        requires path { IsFollowedPath plan.now request.now front.now self.old }
+        ensures good { IfOk result (λ _. fault_at plan.now.plan request.now front.now number ≡ None) }
+        ensures contact { IfOk result (λ h. contact_named plan.now.plan number ≡ Some h.contact.now) }
+        ensures arrives { IfOk result (λ h. arrival plan.now.plan request.now self.old.here.at h.contact.now ≡ Some h.arrived) }
+        ensures path { OnOk result (IsFollowedPath plan.now request.now (front.now ++ number ∷ []) self.new) }
+        ensures same { OnErr result (self.new ≡ self.old) }
+        ensures err { IfErr result (λ f. fault_at plan.now.plan request.now front.now number ≡ Some f) }
     {
-        for i in first..numbers.len() {
-            here = self.take_hop(marks, &numbers[..i], here, numbers[i])?;
-            marks[(here.node % 64) as usize] = true;
+        let hop = self.hop_over(plan, request, front, number)?;
+        self.here = Reached {
+            node: hop.contact.to,
+            at: hop.arrived,
+        };
+        if let Some(set) = &mut self.met {
+            set.insert(hop.receiver);
         }
-        Ok(here)
+        Ok(hop)
     }
 
-    /// Returns what [`follow`] returns for a path and one more number. The path leads to `here`, and its
-    /// receivers are marked.
-    fn end_on(
-        &self,
-        marks: &[bool; 64],
-        prefix: &[u32],
-        here: Reached,
-        number: u32,
+    /// Goes on along a list, whose first `first` numbers are the path, and returns what [`follow`] returns for the list.
+    fn end_of<A: Allocator + Copy>(
+        &mut self,
+        plan: &Plan<A>,
+        request: &Request,
+        contacts: &[u32],
+        first: usize,
     ) -> Result<u64, HopFault>
-        requires path { IsTrue (is_path self.now.plan.now.plan self.now.request.now prefix.now) }
-        requires marks { AreMarked marks.now (receivers self.now.plan.now.plan prefix.now) }
-        requires reached { IsReachedBy self.now.plan.now.plan self.now.request.now prefix.now here }
-        ensures route { IfOk result (λ _. IsTrue (is_route self.now.plan.now.plan self.now.request.now (prefix.now ++ number ∷ []))) }
-        ensures delivery { IfOk result (λ d. arrival_after self.now.plan.now.plan self.now.request.now self.now.request.now.at (prefix.now ++ number ∷ []) ≡ Some d) }
-        ensures fault { IfErr result (λ f. fault_of self.now.plan.now.plan self.now.request.now (prefix.now ++ number ∷ []) ≡ Some f) }
+        requires longer { first < length contacts.now }
+        requires path { IsFollowedPath plan.now request.now (take first contacts.now) self.old }
+        ensures route { IfOk result (λ _. IsTrue (is_route plan.now.plan request.now contacts.now)) }
+        ensures delivery { IfOk result (λ d. arrival_after plan.now.plan request.now request.now.at contacts.now ≡ Some d) }
+        ensures fault { IfErr result (λ f. fault_of plan.now.plan request.now contacts.now ≡ Some f) }
     {
-        let here = self.take_hop(marks, prefix, here, number)?;
-        if here.node != self.request.to() {
+        for i in first..contacts.len() {
+            self.go_on(plan, request, &contacts[..i], contacts[i])?;
+        }
+        if self.here.node != request.to() {
             return Err(HopFault::WrongEnd);
         }
-        Ok(here.at)
+        Ok(self.here.at)
     }
 }
 
 /// Returns the best-case delivery time of the route that the contacts of these numbers make, in seconds since
 /// 1970-01-01T00:00:00Z (CCSDS 734.3-B-1: best-case delivery time).
 ///
-/// It doesn't allocate. It reads each contact once, and also those before a contact whose receiver may be visited
-/// twice. So its time can grow with the square of the number of hops before the first fault.
+/// It doesn't allocate. Its time grows with the number of hops before the first fault.
 ///
 /// # Errors
 ///
@@ -182,24 +264,16 @@ pub fn follow<A: Allocator + Copy>(
     ensures delivery { IfOk result (λ d. arrival_after plan.now.plan request.now request.now.at contacts.now ≡ Some d) }
     ensures fault { IfErr result (λ f. fault_of plan.now.plan request.now contacts.now ≡ Some f) }
 {
-    let Some((last, prefix)) = contacts.split_last() else {
+    if contacts.is_empty() {
         return Err(HopFault::Empty);
-    };
-    let mut marks = [false; 64];
-    let start = Reached {
-        node: request.from(),
-        at: request.at(),
-    };
-    let follower = Follower { plan, request };
-    let here = follower.follow_rest(&mut marks, prefix, 0, start)?;
-    follower.end_on(&marks, prefix, here, *last)
+    }
+    FollowedPath::at_source(plan, request, contacts.len()).end_of(plan, request, contacts, 0)
 }
 
 /// Returns where a path and one more number lead. `here` is where the path leads; the empty path leads to the source,
 /// where the bundle is.
 ///
-/// It reads the contact with that number. It searches the receivers of the prefix only if one of them may be visited
-/// twice.
+/// It looks up each contact once.
 ///
 /// # Errors
 ///
@@ -217,23 +291,20 @@ pub fn follow_hop<A: Allocator + Copy>(
     ensures reached { IfOk result (IsReachedBy plan.now.plan request.now (prefix.now ++ number ∷ [])) }
     ensures fault { IfErr result (λ f. first_fault plan.now.plan request.now [] (prefix.now ++ number ∷ []) ≡ Some f) }
 {
-    Follower { plan, request }.take_hop(&[true; 64], prefix, here, number)
-}
-
-/// Marks these contacts' receivers, each by its remainder by 64.
-fn mark_receivers<A: Allocator + Copy>(plan: &Plan<A>, marks: &mut [bool; 64], numbers: &[u32])
-    ensures { AreMarked marks.new (receivers plan.now.plan numbers.now) }
-{
-    for number in numbers {
-        if let Some(contact) = plan.contact(*number) {
-            marks[(contact.to % 64) as usize] = true;
-        }
-    }
+    // Both calls are for the proof alone, by their contracts.
+    plan.rules_hold();
+    plan.nodes();
+    let path = FollowedPath { here, met: None };
+    let hop = path.hop_over(plan, request, prefix, number)?;
+    Ok(Reached {
+        node: hop.contact.to,
+        at: hop.arrived,
+    })
 }
 
 /// Returns what [`follow`] returns, for a list whose first `first` numbers are a path that leads to `here`.
 ///
-/// It doesn't allocate. Of the contacts that were followed before, it reads only the receivers.
+/// It doesn't allocate. Of the contacts that were followed before, it looks up only the receivers.
 ///
 /// # Errors
 ///
@@ -252,12 +323,16 @@ pub fn follow_after<A: Allocator + Copy>(
     ensures delivery { IfOk result (λ d. arrival_after plan.now.plan request.now request.now.at contacts.now ≡ Some d) }
     ensures fault { IfErr result (λ f. fault_of plan.now.plan request.now contacts.now ≡ Some f) }
 {
-    let Some((last, front)) = contacts.split_last() else {
-        return Err(HopFault::Empty);
+    // Both calls are for the proof alone, by their contracts.
+    plan.rules_hold();
+    plan.nodes();
+    let mut path = FollowedPath {
+        here,
+        met: if contacts.len() > FEW {
+            Some(met_by(plan, &contacts[..first]))
+        } else {
+            None
+        },
     };
-    let mut marks = [false; 64];
-    mark_receivers(plan, &mut marks, &front[..first]);
-    let follower = Follower { plan, request };
-    let here = follower.follow_rest(&mut marks, front, first, here)?;
-    follower.end_on(&marks, front, here, *last)
+    path.end_of(plan, request, contacts, first)
 }

@@ -1,30 +1,19 @@
 -- The hops of a list of contacts, up to the first fault, and the nodes that they visit.
-use Rattle.std.specs.Prelude.{ℕ, ◌≡◌, ◌+◌, ◌++◌, ◌==◌, ◌≤◌, Bool, IfSome, IsTrue, List, [], ◌∷◌, drop, length, max, is_none, slice_get, take, if◌then◌else◌, ◌/◌, ◌%◌, slice_index_or}
+use Rattle.std.specs.Prelude.{ℕ, ◌≡◌, ◌+◌, ◌++◌, ◌≤◌, Bool, IfSome, List, [], ◌∷◌, drop, length, max, is_none, take, if◌then◌else◌}
 use Rattle.std.specs.Option.{option_map_or}
 use Rattle.std.specs.declared.option.Option.{Option}
 use Rattle.std.specs.declared.option.Option.TheVariants.{Some}
 use Rattle.sabr_model.specs.declared.contact.Contact.{Contact}
 use Rattle.sabr_model.specs.declared.fault.HopFault.{HopFault}
-use Rattle.sabr_model.specs.declared.following.Reached.{Reached}
+use Rattle.sabr_model.specs.declared.following.FollowedPath.{FollowedPath}
 use Rattle.sabr_model.specs.declared.route_summary.RouteSummary.{RouteSummary}
-use Rattle.sabr_model.specs.plan.Plan.{ContactPlan, TabledPlan, IsPlan, contact_named, has}
-use Rattle.sabr_model.specs.plan.Tabled.{IsTabled}
+use Rattle.sabr_model.specs.plan.Plan.{ContactPlan, TabledPlan, contact_named}
 use Rattle.sabr_model.specs.routes.Arrival.{RouteRequest}
-use Rattle.sabr_model.specs.routes.Following.{IsReachedBy}
-use Rattle.sabr_model.specs.routes.Route.{delivery_of, is_path, receivers}
+use Rattle.sabr_model.specs.routes.Following.{IsFollowedPath}
+use Rattle.sabr_model.specs.routes.Route.{delivery_of}
 use Rattle.sabr_model.specs.routes.Fault.{fault_at, fault_of}
 use Rattle.sabr_model.specs.routes.Telling.{summary_of}
 use Rattle.sabr_session.specs.declared.hops.FollowedHop.{FollowedHop}
-use Rattle.sabr_session.specs.declared.hops.node_set.NodeSet.{NodeSet}
-use Rattle.std.specs.Int.{bit_at}
-
--- the most nodes of a plan
-abbrev pub most_nodes : ℕ
-most_nodes = 40000
-
--- whether the node at an index is in the set
-unfoldable pub has_index : NodeSet → ℕ → Bool
-has_index set k = bit_at (slice_index_or set.words (k / 64) 0) (k % 64) == 1
 
 -- a hop: its contact, and when the bundle is sent and arrives, in seconds since 1970-01-01T00:00:00Z
 pub record Hop : Type 0 where
@@ -80,16 +69,11 @@ followed_of f = take f.count f.question.contacts
 abbrev pub hops_left : Followed → List PlacedHop
 hops_left f = told_of placed_after f.question.plan.plan f.question.request (followed_of f) (drop f.count f.question.contacts)
 
--- what is known of that many numbers that were followed: they are a path that leads there, with this summary; the set
--- has the nodes that they met; and a fault that was found is that of the whole list, and of the number that comes next
-pub record IsFollowed (p : TabledPlan) (r : RouteRequest) (s : List ℕ) (count : ℕ) (here : Reached) (summary : RouteSummary) (met : NodeSet) (fault : Option HopFault) : Type 0 where
-  pub rules : IsPlan p.plan
-  pub tabled : IsTabled p
-  pub few : length p.table ≤ most_nodes
+-- what is known of that many numbers that were followed: they are this path, with this summary, and a fault that was
+-- found is that of the whole list, and of the number that comes next
+pub record IsFollowed (p : TabledPlan) (r : RouteRequest) (s : List ℕ) (count : ℕ) (path : FollowedPath) (summary : RouteSummary) (fault : Option HopFault) : Type 0 where
   pub within : count ≤ length s
-  pub path : IsTrue (is_path p.plan r (take count s))
-  pub reached : IsReachedBy p.plan r (take count s) here
+  pub path : IsFollowedPath p r (take count s) path
   pub summed : summary ≡ summary_of p.plan (take count s)
-  pub nodes : (k node : ℕ) → slice_get p.table k ≡ Some node → has_index met k ≡ has node (receivers p.plan (take count s))
   pub stops : IfSome fault (λ f. told_of placed_after p.plan r (take count s) (drop count s) ≡ [])
   pub faulty : IfSome fault (λ f. fault_of p.plan r s ≡ Some f)

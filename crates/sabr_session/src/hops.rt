@@ -1,7 +1,5 @@
 //! The hops of a list of contacts, one after another, in time that grows with its length.
 
-mod node_set;
-
 ghost use Rattle.std.specs.Prelude.{◌≡◌, ◌+◌, ◌++◌, ◌<◌, ◌≤◌, ◌^◌, ◌∷◌, [], max, IfErr, IfNone, IfOk, IfSome, IsTrue, Some, slice_get};
 ghost use Rattle.sabr_model.specs.plan.Plan.{contact_named};
 ghost use Rattle.sabr_model.specs.routes.Arrival.{arrival_after};
@@ -12,8 +10,7 @@ ghost use Rattle.sabr_model.specs.routes.Telling.{summary_of};
 ghost use Rattle.sabr_plan.specs.Times.{last_spelled};
 ghost use Rattle.sabr_session.specs.Hops.{followed_of, hops_left, placed_after, seen_hop, told_of};
 
-use crate::hops::node_set::NodeSet;
-use sabr_model::{Contact, HopFault, Plan, Reached, Request, RouteSummary};
+use sabr_model::{Contact, FollowedPath, HopFault, Plan, Request, RouteSummary};
 use std::alloc::{Allocator, Global};
 use std::marker::Model;
 
@@ -42,12 +39,10 @@ pub struct Hops<'a, A: Allocator + Copy = Global> {
     contacts: &'a [u32],
     /// The number of contacts that were followed.
     count: usize,
-    /// Where they lead.
-    here: Reached,
+    /// Where they lead, and the nodes that they met.
+    path: FollowedPath,
     /// Their earliest end, and their entry node.
     summary: RouteSummary,
-    /// The nodes that they met.
-    met: NodeSet,
     /// The fault of the next hop, once it is found.
     fault: Option<HopFault>,
 }
@@ -60,7 +55,7 @@ impl<'a, A: Allocator + Copy> Model for Hops<'a, A> {
 
     ghost view = { λ h. record { question = record { plan = h.plan.now; request = h.request.now; contacts = h.contacts.now }; count = h.count; over = is_some h.fault || (h.count == length h.contacts.now) } };
 
-    ghost invariant = { λ h. IsFollowed h.plan.now h.request.now h.contacts.now h.count h.here h.summary h.met h.fault };
+    ghost invariant = { λ h. IsFollowed h.plan.now h.request.now h.contacts.now h.count h.path h.summary h.fault };
 }
 
 impl<'a, A: Allocator + Copy> Hops<'a, A> {
@@ -69,69 +64,15 @@ impl<'a, A: Allocator + Copy> Hops<'a, A> {
         ensures question { result.question ≡ record { plan = plan.now; request = request.now; contacts = contacts.now } }
         ensures left { hops_left result ≡ told_of placed_after plan.now.plan request.now [] contacts.now }
     {
-        // Both calls are for the proof alone, by their contracts.
-        plan.rules_hold();
-        plan.nodes();
         Hops {
             plan,
             request,
             contacts,
             count: 0,
-            here: Reached {
-                node: request.from(),
-                at: request.at(),
-            },
+            path: FollowedPath::at_source(plan, request, contacts.len()),
             summary: RouteSummary::of(plan, &[]),
-            met: NodeSet::new(),
             fault: None,
         }
-    }
-
-    /// Finds the hop over the contact of this number, which comes next, and the index of its receiver.
-    fn hop_over(&self, number: u32) -> Result<(FollowedHop<'a>, usize), HopFault>
-        requires { self.now.count + 1 < 2 ^ 64 }
-        ensures good { IfOk result (λ _. fault_at self.now.question.plan.plan self.now.question.request (followed_of self.now) number ≡ None) }
-        ensures place { IfOk result (λ h. h.0.place ≡ self.now.count + 1) }
-        ensures contact { IfOk result (λ h. contact_named self.now.question.plan.plan number ≡ Some h.0.contact.now) }
-        ensures receiver { IfOk result (λ h. slice_get self.now.question.plan.table h.1 ≡ Some h.0.contact.now.to) }
-        ensures sent { IfOk result (λ h. h.0.sent ≡ max (delivery_of self.now.question.plan.plan self.now.question.request (followed_of self.now)) h.0.contact.now.start) }
-        ensures reached { IfOk result (λ h. IsReachedBy self.now.question.plan.plan self.now.question.request (followed_of self.now ++ number ∷ []) (record { node = h.0.contact.now.to; at = h.0.arrived })) }
-        ensures times { IfOk result (λ h. (h.0.sent ≤ last_spelled) × (h.0.arrived ≤ last_spelled)) }
-        ensures err { IfErr result (λ f. fault_at self.now.question.plan.plan self.now.question.request (followed_of self.now) number ≡ Some f) }
-    {
-        let place = self.count + 1;
-        let Some(contact) = self.plan.contact(number) else {
-            return Err(HopFault::NoSuchContact(place));
-        };
-        let Some(hop) = self.plan.hop(number) else {
-            return Err(HopFault::NoSuchContact(place));
-        };
-        if self.here.node != contact.from {
-            return Err(HopFault::NotChained(place));
-        }
-        if contact.to == self.request.from() || self.met.contains(hop.receiver) {
-            return Err(HopFault::NodeAgain(place));
-        }
-        if hop.light.is_none() {
-            return Err(HopFault::NoLight(place));
-        }
-        let Some(arrived) = hop.arrive(self.request, self.here.at) else {
-            return Err(HopFault::TooLate(place));
-        };
-        if self.request.avoids(contact.to) {
-            return Err(HopFault::AvoidedNode(place));
-        }
-        if place > self.request.max_hops() as usize {
-            return Err(HopFault::TooManyHops(place));
-        }
-        let sent = self.here.at.max(contact.start);
-        let followed = FollowedHop {
-            place,
-            contact,
-            sent,
-            arrived,
-        };
-        Ok((followed, hop.receiver))
     }
 
     /// Returns the next hop. `None` after the hops before the first fault, or after all.
@@ -146,17 +87,20 @@ impl<'a, A: Allocator + Copy> Hops<'a, A> {
             return None;
         }
         let number = *self.contacts.get(self.count)?;
-        match self.hop_over(number) {
-            Ok((hop, receiver)) => {
-                let front = &self.contacts[..self.count];
+        let front = &self.contacts[..self.count];
+        let before = self.path.here.at;
+        // For the proof alone, by its contract.
+        self.request.limits_hold();
+        match self.path.go_on(self.plan, self.request, front, number) {
+            Ok(hop) => {
                 self.summary = self.summary.extended(self.plan, front, number);
-                self.here = Reached {
-                    node: hop.contact.to,
-                    at: hop.arrived,
-                };
-                self.met.insert(receiver);
                 self.count += 1;
-                Some(hop)
+                Some(FollowedHop {
+                    place: self.count,
+                    contact: hop.contact,
+                    sent: before.max(hop.contact.start),
+                    arrived: hop.arrived,
+                })
             }
             Err(fault) => {
                 self.fault = Some(fault);
@@ -184,9 +128,9 @@ impl<'a, A: Allocator + Copy> Hops<'a, A> {
         if self.contacts.is_empty() {
             return Err(HopFault::Empty);
         }
-        if self.here.node != self.request.to() {
+        if self.path.here.node != self.request.to() {
             return Err(HopFault::WrongEnd);
         }
-        Ok((self.here.at, self.summary))
+        Ok((self.path.here.at, self.summary))
     }
 }

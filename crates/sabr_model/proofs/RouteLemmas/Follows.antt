@@ -1,28 +1,37 @@
 -- Steps of following a list of contacts.
-use Rattle.std.proofs.Common.{◌≡◌, ℕ, ◌+◌, ◌<◌, ◌≤◌, Bool, false, cond, ◌||◌, eqb, List, [], ◌∷◌, ◌++◌, map, length, take, drop, get_or, refl, sym, ap, subst, ◌∙◌, append_assoc, take-append-drop, arith, add-one, drop-cons, zero, suc, ◌%◌, true, true≢false, inl, inr, ◌⊎◌, replicate, Option, slice_index_or, slice_set}
+use Rattle.std.proofs.Common.{◌≡◌, ◌≢◌, ℕ, IfSome, ◌+◌, ◌*◌, ◌/◌, ◌%◌, ◌^◌, ◌<◌, ◌≤◌, Bool, false, true, cond, ◌||◌, eqb, List, [], ◌∷◌, ◌++◌, map, length, take, drop, get_or, replicate, slice_get, slice_index_or, slice_set, bit_and, bit_or, w64, zero, suc, inl, inr, refl, sym, ap, subst, ◌∙◌, append_assoc, append-nil, take-append-drop, arith, add-one, drop-cons}
+use Rattle.std.specs.Prelude.{IsTrue}
+use Rattle.std.specs.Int.{bit_at}
 use Rattle.std.specs.List.{list_any, cons_option}
-use Rattle.std.specs.Option.{option_map_or, option_and_then}
+use Rattle.std.specs.Option.{option_map_or}
 use Rattle.std.specs.declared.option.Option.TheVariants.{Some, None}
+use Rattle.std.proofs.Math.Nat.{mod-lt}
+use Rattle.std.proofs.lemmas.Bool.{cases_Bool, eq-eqb, eqb-true, false_from_ne_true, ne_eqb}
+use Rattle.std.proofs.lemmas.List.{take_all, take_more, drop_all, get_or-set_same, get_or-set_other}
+use Rattle.std.proofs.lemmas.List.Folds.{list_any-append}
+use Rattle.std.proofs.lemmas.Nat.Bits.{bit_at-zero, bit_at_set_same, bit_at_set_other, shr_and_one}
 use Rattle.sabr_model.specs.declared.contact.Contact.{Contact}
 use Rattle.sabr_model.specs.declared.fault.HopFault.{HopFault}
-use Rattle.sabr_model.specs.declared.following.Reached.{Reached}
-use Rattle.sabr_model.specs.plan.Plan.{ContactPlan, IsPlan, IsWindow, contact_named, has, last_time}
-use Rattle.sabr_model.specs.routes.Arrival.{RouteRequest, arrival}
-use Rattle.sabr_model.specs.routes.Route.{receivers, contacts_of, ends_at, is_path, is_route, chain_end}
-use Rattle.sabr_model.specs.routes.Fault.{fault_at, fault_or, first_fault, fault_of}
-use Rattle.sabr_model.specs.routes.Following.{IsReachedBy, receives, AreMarked}
-use Rattle.sabr_model.proofs.ListLemmas.Members.{all_in}
-use Rattle.sabr_model.proofs.RouteLemmas.Listed.{named_is}
-use Rattle.std.specs.Prelude.{IsTrue}
-use Rattle.std.proofs.lemmas.Bool.{ne_eqb, or_cases, eqb-true}
-use Rattle.std.proofs.lemmas.List.{take_all, take_more, drop_all, append-nil}
 use Rattle.sabr_model.specs.declared.fault.HopFault.TheVariants.{WrongEnd}
+use Rattle.sabr_model.specs.declared.following.FollowedPath.{FollowedPath}
+use Rattle.sabr_model.specs.declared.following.Reached.{Reached}
+use Rattle.sabr_model.specs.declared.hop.Hop.{Hop}
+use Rattle.sabr_model.specs.declared.node_set.NodeSet.{NodeSet}
+use Rattle.sabr_model.specs.plan.Plan.{ContactPlan, TabledPlan, IsPlan, IsWindow, contact_named, has, last_time}
+use Rattle.sabr_model.specs.plan.Tabled.{IsHopOf, IsTabled}
+use Rattle.sabr_model.specs.routes.Arrival.{RouteRequest, arrival}
+use Rattle.sabr_model.specs.routes.Hops.{IsSmall, hop_arrival}
+use Rattle.sabr_model.specs.routes.Route.{receivers, contacts_of, ends_at, is_path, is_route}
+use Rattle.sabr_model.specs.routes.Fault.{fault_at, fault_or, first_fault, fault_of}
+use Rattle.sabr_model.specs.routes.Following.{AreMet, IsFollowedPath, IsReachedBy, has_index, receives}
+use Rattle.sabr_model.proofs.ListLemmas.Begins.{receivers-append, receivers-cons}
+use Rattle.sabr_model.proofs.ListLemmas.Members.{all_in}
+use Rattle.sabr_model.proofs.PlanLemmas.RangeOrder.{light_of_limit}
+use Rattle.sabr_model.proofs.PlanLemmas.Tabled.{place_one}
 use Rattle.sabr_model.proofs.RouteLemmas.Faults.{good_is_hop, good_is_path, path_is_good}
-use Rattle.sabr_model.proofs.RouteLemmas.Prefixes.{empty_is_path}
+use Rattle.sabr_model.proofs.RouteLemmas.Listed.{named_is}
 use Rattle.sabr_model.proofs.RouteLemmas.Paths.{chain_end_push, arrival_after_push, path_push, route_from_path}
-use Rattle.std.proofs.Math.Nat.{mod-lt}
-use Rattle.std.proofs.lemmas.List.Folds.{list_any-append}
-use Rattle.sabr_model.proofs.ListLemmas.Begins.{chain_end-append, first_hop, receivers-cons, receivers-append}
+use Rattle.sabr_model.proofs.RouteLemmas.Prefixes.{empty_is_path}
 
 -- the contact with a number ends in time
 pub ends_in_time : (p : ContactPlan) (n : ℕ) (c : Contact) → IsPlan p → contact_named p n ≡ Some c → c.end ≤ last_time
@@ -119,80 +128,106 @@ front_is_good p r s i path =
     ap (first_fault p r []) (sym (take-append-drop i s)) ∙ first_fault-append p r [] (take i s) (drop i s)
     ∙ ap (λ o. fault_or o (first_fault p r (take i s) (drop i s))) (path_is_good p r [] (take i s) path)
 
--- Marks on classes of nodes.
+-- ---- paths that go on, and the sets of nodes that they met
 
-set_here : (marks : List Bool) (k : ℕ) → k < length marks → slice_index_or (slice_set marks k true) k false ≡ true
-set_here [] k less = absurd (omega (arith, less))
-set_here (m ∷ marks) zero less = refl
-set_here (m ∷ marks) (suc k) less = set_here marks k (omega (arith, less))
+-- the hop of a contact is small
+pub hop_is_small : (p : TabledPlan) (n : ℕ) (c : Contact) (h : Hop) → IsPlan p.plan → contact_named p.plan n ≡ Some c → IsHopOf p c h → IsSmall h
+hop_is_small p n c h rules named is = record {
+  ends = rw is.end (ends_in_time p.plan n c rules named);
+  near = rw is.light (light_of_limit p.plan c rules);
+}
 
-kept : (marks : List Bool) (k j : ℕ) → slice_index_or marks j false ≡ true → slice_index_or (slice_set marks k true) j false ≡ true
-kept [] k j marked = marked
-kept (m ∷ marks) zero zero marked = refl
-kept (m ∷ marks) zero (suc j) marked = marked
-kept (m ∷ marks) (suc k) zero marked = marked
-kept (m ∷ marks) (suc k) (suc j) marked = kept marks k j marked
+-- a bundle arrives over the hop as over the contact
+pub hop_arrives : (p : TabledPlan) (r : RouteRequest) (t : ℕ) (c : Contact) (h : Hop) → IsHopOf p c h → hop_arrival r.margin t h ≡ arrival p.plan r t c
+hop_arrives p r t c h is = rw (is.start, is.end, is.light) refl
 
-all_set : (count i : ℕ) → i < count → slice_index_or (replicate count true) i false ≡ true
-all_set zero i less = absurd (omega (arith, less))
-all_set (suc count) zero less = refl
-all_set (suc count) (suc i) less = all_set count i (omega (arith, less))
-
--- if all classes are marked, those of any nodes are
-pub all_marked : (nodes : List ℕ) → AreMarked (replicate 64 true) nodes
-all_marked nodes = λ node there. all_set 64 (node % 64) (mod-lt node (omega arith))
-
--- the only receiver of a chain of one contact is its end
-lone_receiver : (p : ContactPlan) (a n node x : ℕ) → chain_end p a (n ∷ []) ≡ Some node → has x (receivers p (n ∷ [])) ≡ true → x ≡ node
-lone_receiver p a n node x chain there =
-    let hop = first_hop p a n [] node chain in
-    let same : hop.contact.to ≡ node = (let q : Some hop.contact.to ≡ Some node = hop.rest in cc (q)) in
-    elim (or_cases (eqb x hop.contact.to) false (sym (ap (has x) (receivers-cons p n [] hop.contact hop.named)) ∙ there)) [
-      | inl equal ↦ eqb-true x hop.contact.to equal ∙ same
-      | inr none ↦ absurd (true≢false (sym none))
-    ]
-
-last_receiver : (p : ContactPlan) (a : ℕ) (q : List ℕ) (n node x : ℕ) → chain_end p a (q ++ n ∷ []) ≡ Some node → has x (receivers p (n ∷ [])) ≡ true → x ≡ node
-last_receiver p a q n node x chain =
-    elim (chain_end p a q) as (λ (o : Option ℕ). option_and_then (λ b. chain_end p b (n ∷ [])) o ≡ Some node → has x (receivers p (n ∷ [])) ≡ true → x ≡ node) [
-      | None ↦ λ none there. absurd cc
-      | Some b ↦ λ rest there. lone_receiver p b n node x rest there
-    ] (sym (chain_end-append p a q (n ∷ [])) ∙ chain)
-
-abbrev to_of : Contact → ℕ
-to_of c = c.to
-
--- a receiver of a list with one more number is the list's or the number's
-either : (p : ContactPlan) (q : List ℕ) (n x : ℕ) → has x (receivers p (q ++ n ∷ [])) ≡ true → (has x (receivers p q) ≡ true) ⊎ (has x (receivers p (n ∷ [])) ≡ true)
-either p q n x there = or_cases (has x (receivers p q)) (has x (receivers p (n ∷ [])))
-    (sym (list_any-append (eqb x) (receivers p q) (receivers p (n ∷ []))) ∙ sym (ap (has x) (receivers-append p q (n ∷ []))) ∙ there)
-
--- the marks, with the class of the only node that one more number may add to the receivers
-marked_more : (p : ContactPlan) (marks : List Bool) (q : List ℕ) (n node : ℕ) → ((x : ℕ) → has x (receivers p (n ∷ [])) ≡ true → x ≡ node) → length marks ≡ 64 → AreMarked marks (receivers p q) → AreMarked (slice_set marks (node % 64) true) (receivers p (q ++ n ∷ []))
-marked_more p marks q n node alone many so_far = λ x there.
-    elim (either p q n x there) [
-      | inl before ↦ kept marks (node % 64) (x % 64) (so_far x before)
-      | inr last ↦
-          let same : x ≡ node = alone x last in
-          ap (λ y. slice_index_or (slice_set marks (node % 64) true) (y % 64) false) same ∙ set_here marks (node % 64) (let less : node % 64 < 64 = mod-lt node (omega arith) in omega (arith, less, many))
-    ]
-
--- the marks, with the class of the node that one more contact leads to
-pub marked_on : (p : ContactPlan) (a : ℕ) (marks : List Bool) (q : List ℕ) (n node : ℕ) → chain_end p a (q ++ n ∷ []) ≡ Some node → length marks ≡ 64 → AreMarked marks (receivers p q) → AreMarked (slice_set marks (node % 64) true) (receivers p (q ++ n ∷ []))
-marked_on p a marks q n node chain = marked_more p marks q n node (λ x. last_receiver p a q n node x chain)
-
--- the marks, with the class of the receiver of a number's contact
-pub marked_contact : (p : ContactPlan) (marks : List Bool) (q : List ℕ) (n : ℕ) (c : Contact) → contact_named p n ≡ Some c → length marks ≡ 64 → AreMarked marks (receivers p q) → AreMarked (slice_set marks (c.to % 64) true) (receivers p (q ++ n ∷ []))
-marked_contact p marks q n c named = marked_more p marks q n c.to (λ x there.
-    elim (or_cases (eqb x c.to) false (sym (ap (λ o. has x (map to_of (cons_option o []))) named) ∙ there)) [
-      | inl equal ↦ eqb-true x c.to equal
-      | inr none ↦ absurd (true≢false (sym none))
+-- the nodes of a path and one more hop
+pub met_more : (p : TabledPlan) (front : List ℕ) (n k : ℕ) (c : Contact) (old new : NodeSet) → IsTabled p → contact_named p.plan n ≡ Some c → slice_get p.table k ≡ Some c.to
+    → AreMet p old front → has_index new k ≡ true → ((j : ℕ) → j ≢ k → has_index new j ≡ has_index old j) → AreMet p new (front ++ n ∷ [])
+met_more p front n k c old new tabled named there before this others j node at =
+    let both : has node (receivers p.plan (front ++ n ∷ [])) ≡ (has node (receivers p.plan front) || (eqb node c.to || false)) =
+    ap (has node) (receivers-append p.plan front (n ∷ [])) ∙ list_any-append (eqb node) (receivers p.plan front) (receivers p.plan (n ∷ []))
+    ∙ ap (λ ys. has node (receivers p.plan front) || has node ys) (receivers-cons p.plan n [] c named) in
+    rw both
+    (elim (cases_Bool (eqb j k)) [
+      | inl same ↦
+          let e : j ≡ k = eqb-true j k same in
+          let node_is : node ≡ c.to = (let q : Some node ≡ Some c.to = sym at ∙ ap (slice_get p.table) e ∙ there in cc (q)) in
+          rw (e, this, eq-eqb node c.to node_is) (or_true (has node (receivers p.plan front)))
+      | inr apart ↦
+          let other : j ≢ k = λ e. (let t : eqb j k ≡ true = eq-eqb j k e in let no : ⊥ = cc in no) in
+          let differs : eqb node c.to ≡ false = false_from_ne_true (eqb node c.to) (λ e. other (place_one p.table j k node tabled.once at (there ∙ ap Some (sym (eqb-true node c.to e))))) in
+          rw (others j other, differs, before j node at) (or_false (has node (receivers p.plan front)))
     ])
+  where
+    or_true : (b : Bool) → true ≡ (b || (true || false))
+    or_true true = refl
+    or_true false = refl
 
--- a number without a contact adds none
-pub marked_still : (p : ContactPlan) (marks : List Bool) (q : List ℕ) (n : ℕ) → contact_named p n ≡ None → AreMarked marks (receivers p q) → AreMarked marks (receivers p (q ++ n ∷ []))
-marked_still p marks q n none so_far = λ x there.
-    elim (either p q n x there) [
-      | inl before ↦ so_far x before
-      | inr last ↦ absurd (true≢false (sym (sym (ap (λ o. has x (map to_of (cons_option o []))) none) ∙ last)))
+    or_false : (b : Bool) → b ≡ (b || (false || false))
+    or_false true = refl
+    or_false false = refl
+
+-- a number without a contact adds no node
+pub met_still : (p : TabledPlan) (front : List ℕ) (n : ℕ) (met : NodeSet) → contact_named p.plan n ≡ None → AreMet p met front → AreMet p met (front ++ n ∷ [])
+met_still p front n met none before k node at =
+    before k node at ∙ ap (has node) (sym (receivers-append p.plan front (n ∷ []) ∙ ap (λ o. receivers p.plan front ++ map (λ (c : Contact). c.to) (cons_option o [])) none ∙ append-nil (receivers p.plan front)))
+
+-- a path goes on by a hop without a fault
+pub path_goes_on : (p : TabledPlan) (r : RouteRequest) (front : List ℕ) (n : ℕ) (old new : FollowedPath) → IsFollowedPath p r front old → fault_at p.plan r front n ≡ None
+    → IsReachedBy p.plan r (front ++ n ∷ []) new.here → IfSome new.met (λ met. AreMet p met (front ++ n ∷ [])) → IsFollowedPath p r (front ++ n ∷ []) new
+path_goes_on p r front n old new path good reached met = record {
+  rules = path.rules;
+  tabled = path.tabled;
+  few = path.few;
+  path = path_behind p.plan r front n path.path good;
+  reached = reached;
+  nodes = met;
+}
+
+-- the first fault on the way along a list is the list's
+pub fault_on : (p : ContactPlan) (r : RouteRequest) (s : List ℕ) (i : ℕ) (f : HopFault) → i < length s → IsTrue (is_path p r (take i s)) → fault_at p r (take i s) (get_or s i 0) ≡ Some f → fault_of p r s ≡ Some f
+fault_on p r s i f lt path bad =
+    let behind : drop i s ≡ get_or s i 0 ∷ drop (i + 1) s = rw (drop-cons s i 0, add-one) refl in
+    fault_on_the_way p r s f (omega (arith, lt)) (front_is_good p r s i path ∙ ap (first_fault p r (take i s)) behind ∙ ap (λ o. fault_or o (first_fault p r (take i s ++ get_or s i 0 ∷ []) (drop (i + 1) s))) bad)
+
+-- ---- sets of nodes as arrays of bits
+
+zeros : (n i : ℕ) → slice_index_or (replicate {A = ℕ} n 0) i 0 ≡ 0
+zeros zero i = refl
+zeros (suc n) zero = refl
+zeros (suc n) (suc i) = zeros n i
+
+pub none_in : (k : ℕ) → has_index (record { words = replicate {A = ℕ} 625 0 }) k ≡ false
+unfolding has_index
+none_in k = rw (zeros 625 (k / 64), bit_at-zero (k % 64)) refl
+
+pub tested : (set : NodeSet) (k : ℕ) → eqb (bit_and (slice_index_or set.words (k / 64) 0 / 2 ^ (k % 64)) 1) 1 ≡ has_index set k
+unfolding has_index
+tested set k = ap (λ b. eqb b 1) (shr_and_one (slice_index_or set.words (k / 64) 0) (k % 64))
+
+-- the words with one bit more
+abbrev pub with_bit : List ℕ → ℕ → List ℕ
+with_bit words k = slice_set words (k / 64) (bit_or (slice_index_or words (k / 64) 0) (1 * 2 ^ (k % 64) % 18446744073709551616))
+
+pub in_it : (words : List ℕ) (k : ℕ) → k / 64 < length words → has_index (record { words = with_bit words k }) k ≡ true
+unfolding has_index
+in_it words k less =
+    let b : k % 64 < 64 = mod-lt k (omega arith) in
+    ap (λ w. eqb (bit_at w (k % 64)) 1) (get_or-set_same words (k / 64) (bit_or (slice_index_or words (k / 64) 0) (1 * 2 ^ (k % 64) % 18446744073709551616)) 0 less)
+    ∙ ap (λ b. eqb b 1) (bit_at_set_same w64 (slice_index_or words (k / 64) 0) (k % 64) b)
+
+pub others_stay : (words : List ℕ) (k j : ℕ) → k / 64 < length words → j ≢ k → has_index (record { words = with_bit words k }) j ≡ has_index (record { words = words }) j
+unfolding has_index
+others_stay words k j less other =
+    let b : k % 64 < 64 = mod-lt k (omega arith) in
+    let new = bit_or (slice_index_or words (k / 64) 0) (1 * 2 ^ (k % 64) % 18446744073709551616) in
+    elim (cases_Bool (eqb (j / 64) (k / 64))) [
+      | inl same ↦
+          let row : j / 64 ≡ k / 64 = eqb-true (j / 64) (k / 64) same in
+          let column : j % 64 ≢ k % 64 = λ e. other (omega arith) in
+          rw row
+          (ap (λ w. eqb (bit_at w (j % 64)) 1) (get_or-set_same words (k / 64) new 0 less)
+          ∙ ap (λ b. eqb b 1) (bit_at_set_other w64 (slice_index_or words (k / 64) 0) (k % 64) b (j % 64) column))
+      | inr apart ↦ ap (λ w. eqb (bit_at w (j % 64)) 1) (get_or-set_other words (k / 64) (j / 64) new 0 (λ e. let t : eqb (j / 64) (k / 64) ≡ true = eq-eqb (j / 64) (k / 64) e in let no : ⊥ = cc in no))
     ]

@@ -1,13 +1,12 @@
 //! The one-way light time in force at a contact's start, and the arrival over a contact.
 
-ghost use Rattle.std.specs.Prelude.{◌≡◌, ◌<◌, ◌≤◌, [], Some, None, IfSome, MatchOption, length, slice_index_or};
-ghost use Rattle.sabr_model.specs.plan.Plan.{IsPlan, contact_named, most_light, last_time};
+ghost use Rattle.std.specs.Prelude.{◌≡◌, ◌<◌, ◌≤◌, [], Some, IfSome, length, slice_index_or};
+ghost use Rattle.sabr_model.specs.plan.Plan.{most_light, last_time};
 ghost use Rattle.sabr_model.specs.plan.Light.{light_of};
 ghost use Rattle.sabr_model.specs.plan.RangeOrder.{IsRangeList};
 ghost use Rattle.sabr_model.specs.routes.Arrival.{arrival};
 
 use super::Plan;
-use super::contacts_by_number::place_of_number;
 use super::ranges::light_in_force;
 use crate::contact::{Contact, Range};
 use crate::request::Request;
@@ -24,18 +23,6 @@ impl<A: Allocator + Copy> Plan<A> {
         ensures limit { IfSome result (λ l. l ≤ most_light) }
     {
         light_of_contact(&self.ranges, contact)
-    }
-
-    /// Returns the standing contact with this number, and its light time. `None` if there is no such contact. It reads
-    /// no range if the plan has stored the light times.
-    pub(crate) fn contact_with_light(&self, number: u32) -> Option<(&Contact, Option<u32>)>
-        ensures contact { MatchOption result (contact_named self.now.plan number ≡ None) (λ x. contact_named self.now.plan number ≡ Some x.0.now) }
-        ensures light { IfSome result (λ x. x.1 ≡ light_of self.now.plan x.0.now) }
-        ensures rules { IsPlan self.now.plan }
-    {
-        let place = place_of_number(&self.contacts, number)?;
-        let contact = &self.contacts[place];
-        Some((contact, self.light_at(place, contact)))
     }
 
     /// Returns the light time of the contact at an index.

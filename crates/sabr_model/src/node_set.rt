@@ -1,7 +1,7 @@
 //! A set of nodes of a plan.
 
 ghost use Rattle.std.specs.Prelude.{◌≡◌, ◌≢◌, ◌<◌, ℕ, true, false};
-ghost use Rattle.sabr_session.specs.Hops.{has_index, most_nodes};
+ghost use Rattle.sabr_model.specs.routes.Following.{has_index, most_nodes};
 
 /// The number of words: a plan has at most 40000 nodes.
 const WORDS: usize = 625;

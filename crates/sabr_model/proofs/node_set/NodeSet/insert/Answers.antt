@@ -1,6 +1,6 @@
 use Rattle.std.proofs.Common.{arith}
-use Rattle.sabr_session.proofs.HopLemmas.{in_it, others_stay}
-use Rattle.sabr_session.proofs.hops.node_set.NodeSet.insert.Goals as goal
+use Rattle.sabr_model.proofs.RouteLemmas.Follows.{in_it, others_stay}
+use Rattle.sabr_model.proofs.node_set.NodeSet.insert.Goals as goal
 
 pub returns-clause-this : goal.returns-clause-this
 returns-clause-this c = in_it c.args.self.now.words c.args.index (omega arith)
