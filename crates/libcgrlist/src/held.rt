@@ -1,7 +1,7 @@
 //! What stands behind an open handle: a plan, and the ranges that calls add to it. Ranges are inserted lazily.
 
 ghost use Rattle.std.specs.Prelude.{◌≡◌, ◌<◌, ◌≤◌, None, Some, Err, OnOk, OnErr, IsFalse, IsOkUnless, is_some};
-ghost use Rattle.sabr_model.specs.plan.Plan.{IsPlan, last_time, most_light};
+ghost use Rattle.sabr_model.specs.plan.Plan.{last_time, most_light};
 ghost use Rattle.sabr_model.specs.plan.Adding.{range_refusal, with_range};
 ghost use Rattle.sabr_model.specs.declared.fault.AddFault.{AddFault};
 ghost use Rattle.sabr_model.specs.declared.fault.AddFault.TheVariants as fault;

@@ -1,6 +1,6 @@
 //! Session texts: the text of a listing's place, the listing of a text, and whether a text is that of a place.
 
-ghost use Rattle.std.specs.Prelude.{◌≡◌, [], None, Some, IfErr, IfOk, OnErr, OnOk, IsFalse, true};
+ghost use Rattle.std.specs.Prelude.{◌≡◌, None, IfErr, IfOk, OnErr, OnOk, IsFalse, true};
 ghost use Rattle.sabr_session.specs.SessionText.{text_of_session};
 ghost use Rattle.libcgrlist.specs.Buffers.{GivesNoText};
 ghost use Rattle.libcgrlist.specs.Listings.{IfOpen, listing_refusal};

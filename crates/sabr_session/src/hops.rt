@@ -1,14 +1,12 @@
 //! The hops of a list of contacts, one after another, in time that grows with its length.
 
-ghost use Rattle.std.specs.Prelude.{◌≡◌, ◌+◌, ◌++◌, ◌<◌, ◌≤◌, ◌^◌, ◌∷◌, [], max, IfErr, IfNone, IfOk, IfSome, IsTrue, Some, slice_get};
-ghost use Rattle.sabr_model.specs.plan.Plan.{contact_named};
+ghost use Rattle.std.specs.Prelude.{◌≡◌, ◌+◌, ◌<◌, ◌≤◌, ◌∷◌, [], IfErr, IfNone, IfOk, IfSome, IsTrue, Some};
 ghost use Rattle.sabr_model.specs.routes.Arrival.{arrival_after};
-ghost use Rattle.sabr_model.specs.routes.Fault.{fault_at, fault_of};
-ghost use Rattle.sabr_model.specs.routes.Following.{IsReachedBy};
-ghost use Rattle.sabr_model.specs.routes.Route.{delivery_of, is_route};
+ghost use Rattle.sabr_model.specs.routes.Fault.{fault_of};
+ghost use Rattle.sabr_model.specs.routes.Route.{is_route};
 ghost use Rattle.sabr_model.specs.routes.Telling.{summary_of};
 ghost use Rattle.sabr_plan.specs.Times.{last_spelled};
-ghost use Rattle.sabr_session.specs.Hops.{followed_of, hops_left, placed_after, seen_hop, told_of};
+ghost use Rattle.sabr_session.specs.Hops.{hops_left, placed_after, seen_hop, told_of};
 
 use sabr_model::{Contact, FollowedPath, HopFault, Plan, Request, RouteSummary};
 use std::alloc::{Allocator, Global};

@@ -1,6 +1,5 @@
 //! A call over memory on loan.
 
-ghost use Rattle.std.specs.Prelude.{◌≡◌};
 ghost use Rattle.webcgrlist.specs.Calls.{EndsCall};
 ghost use Rattle.webcgrlist.specs.Lent.{ComesBack};
 ghost use Rattle.webcgrlist.specs.Runs.{seen};

@@ -1,6 +1,5 @@
 //! Running a call, over writers.
 
-ghost use Rattle.std.specs.Prelude.{◌≡◌};
 ghost use Rattle.webcgrlist.specs.declared.call.Run.TheVariants as run;
 ghost use Rattle.webcgrlist.specs.Calls.{EndsCall};
 ghost use Rattle.webcgrlist.specs.Runs.{seen};

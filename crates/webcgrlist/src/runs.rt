@@ -1,6 +1,5 @@
 //! The runs, over texts in memory.
 
-ghost use Rattle.std.specs.Prelude.{◌≡◌};
 ghost use Rattle.commands.specs.words.Values.{IsCount};
 ghost use Rattle.webcgrlist.specs.Runs.{RunsCanonical, RunsCheck, RunsExplain, RunsFirst, RunsFollow, RunsMany, RunsNext, RunsVerify, seen};
 

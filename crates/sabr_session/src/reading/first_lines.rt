@@ -4,7 +4,7 @@ ghost use Rattle.std.specs.Prelude.{◌≡◌, ◌∷◌, ◌<◌, None, Some, I
 ghost use Rattle.std.specs.List.{list_all};
 ghost use Rattle.std.specs.Option.{option_copied};
 ghost use Rattle.sabr_session.specs.SessionWords.{words_of, words_after};
-ghost use Rattle.sabr_session.specs.SessionLines.{after_label, header_of, is_digest_digit, is_digest, digest_named, four_of, unlimited_of, limited_of, values_of, request_of, emitted_of, last_listed, count_of, is_end};
+ghost use Rattle.sabr_session.specs.SessionLines.{after_label, header_of, is_digest_digit, digest_named, four_of, unlimited_of, limited_of, request_of, emitted_of, last_listed, count_of, is_end};
 
 use crate::reading::lists::{list_to_end, nodes_of};
 use crate::reading::words::count_within;

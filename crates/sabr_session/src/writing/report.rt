@@ -1,6 +1,6 @@
 //! The report of a page.
 
-ghost use Rattle.std.specs.Prelude.{◌≡◌, ℕ, ◌+◌, ◌^◌, ◌<◌, ◌≤◌, All, length};
+ghost use Rattle.std.specs.Prelude.{◌+◌, ◌^◌, ◌<◌, ◌≤◌, All, length};
 ghost use Rattle.std.specs.List.{concat};
 ghost use Rattle.sabr_model.specs.Devices.{WritesText};
 ghost use Rattle.sabr_plan.specs.Times.{last_spelled};
