@@ -72,8 +72,8 @@ impl<'p, B: BestOf<A>, A: Allocator + Copy> Loader<'p, B, A> {
 
     /// Adds a part after the others: its prefix, the numbers that it excludes, and the route that it carries, if any.
     ///
-    /// Where the prefix leads is known from the part that made it. Each excluded number and the carried route are
-    /// followed from there. The time grows with the square of their hops.
+    /// Where the prefix leads is known from the part that made it. The carried route is followed from there, and so is
+    /// each excluded number, whose receiver is looked for in the prefix. So each takes a time that grows with its hops.
     ///
     /// # Errors
     ///
