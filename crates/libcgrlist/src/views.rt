@@ -75,7 +75,8 @@ fn counted(opened: &mut Opened) -> Counts
     }
 }
 
-/// Gives the standing contact with this number, if there is one. Its light time is the one that the plan stores.
+/// Gives the standing contact with this number, if there is one. Its light time is the one that the plan stores, if it
+/// stores any.
 fn give_contact(plan: &Plan<Global>, number: u32, row: &mut ContactRow) -> u32
     ensures { Gives plan.now.plan (contact_named plan.now.plan number) result row.old row.new }
 {

@@ -39,12 +39,12 @@ pub struct NextHop<'p> {
 /// in a loop of plain Rust.
 const FEW: usize = 16;
 
-/// Where a path leads, and the nodes that it met on its way. It goes on by a contact in constant time.
+/// Where a path leads, and the nodes that it met on its way. With a set of them, it goes on by a contact in constant time.
 #[derive(Clone, Copy)]
 pub struct FollowedPath {
     /// Where the path leads, and when.
     pub here: Reached,
-    /// The receivers of its contacts. None for a path in a short list: there the contacts themselves are looked through.
+    /// The receivers of its contacts. Without this set, the contacts are looked through for a receiver.
     met: Option<NodeSet>,
 }
 
