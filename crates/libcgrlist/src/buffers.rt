@@ -3,6 +3,8 @@
 
 ghost use Rattle.std.specs.Prelude.{◌≡◌, ◌+◌, ◌<◌, ◌≤◌, ◌++◌, ◌∷◌, [], drop, length, take};
 ghost use Rattle.std.specs.List.{All};
+ghost use Rattle.sabr_model.specs.routes.Asking.{most_hops};
+ghost use Rattle.sabr_frontier.specs.listing.Listing.{most_routes};
 ghost use Rattle.libcgrlist.specs.Buffers.{PutsWhole, IsPage, IsWritten, buffers, contacts_of, row_of};
 
 use crate::status::{DONE, ROOM};
@@ -85,8 +87,8 @@ fn write_fitting(routes: &[Route<Global>], rows: &mut [RouteRow], contacts: &mut
 
 /// Counts the contact numbers of routes.
 fn count_contacts(routes: &[Route<Global>]) -> usize
-    requires few { length routes.now ≤ 10000 }
-    requires short { All (λ a. length a.contacts ≤ 20000) routes.now }
+    requires few { length routes.now ≤ most_routes }
+    requires short { All (λ a. length a.contacts ≤ most_hops) routes.now }
     ensures { result ≡ length (contacts_of routes.now) }
 {
     let mut count = 0;
@@ -103,8 +105,8 @@ pub fn write_routes(
     rows: &mut [RouteRow],
     contacts: &mut [u32],
 ) -> Page
-    requires few { length routes.now ≤ 10000 }
-    requires short { All (λ a. length a.contacts ≤ 20000) routes.now }
+    requires few { length routes.now ≤ most_routes }
+    requires short { All (λ a. length a.contacts ≤ most_hops) routes.now }
     ensures { IsPage routes.now more (buffers rows.old contacts.old) (buffers rows.new contacts.new) result }
 {
     Page {

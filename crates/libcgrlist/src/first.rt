@@ -105,7 +105,7 @@ pub extern "C" fn cgrlist_first(
         return CLOSED;
     }
     let mut held = handle.take(alloc);
-    held.settle();
+    held.insert_ranges();
     if MAX_ROUTES < count {
         handle.give(held);
         return VALUE_COUNT;

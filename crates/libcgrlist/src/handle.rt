@@ -28,7 +28,7 @@ macro_rules! over_plan {
             return CLOSED;
         }
         let mut held = $handle.take($alloc);
-        held.settle();
+        held.insert_ranges();
         let $opened = &mut held.opened;
         let made = $call;
         $handle.give(held);

@@ -43,10 +43,10 @@ impl Held {
     }
 
     /// Inserts the ranges of the tree into the plan. It doesn't allocate.
-    pub fn settle(&mut self)
+    pub fn insert_ranges(&mut self)
         requires { CanGrow self.old }
         ensures opened { self.new.opened ≡ standing self.old }
-        ensures settled { self.new.growing ≡ None }
+        ensures inserted { self.new.growing ≡ None }
     {
         if self.growing.is_none() {
             return;

@@ -184,7 +184,7 @@ pub extern "C" fn cgrlist_listing_next(
         return CLOSED;
     }
     let mut held = handle.take(alloc);
-    held.settle();
+    held.insert_ranges();
     // NO_LISTING comes before VALUE_COUNT, and that before MEMORY. Each return gives the plan back.
     if !held.opened.has_listing() {
         handle.give(held);

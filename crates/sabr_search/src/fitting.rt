@@ -28,7 +28,7 @@ fn enters<A: Allocator + Copy>(plan: &Plan<A>, numbers: &[u32], node: u64) -> bo
 /// no avoided node and not to the destination, and is within the limit on hops. The empty prefix fits. The excluded
 /// numbers don't matter. (No node twice, and the limits, are this project's profile.)
 ///
-/// It doesn't allocate. Its time grows with the square of the number of contacts in the prefix.
+/// It doesn't allocate. Its time grows with the number of contacts in the prefix.
 pub fn fits<A: Allocator + Copy>(plan: &Plan<A>, request: &Request, part: Part<'_>) -> bool
     ensures { result ≡ is_prefix plan.now.plan request.now part.entry.prefix.now }
 {

@@ -44,7 +44,7 @@ impl<A: Allocator + Copy> LayerSearch<A> {
     }
 
     /// Returns the best way of a question, by layers forward for the earliest delivery and layers backward for its way.
-    /// No way comes to a node before its second in `soon`.
+    /// For each node, `soon` has a second before which no way comes there.
     #[tactic(auto, using(crate::proofs::AnswerLemmas::Answered::left_fewer))]
     pub fn best_of(
         &mut self,

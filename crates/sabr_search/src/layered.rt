@@ -67,7 +67,7 @@ impl<A: Allocator + Copy> Layered<A> {
         self.looks = looks;
     }
 
-    /// The best route after the prefix, by layers alone. No way comes to a node before its second in `since`.
+    /// The best route after the prefix, by layers alone.
     fn best_after(
         &mut self,
         task: &Task<'_, A>,

@@ -84,7 +84,7 @@ impl<'p, B: BestOf<A>, A: Allocator + Copy> Session<'p, B, A> {
 
 impl<A: Allocator + Copy> Tree<A> {
     /// Gives the next `count` routes, or all that are left if they are fewer, and returns whether a route is left after
-    /// them. It borrows what [`last_page`](Session::last_page) owns.
+    /// them. The tree is borrowed, so that contracts can speak of it before and after.
     fn give_last_page<B: BestOf<A>>(
         &mut self,
         searcher: &mut Searcher<'_, B, A>,
