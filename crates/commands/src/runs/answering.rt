@@ -113,7 +113,7 @@ impl<'p, A: Allocator + Copy> Answering<'p, A> {
     }
 
     /// Writes the answer to the request of this line, with `count` routes. All of them are found first.
-    fn list<O: Write>(
+    fn answer_request<O: Write>(
         &mut self,
         line: &[u8],
         request: Request,
@@ -149,10 +149,10 @@ impl<'p, A: Allocator + Copy> Answering<'p, A> {
     {
         match kind {
             AnswerKind::FirstRoutes(count) => match request_in(line) {
-                Ok(request) => self.list(line, request, count, out),
+                Ok(request) => self.answer_request(line, request, count, out),
                 Err(_) => Ok(()),
             },
-            AnswerKind::Explanation => explain(self.alloc, self.plan, line, out),
+            AnswerKind::Explanation => answer_list(self.alloc, self.plan, line, out),
         }
     }
 }
@@ -174,7 +174,7 @@ fn write_answer<O: Write, A: Allocator + Copy>(
 }
 
 /// Writes the answer to a line of lists. One that has a fault gets none.
-fn explain<O: Write, A: Allocator + Copy>(
+fn answer_list<O: Write, A: Allocator + Copy>(
     alloc: A,
     plan: &Plan<A>,
     line: &[u8],

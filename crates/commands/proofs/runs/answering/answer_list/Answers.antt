@@ -4,7 +4,7 @@ use Rattle.std.specs.Prelude.{IfOk, IfSome}
 use Rattle.std.specs.Result.{result_ok}
 use Rattle.commands.specs.declared.words.lines.LineKind.{LineKind}
 use Rattle.commands.specs.words.Lines.{Asked, list_in, seen_list}
-use Rattle.commands.proofs.runs.answering.explain.Goals as goal
+use Rattle.commands.proofs.runs.answering.answer_list.Goals as goal
 
 -- what holds of all holds of what a line asks
 of_all : (r : Result Asked LineKind) (P : Asked → Type 0) → ((a : Asked) → P a) → IfOk r P

@@ -1,6 +1,6 @@
 use Rattle.std.proofs.Common.{refl}
 use Rattle.std.proofs.lemmas.Result.{err_from_is_err_and}
-use Rattle.commands.proofs.runs.answering.Answering.list.Goals as goal
+use Rattle.commands.proofs.runs.answering.Answering.answer_request.Goals as goal
 
 pub returns-in_err-last-clause-answer : goal.returns-in_err-last-clause-answer
 returns-in_err-last-clause-answer g c =
