@@ -77,8 +77,8 @@ pub struct Answer<A: Allocator + Copy = Global> {
     pub found: Found<u64>,
     /// Which nodes the question forbids.
     pub breadth: Breadth,
-    /// The place of the answer that was put into the same bucket before; past the slots if there is none.
-    pub next: usize,
+    /// The place of the answer that was put into the same bucket before.
+    pub next: Option<u32>,
 }
 
 /// Answers in slots, the oldest of which is the next to go, and by bucket the place of the latest.
@@ -92,7 +92,7 @@ pub struct Answers<A: Allocator + Copy = Global> {
     pub slots: Vec<Answer<A>, A>,
     /// The slot of the oldest answer, once all are filled.
     oldest: usize,
-    /// By bucket the place of the latest answer; past the slots if there is none.
+    /// By bucket the place of the latest answer plus 1, or 0 if there is none: half the memory of options.
     heads: Vec<u32, A>,
     /// The memory of an answer that went, for the next one.
     spare: Lists<A>,
@@ -256,12 +256,9 @@ impl<A: Allocator + Copy> Answers<A> {
         !self.slots.is_empty() && is_cached(asked)
     }
 
-    /// The place of the latest answer in a bucket; past the slots if there is none.
-    fn head(&self, bucket: usize) -> usize {
-        match self.heads.get(bucket) {
-            Some(head) => *head as usize,
-            None => SLOTS,
-        }
+    /// The place of the latest answer in a bucket.
+    fn head(&self, bucket: usize) -> Option<u32> {
+        self.heads.get(bucket)?.checked_sub(1)
     }
 
     /// The place of an answer that is the answer to this question, too; or else the near miss whose question forbade
@@ -272,10 +269,14 @@ impl<A: Allocator + Copy> Answers<A> {
         ensures { IfSome result.place (AnswersAt self.now.slots.items asked.now) }
     {
         let mut near: Option<NearMiss<'_>> = None;
-        let mut place = self.head(bucket_of(asked.task));
+        let mut next = self.head(bucket_of(asked.task));
         for _ in 0..COMPARED {
+            let Some(place) = next else {
+                break;
+            };
+            let place = place as usize;
             let Some(answer) = self.slots.get(place) else {
-                return Recalled { place: None, near };
+                break;
             };
             let mut passed = None;
             if answer.answers(asked, looks, &mut passed) {
@@ -288,7 +289,7 @@ impl<A: Allocator + Copy> Answers<A> {
                 let forbidden = answer.lists.forbidden();
                 near = more_forbidden(near, NearMiss { forbidden, node });
             }
-            place = answer.next;
+            next = answer.next;
         }
         Recalled { place: None, near }
     }
@@ -319,7 +320,7 @@ impl<A: Allocator + Copy> Answers<A> {
         ensures { self.new.slots ≡ self.old.slots }
     {
         if self.heads.is_empty() {
-            return self.heads.resize(SLOTS, SLOTS as u32).is_ok();
+            return self.heads.resize(SLOTS, 0).is_ok();
         }
         true
     }
@@ -348,7 +349,7 @@ impl<A: Allocator + Copy> Answers<A> {
         ensures { self.new.slots ≡ self.old.slots }
     {
         if bucket < self.heads.len() {
-            self.heads[bucket] = place.min(SLOTS) as u32;
+            self.heads[bucket] = place.min(SLOTS) as u32 + 1;
         }
     }
 

@@ -7,14 +7,14 @@ use Rattle.sabr_search.proofs.early.answers.Answers.recall.Goals as goal
 pub answers-requires-clause-answer : goal.answers-requires-clause-answer
 answers-requires-clause-answer g c =
     let task = c.args.asked.now.task.now in
-    let answer = c.in-Some.answer.now in
-    let lookup = rw c.deref.ensures.value at c.in-Some.ensures.lookup in
-    subst (IsAnswer (tabled_of task) task.request) (sym lookup.1) (c.requires.cached c.loop.place answer lookup.3.0)
+    let answer = c.in-Some-get.answer.now in
+    let lookup = rw c.deref.ensures.value at c.in-Some-get.ensures.lookup in
+    subst (IsAnswer (tabled_of task) task.request) (sym lookup.1) (c.requires.cached c.in-Some.place answer lookup.3.0)
 
 pub returns-then-answers : goal.returns-then-answers
 returns-then-answers g c =
     let items = c.deref.result.now in
-    let answer = c.in-Some.answer.now in
-    let lookup = c.in-Some.ensures.lookup in
-    let there : slice_get items c.loop.place ≡ Some answer = slice_get-get_or items c.loop.place answer lookup.3.0 ∙ ap Some (sym lookup.1) in
+    let answer = c.in-Some-get.answer.now in
+    let lookup = c.in-Some-get.ensures.lookup in
+    let there : slice_get items c.in-Some.place ≡ Some answer = slice_get-get_or items c.in-Some.place answer lookup.3.0 ∙ ap Some (sym lookup.1) in
     (answer, rw c.deref.ensures.value at there, c.if-answers.ensures refl)
