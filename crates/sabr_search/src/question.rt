@@ -4,10 +4,8 @@ ghost use Rattle.std.specs.Prelude.{◌≡◌, ℕ, ◌++◌, ◌+◌, ◌-◌, 
 ghost use Rattle.sabr_model.specs.routes.Telling.{summary_of};
 ghost use Rattle.sabr_search.specs.questions.Task.{IsAsked, IsTask};
 ghost use Rattle.sabr_search.specs.layers.Picks.{IsBestWay};
-ghost use Rattle.sabr_search.specs.answers.Answers.{IsWayBeyond};
-ghost use Rattle.sabr_search.specs.answers.Asked.{bound_left, hops_left};
-ghost use Rattle.sabr_search.specs.answers.Asked.{IsCutBefore, IsCutAfter};
-ghost use Rattle.sabr_search.specs.answers.Answers.{IsEnough, IsFound, found_hops, hops_above};
+ghost use Rattle.sabr_search.specs.answers.Answers.{IsWayBeyond, IsEnough, IsFound, found_hops, hops_above};
+ghost use Rattle.sabr_search.specs.answers.Asked.{bound_left, hops_left, IsCutBefore, IsCutAfter};
 ghost use Rattle.sabr_search.specs.questions.Bounded.{IsSought, IsWhole, sought_hops, is_up_to};
 ghost use Rattle.sabr_index.specs.Looks.{looks_taken};
 

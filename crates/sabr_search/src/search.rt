@@ -3,17 +3,14 @@
 ghost use Rattle.std.specs.Prelude.{◌≡◌, ◌+◌, ◌*◌, ◌^◌, ◌≤◌, ◌<◌, IfOk, IfSome, length};
 ghost use Rattle.sabr_index.specs.Looks.{looks_taken};
 ghost use Rattle.sabr_model.specs.routes.Telling.{summary_of};
-ghost use Rattle.sabr_search.specs.answers.Answers.{narrowed};
-ghost use Rattle.sabr_search.specs.answers.Asked.{AnswersAt, bound_left, hops_left};
-ghost use Rattle.sabr_search.specs.answers.Asked.{IsEarly};
-ghost use Rattle.sabr_search.specs.answers.Answers.{IsEnough, IsFound, found_hops};
+ghost use Rattle.sabr_search.specs.answers.Answers.{narrowed, IsEnough, IsFound, found_hops, ForbidsFewer};
+ghost use Rattle.sabr_search.specs.answers.Asked.{AnswersAt, bound_left, hops_left, IsEarly};
 ghost use Rattle.sabr_search.specs.answers.SearchCache.{IsMemory};
 ghost use Rattle.sabr_search.specs.layers.Late.{AreSince, IsNoneSooner};
 ghost use Rattle.sabr_search.specs.layers.NodeBounds.{AreNodeBounds};
 ghost use Rattle.sabr_search.specs.questions.Bounded.{IsSought, IsCutUpTo, IsWhole, sought_hops};
 ghost use Rattle.sabr_search.specs.questions.FirstSteps.{tabled_of};
 ghost use Rattle.sabr_search.specs.questions.Task.{IsAsked, IsOfRequest, IsTask};
-ghost use Rattle.sabr_search.specs.answers.Answers.{ForbidsFewer};
 ghost use Rattle.sabr_search.specs.questions.Stops.{StopsOnlyIf};
 
 use crate::backward::since::Since;

@@ -1,7 +1,7 @@
 -- The lists of layers that are made backward: one write in a list, and one node that is noted to be too late later than
 -- before.
 use Rattle.std.proofs.Common.{◌≡◌, ℕ, zero, suc, ◌<◌, ◌∷◌, [], List, length, false, Some, slice_get, slice_index, slice_index_or, slice_set, refl, ap, arith, ◌≢◌, ◌⊎◌, inl, inr, ◌-◌, ◌≤◌, ◌++◌, take, sym, ◌∙◌, length-append}
-use Rattle.std.proofs.lemmas.Bool.{both_ways, cases_lt, cases_eq}
+use Rattle.std.proofs.lemmas.Bool.{cases_lt, cases_eq}
 use Rattle.std.proofs.lemmas.Grind.{common_steps}
 use Rattle.sabr_search.specs.questions.Task.{SearchTask, IsTask, Takes}
 use Rattle.std.proofs.lemmas.Option.{slice_get_within}
@@ -27,9 +27,6 @@ get_set_other (y ∷ xs) (suc k) (suc j) x other = get_set_other xs k j x (λ sa
 
 pub set_other : (xs : List ℕ) (k j b : ℕ) → (j ≡ k → ⊥) → slice_index (slice_set xs k b) j ≡ slice_index xs j
 set_other xs k j b other = grind (arith, common_steps)
-
-pub not_start : (task : SearchTask) → IsTask task → (k : ℕ) → slice_index_or task.forbidden k false ≡ false → k ≡ task.start → ⊥
-not_start task is k permitted same = both_ways (slice_index_or task.forbidden task.start false) (rw same at permitted) is.start_forbidden
 
 pub get_push_here : {X : Type 0} (xs : List X) (y : X) → slice_get (xs ++ y ∷ []) (length xs) ≡ Some y
 get_push_here [] y = refl

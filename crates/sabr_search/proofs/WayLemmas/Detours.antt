@@ -4,7 +4,7 @@ use Rattle.std.specs.Prelude.{IfSome, IsTrue, Option, is_some}
 use Rattle.std.proofs.lemmas.Bool.{and_from, ne_eqb, not_from_false, or_from}
 use Rattle.sabr_model.specs.plan.Plan.{ContactPlan, are_different, has}
 use Rattle.sabr_model.specs.routes.Arrival.{RouteRequest}
-use Rattle.sabr_model.specs.routes.Route.{is_prefix, is_route, receivers}
+use Rattle.sabr_model.specs.routes.Route.{is_prefix, is_route}
 use Rattle.sabr_model.proofs.ListLemmas.Begins.{receivers-cons}
 use Rattle.sabr_model.proofs.RouteLemmas.Prefixes.{beginning_is_prefix}
 use Rattle.sabr_model.proofs.RouteLemmas.Routes.{route_facts}

@@ -29,12 +29,6 @@ module _ (T : StepRelation) (timely : IsTimely T) where
       let rest = Leads-earlier ns h.0 h.1 v e first.0 h.3 first.1 in
       (rest.0, rest.1, (h.0, first.0, first.2, rest.2))
 
-  pub Leads-one : (ns : List ℕ) (u t v e w f : ℕ) → Leads T u t ns v e → Leads T u t ns w f → (v ≡ w) × (e ≡ f)
-  Leads-one [] u t v e w f h k = (sym h.0 ∙ k.0, sym h.1 ∙ k.1)
-  Leads-one (n ∷ ns) u t v e w f h k =
-      let same = timely.one n u t h.0 h.1 k.0 k.1 h.2 k.2 in
-      Leads-one ns h.0 h.1 v e w f h.3 (rw (same.0, same.1) k.3)
-
 -- if fewer hops come later, a way with which the goal is reached by d comes to no node twice
 pub no_return : (T : StepRelation) → IsTimely T → (start at goal r d : ℕ) → ((ns : List ℕ) (e : ℕ) → length ns < r → Leads T start at ns goal e → d < e) →
     (xs ys zs : List ℕ) (v t s e : ℕ) → Leads T start at xs v t → Leads T v t ys v s → Leads T v s zs goal e → e ≤ d → length xs + length ys + length zs ≡ r → 0 < length ys → ⊥

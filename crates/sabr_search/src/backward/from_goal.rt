@@ -4,8 +4,7 @@
 ghost use Rattle.std.specs.Prelude.{◌≡◌, ◌≢◌, ℕ, ◌+◌, ◌*◌, ◌^◌, ◌≤◌, ◌<◌, length, true, false, IsTrue, slice_get, slice_index, slice_index_or, slice_set, Some, None, OnOk, IfOk, [], ◌∷◌};
 ghost use Rattle.sabr_search.specs.questions.Task.{IsTask, never};
 ghost use Rattle.sabr_search.specs.questions.Stops.{StopsOnlyIf};
-ghost use Rattle.sabr_search.specs.questions.Linked.{received};
-ghost use Rattle.sabr_search.specs.questions.Linked.{IsLinkWithin};
+ghost use Rattle.sabr_search.specs.questions.Linked.{received, IsLinkWithin};
 ghost use Rattle.sabr_search.specs.layers.Deadlines.{IsApart, head_of};
 ghost use Rattle.sabr_search.specs.questions.FirstSteps.{AreFirstSteps};
 ghost use Rattle.sabr_search.specs.layers.Settling.{AreReal};

@@ -8,9 +8,8 @@
 mod lists;
 
 ghost use Rattle.std.specs.Prelude.{◌≡◌, ◌^◌, ◌≤◌, ◌<◌, [], Some, All, IfSome, IsTrue, length, slice_get, slice_set, false};
-ghost use Rattle.sabr_search.specs.questions.FirstSteps.{Leads};
+ghost use Rattle.sabr_search.specs.questions.FirstSteps.{Leads, tabled_of};
 ghost use Rattle.sabr_search.specs.questions.Task.{IsTask, IsAsked, IsOfRequest, Takes};
-ghost use Rattle.sabr_search.specs.questions.FirstSteps.{tabled_of};
 ghost use Rattle.sabr_search.specs.answers.Asked.{AnswersAt, bound_left, hops_left};
 ghost use Rattle.sabr_search.specs.answers.Answers.{IsFound};
 ghost use Rattle.sabr_search.specs.answers.CachedAnswers.{AllForbidden, Covers, IsAnswerTo, IsAnswer, IsPut, AreAnswers, is_cached_after, most_answers};

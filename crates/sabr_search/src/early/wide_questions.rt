@@ -2,8 +2,7 @@
 
 ghost use Rattle.std.specs.Prelude.{IfOk, IfSome, OnOk};
 ghost use Rattle.sabr_search.specs.questions.Task.{IsTask, IsOfRequest};
-ghost use Rattle.sabr_search.specs.answers.Answers.{narrowed};
-ghost use Rattle.sabr_search.specs.answers.Answers.{ForbidsFewer};
+ghost use Rattle.sabr_search.specs.answers.Answers.{narrowed, ForbidsFewer};
 
 use crate::early::answers::NearMiss;
 use crate::prefix_path::closed::forbid_closed;

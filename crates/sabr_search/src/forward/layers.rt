@@ -1,13 +1,11 @@
 //! Hop layers, made forward: for each number of hops, the nodes that it reaches earlier than fewer do, and when.
 
-ghost use Rattle.std.specs.Prelude.{◌≡◌, ◌≢◌, ◌⊎◌, IsTrue, min, ℕ, [], ◌∷◌, ◌+◌, ◌*◌, ◌^◌, ◌≤◌, ◌<◌, length, take, slice_set, slice_index, slice_index_or, true, false, OnOk, IfOk};
-ghost use Rattle.sabr_search.specs.questions.Task.{IsTask, Takes, never, latest_arrival};
-ghost use Rattle.sabr_search.specs.questions.Linked.{degree};
+ghost use Rattle.std.specs.Prelude.{◌≡◌, ◌⊎◌, ℕ, [], ◌∷◌, ◌+◌, ◌*◌, ◌^◌, ◌≤◌, ◌<◌, length, take, slice_set, slice_index, slice_index_or, false, OnOk, IfOk};
+ghost use Rattle.sabr_search.specs.questions.Task.{IsTask, Takes, latest_arrival};
+ghost use Rattle.sabr_search.specs.questions.Linked.{degree, IsLinkWithin, HasNumber};
 ghost use Rattle.sabr_search.specs.questions.Stops.{StopsOnlyIf};
-ghost use Rattle.sabr_search.specs.questions.Linked.{IsLinkWithin, HasNumber};
-ghost use Rattle.sabr_search.specs.layers.Lists.{IsPlaced, StayLinked, IsLayer, AddsGiven, AreLists, AreLowered, IsKnown, AreSources, GivenAt, GivenFrom, IsKnownFrom, IsBroughtTo};
+ghost use Rattle.sabr_search.specs.layers.Lists.{IsPlaced, StayLinked, IsLayer, AddsGiven, AreLists, AreLowered, IsKnown, AreSources, GivenAt, GivenFrom, IsKnownFrom, IsBroughtTo, IsMade};
 ghost use Rattle.sabr_search.specs.questions.FirstSteps.{IsNoneBefore};
-ghost use Rattle.sabr_search.specs.layers.Lists.{AreOpened, IsMade};
 
 use crate::forward::arrivals::{initial_arrivals, news_before};
 use crate::found::Best;

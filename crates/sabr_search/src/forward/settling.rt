@@ -4,8 +4,7 @@ ghost use Rattle.std.specs.Prelude.{◌≡◌, ◌≢◌, ℕ, min, [], ◌+◌,
 ghost use Rattle.sabr_search.specs.questions.Task.{IsTask, Takes, latest_arrival};
 ghost use Rattle.sabr_search.specs.questions.Stops.{StopsOnlyIf};
 ghost use Rattle.sabr_search.specs.questions.Linked.{AreLinksAt, IsLinkWithin, HasNumber};
-ghost use Rattle.sabr_search.specs.layers.Lists.{IsKnown};
-ghost use Rattle.sabr_search.specs.layers.Lists.{AreOpened};
+ghost use Rattle.sabr_search.specs.layers.Lists.{IsKnown, AreOpened};
 ghost use Rattle.sabr_search.specs.questions.FirstSteps.{AreFirstSteps};
 ghost use Rattle.sabr_search.specs.layers.Settling.{IsBound, AreReal, IsReached, StaySettling, StaySettled, IsKnownOver, IsFallen, AreSettledTaken};
 

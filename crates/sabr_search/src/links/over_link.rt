@@ -4,9 +4,8 @@ ghost use Rattle.std.specs.Prelude.{◌≡◌, ◌⊎◌, ℕ, ◌+◌, ◌^◌,
 ghost use Rattle.sabr_index.specs.declared.link.Pass.{Pass};
 ghost use Rattle.sabr_model.specs.routes.Hops.{IsSmall};
 ghost use Rattle.sabr_search.specs.questions.Task.{IsTask, Takes};
-ghost use Rattle.sabr_search.specs.questions.Linked.{IsHopAt};
+ghost use Rattle.sabr_search.specs.questions.Linked.{IsHopAt, IsPassAt, IsLinkWithin, IsLinkHere, AreLinksAt, HasNumber, IsRuledOut};
 ghost use Rattle.sabr_index.specs.Links.{AreInOrder};
-ghost use Rattle.sabr_search.specs.questions.Linked.{IsPassAt, IsLinkWithin, IsLinkHere, AreLinksAt, HasNumber, IsRuledOut};
 
 use crate::links::finger::Finger;
 use crate::task::Task;
