@@ -15,7 +15,7 @@ pub struct Deadline {
 }
 
 /// Layers made backward from the goal, and what is known of each node. A node's entries are a linked list, the last one
-/// first: `head` and `fewer` give an entry's place plus 1, and 0 ends the list.
+/// first: `head` and `fewer` give the place after the next one, and no entry is below place 0.
 #[derive(Drop)]
 pub struct Deadlines<A: Allocator + Copy> {
     /// The allocator of the buffers.
@@ -26,7 +26,7 @@ pub struct Deadlines<A: Allocator + Copy> {
     pub place: Vec<usize, A>,
     /// The entries, layer by layer; the first is the goal's.
     pub entries: Vec<Deadline, A>,
-    /// For each entry, the place plus 1 of the same node's previous entry, which has fewer hops; 0 if there is none.
+    /// For each entry, the place after the same node's previous entry, which has fewer hops; 0 if there is none.
     pub fewer: Vec<usize, A>,
     /// Where layers end, after a 0: layer h has the entries from `ends[h]` to before `ends[h + 1]`.
     pub ends: Vec<usize, A>,
@@ -45,7 +45,7 @@ impl<A: Allocator + Copy> Deadlines<A> {
         }
     }
 
-    /// Returns the place plus 1 of a node's last entry; 0 if it has none.
+    /// Returns the place after a node's last entry; 0 if it has none.
     #[inline(always)]
     pub fn head(&self, node: usize) -> usize
         requires late { node < length self.now.late.items }
