@@ -189,9 +189,7 @@ impl<'a, A: Allocator + Copy> Task<'a, A> {
         ensures looks { looks.old.left ≡ looks.new.left + 1 }
         ensures some { IfSome result (Arrives self.now number at) }
     {
-        let Some(hop) = self.index.hop(looks, number) else {
-            return None;
-        };
+        let hop = self.index.hop(looks, number)?;
         if self.forbidden.flags()[hop.receiver] {
             *passed = Some(hop.receiver);
             return None;

@@ -305,9 +305,7 @@ impl<A: Allocator + Copy> Answers<A> {
         ensures { IfSome result (AnswersAt self.now.slots.items asked.now) }
     {
         let mut passed = None;
-        let Some(answer) = self.slots.get(place) else {
-            return None;
-        };
+        let answer = self.slots.get(place)?;
         if answer.answers(asked, looks, &mut passed) {
             return Some(place);
         }
@@ -406,12 +404,8 @@ impl<A: Allocator + Copy> Answers<A> {
             return None;
         }
         let bucket = bucket_of(asked.task);
-        let Some(answer) = self.made(asked, found, breadth, bucket) else {
-            return None;
-        };
-        let Some(place) = self.put(answer) else {
-            return None;
-        };
+        let answer = self.made(asked, found, breadth, bucket)?;
+        let place = self.put(answer)?;
         self.put_head(bucket, place);
         Some(place)
     }
