@@ -95,9 +95,7 @@ fn take_pass<A: Allocator + Copy>(
         return None;
     }
     let hop = task.hop_over(to, &pass);
-    let Some(at) = hop.arrive(task.request(), here.at) else {
-        return None;
-    };
+    let at = hop.arrive(task.request(), here.at)?;
     Some(Step {
         number: pass.number(),
         node: to,
