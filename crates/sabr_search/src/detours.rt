@@ -113,17 +113,6 @@ impl<'t, 'a, 'f, A: Allocator + Copy> RouteEnd<'t, 'a, 'f, A> {
         RouteEnd { task, front, last }
     }
 
-    /// Where and when the last contact is taken.
-    fn here(&self) -> Visit
-        ensures node { result.node ≡ self.now.task.now.start }
-        ensures at { result.at ≡ self.now.task.now.at }
-    {
-        Visit {
-            node: self.task.start(),
-            at: self.task.at(),
-        }
-    }
-
     /// Returns true if the route may end on the last contact to the destination in place of its own.
     fn ends_directly(&self, looks: &mut Looks) -> bool
         requires few { 0 < looks.old.left }
@@ -134,7 +123,7 @@ impl<'t, 'a, 'f, A: Allocator + Copy> RouteEnd<'t, 'a, 'f, A> {
         ensures both { IsTrue result → looks.new.left + 1 ≤ looks.old.left }
     {
         let task = self.task;
-        let here = self.here();
+        let here = task.beginning();
         let goal = task.goal();
         let Some(pass) = last_pass(task, here.node, goal) else {
             return false;
@@ -169,7 +158,7 @@ impl<'t, 'a, 'f, A: Allocator + Copy> RouteEnd<'t, 'a, 'f, A> {
         if !task.is_between(link.to) {
             return false;
         }
-        let here = self.here();
+        let here = task.beginning();
         let goal = task.goal();
         let unended = link
             .passes

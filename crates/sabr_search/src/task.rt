@@ -134,6 +134,16 @@ impl<'a, A: Allocator + Copy> Task<'a, A> {
         self.at
     }
 
+    /// Where and when the search starts.
+    pub fn beginning(&self) -> Visit
+        ensures { result ≡ record { node = self.now.start; at = self.now.at } }
+    {
+        Visit {
+            node: self.start,
+            at: self.at,
+        }
+    }
+
     /// The node to which the search goes.
     pub fn goal(&self) -> usize
         ensures { result ≡ self.now.goal }

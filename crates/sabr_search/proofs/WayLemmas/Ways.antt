@@ -1,5 +1,5 @@
 -- Ways, joined and taken apart, and what a pick of the smallest numbers says.
-use Rattle.std.proofs.Common.{◌≡◌, ℕ, ◌≤◌, List, [], ◌∷◌, ◌++◌, refl, sym, ◌∙◌, arith, ◌+◌, ◌<◌, length, length-append}
+use Rattle.std.proofs.Common.{◌≡◌, ℕ, ◌≤◌, List, [], ◌∷◌, ◌++◌, refl, arith, ◌+◌, ◌<◌, length, length-append}
 use Rattle.sabr_search.specs.questions.FirstSteps.{StepRelation, Leads}
 
 -- no step goes back in time, a bundle that comes earlier arrives, too, and no later, and a number names one step

@@ -85,10 +85,7 @@ impl<A: Allocator + Copy> Walk<A> {
                 node: step.node,
                 at: step.at,
             },
-            None => Visit {
-                node: task.start(),
-                at: task.at(),
-            },
+            None => task.beginning(),
         }
     }
 

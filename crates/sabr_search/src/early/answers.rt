@@ -155,10 +155,7 @@ impl<A: Allocator + Copy> Answer<A> {
         requires way { self.now.found ≡ Found.Way delivery }
         ensures { IsTrue result → Leads (Takes task.now) task.now.start task.now.at self.now.lists.way task.now.goal delivery }
     {
-        let mut from = Visit {
-            node: task.start(),
-            at: task.at(),
-        };
+        let mut from = task.beginning();
         let way = self.lists.way();
         for place in 0..way.len() {
             if looks.left() == 0 {
@@ -373,12 +370,8 @@ impl<A: Allocator + Copy> Answers<A> {
         let Ok(()) = lists.set(task.excluded(), task.forbidden_nodes(), way) else {
             return None;
         };
-        let from = Visit {
-            node: task.start(),
-            at: task.at(),
-        };
         Some(Answer {
-            from,
+            from: task.beginning(),
             hops: asked.hops_left(),
             lists,
             found,

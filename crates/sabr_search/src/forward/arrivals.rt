@@ -96,14 +96,10 @@ impl<'a, A: Allocator + Copy> Task<'a, A> {
         requires task { IsTask self.now }
         ensures counted { looks.old.left ≤ looks.new.left + degree self.now self.now.start }
         ensures stops { StopsOnlyIf result (looks.old.left < degree self.now self.now.start) }
-        ensures inside { OnOk result ((k : ℕ) (s : Visit) → slice_get first.new.items k ≡ Some s → s.node < length self.now.table) }
         ensures real { OnOk result (AreReal self.now first.new.items) }
         ensures all { OnOk result (AreFirstSteps self.now first.new.items) }
     {
-        let from = Visit {
-            node: self.start(),
-            at: self.at(),
-        };
+        let from = self.beginning();
         first.clear();
         let links = self.links(from.node);
         for place in 0..links.links.len() {

@@ -12,7 +12,7 @@ use crate::found::Best;
 use crate::links::over_link::{WalkedLink, rules_out};
 use crate::stopped::Stopped;
 use crate::task::Task;
-use crate::visit::{NEVER, Visit};
+use crate::visit::Visit;
 use sabr_index::Looks;
 use sabr_model::NoMemory;
 use std::alloc::Allocator;
@@ -234,10 +234,7 @@ impl<A: Allocator + Copy> Layers<A> {
         self.place.clear();
         self.place.resize(task.forbidden().len(), 0)?;
         self.reached.clear();
-        self.reached.push(Visit {
-            node: task.start(),
-            at: task.at(),
-        })?;
+        self.reached.push(task.beginning())?;
         Ok(())
     }
 

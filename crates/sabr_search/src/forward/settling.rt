@@ -236,7 +236,6 @@ impl<A: Allocator + Copy> Settling<A> {
         requires bound { IsBound forward.now.task.now forward.now.until forward.now.late.now forward.now.costs.now }
 
         // All first steps.
-        requires inside { (k : ℕ) (s : Visit) → slice_get first.now k ≡ Some s → s.node < length forward.now.task.now.table }
         requires steps { AreFirstSteps forward.now.task.now first.now }
         requires real { AreReal forward.now.task.now first.now }
 
@@ -250,10 +249,7 @@ impl<A: Allocator + Copy> Settling<A> {
         ensures settled { self.new.settled.items ≡ slice_set self.old.settled.items forward.now.task.now.start true }
         ensures state { IfOk result (StaySettled forward.now self.new) }
     {
-        let event = Visit {
-            at: forward.task.at(),
-            node: forward.task.start(),
-        };
+        let event = forward.task.beginning();
         self.hops[event.node] = 0;
         self.settled[event.node] = true;
         let mut best = Best::none(forward.until);

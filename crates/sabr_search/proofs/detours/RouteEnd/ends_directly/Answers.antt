@@ -10,7 +10,7 @@ pub returns-clause-yes : goal.returns-clause-yes
 returns-clause-yes g c so =
     let end = c.args.self.now in
     let found = c.in-Some-take_pass.step in
-    let step = rw (c.here-here.ensures.node, c.here-here.ensures.at, c.goal-goal.ensures) at (c.in-Some-take_pass.ensures {u = tt}).takes in
+    let step = rw (c.beginning-here.ensures, c.goal-goal.ensures) at (c.in-Some-take_pass.ensures {u = tt}).takes in
     record {
       n = found.number;
       rest = [];

@@ -7,13 +7,13 @@ use Rattle.sabr_search.proofs.detours.RouteEnd.takes.Goals as goal
 
 pub take_pass-requires-clause-pass : goal.take_pass-requires-clause-pass
 take_pass-requires-clause-pass g c =
-    rw c.here-here.ensures.node (c.requires.link.0.each c.partition_point-unended.result _ (slice_get-get_or c.args.link.passes.now c.partition_point-unended.result no_pass (omega arith)))
+    rw c.beginning-here.ensures (c.requires.link.0.each c.partition_point-unended.result _ (slice_get-get_or c.args.link.passes.now c.partition_point-unended.result no_pass (omega arith)))
 
 pub returns-clause-yes : goal.returns-clause-yes
 returns-clause-yes g c so =
     let end = c.args.self.now in
     let first = c.in-Some-take_pass.first in
-    let one = rw (c.here-here.ensures.node, c.here-here.ensures.at) at (c.in-Some-take_pass.ensures {u = tt}).takes in
+    let one = rw c.beginning-here.ensures at (c.in-Some-take_pass.ensures {u = tt}).takes in
     let last = value_if c.take_pass-2.result c.take_pass-2.ensures.takes (sym c.is_some.ensures ∙ so) in
     record {
       n = first.number;

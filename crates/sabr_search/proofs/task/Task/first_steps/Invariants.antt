@@ -13,6 +13,5 @@ invariant-loop-place g l = record {
   placed : (k : ℕ) (x : Link) → l.place ≤ k → slice_get l.links.links.now k ≡ Some x → l.fn.looks.left ≤ l.looks.left + x.first;
   all : l.fn.looks.left ≤ l.looks.left + length l.links.passes.now;
   real : (k : ℕ) (s : Visit) → slice_get l.first.items k ≡ Some s → (n : ℕ) × Takes l.self n l.from.node l.from.at s.node s.at;
-  inside : (k : ℕ) (s : Visit) → slice_get l.first.items k ≡ Some s → s.node < length l.self.table;
   come : (j : ℕ) (x : Link) (n w b : ℕ) → j < l.place → slice_get l.links.links.now j ≡ Some x → HasNumber (passes_over l.links.passes.now x) n → Takes l.self n l.from.node l.from.at w b → ComesTo l.first.items w b;
 }

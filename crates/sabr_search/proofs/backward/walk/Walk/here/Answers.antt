@@ -6,4 +6,4 @@ pub returns-in-Some : goal.returns-in-Some
 returns-in-Some g c = sym (visit_at (start_of c.args.task.now) c.args.self.now.steps.items c.in-Some.step.now (sym (rw c.as_slice.ensures.value at c.in-Some.ensures.value)))
 
 pub returns-in-None : goal.returns-in-None
-returns-in-None g c = rw (c.start.ensures, c.at.ensures) (sym (visit_none (start_of c.args.task.now) c.args.self.now.steps.items (sym (rw c.as_slice.ensures.value at c.in-None.ensures.value))))
+returns-in-None g c = rw c.beginning.ensures (sym (visit_none (start_of c.args.task.now) c.args.self.now.steps.items (sym (rw c.as_slice.ensures.value at c.in-None.ensures.value))))

@@ -5,7 +5,7 @@ use Rattle.sabr_search.proofs.early.answers.Answer.leads.Goals as goal
 pub loop-place-init : goal.loop-place-init
 loop-place-init g c =
     let task = c.args.task.now in
-    rw (c.start.ensures, c.at.ensures) (on_way_first task c.requires.task c.requires.goal c.args.self.now c.requires.answer c.requires.node c.requires.same c.args.delivery c.requires.way)
+    rw c.beginning-from.ensures (on_way_first task c.requires.task c.requires.goal c.args.self.now c.requires.answer c.requires.node c.requires.same c.args.delivery c.requires.way)
 
 pub loop-place-preserved : goal.loop-place-preserved
 loop-place-preserved g c =

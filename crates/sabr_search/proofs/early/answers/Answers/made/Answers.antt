@@ -1,3 +1,5 @@
+use Rattle.std.proofs.Common.{ap}
+use Rattle.sabr_search.specs.declared.visit.Visit.{Visit}
 use Rattle.sabr_search.specs.answers.Asked.{hops_left}
 use Rattle.sabr_search.specs.answers.Answers.{IsFoundWith}
 use Rattle.sabr_search.proofs.AnswerLemmas.CachedAnswers.{kept_is}
@@ -12,4 +14,4 @@ returns-clause-answer g c =
       | in-Way w ↦ rw w.found-is (rw w.deref.ensures.value (rw w.in-Way.is at c.requires.found))
       | in-Beyond w ↦ rw w.found-is (rw w.in-Beyond.is at c.requires.found)
     ] in
-    kept_is task _ c.requires.request.goal_is (rw lists (rw c.hops_left.ensures found)) c.start.ensures c.at.ensures (rw lists c.excluded.ensures) (rw lists c.forbidden_nodes.ensures)
+    kept_is task _ c.requires.request.goal_is (rw lists (rw c.hops_left.ensures found)) (ap (λ (v : Visit). v.node) c.beginning.ensures) (ap (λ (v : Visit). v.at) c.beginning.ensures) (rw lists c.excluded.ensures) (rw lists c.forbidden_nodes.ensures)

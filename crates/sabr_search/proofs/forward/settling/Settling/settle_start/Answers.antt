@@ -13,7 +13,7 @@ loop-place-init g c =
     let task = c.args.forward.now.task.now in
     record {
       settled = refl;
-      state = rw (c.at.ensures, c.none-best.ensures) (start_state task c.requires.task c.args.self.now.settled.items _ c.start.result c.requires.settled c.start.ensures refl _ _ _ _ c.requires.arrivals c.requires.bound _ _ _ c.requires.hops c.requires.queue refl refl c.requires.until);
+      state = rw (c.beginning-event.ensures, c.none-best.ensures) (start_state task c.requires.task c.args.self.now.settled.items _ task.start c.requires.settled refl refl _ _ _ _ c.requires.arrivals c.requires.bound _ _ _ c.requires.hops c.requires.queue refl refl c.requires.until);
       fallen = record { lower = omega arith; lowered = λ k. omega arith; kept = λ k on. refl };
       known = λ k s less. absurd (omega (arith, less));
     }
@@ -22,25 +22,25 @@ pub news_before-before-requires : goal.news_before-before-requires
 news_before-before-requires g c =
     let none : Visit = record { node = 0; at = 0 } in
     let at = slice_get-get_or c.args.first.now c.loop-place.place none c.loop-place-test.true in
-    omega (arith, c.requires.inside c.loop-place.place _ at, c.loop-place.invariant.state.flags, c.requires.task.as_many, ap length c.deref.ensures.value)
+    omega (arith, slice_get_within c.args.forward.now.task.now.table _ _ (c.requires.real c.loop-place.place _ at).1.receiver, c.loop-place.invariant.state.flags, c.requires.task.as_many, ap length c.deref.ensures.value)
 
 pub reach-requires-clause-receiver : goal.reach-requires-clause-receiver
 reach-requires-clause-receiver g c =
     let none : Visit = record { node = 0; at = 0 } in
-    c.requires.inside c.loop-place.place _ (slice_get-get_or c.args.first.now c.loop-place.place none c.loop-place-test.true)
+    slice_get_within c.args.forward.now.task.now.table _ _ (c.requires.real c.loop-place.place _ (slice_get-get_or c.args.first.now c.loop-place.place none c.loop-place-test.true)).1.receiver
 
 pub reach-requires-clause-later : goal.reach-requires-clause-later
 reach-requires-clause-later g c =
     let task = c.args.forward.now.task.now in
     let none : Visit = record { node = 0; at = 0 } in
     let step = c.requires.real c.loop-place.place _ (slice_get-get_or c.args.first.now c.loop-place.place none c.loop-place-test.true) in
-    omega (arith, c.at.ensures, (takes_timely task c.requires.task.nodes).later step.0 task.start task.at _ _ step.1)
+    omega (arith, ap (λ (v : Visit). v.at) c.beginning-event.ensures, (takes_timely task c.requires.task.nodes).later step.0 task.start task.at _ _ step.1)
 
 pub reach-requires-clause-step : goal.reach-requires-clause-step
 reach-requires-clause-step g c = λ open'.
     let none : Visit = record { node = 0; at = 0 } in
     let at = slice_get-get_or c.args.first.now c.loop-place.place none c.loop-place-test.true in
-    rw (c.start.ensures, c.at.ensures) (c.requires.real c.loop-place.place _ at)
+    rw c.beginning-event.ensures (c.requires.real c.loop-place.place _ at)
 
 pub loop-place-preserved : goal.loop-place-preserved
 loop-place-preserved g c =
@@ -82,8 +82,8 @@ returns-clause-state g c =
     let forward = c.args.forward.now in
     let task = forward.task.now in
     let so_far = c.loop-place.invariant in
-    start_settled task c.requires.task c.args.self.now.settled.items c.loop-place.self.settled.items c.start.result c.requires.settled c.start.ensures so_far.settled forward.until forward.late.now forward.costs.now c.args.self.now.arrival.items c.requires.arrivals
-    c.at.result c.loop-place.self.arrival.items c.loop-place.self.hops.items c.loop-place.self.queue (record { delivery = forward.until; hops = 0 }) c.loop-place.best (rw so_far.settled so_far.state) (rw so_far.settled (rw c.none-best.ensures at so_far.fallen))
+    start_settled task c.requires.task c.args.self.now.settled.items c.loop-place.self.settled.items c.beginning-event.result.node c.requires.settled (ap (λ (v : Visit). v.node) c.beginning-event.ensures) so_far.settled forward.until forward.late.now forward.costs.now c.args.self.now.arrival.items c.requires.arrivals
+    c.beginning-event.result.at c.loop-place.self.arrival.items c.loop-place.self.hops.items c.loop-place.self.queue (record { delivery = forward.until; hops = 0 }) c.loop-place.best (rw so_far.settled so_far.state) (rw so_far.settled (rw c.none-best.ensures at so_far.fallen))
     (λ n w x s.
     (let on = c.requires.steps n w x s in
     known_later task.goal _ _ w on.1.at x on.4 (rw on.3 at (so_far.known on.0 on.1 (omega (arith, slice_get_within c.args.first.now on.0 on.1 on.2, c.loop-place-test.false)) on.2))))
