@@ -5,7 +5,6 @@ pub mod excluded_numbers;
 pub mod index;
 pub mod places;
 mod root;
-mod shifting;
 pub mod undo;
 pub mod winners;
 
