@@ -8,8 +8,8 @@ use Rattle.libcgrlist.specs.Status.{closed}
 use Rattle.libcgrlist.specs.declared.handle.PlanHandle.{PlanHandle}
 
 -- what C owes of a handle, and gets back: an open one has a plan
-abbrev pub IsWhole : PlanHandle → Type 0
-IsWhole handle = IsTrue handle.is_open → IsTrue (is_some handle.place.held) × IfSome handle.place.held CanGrow
+abbrev pub IsValidHandle : PlanHandle → Type 0
+IsValidHandle handle = IsTrue handle.is_open → IsTrue (is_some handle.place.held) × IfSome handle.place.held CanGrow
 
 -- over a closed handle a call answers that, and changes nothing behind it; over an open one this holds of what stood
 -- behind it and of what stands there after the call, and the plan there obeys the rules of plans
@@ -21,4 +21,4 @@ CallsOver true None status new P = ⊥
 
 -- a handle stays open or closed, and whole, and this holds of what stands behind it before and after
 abbrev pub Calls : PlanHandle → PlanHandle → ℕ → (OpenPlan → OpenPlan → Type 0) → Type 0
-Calls old new status P = (new.is_open ≡ old.is_open) × IsWhole new × CallsOver old.is_open old.place.held status new.place.held P
+Calls old new status P = (new.is_open ≡ old.is_open) × IsValidHandle new × CallsOver old.is_open old.place.held status new.place.held P

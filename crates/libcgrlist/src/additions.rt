@@ -4,7 +4,7 @@ ghost use Rattle.std.specs.Prelude.{◌≡◌, IfOk, IsFalse, is_some};
 ghost use Rattle.sabr_model.specs.plan.Plan.{ContactPlan, IsPlan};
 ghost use Rattle.libcgrlist.specs.Additions.{AddsAll, Makes, Puts, PutsAll, TakesOver, all_put, all_refused, contacts_added, over_ranges, ranges_added, row_put};
 ghost use Rattle.libcgrlist.specs.Changes.{contact_put};
-ghost use Rattle.libcgrlist.specs.Open.{Calls, IsWhole};
+ghost use Rattle.libcgrlist.specs.Open.{Calls, IsValidHandle};
 
 use crate::changes::value_refusal;
 use crate::handle::{PlanHandle, over_plan};
@@ -204,7 +204,7 @@ pub extern "C" fn cgrlist_plan_add_contacts(
     contacts: &[NewContact],
     place: &mut usize,
 ) -> u32
-    requires { IsWhole handle.old }
+    requires { IsValidHandle handle.old }
     ensures change { Calls handle.old handle.new result (λ o n. AddsAll o (contacts_added o contacts.now) result place.old place.new n) }
     ensures closed { IsFalse handle.old.is_open → place.new ≡ place.old }
 {
@@ -219,7 +219,7 @@ pub extern "C" fn cgrlist_plan_add_ranges(
     ranges: &[RangeRow],
     place: &mut usize,
 ) -> u32
-    requires { IsWhole handle.old }
+    requires { IsValidHandle handle.old }
     ensures change { Calls handle.old handle.new result (λ o n. AddsAll o (ranges_added o ranges.now) result place.old place.new n) }
     ensures closed { IsFalse handle.old.is_open → place.new ≡ place.old }
 {

@@ -2,7 +2,7 @@
 
 ghost use Rattle.std.specs.Prelude.{◌≡◌, IfOk};
 ghost use Rattle.libcgrlist.specs.Answers.{AnswersBest, UnlessWritten, WritesBest, none_or_one, first_routes, asked_request};
-ghost use Rattle.libcgrlist.specs.Open.{Calls, IsWhole};
+ghost use Rattle.libcgrlist.specs.Open.{Calls, IsValidHandle};
 
 use crate::buffers::{RouteRow, put_whole};
 use crate::handle::{PlanHandle, over_plan};
@@ -128,7 +128,7 @@ pub extern "C" fn cgrlist_best(
     row: &mut RouteRow,
     contacts: &mut [u32],
 ) -> u32
-    requires { IsWhole handle.old }
+    requires { IsValidHandle handle.old }
     ensures best { Calls handle.old handle.new result (λ o n. (n ≡ o) × AnswersBest o.plan.plan (asked_request asked.now avoid.now) result row.new contacts.old contacts.new) }
     ensures kept { UnlessWritten result ((row.new ≡ row.old) × (contacts.new ≡ contacts.old)) }
 {

@@ -3,7 +3,7 @@
 ghost use Rattle.std.specs.Prelude.{◌≡◌, IfOk, IsFalse};
 ghost use Rattle.sabr_plan.specs.Canonical.{canonical_text};
 ghost use Rattle.libcgrlist.specs.Buffers.{GivesNoText, GivesText};
-ghost use Rattle.libcgrlist.specs.Open.{Calls, IsWhole};
+ghost use Rattle.libcgrlist.specs.Open.{Calls, IsValidHandle};
 
 use crate::buffers::put_whole;
 use crate::gathered::Gathered;
@@ -37,7 +37,7 @@ pub extern "C" fn cgrlist_plan_canonical(
     text: &mut [u8],
     bytes: &mut usize,
 ) -> u32
-    requires { IsWhole handle.old }
+    requires { IsValidHandle handle.old }
     ensures text { Calls handle.old handle.new result (λ o n. (n ≡ o) × GivesText (canonical_text o.plan.plan) result text.old text.new bytes.old bytes.new) }
     ensures closed { IsFalse handle.old.is_open → GivesNoText text.old text.new bytes.old bytes.new }
 {

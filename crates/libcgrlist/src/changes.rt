@@ -4,7 +4,7 @@ ghost use Rattle.std.specs.Prelude.{◌≡◌, ◌≢◌, ◌+◌, ◌<◌, ◌�
 ghost use Rattle.sabr_model.specs.plan.Plan.{last_time};
 ghost use Rattle.sabr_model.specs.plan.Adding.{new_range, number_of_opening};
 ghost use Rattle.libcgrlist.specs.Changes.{Changes, ChangesInMemory, contact_added, contact_deleted, number_deleted, range_added, range_deleted, value_refusal};
-ghost use Rattle.libcgrlist.specs.Open.{Calls, IsWhole};
+ghost use Rattle.libcgrlist.specs.Open.{Calls, IsValidHandle};
 
 use crate::handle::{PlanHandle, over_plan};
 use crate::opened::{NewContact, Opened};
@@ -117,7 +117,7 @@ pub extern "C" fn cgrlist_plan_add_contact(
     rate: u64,
     number: &mut u32,
 ) -> u32
-    requires { IsWhole handle.old }
+    requires { IsValidHandle handle.old }
     ensures change { Calls handle.old handle.new result (λ o n. ChangesInMemory o (contact_added o (record { from = from; to = to; start = start; end = end; rate = rate })) result n) }
     ensures given { Calls handle.old handle.new result (λ o n. result ≡ 0 → number.new ≡ o.plan.plan.largest + 1) }
     ensures kept { result ≢ 0 → number.new ≡ number.old }
@@ -143,7 +143,7 @@ pub extern "C" fn cgrlist_plan_add_range(
     end: u64,
     light: u32,
 ) -> u32
-    requires { IsWhole handle.old }
+    requires { IsValidHandle handle.old }
     ensures change { Calls handle.old handle.new result (λ o n. ChangesInMemory o (range_added o (new_range one other start end light)) result n) }
 {
     let new = Range {
@@ -172,7 +172,7 @@ pub extern "C" fn cgrlist_plan_delete_contact(
     start: u64,
     number: &mut u32,
 ) -> u32
-    requires { IsWhole handle.old }
+    requires { IsValidHandle handle.old }
     ensures change { Calls handle.old handle.new result (λ o n. Changes o (contact_deleted o from to start) result n) }
     ensures given { Calls handle.old handle.new result (λ o n. result ≡ 0 → number_of_opening o.plan.plan from to start ≡ Some number.new) }
     ensures kept { result ≢ 0 → number.new ≡ number.old }
@@ -187,7 +187,7 @@ pub extern "C" fn cgrlist_plan_delete_number(
     handle: &mut PlanHandle,
     number: u32,
 ) -> u32
-    requires { IsWhole handle.old }
+    requires { IsValidHandle handle.old }
     ensures change { Calls handle.old handle.new result (λ o n. Changes o (number_deleted o number) result n) }
 {
     over_plan!(handle, alloc, opened => delete_number(opened, number))
@@ -202,7 +202,7 @@ pub extern "C" fn cgrlist_plan_delete_range(
     other: u64,
     start: u64,
 ) -> u32
-    requires { IsWhole handle.old }
+    requires { IsValidHandle handle.old }
     ensures change { Calls handle.old handle.new result (λ o n. Changes o (range_deleted o one other start) result n) }
 {
     over_plan!(handle, alloc, opened => delete_range(opened, one, other, start))

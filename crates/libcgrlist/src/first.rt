@@ -3,7 +3,7 @@
 ghost use Rattle.std.specs.Prelude.{◌≡◌, ◌≤◌, IfOk, OnErr};
 ghost use Rattle.sabr_frontier.specs.listing.Listing.{most_routes};
 ghost use Rattle.libcgrlist.specs.Answers.{AnswersFirst, UnlessWritten, asked_page, page_status, IsFirst, IsLastOf, first_routes, goes_on_after, asked_request};
-ghost use Rattle.libcgrlist.specs.Open.{Calls, IsWhole};
+ghost use Rattle.libcgrlist.specs.Open.{Calls, IsValidHandle};
 ghost use Rattle.libcgrlist.specs.Buffers.{IsPage, buffers};
 
 use crate::best::Asked;
@@ -97,7 +97,7 @@ pub extern "C" fn cgrlist_first(
     contacts: &mut [u32],
     page: &mut Page,
 ) -> u32
-    requires { IsWhole handle.old }
+    requires { IsValidHandle handle.old }
     ensures first { Calls handle.old handle.new result (λ o n. (n ≡ o) × AnswersFirst o.plan.plan count (asked_page count (asked_request asked.now avoid.now)) result (buffers rows.old contacts.old) (buffers rows.new contacts.new) page.new) }
     ensures kept { UnlessWritten result ((rows.new ≡ rows.old) × (contacts.new ≡ contacts.old) × (page.new ≡ page.old)) }
 {

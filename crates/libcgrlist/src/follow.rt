@@ -4,7 +4,7 @@ ghost use Rattle.std.specs.Prelude.{◌≡◌, IsFalse, length};
 ghost use Rattle.sabr_model.specs.routes.Route.{is_route};
 ghost use Rattle.host.specs.Buffers.{put_over};
 ghost use Rattle.libcgrlist.specs.Following.{Follows, GivesHops, hops_of, outcome_of, outcome_of_fault, route_status};
-ghost use Rattle.libcgrlist.specs.Open.{Calls, IsWhole};
+ghost use Rattle.libcgrlist.specs.Open.{Calls, IsValidHandle};
 ghost use Rattle.libcgrlist.specs.Answers.{asked_request};
 
 use crate::best::Asked;
@@ -153,7 +153,7 @@ pub extern "C" fn cgrlist_follow(
     contacts: &[u32],
     outcome: &mut Outcome,
 ) -> u32
-    requires { IsWhole handle.old }
+    requires { IsValidHandle handle.old }
     ensures follow { Calls handle.old handle.new result (λ o n. (n ≡ o) × Follows o.plan.plan (asked_request asked.now avoid.now) contacts.now result outcome.old outcome.new) }
     ensures closed { IsFalse handle.old.is_open → outcome.new ≡ outcome.old }
 {
@@ -195,7 +195,7 @@ pub extern "C" fn cgrlist_hops(
     hops: &mut [HopRow],
     count: &mut usize,
 ) -> u32
-    requires { IsWhole handle.old }
+    requires { IsValidHandle handle.old }
     ensures hops { Calls handle.old handle.new result (λ o n. (n ≡ o) × GivesHops o.plan.plan (asked_request asked.now avoid.now) contacts.now result hops.old hops.new count.new) }
     ensures closed { IsFalse handle.old.is_open → (hops.new ≡ hops.old) × (count.new ≡ 0) }
 {

@@ -7,7 +7,7 @@ ghost use Rattle.sabr_search.specs.questions.Calls.{no_calls};
 ghost use Rattle.libcgrlist.specs.Answers.{UnlessWritten, asked_request, asked_status, page_status};
 ghost use Rattle.libcgrlist.specs.Buffers.{IsPage, buffers};
 ghost use Rattle.libcgrlist.specs.Listings.{AnswersBack, AnswersNext, AnswersPlace, GivesNext, GoesBack, OpensListing, TakesUp, goes_on, listing_then, next_records, second_refusal};
-ghost use Rattle.libcgrlist.specs.Open.{Calls, IsWhole};
+ghost use Rattle.libcgrlist.specs.Open.{Calls, IsValidHandle};
 ghost use Rattle.libcgrlist.specs.Opened.{listing_of};
 ghost use Rattle.libcgrlist.specs.Standing.{BackActs, LoadedBegin, NextActs, OpenedBegin};
 ghost use Rattle.libcgrlist.specs.Status.{refused_or};
@@ -159,7 +159,7 @@ pub extern "C" fn cgrlist_listing_open(
     asked: &Asked,
     avoid: &[u64],
 ) -> u32
-    requires { IsWhole handle.old }
+    requires { IsValidHandle handle.old }
     ensures listing { Calls handle.old handle.new result (λ o n. OpensListing o (refused_or (second_refusal o.listing) (asked_status (asked_request asked.now avoid.now))) result n) }
 {
     let request = asked.request(avoid);
@@ -176,7 +176,7 @@ pub extern "C" fn cgrlist_listing_next(
     contacts: &mut [u32],
     page: &mut Page,
 ) -> u32
-    requires { IsWhole handle.old }
+    requires { IsValidHandle handle.old }
     ensures next { Calls handle.old handle.new result (λ o n. AnswersNext o o.listing count result (buffers rows.old contacts.old) (buffers rows.new contacts.new) page.new n) }
     ensures kept { UnlessWritten result ((rows.new ≡ rows.old) × (contacts.new ≡ contacts.old) × (page.new ≡ page.old)) }
 {
@@ -208,7 +208,7 @@ pub extern "C" fn cgrlist_listing_next(
 /// Takes back the last page of the listing that gave routes.
 #[unsafe(no_mangle)]
 pub extern "C" fn cgrlist_listing_back(alloc: Global, handle: &mut PlanHandle) -> u32
-    requires { IsWhole handle.old }
+    requires { IsValidHandle handle.old }
     ensures back { Calls handle.old handle.new result (λ o n. AnswersBack o result n) }
 {
     let gone = over_plan!(handle, alloc, opened => go_back(alloc, opened));
@@ -226,7 +226,7 @@ pub extern "C" fn cgrlist_listing_place(
     handle: &mut PlanHandle,
     place: &mut ListingPlace,
 ) -> u32
-    requires { IsWhole handle.old }
+    requires { IsValidHandle handle.old }
     ensures place { Calls handle.old handle.new result (λ o n. AnswersPlace o o.listing result place.new n) }
     ensures kept { result ≢ 0 → place.new ≡ place.old }
 {

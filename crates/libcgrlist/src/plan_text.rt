@@ -4,7 +4,7 @@ ghost use Rattle.std.specs.Prelude.{◌≡◌, ◌==◌, ◌+◌, ◌≤◌, ◌
 ghost use Rattle.std.specs.List.{flat_map, list_any, AllByRecursion};
 ghost use Rattle.sabr_model.specs.plan.Plan.{IsWindow, last_time};
 ghost use Rattle.libcgrlist.specs.Buffers.{GivesNoText, GivesText};
-ghost use Rattle.libcgrlist.specs.Open.{Calls, IsWhole};
+ghost use Rattle.libcgrlist.specs.Open.{Calls, IsValidHandle};
 ghost use Rattle.libcgrlist.specs.PlanTexts.{PlanTextsReadBack, addition_line, contacts_text, deletion_line, free_start, gap_text, plan_text, range_line};
 
 use crate::buffers::put_whole;
@@ -205,7 +205,7 @@ pub extern "C" fn cgrlist_plan_text(
     text: &mut [u8],
     bytes: &mut usize,
 ) -> u32
-    requires { IsWhole handle.old }
+    requires { IsValidHandle handle.old }
     ensures text { Calls handle.old handle.new result (λ o n. (n ≡ o) × GivesText (plan_text o.plan.plan) result text.old text.new bytes.old bytes.new) }
     ensures closed { IsFalse handle.old.is_open → GivesNoText text.old text.new bytes.old bytes.new }
 {

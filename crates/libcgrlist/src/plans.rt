@@ -2,7 +2,7 @@
 
 ghost use Rattle.std.specs.Prelude.{◌≡◌, ◌⊎◌, [], None, false, true, IsFalse, IsTrue, if◌then◌else◌};
 ghost use Rattle.sabr_plan.specs.Reading.{plan_of};
-ghost use Rattle.libcgrlist.specs.Open.{Calls, IsWhole};
+ghost use Rattle.libcgrlist.specs.Open.{Calls, IsValidHandle};
 ghost use Rattle.libcgrlist.specs.Plans.{Makes, Opens, Reads, Refused};
 ghost use Rattle.libcgrlist.specs.Status.{done, no_memory};
 
@@ -32,8 +32,8 @@ pub fn open(alloc: Global, handle: &mut PlanHandle, opened: Opened) -> u32
 /// Opens an empty plan.
 #[unsafe(no_mangle)]
 pub extern "C" fn cgrlist_plan_new(alloc: Global, handle: &mut PlanHandle) -> u32
-    requires { IsWhole handle.old }
-    ensures whole { IsWhole handle.new }
+    requires { IsValidHandle handle.old }
+    ensures whole { IsValidHandle handle.new }
     ensures opens { Opens handle.old handle.new result (Makes (record { contacts = []; ranges = []; largest = 0 }) result handle.new) }
 {
     if handle.is_open {
@@ -50,8 +50,8 @@ pub extern "C" fn cgrlist_plan_read(
     text: &[u8],
     line: &mut u32,
 ) -> u32
-    requires { IsWhole handle.old }
-    ensures whole { IsWhole handle.new }
+    requires { IsValidHandle handle.old }
+    ensures whole { IsValidHandle handle.new }
     ensures opens { Opens handle.old handle.new result (Reads (plan_of text.now true) result line.new handle.new ⊎ Refused result line.new handle.new) }
     ensures no_line { IsTrue handle.old.is_open → line.new ≡ 0 }
 {
@@ -71,8 +71,8 @@ pub extern "C" fn cgrlist_plan_read(
 
 /// Opens a copy of a plan behind a closed handle.
 fn copy_to(alloc: Global, opened: &Opened, copy: &mut PlanHandle) -> u32
-    requires { IsWhole copy.old }
-    ensures whole { IsWhole copy.new }
+    requires { IsValidHandle copy.old }
+    ensures whole { IsValidHandle copy.new }
     ensures copied { Opens copy.old copy.new result (Makes opened.now.plan.plan result copy.new) }
 {
     if copy.is_open {
@@ -91,9 +91,9 @@ pub extern "C" fn cgrlist_plan_copy(
     handle: &mut PlanHandle,
     copy: &mut PlanHandle,
 ) -> u32
-    requires handle { IsWhole handle.old }
-    requires copy { IsWhole copy.old }
-    ensures copy_whole { IsWhole copy.new }
+    requires handle { IsValidHandle handle.old }
+    requires copy { IsValidHandle copy.old }
+    ensures copy_whole { IsValidHandle copy.new }
     ensures copied { Calls handle.old handle.new result (λ o n. (n ≡ o) × Opens copy.old copy.new result (Makes o.plan.plan result copy.new)) }
     ensures closed { IsFalse handle.old.is_open → (copy.new.is_open ≡ copy.old.is_open) × (copy.new.place.held ≡ copy.old.place.held) }
 {
@@ -103,7 +103,7 @@ pub extern "C" fn cgrlist_plan_copy(
 /// Makes what serves until a plan changes: its index, its digest and its counts.
 #[unsafe(no_mangle)]
 pub extern "C" fn cgrlist_plan_prepare(alloc: Global, handle: &mut PlanHandle) -> u32
-    requires { IsWhole handle.old }
+    requires { IsValidHandle handle.old }
     ensures same { Calls handle.old handle.new result (λ o n. (n ≡ o) × ((result ≡ done) ⊎ (result ≡ no_memory))) }
 {
     let prepared = over_plan!(handle, alloc, opened => opened.prepare(alloc));
@@ -116,7 +116,7 @@ pub extern "C" fn cgrlist_plan_prepare(alloc: Global, handle: &mut PlanHandle) -
 /// Closes a plan and its listing, and frees them. A closed one stays so.
 #[unsafe(no_mangle)]
 pub extern "C" fn cgrlist_plan_close(alloc: Global, handle: &mut PlanHandle)
-    requires { IsWhole handle.old }
+    requires { IsValidHandle handle.old }
     ensures closed { handle.new.is_open ≡ false }
     ensures freed { handle.new.place.held ≡ (if handle.old.is_open then None else handle.old.place.held) }
 {

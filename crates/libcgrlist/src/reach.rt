@@ -2,7 +2,7 @@
 
 ghost use Rattle.std.specs.Prelude.{◌≡◌, ◌<◌, ◌≤◌, IsFalse, Ok, length, slice_index_or};
 ghost use Rattle.libcgrlist.specs.Answers.{none_or_one, AnswersReaches, AreReaches, IsReachOf, asked_to, first_reach, unreached, asked_request};
-ghost use Rattle.libcgrlist.specs.Open.{Calls, IsWhole};
+ghost use Rattle.libcgrlist.specs.Open.{Calls, IsValidHandle};
 
 use crate::best::{Asked, best_route};
 use crate::handle::{PlanHandle, over_plan};
@@ -163,7 +163,7 @@ pub extern "C" fn cgrlist_best_each(
     to: &[u64],
     reaches: &mut [Reach],
 ) -> u32
-    requires { IsWhole handle.old }
+    requires { IsValidHandle handle.old }
     ensures reaches { Calls handle.old handle.new result (λ o n. (n ≡ o) × AnswersReaches o.plan.plan asked.now avoid.now to.now result reaches.old reaches.new) }
     ensures closed { IsFalse handle.old.is_open → reaches.new ≡ reaches.old }
 {

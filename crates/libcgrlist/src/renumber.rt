@@ -3,7 +3,7 @@
 ghost use Rattle.std.specs.Prelude.{◌≡◌, ◌≢◌, ◌≤◌, IfOk, IsFalse, length};
 ghost use Rattle.sabr_model.specs.plan.Plan.{most_records};
 ghost use Rattle.host.specs.Buffers.{put_over};
-ghost use Rattle.libcgrlist.specs.Open.{Calls, IsWhole};
+ghost use Rattle.libcgrlist.specs.Open.{Calls, IsValidHandle};
 ghost use Rattle.libcgrlist.specs.Plans.{Makes, Opens, contacts_after, numbered_from, numbers_of, ranges_after, renumbered};
 
 use crate::handle::{PlanHandle, over_plan};
@@ -87,8 +87,8 @@ fn renumber_to(
     copy: &mut PlanHandle,
     numbers: &mut [u32],
 ) -> u32
-    requires { IsWhole copy.old }
-    ensures whole { IsWhole copy.new }
+    requires { IsValidHandle copy.old }
+    ensures whole { IsValidHandle copy.new }
     ensures copied { Opens copy.old copy.new result (Makes (renumbered plan.now.plan second) result copy.new) }
     ensures given { result ≡ 0 → numbers.new ≡ put_over numbers.old (numbers_of (contacts_after second plan.now.plan.contacts)) }
     ensures kept { result ≢ 0 → numbers.new ≡ numbers.old }
@@ -119,9 +119,9 @@ pub extern "C" fn cgrlist_plan_renumber(
     copy: &mut PlanHandle,
     numbers: &mut [u32],
 ) -> u32
-    requires handle { IsWhole handle.old }
-    requires copy { IsWhole copy.old }
-    ensures copy_whole { IsWhole copy.new }
+    requires handle { IsValidHandle handle.old }
+    requires copy { IsValidHandle copy.old }
+    ensures copy_whole { IsValidHandle copy.new }
     ensures copied { Calls handle.old handle.new result (λ o n. (n ≡ o) × Opens copy.old copy.new result (Makes (renumbered o.plan.plan second) result copy.new)) }
     ensures given { Calls handle.old handle.new result (λ o n. result ≡ 0 → numbers.new ≡ put_over numbers.old (numbers_of (contacts_after second o.plan.plan.contacts))) }
     ensures kept { result ≢ 0 → numbers.new ≡ numbers.old }

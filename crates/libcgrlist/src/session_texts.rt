@@ -4,7 +4,7 @@ ghost use Rattle.std.specs.Prelude.{◌≡◌, None, IfErr, IfOk, OnErr, OnOk, I
 ghost use Rattle.sabr_session.specs.SessionText.{text_of_session};
 ghost use Rattle.libcgrlist.specs.Buffers.{GivesNoText};
 ghost use Rattle.libcgrlist.specs.Listings.{IfOpen, listing_refusal};
-ghost use Rattle.libcgrlist.specs.Open.{Calls, IsWhole};
+ghost use Rattle.libcgrlist.specs.Open.{Calls, IsValidHandle};
 ghost use Rattle.libcgrlist.specs.SessionTexts.{AnswersLoad, AnswersText, IsLoaded, IsRefusal, IsVerified, Verifies, session_line};
 
 use crate::buffers::put_whole;
@@ -43,7 +43,7 @@ pub extern "C" fn cgrlist_listing_text(
     text: &mut [u8],
     bytes: &mut usize,
 ) -> u32
-    requires { IsWhole handle.old }
+    requires { IsValidHandle handle.old }
     ensures text { Calls handle.old handle.new result (λ o n. (n ≡ o) × AnswersText o.listing result text.old text.new bytes.old bytes.new) }
     ensures closed { IsFalse handle.old.is_open → GivesNoText text.old text.new bytes.old bytes.new }
 {
@@ -109,7 +109,7 @@ pub extern "C" fn cgrlist_listing_load(
     text: &[u8],
     line: &mut u64,
 ) -> u32
-    requires { IsWhole handle.old }
+    requires { IsValidHandle handle.old }
     ensures load { Calls handle.old handle.new result (λ o n. AnswersLoad o.listing o text.now result line.new n) }
     ensures no_line { IsFalse handle.old.is_open → line.new ≡ 0 }
 {
@@ -133,7 +133,7 @@ fn verify_text(alloc: Global, opened: &mut Opened, text: &[u8]) -> Result<bool, 
 /// Returns whether a text is the session text of a place in the list of its request over the plan.
 #[unsafe(no_mangle)]
 pub extern "C" fn cgrlist_verify(alloc: Global, handle: &mut PlanHandle, text: &[u8]) -> u32
-    requires { IsWhole handle.old }
+    requires { IsValidHandle handle.old }
     ensures verify { Calls handle.old handle.new result (λ o n. (n ≡ o) × IsVerified o.plan.plan text.now result) }
 {
     let verified = over_plan!(handle, alloc, opened => verify_text(alloc, opened, text));

@@ -6,7 +6,7 @@ ghost use Rattle.sabr_model.specs.plan.Plan.{contact_named};
 ghost use Rattle.sabr_model.specs.plan.Table.{ends_of};
 ghost use Rattle.sabr_plan.specs.Canonical.{digest_of};
 ghost use Rattle.libcgrlist.specs.Views.{AnswersNodes, AreNodesOf, Gives, GivesRange, counts_of};
-ghost use Rattle.libcgrlist.specs.Open.{Calls, IsWhole};
+ghost use Rattle.libcgrlist.specs.Open.{Calls, IsValidHandle};
 ghost use Rattle.libcgrlist.specs.Status.{done};
 
 use crate::buffers::put_whole;
@@ -157,7 +157,7 @@ pub extern "C" fn cgrlist_plan_counts(
     handle: &mut PlanHandle,
     counts: &mut Counts,
 ) -> u32
-    requires { IsWhole handle.old }
+    requires { IsValidHandle handle.old }
     ensures counts { Calls handle.old handle.new result (λ o n. (n ≡ o) × (result ≡ done) × (counts.new ≡ counts_of o.plan.plan)) }
     ensures kept { result ≢ 0 → counts.new ≡ counts.old }
 {
@@ -172,7 +172,7 @@ pub extern "C" fn cgrlist_plan_greatest(
     handle: &mut PlanHandle,
     number: &mut u32,
 ) -> u32
-    requires { IsWhole handle.old }
+    requires { IsValidHandle handle.old }
     ensures greatest { Calls handle.old handle.new result (λ o n. (n ≡ o) × (result ≡ done) × (number.new ≡ o.plan.plan.largest)) }
     ensures kept { result ≢ 0 → number.new ≡ number.old }
 {
@@ -187,7 +187,7 @@ pub extern "C" fn cgrlist_plan_digest(
     handle: &mut PlanHandle,
     digest: &mut [u8; 32],
 ) -> u32
-    requires { IsWhole handle.old }
+    requires { IsValidHandle handle.old }
     ensures digest { Calls handle.old handle.new result (λ o n. (n ≡ o) × (result ≡ done) × (digest.new ≡ digest_of o.plan.plan)) }
     ensures kept { result ≢ 0 → digest.new ≡ digest.old }
 {
@@ -203,7 +203,7 @@ pub extern "C" fn cgrlist_plan_contact(
     number: u32,
     contact: &mut ContactRow,
 ) -> u32
-    requires { IsWhole handle.old }
+    requires { IsValidHandle handle.old }
     ensures contact { Calls handle.old handle.new result (λ o n. (n ≡ o) × Gives o.plan.plan (contact_named o.plan.plan number) result contact.old contact.new) }
     ensures kept { result ≢ 0 → contact.new ≡ contact.old }
 {
@@ -218,7 +218,7 @@ pub extern "C" fn cgrlist_plan_contact_at(
     place: usize,
     contact: &mut ContactRow,
 ) -> u32
-    requires { IsWhole handle.old }
+    requires { IsValidHandle handle.old }
     ensures contact { Calls handle.old handle.new result (λ o n. (n ≡ o) × Gives o.plan.plan (slice_get o.plan.plan.contacts place) result contact.old contact.new) }
     ensures kept { result ≢ 0 → contact.new ≡ contact.old }
 {
@@ -233,7 +233,7 @@ pub extern "C" fn cgrlist_plan_range_at(
     place: usize,
     range: &mut RangeRow,
 ) -> u32
-    requires { IsWhole handle.old }
+    requires { IsValidHandle handle.old }
     ensures range { Calls handle.old handle.new result (λ o n. (n ≡ o) × GivesRange (slice_get o.plan.plan.ranges place) result range.old range.new) }
     ensures kept { result ≢ 0 → range.new ≡ range.old }
 {
@@ -249,7 +249,7 @@ pub extern "C" fn cgrlist_plan_nodes(
     nodes: &mut [u64],
     count: &mut usize,
 ) -> u32
-    requires { IsWhole handle.old }
+    requires { IsValidHandle handle.old }
     ensures nodes { Calls handle.old handle.new result (λ o n. (n ≡ o) × AnswersNodes o.plan.plan.contacts result nodes.old nodes.new count.old count.new) }
     ensures closed { IsFalse handle.old.is_open → (nodes.new ≡ nodes.old) × (count.new ≡ count.old) }
 {

@@ -19,10 +19,10 @@ NoTextBeginsAnother =
     → IsSessionOf p h (begins ++ rest) true (Ok x) → rest ≢ [] → SpellNone p h begins
 
 -- no proper beginning of the text of a request and a state spells a session, in either version
-pub record IsWhole (p : ContactPlan) (r : RouteRequest) (s : State) : Type 0 where
+pub record IsRefusedWhenCut (p : ContactPlan) (r : RouteRequest) (s : State) : Type 0 where
   pub text : (begins rest : List ℕ) → begins ++ rest ≡ text_of (digest_of p) r s → rest ≢ [] → SpellNone p (digest_of p) begins
   pub old : IsUnlimited r → (begins rest : List ℕ) → begins ++ rest ≡ old_text_of (digest_of p) r s → rest ≢ [] → SpellNone p (digest_of p) begins
 
 -- the same of each accepted request and each well-formed state over each plan
 abbrev pub CutTextsAreRefused : Type 0
-CutTextsAreRefused = (p : ContactPlan) (r : RouteRequest) (s : State) → IsPlan p → CanBeTold p r s → IsWhole p r s
+CutTextsAreRefused = (p : ContactPlan) (r : RouteRequest) (s : State) → IsPlan p → CanBeTold p r s → IsRefusedWhenCut p r s
