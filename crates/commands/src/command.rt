@@ -3,8 +3,8 @@
 ghost use Rattle.std.specs.Prelude.{◌≡◌, IfErr, IfOk, OnErr, Some, map};
 ghost use Rattle.clap.specs.Matches.{found_of};
 ghost use Rattle.commands.specs.runs.Calls.{RunsCommand, StopsBefore};
-ghost use Rattle.commands.specs.words.CommandLine.{command_text, rules_for, word_rule};
-ghost use Rattle.commands.specs.words.Values.{command_named};
+ghost use Rattle.commands.specs.words.CommandLine.{rules_for, word_rule};
+ghost use Rattle.commands.specs.words.Values.{command_named, command_text};
 
 use crate::calls::{check, explain, first, follow, many, next, verify};
 use crate::failure::{Failure, Status};

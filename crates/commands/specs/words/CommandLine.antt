@@ -1,5 +1,5 @@
 -- The command line, in the words of clap's definitions.
-use Rattle.std.specs.Prelude.{◌≡◌, ℕ, true, false, List, [], ◌∷◌, ◌++◌, codes}
+use Rattle.std.specs.Prelude.{◌≡◌, ℕ, true, false, List, [], ◌∷◌, ◌++◌, codes, map}
 use Rattle.std.specs.declared.option.Option.{Option}
 use Rattle.std.specs.declared.option.Option.TheVariants.{Some}
 use Rattle.clap.specs.Simple.{App, Shape, app_of, new_rule, new_shape, subcommand_of}
@@ -12,7 +12,7 @@ use Rattle.commands.specs.declared.command.CommandName.{CommandName}
 use Rattle.commands.specs.declared.command.CommandName.TheVariants as command
 use Rattle.commands.specs.declared.words.table.Word.{Word}
 use Rattle.commands.specs.declared.words.value_fault.ValueName.TheVariants as name
-use Rattle.commands.specs.words.Values.{name_text, lists_word, plan_word, requests_word, session_out_word, session_word}
+use Rattle.commands.specs.words.Values.{command_text, commands, name_text, lists_word, plan_word, requests_word, session_out_word, session_word}
 
 -- a word with a value
 abbrev pub option_rule : List ℕ → Rule
@@ -42,16 +42,6 @@ rules_for command.Explain = required_rule plan_word ∷ (request_rules ++ requir
 rules_for command.Many = required_rule plan_word ∷ required_rule requests_word ∷ required_rule (name_text name.Count) ∷ []
 rules_for command.Follow = required_rule plan_word ∷ required_rule lists_word ∷ []
 
--- the name of a command
-abbrev pub command_text : CommandName → List ℕ
-command_text command.First = codes "first"
-command_text command.Next = codes "next"
-command_text command.Verify = codes "verify"
-command_text command.Check = codes "check"
-command_text command.Explain = codes "explain"
-command_text command.Many = codes "many"
-command_text command.Follow = codes "follow"
-
 -- a command with its words
 abbrev pub shape_for : CommandName → Shape
 shape_for c = record (new_shape (command_text c)) { rules = rules_for c }
@@ -64,7 +54,7 @@ bare_shape = record (new_shape (codes "cgrlist")) { has_version = true; no_binar
 abbrev pub program_app : App
 program_app = record {
   top = record bare_shape { is_leaf = false };
-  subs = shape_for command.First ∷ shape_for command.Next ∷ shape_for command.Verify ∷ shape_for command.Check ∷ shape_for command.Explain ∷ shape_for command.Many ∷ shape_for command.Follow ∷ [];
+  subs = map shape_for commands;
 }
 
 -- the subcommand that words name, with what they give under the names of its words

@@ -1,6 +1,6 @@
 -- The words of a command, and the strict reading of their texts. The order in which bad ones are reported is this
 -- project's own.
-use Rattle.std.specs.Prelude.{ℕ, ◌<◌, ◌≤◌, Bool, true, false, not, ◌==◌, List, [], Result, Ok, Err, codes, ok_or, option_and_then, unwrap_or, if◌then◌else◌, nat_le, ◌∷◌, length, map}
+use Rattle.std.specs.Prelude.{ℕ, ◌<◌, ◌≤◌, Bool, true, false, not, ◌==◌, List, [], Result, Ok, Err, codes, ok_or, option_and_then, unwrap_or, if◌then◌else◌, nat_le, ◌∷◌, find, length, map}
 use Rattle.std.specs.Str.{bytes_eq}
 use Rattle.std.specs.Option.{option_copied, option_map_or}
 use Rattle.std.specs.declared.option.Option.{Option}
@@ -168,17 +168,23 @@ request_of w =
     else if not (may_avoid w.from w.to w.avoid) then Err BadAvoid
     else Ok (with_limits (unlimited w.from w.to w.at w.margin_ppm) w.max_hops w.avoid)
 
+-- the commands, in the order in which help lists them
+abbrev pub commands : List CommandName
+commands = command.First ∷ command.Next ∷ command.Verify ∷ command.Check ∷ command.Explain ∷ command.Many ∷ command.Follow ∷ []
+
+-- the name of a command
+abbrev pub command_text : CommandName → List ℕ
+command_text command.First = codes "first"
+command_text command.Next = codes "next"
+command_text command.Verify = codes "verify"
+command_text command.Check = codes "check"
+command_text command.Explain = codes "explain"
+command_text command.Many = codes "many"
+command_text command.Follow = codes "follow"
+
 -- the command of a name on the command line, if it is one
 abbrev pub command_named : List ℕ → Option CommandName
-command_named name =
-    if bytes_eq name (codes "first") then Some command.First
-    else if bytes_eq name (codes "next") then Some command.Next
-    else if bytes_eq name (codes "verify") then Some command.Verify
-    else if bytes_eq name (codes "check") then Some command.Check
-    else if bytes_eq name (codes "explain") then Some command.Explain
-    else if bytes_eq name (codes "many") then Some command.Many
-    else if bytes_eq name (codes "follow") then Some command.Follow
-    else None
+command_named name = find (λ c. bytes_eq name (command_text c)) commands
 
 -- commands with a request
 abbrev pub has_request : CommandName → Bool

@@ -2,7 +2,8 @@ use Rattle.std.proofs.Common.{◌≡◌, [], false, IfOk, ap, subst, ◌∙◌}
 use Rattle.clap.specs.Words.{app_of, new_app}
 use Rattle.clap.specs.Simple.{new_shape}
 use Rattle.clap.specs.declared.builder.command.Command.TheViews.{out-Command}
-use Rattle.commands.specs.words.CommandLine.{AddsWords, command_text, rules_for}
+use Rattle.commands.specs.words.CommandLine.{AddsWords, rules_for}
+use Rattle.commands.specs.words.Values.{command_text}
 use Rattle.commands.proofs.WordLemmas.RequestWords.{command_in}
 use Rattle.commands.proofs.words.command_line.subcommand.Goals as goal
 
