@@ -66,12 +66,6 @@ pub record IsWord (rule : Rule) (a : Arg) : Type 0 where
   pub reads : rule_of a ≡ rule
   pub local : a.global ≡ false
 
--- words were added to a command
-pub record AddsWords (old : Command) (rules : List Rule) (new : Command) : Type 0 where
-  pub top : (app_of new).top ≡ record (app_of old).top { rules = (app_of old).top.rules ++ rules }
-  pub subs : (app_of new).subs ≡ (app_of old).subs
-  pub local : (out-Command new).has_globals ≡ (out-Command old).has_globals
-
 -- a command is built, as it is declared
 pub record IsCommand (shape : Shape) (c : Command) : Type 0 where
   pub reads : app_of c ≡ record { top = shape; subs = [] }

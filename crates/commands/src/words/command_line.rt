@@ -5,7 +5,7 @@ ghost use Rattle.clap.specs.Simple.{app_of, subcommand_rows_of};
 ghost use Rattle.clap.specs.Faults.{fault_of};
 ghost use Rattle.clap.specs.Kinds.{FailsBy};
 ghost use Rattle.commands.specs.runs.Program.{named_in};
-ghost use Rattle.commands.specs.words.CommandLine.{AddsCommand, AddsWords, IsCommand, IsProgram, IsWord, given_by, program_app, shape_for, word_rule};
+ghost use Rattle.commands.specs.words.CommandLine.{AddsCommand, IsCommand, IsProgram, IsWord, given_by, program_app, shape_for, word_rule};
 
 use crate::command::CommandName;
 use crate::words::table::Word;
@@ -46,30 +46,18 @@ fn argument<'a>(alloc: Global, word: &Word) -> Arg<'a>
         .required(word.required)
 }
 
-/// Adds these words, in their order.
-fn with_words<'a>(
-    alloc: Global,
-    words: &[Word],
-    command: Command<'a>,
-) -> Result<Command<'a>, AllocError>
-    ensures { IfOk result (AddsWords command.entry (map word_rule words.now)) }
-{
-    let mut made = command;
-    for word in words {
-        made = made.arg(argument(alloc, word))?;
-    }
-    Ok(made)
-}
-
 /// A command of the command line, as it is declared.
 fn subcommand<'a>(alloc: Global, command: CommandName) -> Result<Command<'a>, AllocError>
     ensures { IfOk result (IsCommand (shape_for command)) }
 {
     let declared = command.declared();
-    let made = Command::new(alloc, declared.name)
+    let mut made = Command::new(alloc, declared.name)
         .about(declared.about)
         .after_help(declared.examples);
-    with_words(alloc, declared.words, made)
+    for word in declared.words {
+        made = made.arg(argument(alloc, word))?;
+    }
+    Ok(made)
 }
 
 /// Adds a command.
