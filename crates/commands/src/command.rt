@@ -36,6 +36,17 @@ pub enum CommandName {
     Follow,
 }
 
+/// The commands, in the order in which help lists them.
+pub const COMMANDS: [CommandName; 7] = [
+    CommandName::First,
+    CommandName::Next,
+    CommandName::Verify,
+    CommandName::Check,
+    CommandName::Explain,
+    CommandName::Many,
+    CommandName::Follow,
+];
+
 /// What a command is on the command line.
 #[derive(Clone, Copy)]
 pub struct Declared<'a> {
@@ -209,22 +220,8 @@ Example:
 pub fn command_named(name: &str) -> Option<CommandName>
     ensures { result ≡ command_named name.now }
 {
-    let name = name.as_bytes();
-    if name == b"first".as_slice() {
-        Some(CommandName::First)
-    } else if name == b"next".as_slice() {
-        Some(CommandName::Next)
-    } else if name == b"verify".as_slice() {
-        Some(CommandName::Verify)
-    } else if name == b"check".as_slice() {
-        Some(CommandName::Check)
-    } else if name == b"explain".as_slice() {
-        Some(CommandName::Explain)
-    } else if name == b"many".as_slice() {
-        Some(CommandName::Many)
-    } else if name == b"follow".as_slice() {
-        Some(CommandName::Follow)
-    } else {
-        None
-    }
+    COMMANDS
+        .iter()
+        .copied()
+        .find(|command| name == command.declared().name)
 }

@@ -1,5 +1,5 @@
--- Commands that are added to the program, the words of a line of requests or of lists, and lists of at most 16 numbers.
-use Rattle.std.proofs.Common.{◌≡◌, ℕ, ◌+◌, ◌<◌, Bool, drop, drop-drop, List, [], ◌∷◌, length, true, false, refl, sym, ap, ◌∙◌, arith, Bor, Result, Ok, Err, ◌≤◌, cond, ◌++◌, map, length-append, ◌≢◌, ap₂, append_assoc, inl, inr, IfOk}
+-- The words of a line of requests or of lists, lists of at most 16 numbers, and what the command line is to clap.
+use Rattle.std.proofs.Common.{◌≡◌, ℕ, ◌+◌, ◌<◌, Bool, drop, drop-drop, List, [], ◌∷◌, length, true, false, refl, sym, ap, ◌∙◌, arith, Bor, Result, Ok, Err, ◌≤◌, cond, ◌++◌, map, length-append, ◌≢◌, ap₂, inl, inr}
 use Rattle.std.specs.Prelude.{is_some, option_and_then, nat_le, if◌then◌else◌}
 use Rattle.std.specs.Option.{option_copied}
 use Rattle.commands.specs.words.Values.{first_of, TextsGiven, numbers_within}
@@ -15,12 +15,11 @@ use Rattle.commands.specs.declared.words.lines.LineKind.{LineKind}
 use Rattle.commands.specs.declared.words.lines.LineKind.TheVariants.{BadContacts, BadLine}
 use Rattle.std.proofs.lemmas.Bool.{le-leb, lt-leb}
 use Rattle.sabr_session.proofs.WordLemmas.ReadLists.{with_front, with_front-on}
-use Rattle.clap.specs.Words.{HasKind, IsAmong, Kinds, Shape, app_of, is_simple, is_simple_and_free, kind_of}
-use Rattle.clap.specs.declared.builder.command.Command.{Command}
+use Rattle.clap.specs.Words.{HasKind, IsAmong, Kinds, is_simple, is_simple_and_free, kind_of}
 use Rattle.clap.specs.declared.error.Error.{Error}
 use Rattle.clap.specs.declared.error.kind.ErrorKind.{ErrorKind}
 use Rattle.clap.proofs.OnLiterals.{clap_on_literals}
-use Rattle.commands.specs.words.CommandLine.{AddsCommand, IsProgram, program_app}
+use Rattle.commands.specs.words.CommandLine.{program_app}
 use Rattle.clap.specs.declared.error.kind.ErrorKind.TheVariants as kind
 
 -- a word and what stands after it, of what stood after the word before
@@ -167,29 +166,7 @@ pub few-full : (f : List ℕ → Option ℕ) (so_far : List ℕ) (whole : Option
     → whole ≡ with_front so_far (all_of (map f ps)) → ps ≡ p ∷ qs → f p ≡ Some n → length so_far ≡ 16 → few whole ≡ None
 few-full f so_far whole ps qs p n w e is h = ap few (with_front-on f so_far whole ps qs p n w e is) ∙ full so_far n (all_of (map f qs)) h
 
--- ---- building the command line: commands that are added to the program
-
--- commands were added in turn
-pub record AddsCommands (old : Command) (shapes : List Shape) (new : Command) : Type 0 where
-  pub top : (app_of new).top ≡ record (app_of old).top { is_leaf = false }
-  pub subs : (app_of new).subs ≡ (app_of old).subs ++ shapes
-
-pub first_command : (a b : Command) (shape : Shape) → AddsCommand a shape b → AddsCommands a (shape ∷ []) b
-first_command a b shape added = record { top = added.top; subs = added.subs }
-
-pub next_command : (a b c : Command) (shapes : List Shape) (shape : Shape) → AddsCommands a shapes b → AddsCommand b shape c → AddsCommands a (shapes ++ shape ∷ []) c
-next_command a b c shapes shape before added = record {
-  top = added.top ∙ ap (λ (s : Shape). record s { is_leaf = false }) before.top;
-  subs = added.subs ∙ ap (λ (s : List Shape). s ++ shape ∷ []) before.subs ∙ append_assoc (app_of a).subs shapes (shape ∷ []);
-}
-
-module _ {E : Type 0} where
-  pub program_in : (r : Result Command E) (bare b : Command) (shapes : List Shape) (shape : Shape) → shapes ++ shape ∷ [] ≡ program_app.subs
-      → AddsCommands bare shapes b → IfOk r (AddsCommand b shape) → IfOk r (IsProgram bare)
-  program_in (Ok c) bare b shapes shape are before added =
-      let all = next_command bare b c shapes shape before added in
-      ap₂ (λ (t : Shape) (s : List Shape). record { top = t; subs = s }) all.top (all.subs ∙ ap (λ (s : List Shape). (app_of bare).subs ++ s) are)
-  program_in (Err e) bare b shapes shape are before added = tt
+-- ---- the command line
 
 -- a list that has a kind isn't empty
 among_some : (k : ErrorKind) (kinds : Kinds) → IsAmong k kinds → kinds ≢ []

@@ -71,11 +71,6 @@ pub record IsCommand (shape : Shape) (c : Command) : Type 0 where
   pub reads : app_of c ≡ record { top = shape; subs = [] }
   pub local : (out-Command c).has_globals ≡ false
 
--- a command was added to the program
-pub record AddsCommand (old : Command) (shape : Shape) (new : Command) : Type 0 where
-  pub top : (app_of new).top ≡ record (app_of old).top { is_leaf = false }
-  pub subs : (app_of new).subs ≡ (app_of old).subs ++ shape ∷ []
-
 -- all commands were added to it
 abbrev pub IsProgram : Command → Command → Type 0
 IsProgram bare c =

@@ -5,9 +5,9 @@ ghost use Rattle.clap.specs.Simple.{app_of, subcommand_rows_of};
 ghost use Rattle.clap.specs.Faults.{fault_of};
 ghost use Rattle.clap.specs.Kinds.{FailsBy};
 ghost use Rattle.commands.specs.runs.Program.{named_in};
-ghost use Rattle.commands.specs.words.CommandLine.{AddsCommand, IsCommand, IsProgram, IsWord, given_by, program_app, shape_for, word_rule};
+ghost use Rattle.commands.specs.words.CommandLine.{IsCommand, IsProgram, IsWord, given_by, program_app, shape_for, word_rule};
 
-use crate::command::CommandName;
+use crate::command::{COMMANDS, CommandName};
 use crate::words::table::Word;
 use clap::{Arg, ArgAction, ArgMatches, Command, Error};
 use std::alloc::{AllocError, Global};
@@ -60,28 +60,15 @@ fn subcommand<'a>(alloc: Global, command: CommandName) -> Result<Command<'a>, Al
     Ok(made)
 }
 
-/// Adds a command.
-fn with_command<'a>(
-    alloc: Global,
-    command: CommandName,
-    program: Command<'a>,
-) -> Result<Command<'a>, AllocError>
-    ensures { IfOk result (AddsCommand program.entry (shape_for command)) }
-{
-    program.subcommand(subcommand(alloc, command)?)
-}
-
 /// Adds all commands, in the order in which help lists them.
 fn with_commands<'a>(alloc: Global, program: Command<'a>) -> Result<Command<'a>, AllocError>
     ensures { IfOk result (IsProgram program.entry) }
 {
-    let made = with_command(alloc, CommandName::First, program)?;
-    let made = with_command(alloc, CommandName::Next, made)?;
-    let made = with_command(alloc, CommandName::Verify, made)?;
-    let made = with_command(alloc, CommandName::Check, made)?;
-    let made = with_command(alloc, CommandName::Explain, made)?;
-    let made = with_command(alloc, CommandName::Many, made)?;
-    with_command(alloc, CommandName::Follow, made)
+    let mut made = program;
+    for command in COMMANDS {
+        made = made.subcommand(subcommand(alloc, command)?)?;
+    }
+    Ok(made)
 }
 
 /// The command line, with all commands.

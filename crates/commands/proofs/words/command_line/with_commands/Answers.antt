@@ -1,10 +1,11 @@
-use Rattle.std.proofs.Common.{refl}
-use Rattle.commands.proofs.WordLemmas.RequestWords.{first_command, next_command, program_in}
+use Rattle.std.proofs.Common.{ap, ap₂, sym, ◌∙◌}
+use Rattle.std.proofs.lemmas.List.Sums.{fold_more}
+use Rattle.clap.specs.Words.{App, with_subcommand}
 use Rattle.commands.proofs.words.command_line.with_commands.Goals as goal
 
-pub returns : goal.returns
-returns c =
-    let two = next_command _ _ _ _ _ (first_command _ _ _ c.in_ok-made.ensures) c.in_ok-made-2.ensures in
-    let four = next_command _ _ _ _ _ (next_command _ _ _ _ _ two c.in_ok-made-3.ensures) c.in_ok-made-4.ensures in
-    let six = next_command _ _ _ _ _ (next_command _ _ _ _ _ four c.in_ok-made-5.ensures) c.in_ok-made-6.ensures in
-    program_in c.with_command-7.result _ _ _ _ refl six c.with_command-7.ensures
+pub loop-command-preserved : goal.loop-command-preserved
+loop-command-preserved c =
+    let is = c.in_ok-subcommand.ensures in
+    c.in_ok-made.ensures.shape is.local
+    ∙ ap₂ with_subcommand c.loop-command.invariant (ap (λ (x : App). x.top) is.reads)
+    ∙ sym (fold_more _ _ _ _ _ c.loop-command-test.true)
