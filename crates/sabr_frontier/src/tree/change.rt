@@ -8,7 +8,7 @@ ghost use Rattle.sabr_frontier.specs.tree.Winners.{AreOthersWinners, CarriesNone
 ghost use Rattle.sabr_frontier.specs.tree.PageTrees.{carrying, given_by};
 
 use crate::tree::places::carried;
-use crate::tree::winners::{fill, renew};
+use crate::tree::winners::{fill, replay_up};
 use crate::tree::{Entry, Node, NodeId, Tree};
 use sabr_model::{NoMemory, Route};
 use std::alloc::Allocator;
@@ -96,7 +96,7 @@ impl<A: Allocator + Copy> Tree<A> {
     {
         let first = self.winners.len();
         carry(&mut self.nodes, node, found);
-        renew(self.nodes.as_slice(), &mut self.winners, node);
+        replay_up(self.nodes.as_slice(), self.winners.as_mut_slice(), node.0);
         fill(self.nodes.as_slice(), &mut self.winners);
         self.journal.push_reserved(Entry {
             node,

@@ -56,7 +56,7 @@ fn winner<A: Allocator + Copy>(nodes: &[Node<A>], ids: &[NodeId], slot: usize) -
 }
 
 /// Finds the winners of a slot and of those above it.
-fn replay_up<A: Allocator + Copy>(nodes: &[Node<A>], ids: &mut [NodeId], slot: usize)
+pub fn replay_up<A: Allocator + Copy>(nodes: &[Node<A>], ids: &mut [NodeId], slot: usize)
     requires within { slot < length ids.old }
     requires others { AreOthersWinners nodes.now ids.old slot (slot + 1) }
     ensures won { AreWinners nodes.now ids.new }
@@ -99,17 +99,6 @@ pub fn fill<A: Allocator + Copy>(nodes: &[Node<A>], winners: &mut Vec<NodeId, A>
         winners.push_reserved(NodeId(place));
         sift_up(nodes, winners.as_mut_slice(), NodeId(place));
     }
-}
-
-/// Renews the winners after a node's route changed.
-pub fn renew<A: Allocator + Copy>(nodes: &[Node<A>], winners: &mut Vec<NodeId, A>, node: NodeId)
-    requires within { node.0 < vec_len winners.old }
-    requires others { AreOthersWinners nodes.now winners.old.items node.0 (node.0 + 1) }
-    ensures won { AreWinners nodes.now winners.new.items }
-    ensures len { vec_len winners.new ≡ vec_len winners.old }
-    ensures capacity { vec_capacity winners.new ≡ vec_capacity winners.old }
-{
-    replay_up(nodes, winners.as_mut_slice(), node.0);
 }
 
 /// Finds the winners of all nodes, for which there is room.

@@ -1,15 +1,21 @@
 use Rattle.std.proofs.Common.{◌≡◌, ◌+◌, ◌++◌, ◌∷◌, [], length, arith, ap, sym, subst, ◌∙◌, Some}
+use Rattle.std.proofs.lemmas.List.{take_at}
 use Rattle.sabr_frontier.specs.tree.Shape.{order_of}
+use Rattle.sabr_frontier.specs.tree.PageTrees.{carrying}
+use Rattle.sabr_frontier.specs.tree.Undo.{modify}
 use Rattle.sabr_frontier.specs.tree.Winners.{AreOthersWinners, AreWinners}
 use Rattle.sabr_frontier.proofs.tree.Tree.change.Goals as goal
 
-pub renew-requires-clause-others : goal.renew-requires-clause-others
-renew-requires-clause-others g c =
+pub replay_up-requires-clause-others : goal.replay_up-requires-clause-others
+replay_up-requires-clause-others g c =
     let i = c.args.node.0 in
-    subst (λ z. AreOthersWinners z c.args.self.now.winners.items i (i + 1)) (sym (c.as_slice.ensures.value ∙ c.carry.ensures.nodes)) c.requires.won
+    subst (λ z. AreOthersWinners z c.as_mut_slice.result.now i (i + 1)) (sym (c.as_slice.ensures.value ∙ c.carry.ensures.nodes))
+    (subst (λ z. AreOthersWinners (modify (carrying c.args.found) c.args.self.now.nodes.items i) z i (i + 1)) (sym c.as_mut_slice.ensures.value) c.requires.won)
 
 pub fill-requires-clause-won : goal.fill-requires-clause-won
-fill-requires-clause-won g c = subst (λ z. AreWinners z c.renew.new.winners.items) (c.as_slice.ensures.value ∙ sym c.as_slice-2.ensures.value) c.renew.ensures.won
+fill-requires-clause-won g c =
+    subst (AreWinners c.as_slice-2.result.now) (sym (take_at c.replay_up.new.ids _ c.args.self.now.winners.len (omega (arith, c.replay_up.ensures.len, c.as_mut_slice.ensures.len))))
+    (subst (λ z. AreWinners z c.replay_up.new.ids) (c.as_slice.ensures.value ∙ sym c.as_slice-2.ensures.value) c.replay_up.ensures.won)
 
 pub returns-clause-shape : goal.returns-clause-shape
 returns-clause-shape g c =
@@ -26,7 +32,7 @@ returns-clause-room g c = record {
   space = record {
     index = omega (arith, c.requires.space.index, c.carry.ensures.len);
     added = omega (arith, c.requires.space.added, c.carry.ensures.len);
-    places = omega (arith, c.fill.ensures.capacity, c.renew.ensures.capacity, c.requires.space.places, c.carry.ensures.len);
+    places = omega (arith, c.fill.ensures.capacity, c.requires.space.places, c.carry.ensures.len);
   };
   won = subst (λ z. AreWinners z c.fill.new.winners.items) c.as_slice-2.ensures.value c.fill.ensures.won;
   count = omega (arith, c.fill.ensures.len, c.as_slice-2.ensures.len);
