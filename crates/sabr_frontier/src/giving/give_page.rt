@@ -87,51 +87,15 @@ impl<A: Allocator + Copy> Tree<A> {
         ensures same { searcher.new.asked ≡ searcher.old.asked }
     {
         let first = self.leaves.len();
-        let searches = self.give_routes(searcher, count)?;
-        let routes = copies(searcher.alloc(), &self.leaves[first..])?;
-        Ok(Page { routes, searches })
-    }
-
-    /// Gives the next `count` routes, or all that are left if they are fewer, and returns how many searches that took.
-    fn give_routes<B: BestOf<A>>(
-        &mut self,
-        searcher: &mut Searcher<'_, B, A>,
-        count: u32,
-    ) -> Result<u64, NoMemory>
-        requires plan { IsPlan searcher.old.asked.plan.plan }
-        requires hops { searcher.old.asked.request.max_hops ≤ most_hops }
-        requires count { count ≤ most_routes }
-        requires sound { IsSound searcher.old.asked.plan.plan searcher.old.asked.request (shape_of self.old) }
-        requires room { IsRoomy self.old }
-
-        // The routes are given, and the state is the one after their steps.
-        ensures routes { OnOk result (self.new.leaves.items ≡ self.old.leaves.items ++ records_for searcher.old.asked (steps_for searcher.old.asked count (shown (shape_of self.old))).0) }
-        ensures state { OnOk result (shown (shape_of self.new) ≡ (steps_for searcher.old.asked count (shown (shape_of self.old))).1) }
-        ensures entries { OnOk result (length self.new.journal.items ≡ length self.old.journal.items + length (steps_for searcher.old.asked count (shown (shape_of self.old))).0) }
-
-        // It takes this number of searches, and no more if an allocation failed.
-        ensures searches { IfOk result (λ n. n ≡ searches_in searcher.old.asked.plan.plan searcher.old.asked.request count (shown (shape_of self.old))) }
-        ensures called { IfOk result (λ n. searcher.new.calls.count ≡ searcher.old.calls.count + n) }
-        ensures no_fewer { OnErr result (searcher.old.calls.count ≤ searcher.new.calls.count) }
-        ensures at_most { OnErr result (searcher.new.calls.count ≤ searcher.old.calls.count + searches_in searcher.old.asked.plan.plan searcher.old.asked.request count (shown (shape_of self.old))) }
-
-        // In any case the tree is sound, and what was given can be taken back. The index and the question stay.
-        ensures sound { IsSound searcher.old.asked.plan.plan searcher.old.asked.request (shape_of self.new) }
-        ensures longer { length self.old.journal.items ≤ length self.new.journal.items }
-        ensures back { tree_before (length self.old.journal.items) (shape_of self.new) ≡ shape_of self.old }
-        ensures index { self.new.index.items ≡ self.old.index.items }
-        ensures room { IsRoomy self.new }
-        ensures same { searcher.new.asked ≡ searcher.old.asked }
-    {
         let mut searches = 0;
-        for _ in 0..count {
-            if self.is_empty() {
-                return Ok(searches);
-            }
+        let mut left = count;
+        while 0 < left && !self.is_empty() {
             let given = self.give_next(searcher, None)?;
             searches += given.searches;
+            left -= 1;
         }
-        Ok(searches)
+        let routes = copies(searcher.alloc(), &self.leaves[first..])?;
+        Ok(Page { routes, searches })
     }
 
     /// Gives the next `count` routes, or all that are left if they are fewer. The searches for new parts have a bound:

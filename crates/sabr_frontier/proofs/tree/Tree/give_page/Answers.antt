@@ -1,16 +1,108 @@
-use Rattle.std.proofs.Common.{◌≡◌, ◌-◌, ◌∙◌, length, length-drop, drop, arith, ap}
-use Rattle.std.proofs.lemmas.List.{take_all}
-use Rattle.sabr_frontier.specs.tree.Searching.{records_for, steps_for}
+use Rattle.std.proofs.Common.{◌≡◌, ℕ, ◌+◌, ◌-◌, ◌≤◌, ◌⊎◌, suc, length, length-drop, drop, arith, refl, sym, ap, subst, ◌∙◌, inl, inr, zero-add, None}
+use Rattle.std.proofs.lemmas.List.{length_push, take_all}
+use Rattle.sabr_model.proofs.ListLemmas.Answered.{on_err}
+use Rattle.sabr_model.specs.routes.Record.{RouteRecord}
+use Rattle.sabr_frontier.specs.listing.Listing.{searches_in}
+use Rattle.sabr_frontier.specs.tree.Searching.{Asked, records_for, steps_for}
 use Rattle.sabr_frontier.specs.tree.Shape.{shape_of, shown}
+use Rattle.sabr_frontier.specs.tree.Sound.{IsTree}
+use Rattle.sabr_frontier.specs.tree.Winners.{CarriesNone}
 use Rattle.sabr_frontier.proofs.GivingLemmas.CutPages.{drop_at}
+use Rattle.sabr_frontier.proofs.SessionLemmas.Pages.{is_given, IsOnTheWay, at_first, one_on, at_end, sound_tree, counts_on, counts_idle, counts_first, given_same}
 use Rattle.sabr_frontier.proofs.tree.Tree.give_page.Goals as goal
+use Rattle.sabr_frontier.proofs.tree.Tree.give_page.Goals.{then-loop-left-test+else-not-is_empty, else-loop-left-test}
+
+pub loop-left-init : goal.loop-left-init
+loop-left-init g c = record {
+  most = omega arith;
+  way = at_first c.args.searcher.now.asked.plan.plan c.args.searcher.now.asked.request c.args.count c.args.count (shape_of c.args.self.now) refl c.requires.sound;
+  long = omega (arith, c.len-first.ensures);
+  index = refl;
+  room = c.requires.room;
+  sum = zero-add _;
+  called = omega arith;
+  few = omega arith;
+  same = refl;
+}
+
+pub give_next-requires-clause-tree : goal.give_next-requires-clause-tree
+give_next-requires-clause-tree g c =
+    subst (λ (a : Asked). IsTree a.plan.plan a.request (shape_of c.loop-left.self)) (sym c.loop-left.invariant.same)
+    (sound_tree c.args.searcher.now.asked.plan.plan c.args.searcher.now.asked.request (length c.loop-left.self.journal.items) (shape_of c.loop-left.self) c.loop-left.invariant.way.sound)
+
+pub overflow_add-searches : goal.overflow_add-searches
+overflow_add-searches g c =
+    let p = c.args.searcher.now.asked.plan.plan in
+    let r = c.args.searcher.now.asked.request in
+    let t = shape_of c.loop-left.self in
+    let taken = given_same None c.loop-left.invariant.same c.in_ok-given.ensures.ok in
+    let step = is_given p r c.requires.plan t (sound_tree p r (length t.journal) t c.loop-left.invariant.way.sound) _ _ taken in
+    omega (arith, step.0.few, step.1, c.loop-left.invariant.few, c.requires.hops, c.requires.count, c.loop-left-test.true)
+
+pub loop-left-preserved : goal.loop-left-preserved
+loop-left-preserved g c =
+    let p = c.args.searcher.now.asked.plan.plan in
+    let r = c.args.searcher.now.asked.request in
+    let t = shape_of c.loop-left.self in
+    let first = shape_of c.args.self.now in
+    let i = c.loop-left.invariant in
+    let k : ℕ = c.loop-left.left - 1 in
+    let step = is_given p r c.requires.plan t (sound_tree p r (length t.journal) t i.way.sound) _ _ (given_same None i.same c.in_ok-given.ensures.ok) in
+    let u = shape_of c.give_next.new.self in
+    let left : c.loop-left.left ≡ suc k = omega (arith, c.loop-left-test.true) in
+    record {
+      most = omega (arith, i.most);
+      way = one_on p r (shown first) c.args.count first k t u step.0 (subst (λ n. IsOnTheWay p r (shown first) c.args.count first n t) left i.way);
+      long = omega (arith, i.long, ap (length {A = RouteRecord}) step.0.leaves, length_push t.leaves step.0.route);
+      index = c.give_next.ensures.index ∙ i.index;
+      room = c.in_ok-given.ensures.room;
+      sum = counts_on p r t u step.0 k c.loop-left.searches c.in_ok-given.given.searches (searches_in p r c.args.count (shown first)) step.1
+          (subst (λ n. c.loop-left.searches + searches_in p r n (shown t) ≡ searches_in p r c.args.count (shown first)) left i.sum);
+      called = omega (arith, c.in_ok-given.ensures.called, i.called);
+      few = omega (arith, step.0.few, step.1, i.few, c.requires.hops, left);
+      same = c.give_next.ensures.same ∙ i.same;
+    }
 
 pub returns-clause-routes : goal.returns-clause-routes
 returns-clause-routes g c =
+    let stop : (c.loop-left.left ≡ 0) ⊎ CarriesNone c.loop-left.self.nodes.items = elim c.loop-left-test.branch [
+      | then-loop-left-test+else-not-is_empty w ↦ inr (w.is_empty.ensures.none w.if-not-is_empty.false)
+      | else-loop-left-test w ↦ inl (omega (arith, w.loop-left-test.false))
+    ] in
     let a = c.args.searcher.now.asked in
     let before = c.args.self.now.leaves.items in
     let n = c.len-first.result in
     let all = c.deref.result.now in
     let first : n ≡ length before = omega (arith, c.len-first.ensures) in
     c.in_ok-routes.ensures ∙ take_all (length all - n) (drop n all) (omega (arith, length-drop n all)) ∙ ap (drop n) c.deref.ensures.value
-    ∙ (λ i. drop (first i) (c.in_ok-searches.ensures.routes i)) ∙ drop_at before (records_for a (steps_for a c.args.count (shown (shape_of c.args.self.now))).0)
+    ∙ (λ i. drop (first i) ((at_end c.requires.plan c.loop-left.invariant.way stop).routes i)) ∙ drop_at before (records_for a (steps_for a c.args.count (shown (shape_of c.args.self.now))).0)
+
+pub returns-clause-state : goal.returns-clause-state
+returns-clause-state g c =
+    (at_end c.requires.plan c.loop-left.invariant.way (elim c.loop-left-test.branch [
+      | then-loop-left-test+else-not-is_empty w ↦ inr (w.is_empty.ensures.none w.if-not-is_empty.false)
+      | else-loop-left-test w ↦ inl (omega (arith, w.loop-left-test.false))
+    ])).state
+
+pub returns-clause-entries : goal.returns-clause-entries
+returns-clause-entries g c =
+    (at_end c.requires.plan c.loop-left.invariant.way (elim c.loop-left-test.branch [
+      | then-loop-left-test+else-not-is_empty w ↦ inr (w.is_empty.ensures.none w.if-not-is_empty.false)
+      | else-loop-left-test w ↦ inl (omega (arith, w.loop-left-test.false))
+    ])).entries
+
+pub returns-clause-searches : goal.returns-clause-searches
+returns-clause-searches g c =
+    let stop : (c.loop-left.left ≡ 0) ⊎ CarriesNone c.loop-left.self.nodes.items = elim c.loop-left-test.branch [
+      | then-loop-left-test+else-not-is_empty w ↦ inr (w.is_empty.ensures.none w.if-not-is_empty.false)
+      | else-loop-left-test w ↦ inl (omega (arith, w.loop-left-test.false))
+    ] in
+    let still = counts_idle c.args.searcher.now.asked.plan.plan c.args.searcher.now.asked.request c.requires.plan (shape_of c.loop-left.self) c.loop-left.invariant.way.sound c.loop-left.left stop in
+    omega (arith, still, c.loop-left.invariant.sum)
+
+pub returns-in_err-given-clause-at_most : goal.returns-in_err-given-clause-at_most
+returns-in_err-given-clause-at_most g c =
+    let s = shown (shape_of c.loop-left.self) in
+    let few = subst (λ (a : Asked). c.give_next.new.searcher.calls.count ≤ c.loop-left.searcher.calls.count + searches_in a.plan.plan a.request 1 s) c.loop-left.invariant.same c.in_err-given.ensures.at_most in
+    let one = counts_first c.args.searcher.now.asked.plan.plan c.args.searcher.now.asked.request s c.loop-left.left (omega (arith, c.loop-left-test.true)) in
+    on_err c.from_residual.result (omega (arith, few, one, c.loop-left.invariant.sum, c.loop-left.invariant.called))
