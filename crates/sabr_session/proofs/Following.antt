@@ -1,7 +1,7 @@
 -- Following a list of contacts hop by hop.
-use Rattle.std.proofs.Common.{◌≡◌, ℕ, zero, suc, ◌+◌, ◌<◌, ◌≤◌, max, Bool, true, false, cond, ◌||◌, eqb, List, [], ◌∷◌, ◌++◌, length, get_or, take, drop, slice_get, refl, sym, ap, ◌∙◌, arith, add-one, drop-cons}
-use Rattle.std.specs.Prelude.{IsTrue, is_none, is_some, nat_lt}
-use Rattle.std.specs.Option.{option_map}
+use Rattle.std.proofs.Common.{◌≡◌, ℕ, zero, suc, ◌+◌, ◌<◌, ◌≤◌, max, Bool, true, false, cond, ◌||◌, eqb, List, [], ◌∷◌, ◌++◌, length, get_or, take, drop, slice_get, refl, sym, ap, ◌∙◌, arith, add-one, drop-cons, length-take-le}
+use Rattle.std.specs.Prelude.{IsTrue, is_none, is_some, nat_lt, unwrap_or}
+use Rattle.std.specs.Option.{option_map, option_map_or}
 use Rattle.std.specs.declared.option.Option.{Option}
 use Rattle.std.specs.declared.option.Option.TheVariants.{Some, None}
 use Rattle.std.proofs.lemmas.Bool.{eqb-true, ltb-true}
@@ -15,15 +15,17 @@ use Rattle.sabr_model.specs.declared.route_summary.RouteSummary.{RouteSummary}
 use Rattle.sabr_model.specs.plan.Plan.{ContactPlan, TabledPlan, IsPlan, contact_named}
 use Rattle.sabr_model.specs.plan.Light.{light_of}
 use Rattle.sabr_model.specs.routes.Arrival.{RouteRequest, arrival, cost}
-use Rattle.sabr_model.specs.routes.Route.{ends_at, is_route}
-use Rattle.sabr_model.specs.routes.Following.{IsFollowedPath}
+use Rattle.sabr_model.specs.routes.Route.{delivery_of, ends_at, is_route}
+use Rattle.sabr_model.specs.declared.following.Reached.{Reached}
+use Rattle.sabr_model.specs.routes.Following.{IsFollowedPath, IsReachedBy}
 use Rattle.sabr_model.specs.routes.Telling.{summary_of}
 use Rattle.sabr_model.specs.routes.Fault.{fault_at, fault_of, fault_or, first_fault}
 use Rattle.sabr_model.specs.routes.Asking.{IsRequest}
 use Rattle.sabr_plan.specs.Times.{last_spelled}
 use Rattle.sabr_frontier.proofs.GivingLemmas.KeptKeys.{arrival_bound}
 use Rattle.sabr_model.proofs.RouteLemmas.Follows.{ends_elsewhere, ends_in_time, ends_there, front_is_good}
-use Rattle.sabr_session.specs.Hops.{IsFollowed, placed_after, told_after, told_of}
+use Rattle.sabr_model.proofs.RouteLemmas.Paths.{arrival_after_push}
+use Rattle.sabr_session.specs.Hops.{IsFollowed, hop_after, placed_after, told_after, told_of}
 
 -- the times of a hop can be spelled
 pub spelled_times : (p : ContactPlan) (r : RouteRequest) (t u n : ℕ) (c : Contact) → IsPlan p → IsRequest r → contact_named p n ≡ Some c → arrival p r t c ≡ Some u
@@ -53,6 +55,23 @@ at_place s i n e =
       behind = drop-cons s i 0 less ∙ ap (λ m. m ∷ drop (suc i) s) is ∙ ap (λ k. n ∷ drop k s) (sym (add-one i));
       more = take_more s i 0 less ∙ ap (λ m. take i s ++ m ∷ []) is;
     }
+
+-- what is told after some numbers begins with the hop over the next one, if it has no fault
+pub next_told : (p : ContactPlan) (r : RouteRequest) (s : List ℕ) (i n u : ℕ) (c : Contact) (here : Reached) → slice_get s i ≡ Some n → fault_at p r (take i s) n ≡ None → contact_named p n ≡ Some c → IsReachedBy p r (take i s) here → arrival p r here.at c ≡ Some u
+    → told_of placed_after p r (take i s) (drop i s) ≡ record { place = i + 1; hop = record { contact = c; sent = max here.at c.start; arrival = u } } ∷ told_of placed_after p r (take (i + 1) s) (drop (i + 1) s)
+next_told p r s i n u c here e good named reached arrives =
+    let at = at_place s i n e in
+    let front = take i s in
+    let left = told_of placed_after p r (front ++ n ∷ []) (drop (i + 1) s) in
+    let long : length front ≡ i = length-take-le i s (let l = at.less in omega arith) in
+    let on = arrival_after_push p r r.at front n c here.at u named reached.at arrives in
+    ap (told_of placed_after p r front) at.behind
+    ∙ ap (λ o. cond (is_none o) (told_after placed_after p r front n ++ left) []) good
+    ∙ ap (λ o. option_map_or (λ d. placed_after front (hop_after p r front n d)) o [] ++ left) named
+    ∙ ap (λ k. record { place = k + 1; hop = hop_after p r front n c } ∷ left) long
+    ∙ ap (λ o. record { place = i + 1; hop = record { contact = c; sent = max (unwrap_or o 0) c.start; arrival = delivery_of p r (front ++ n ∷ []) } } ∷ left) reached.at
+    ∙ ap (λ o. record { place = i + 1; hop = record { contact = c; sent = max here.at c.start; arrival = unwrap_or o 0 } } ∷ left) on
+    ∙ ap (λ q. record { place = i + 1; hop = record { contact = c; sent = max here.at c.start; arrival = u } } ∷ told_of placed_after p r q (drop (i + 1) s)) (sym at.more)
 
 -- the first fault of the numbers of a list is the list's
 on_the_way : (p : ContactPlan) (r : RouteRequest) (s : List ℕ) (f : HopFault) → 0 < length s → first_fault p r [] s ≡ Some f → fault_of p r s ≡ Some f

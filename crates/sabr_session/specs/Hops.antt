@@ -71,9 +71,9 @@ hops_left f = told_of placed_after f.question.plan.plan f.question.request (foll
 
 -- what is known of that many numbers that were followed: they are this path, with this summary, and a fault that was
 -- found is that of the whole list, and of the number that comes next
-pub record IsFollowed (p : TabledPlan) (r : RouteRequest) (s : List ℕ) (count : ℕ) (path : FollowedPath) (summary : RouteSummary) (fault : Option HopFault) : Type 0 where
+pub record IsFollowed (p : TabledPlan) (r : RouteRequest) (s : List ℕ) (count : ℕ) (followed : FollowedPath) (summary : RouteSummary) (fault : Option HopFault) : Type 0 where
   pub within : count ≤ length s
-  pub path : IsFollowedPath p r (take count s) path
+  pub path : IsFollowedPath p r (take count s) followed
   pub summed : summary ≡ summary_of p.plan (take count s)
   pub stops : IfSome fault (λ f. told_of placed_after p.plan r (take count s) (drop count s) ≡ [])
   pub faulty : IfSome fault (λ f. fault_of p.plan r s ≡ Some f)

@@ -1,3 +1,4 @@
+use Rattle.std.proofs.Common.{arith}
 use Rattle.sabr_session.proofs.hops.Hops.new.Goals as goal
 
 pub invariant_of-result : goal.invariant_of-result
