@@ -1,4 +1,4 @@
-use Rattle.std.proofs.Common.{[], ◌≡◌, ◌+◌, ◌<◌, ◌++◌, slice_index, length, length-take-le, take, drop, arith, sym, ap, subst, ◌∙◌, ℕ, List, Some}
+use Rattle.std.proofs.Common.{[], ◌≡◌, ◌+◌, ◌<◌, ◌++◌, get_or, slice_index, length, length-take-le, take, drop, arith, sym, ap, subst, ◌∙◌, ℕ, List, Some}
 use Rattle.std.specs.Cmp.{nat_cmp_total}
 use Rattle.std.specs.Ordering.{nat_cmp}
 use Rattle.std.specs.Prelude.{slice_get}
@@ -22,25 +22,27 @@ use Rattle.sabr_frontier.proofs.giving.divide.divide.Goals as goal
 use Rattle.sabr_frontier.specs.tree.Sound.{CanExclude}
 use Rattle.sabr_search.specs.questions.Bounded.{IsFloor}
 
-module _ {A : Type 0} (nodes : List (Node A)) (i : ℕ) (s : List ℕ) (l : i < length nodes) (can : (n : Node A) → slice_get nodes i ≡ Some n → CanExclude n s) where
+module _ {A : Type 0} (nodes : List (Node A)) {i : ℕ} {s : List ℕ} (can : (n : Node A) → slice_get nodes i ≡ Some n → CanExclude n s) (l : i < length nodes) where
   -- if the number isn't excluded yet, the nodes stay
-  none_excluded : (now : List (Node A)) → now ≡ nodes → modify (including s) (take (length nodes) now) i ≡ nodes
-  none_excluded now e =
+  none_excluded : {now : List (Node A)} → now ≡ nodes → modify (including s) (take (length nodes) now) i ≡ nodes
+  none_excluded e =
       let w = within_get nodes i l in
       ap (λ z. modify (including s) (take (length nodes) z) i) e ∙ ap (λ z. modify (including s) z i) (take_all (length nodes) nodes (omega arith)) ∙ including_none nodes i s w.0 w.1 (can w.0 w.1)
 
-  module _ (then : List (Node A)) (e : then ≡ modify (excluding s) nodes i) where
+  module _ {then : List (Node A)} (e : then ≡ modify (excluding s) nodes i) where
+    long : length nodes ≡ length then
+    long = sym (ap (length {A = Node A}) e ∙ length-modify (excluding s) nodes i)
+
     -- else it is taken out again, and new nodes are cut off
     cut_off : (now : List (Node A)) → take (length then) now ≡ then → modify (including s) (take (length nodes) now) i ≡ nodes
     cut_off now front =
         let w = within_get nodes i l in
-        let long : length nodes ≡ length then = sym (ap (length {A = Node A}) e ∙ length-modify (excluding s) nodes i) in
         ap (λ z. modify (including s) (take z now) i) long ∙ ap (λ z. modify (including s) z i) front ∙ included nodes then i s w.0 w.1 e (can w.0 w.1)
 
     -- what stands at the place then
-    module _ (k : Node A) (stands : slice_get then i ≡ Some k) where
+    module _ {k : Node A} (read : k ≡ get_or then i k) where
       there : (n : Node A) → slice_get nodes i ≡ Some n → k ≡ excluding s n
-      there n is = excluded_there nodes then i s n is e k stands
+      there n is = excluded_there nodes then i s n is e k (get_there then i k (omega (arith, l, long)) read)
 
       longer_then : k.length < length s
       longer_then = let w = within_get nodes i l in subst (λ (k : Node A). k.length < length s) (sym (there w.0 w.1)) (can w.0 w.1).longer
@@ -52,7 +54,7 @@ module _ {A : Type 0} (nodes : List (Node A)) (i : ℕ) (s : List ℕ) (l : i < 
           increasing k.excluded (subst (λ (k : Node A). Rises nat_cmp k.excluded) (sym (there w.0 w.1)) (Rises-put_in nat_cmp_total (slice_index s w.0.length) w.0.excluded c.rises))
 
       -- no route of the parts that it makes delivers before a second that none of its own does
-      module _ (p : ContactPlan) (r : RouteRequest) (d : ℕ) (floor : (n : Node A) → slice_get nodes i ≡ Some n → IsFloor p r (take n.length s) n.excluded d) where
+      module _ (p : ContactPlan) (r : RouteRequest) {d : ℕ} (floor : (n : Node A) → slice_get nodes i ≡ Some n → IsFloor p r (take n.length s) n.excluded d) where
         wide_then : IsFloor p r (take k.length s) k.excluded d
         wide_then = let w = within_get nodes i l in subst (λ (k : Node A). IsFloor p r (take k.length s) k.excluded d) (sym (there w.0 w.1)) (floor_wide p r d (take w.0.length s) w.0.excluded (slice_index s w.0.length) (floor w.0 w.1))
 
@@ -64,87 +66,48 @@ module _ {A : Type 0} (nodes : List (Node A)) (i : ℕ) (s : List ℕ) (l : i < 
 
 pub slice_bounds-find_best-end : goal.slice_bounds-find_best-end
 slice_bounds-find_best-end g c =
-    let then = c.exclude_next.new.nodes.items in
-    let k = c.index-part.result.now in
-    let stands = get_there then c.args.node.0 k (omega arith) c.index-part.ensures in
-    let long = longer_then c.args.nodes.now.items c.args.node.0 c.args.route.now (omega arith) c.requires.next then c.in_ok-exclude_next.ensures.ok k stands in
-    sym (length-take-le k.length c.args.route.now (omega (arith, long)))
+    let more = longer_then _ c.requires.next (omega arith) c.in_ok-exclude_next.ensures.ok c.index-part.ensures in
+    sym (length-take-le c.index-part.result.now.length c.args.route.now (omega (arith, more)))
 
 pub overflow_add-count : goal.overflow_add-count
-overflow_add-count g c =
-    let then = c.exclude_next.new.nodes.items in
-    let k = c.index-part.result.now in
-    let stands = get_there then c.args.node.0 k (omega arith) c.index-part.ensures in
-    let long = longer_then c.args.nodes.now.items c.args.node.0 c.args.route.now (omega arith) c.requires.next then c.in_ok-exclude_next.ensures.ok k stands in
-    omega (arith, long)
+overflow_add-count g c = let more = longer_then _ c.requires.next (omega arith) c.in_ok-exclude_next.ensures.ok c.index-part.ensures in omega (arith, more)
 
 pub fresh_nodes-requires-clause-within : goal.fresh_nodes-requires-clause-within
-fresh_nodes-requires-clause-within g c =
-    let then = c.exclude_next.new.nodes.items in
-    let k = c.index-part.result.now in
-    let stands = get_there then c.args.node.0 k (omega arith) c.index-part.ensures in
-    let long = longer_then c.args.nodes.now.items c.args.node.0 c.args.route.now (omega arith) c.requires.next then c.in_ok-exclude_next.ensures.ok k stands in
-    omega (arith, long)
+fresh_nodes-requires-clause-within g c = let more = longer_then _ c.requires.next (omega arith) c.in_ok-exclude_next.ensures.ok c.index-part.ensures in omega (arith, more)
 
 pub find_best-requires-clause-fits : goal.find_best-requires-clause-fits
-find_best-requires-clause-fits g c =
-    let then = c.exclude_next.new.nodes.items in
-    let k = c.index-part.result.now in
-    let stands = get_there then c.args.node.0 k (omega arith) c.index-part.ensures in
-    let a = c.args.searcher.now.asked in
-    let long = longer_then c.args.nodes.now.items c.args.node.0 c.args.route.now (omega arith) c.requires.next then c.in_ok-exclude_next.ensures.ok k stands in
-    beginning_fits a.plan.plan a.request c.args.route.now k.length c.requires.route long
+find_best-requires-clause-fits g c = beginning_fits _ _ c.args.route.now _ c.requires.route (longer_then _ c.requires.next (omega arith) c.in_ok-exclude_next.ensures.ok c.index-part.ensures)
 
 pub find_best-requires-clause-rising : goal.find_best-requires-clause-rising
-find_best-requires-clause-rising g c =
-    let then = c.exclude_next.new.nodes.items in
-    let k = c.index-part.result.now in
-    let stands = get_there then c.args.node.0 k (omega arith) c.index-part.ensures in
-    subst IsStrictlyIncreasing (sym c.as_slice.ensures) (rises_then c.args.nodes.now.items c.args.node.0 c.args.route.now (omega arith) c.requires.next then c.in_ok-exclude_next.ensures.ok k stands)
+find_best-requires-clause-rising g c = subst IsStrictlyIncreasing (sym c.as_slice.ensures) (rises_then _ c.requires.next (omega arith) c.in_ok-exclude_next.ensures.ok c.index-part.ensures)
 
 pub find_best-requires-clause-floor : goal.find_best-requires-clause-floor
 find_best-requires-clause-floor g c =
-    let then = c.exclude_next.new.nodes.items in
-    let k = c.index-part.result.now in
-    let stands = get_there then c.args.node.0 k (omega arith) c.index-part.ensures in
     let a = c.args.searcher.now.asked in
-    subst (λ X. IsFloor a.plan.plan a.request (take k.length c.args.route.now) X c.args.given.floor) (sym c.as_slice.ensures)
-    (wide_then c.args.nodes.now.items c.args.node.0 c.args.route.now (omega arith) c.requires.next then c.in_ok-exclude_next.ensures.ok k stands a.plan.plan a.request c.args.given.floor c.requires.floor)
+    subst (λ X. IsFloor a.plan.plan a.request (take c.index-part.result.now.length c.args.route.now) X c.args.given.floor) (sym c.as_slice.ensures)
+    (wide_then _ c.requires.next (omega arith) c.in_ok-exclude_next.ensures.ok c.index-part.ensures _ _ c.requires.floor)
 
 pub fresh_nodes-requires-clause-floor : goal.fresh_nodes-requires-clause-floor
 fresh_nodes-requires-clause-floor g c =
-    let then = c.exclude_next.new.nodes.items in
-    let k = c.index-part.result.now in
-    let stands = get_there then c.args.node.0 k (omega arith) c.index-part.ensures in
-    let a = c.args.searcher.now.asked in
-    subst (λ (b : Asked). IsFloor b.plan.plan b.request (take (k.length + 1) c.args.route.now) [] c.args.given.floor) (sym c.find_best.ensures.same)
-    (after_then c.args.nodes.now.items c.args.node.0 c.args.route.now (omega arith) c.requires.next then c.in_ok-exclude_next.ensures.ok k stands a.plan.plan a.request c.args.given.floor c.requires.floor)
+    subst (λ (b : Asked). IsFloor b.plan.plan b.request (take (c.index-part.result.now.length + 1) c.args.route.now) [] c.args.given.floor) (sym c.find_best.ensures.same)
+    (after_then _ c.requires.next (omega arith) c.in_ok-exclude_next.ensures.ok c.index-part.ensures _ _ c.requires.floor)
 
 pub returns-clause-found : goal.returns-clause-found
 returns-clause-found g c n is =
-    let then = c.exclude_next.new.nodes.items in
-    let k = c.index-part.result.now in
-    let stands = get_there then c.args.node.0 k (omega arith) c.index-part.ensures in
-    let same = there c.args.nodes.now.items c.args.node.0 c.args.route.now (omega arith) c.requires.next then c.in_ok-exclude_next.ensures.ok k stands n is in
-    c.in_ok-found.ensures.best ∙ ap (best_for c.args.searcher.now.asked c.args.given.bound (take k.length c.args.route.now)) c.as_slice.ensures
-    ∙ ap (λ (k : Node _). best_for c.args.searcher.now.asked c.args.given.bound (take k.length c.args.route.now) k.excluded) same
+    let best = best_for c.args.searcher.now.asked c.args.given.bound (take c.index-part.result.now.length c.args.route.now) in
+    c.in_ok-found.ensures.best ∙ ap best c.as_slice.ensures
+    ∙ ap (λ (k : Node _). best_for c.args.searcher.now.asked c.args.given.bound (take k.length c.args.route.now) k.excluded) (there _ c.requires.next (omega arith) c.in_ok-exclude_next.ensures.ok c.index-part.ensures n is)
 
 pub returns-clause-ok : goal.returns-clause-ok
 returns-clause-ok g c n is =
-    let then = c.exclude_next.new.nodes.items in
     let s = c.args.route.now in
-    let k = c.index-part.result.now in
-    let stands = get_there then c.args.node.0 k (omega arith) c.index-part.ensures in
-    let same = there c.args.nodes.now.items c.args.node.0 s (omega arith) c.requires.next then c.in_ok-exclude_next.ensures.ok k stands n is in
+    let same = there _ c.requires.next (omega arith) c.in_ok-exclude_next.ensures.ok c.index-part.ensures n is in
     c.in_ok-searches.ensures.nodes
     ∙ (λ i. c.in_ok-exclude_next.ensures.ok i ++ fresh_nodes (best_for (c.find_best.ensures.same i) c.args.given.bound) c.args.given.leaf (take ((same i).length + 1) s) (drop ((same i).length + 1) s))
 
 pub returns-clause-searches : goal.returns-clause-searches
 returns-clause-searches g c n is =
-    let then = c.exclude_next.new.nodes.items in
-    let k = c.index-part.result.now in
-    let stands = get_there then c.args.node.0 k (omega arith) c.index-part.ensures in
-    let same = there c.args.nodes.now.items c.args.node.0 c.args.route.now (omega arith) c.requires.next then c.in_ok-exclude_next.ensures.ok k stands n is in
+    let same = there _ c.requires.next (omega arith) c.in_ok-exclude_next.ensures.ok c.index-part.ensures n is in
     omega (arith, c.in_ok-searches.ensures.searches, ap (λ (m : Node _). m.length) same)
 
 pub returns-in_err-exclude_next-clause-at_most : goal.returns-in_err-exclude_next-clause-at_most
@@ -156,22 +119,14 @@ returns-in_err-found-clause-at_most g c = on_err c.from_residual-in_err-found.re
 pub returns-in_err-searches-clause-at_most : goal.returns-in_err-searches-clause-at_most
 returns-in_err-searches-clause-at_most g c =
     on_err c.from_residual-in_err-searches.result (λ n is.
-    let then = c.exclude_next.new.nodes.items in
-    let k = c.index-part.result.now in
-    let stands = get_there then c.args.node.0 k (omega arith) c.index-part.ensures in
-    let same = there c.args.nodes.now.items c.args.node.0 c.args.route.now (omega arith) c.requires.next then c.in_ok-exclude_next.ensures.ok k stands n is in
+    let same = there _ c.requires.next (omega arith) c.in_ok-exclude_next.ensures.ok c.index-part.ensures n is in
     omega (arith, c.in_err-searches.ensures.at_most, c.find_best.ensures.called, ap (λ (m : Node _). m.length) same))
 
 pub returns-in_err-exclude_next-clause-err : goal.returns-in_err-exclude_next-clause-err
-returns-in_err-exclude_next-clause-err g c =
-    on_err c.from_residual.result (none_excluded c.args.nodes.now.items c.args.node.0 c.args.route.now (omega arith) c.requires.next c.exclude_next.new.nodes.items c.in_err-exclude_next.ensures.err)
+returns-in_err-exclude_next-clause-err g c = on_err c.from_residual.result (none_excluded _ c.requires.next (omega arith) c.in_err-exclude_next.ensures.err)
 
 pub returns-in_err-found-clause-err : goal.returns-in_err-found-clause-err
-returns-in_err-found-clause-err g c =
-    let then = c.exclude_next.new.nodes.items in
-    on_err c.from_residual-in_err-found.result (cut_off c.args.nodes.now.items c.args.node.0 c.args.route.now (omega arith) c.requires.next then c.in_ok-exclude_next.ensures.ok then (take_all (length then) then (omega arith)))
+returns-in_err-found-clause-err g c = on_err c.from_residual-in_err-found.result (cut_off _ c.requires.next (omega arith) c.in_ok-exclude_next.ensures.ok _ (take_all _ c.exclude_next.new.nodes.items (omega arith)))
 
 pub returns-in_err-searches-clause-err : goal.returns-in_err-searches-clause-err
-returns-in_err-searches-clause-err g c =
-    let then = c.exclude_next.new.nodes.items in
-    on_err c.from_residual-in_err-searches.result (cut_off c.args.nodes.now.items c.args.node.0 c.args.route.now (omega arith) c.requires.next then c.in_ok-exclude_next.ensures.ok c.fresh_nodes.new.nodes.items c.fresh_nodes.ensures.front)
+returns-in_err-searches-clause-err g c = on_err c.from_residual-in_err-searches.result (cut_off _ c.requires.next (omega arith) c.in_ok-exclude_next.ensures.ok _ c.fresh_nodes.ensures.front)

@@ -68,23 +68,27 @@ module _ {A : Type 0} {a : Asked} {t : Shape A} {id : NodeId} {w : RouteRecord} 
   can_taken : CanExclude (without k.part) s
   can_taken = record { longer = k.can.longer; rises = k.can.rises; absent = k.can.absent }
 
-  -- the nodes once it has the route again
-  given_again : (now : List (Node A)) → modify (including s) now id.0 ≡ taken → modify (given_back k.route) now id.0 ≡ t.nodes
-  given_again now e =
-      sym (modify_twice (including s) (carrying (Some k.route)) now id.0) ∙ ap (λ z. modify (carrying (Some k.route)) z id.0) e ∙ modify_twice without (carrying (Some k.route)) t.nodes id.0
-      ∙ modify_back (λ n. carrying (Some k.route) (without n)) t.nodes id.0 k.part k.stands (ap (λ o. record k.part { route = o }) (sym k.carries))
+  -- the nodes of which the new ones are cut off, once the number isn't excluded any more
+  module _ (all : List (Node A)) {copy : List ℕ} {now cut : List (Node A)} {first : ℕ} (are : copy ≡ w.contacts) (is : now ≡ taken) (count : first ≡ length now) (cut_is : cut ≡ take first all) (back : modify (including copy) (take (length now) all) id.0 ≡ now) where
+    back_is : modify (including s) cut id.0 ≡ taken
+    back_is = (λ i. modify (including (sym (numbers_are are) i)) ((cut_is ∙ ap (λ n. take n all) count) i) id.0) ∙ back ∙ is
 
-  long_again : (now : List (Node A)) → modify (including s) now id.0 ≡ taken → length now ≡ length t.nodes
-  long_again now e = sym (length-modify (including s) now id.0) ∙ ap (length {A = Node A}) e ∙ length-modify without t.nodes id.0
+    -- those once it has the route again
+    given_again : {new : List (Node A)} → new ≡ modify (given_back w) cut id.0 → new ≡ t.nodes
+    given_again e =
+        e ∙ (λ i. modify (given_back (k.copied i)) cut id.0) ∙ sym (modify_twice (including s) (carrying (Some k.route)) cut id.0) ∙ ap (λ z. modify (carrying (Some k.route)) z id.0) back_is
+        ∙ modify_twice without (carrying (Some k.route)) t.nodes id.0 ∙ modify_back (λ n. carrying (Some k.route) (without n)) t.nodes id.0 k.part k.stands (ap (λ o. record k.part { route = o }) (sym k.carries))
 
-  -- it is longer than the node's prefix
-  longer_again : (now : List (Node A)) → modify (including s) now id.0 ≡ taken → IsLonger now id.0 k.route
-  longer_again now e n =
-      let all = long_again now e in
-      let at = within_get now id.0 (omega (arith, all, slice_get_within t.nodes id.0 k.part k.stands)) in
-      let same : including s at.0 ≡ without k.part = let x = get_same (including s) now id.0 at.0 at.1 in let y = ap (λ z. slice_get z id.0) e in let z = there in cc in
-      let here = get_or_from_slice_get now id.0 at.0 n at.1 in
-      omega (arith, k.can.longer, ap (λ (m : Node A). m.length) same, ap (λ (m : Node A). m.length) here)
+    still_there : id.0 < length cut
+    still_there = omega (arith, length-modify (including s) cut id.0, ap (length {A = Node A}) back_is, length-modify without t.nodes id.0, slice_get_within t.nodes id.0 k.part k.stands)
+
+    -- it is longer than the node's prefix
+    longer_again : IsLonger cut id.0 w
+    longer_again n =
+        let at = within_get cut id.0 still_there in
+        let same : including s at.0 ≡ without k.part = let x = get_same (including s) cut id.0 at.0 at.1 in let y = ap (λ z. slice_get z id.0) back_is in let z = there in cc in
+        let here = get_or_from_slice_get cut id.0 at.0 n at.1 in
+        omega (arith, k.can.longer, ap (λ (r : RouteRecord). length r.contacts) k.copied, ap (λ (m : Node A). m.length) same, ap (λ (m : Node A). m.length) here)
 
   module _ (b : Option Bound) where
     -- the new nodes
@@ -190,43 +194,25 @@ returns-in-Ok-clause-ok g c =
       counted = counted;
     })
 
-pub give_back-requires-clause-in_range : goal.give_back-requires-clause-in_range
-give_back-requires-clause-in_range g c =
+pub give_back-requires : goal.give_back-requires
+give_back-requires g c =
     let k = known_then c.args.searcher.now.asked c.reserve.ensures.same c.requires.tree c.in-Some.ensures.some (sym c.in-Some-carry.ensures.route) in
-    let numbers = numbers_are k c.numbers.ensures in
-    let first : c.len-first.result ≡ length c.carry.new.nodes.items = omega (arith, c.len-first.ensures) in
-    let cut = c.truncate.ensures.items ∙ ap (λ n. take n c.divide.new.nodes.items) first in
-    let back = (λ i. modify (including (sym numbers i)) (cut i) c.in-Some.node.0) ∙ c.in-Err.ensures.err ∙ c.in-Some-carry.ensures.nodes in
-    omega (arith, long_again k c.truncate.new.self.items back, slice_get_within (shape_of c.reserve.new.self).nodes c.in-Some.node.0 k.part k.stands)
-
-pub give_back-requires-clause-longer : goal.give_back-requires-clause-longer
-give_back-requires-clause-longer g c =
-    let k = known_then c.args.searcher.now.asked c.reserve.ensures.same c.requires.tree c.in-Some.ensures.some (sym c.in-Some-carry.ensures.route) in
-    let numbers = numbers_are k c.numbers.ensures in
-    let first : c.len-first.result ≡ length c.carry.new.nodes.items = omega (arith, c.len-first.ensures) in
-    let cut = c.truncate.ensures.items ∙ ap (λ n. take n c.divide.new.nodes.items) first in
-    let back = (λ i. modify (including (sym numbers i)) (cut i) c.in-Some.node.0) ∙ c.in-Err.ensures.err ∙ c.in-Some-carry.ensures.nodes in
-    subst (IsLonger c.truncate.new.self.items c.in-Some.node.0) (sym k.copied) (longer_again k c.truncate.new.self.items back)
+    record {
+      in_range = (let l = still_there k c.divide.new.nodes.items c.numbers.ensures c.in-Some-carry.ensures.nodes (omega (arith, c.len-first.ensures)) c.truncate.ensures.items c.in-Err.ensures.err in omega (arith, l));
+      longer = longer_again k c.divide.new.nodes.items c.numbers.ensures c.in-Some-carry.ensures.nodes (omega (arith, c.len-first.ensures)) c.truncate.ensures.items c.in-Err.ensures.err;
+    }
 
 pub returns-in-Err-clause-err : goal.returns-in-Err-clause-err
 returns-in-Err-clause-err g c =
     let u = shape_of c.reserve.new.self in
     let k = known_then c.args.searcher.now.asked c.reserve.ensures.same c.requires.tree c.in-Some.ensures.some (sym c.in-Some-carry.ensures.route) in
-    let numbers = numbers_are k c.numbers.ensures in
-    let first : c.len-first.result ≡ length c.carry.new.nodes.items = omega (arith, c.len-first.ensures) in
-    let cut = c.truncate.ensures.items ∙ ap (λ n. take n c.divide.new.nodes.items) first in
-    let back = (λ i. modify (including (sym numbers i)) (cut i) c.in-Some.node.0) ∙ c.in-Err.ensures.err ∙ c.in-Some-carry.ensures.nodes in
-    let nodes = c.give_back.ensures ∙ (λ i. modify (given_back (k.copied i)) c.truncate.new.self.items c.in-Some.node.0) ∙ given_again k c.truncate.new.self.items back in
+    let nodes = given_again k c.divide.new.nodes.items c.numbers.ensures c.in-Some-carry.ensures.nodes (omega (arith, c.len-first.ensures)) c.truncate.ensures.items c.in-Err.ensures.err c.give_back.ensures in
     (λ i. record u { nodes = nodes i; index = order_of u.leaves (nodes i) }) ∙ c.reserve.ensures.same
 
 pub returns-in-Err-clause-room : goal.returns-in-Err-clause-room
 returns-in-Err-clause-room g c =
     let k = known_then c.args.searcher.now.asked c.reserve.ensures.same c.requires.tree c.in-Some.ensures.some (sym c.in-Some-carry.ensures.route) in
-    let numbers = numbers_are k c.numbers.ensures in
-    let first : c.len-first.result ≡ length c.carry.new.nodes.items = omega (arith, c.len-first.ensures) in
-    let cut = c.truncate.ensures.items ∙ ap (λ n. take n c.divide.new.nodes.items) first in
-    let back = (λ i. modify (including (sym numbers i)) (cut i) c.in-Some.node.0) ∙ c.in-Err.ensures.err ∙ c.in-Some-carry.ensures.nodes in
-    let nodes = c.give_back.ensures ∙ (λ i. modify (given_back (k.copied i)) c.truncate.new.self.items c.in-Some.node.0) ∙ given_again k c.truncate.new.self.items back in
+    let nodes = given_again k c.divide.new.nodes.items c.numbers.ensures c.in-Some-carry.ensures.nodes (omega (arith, c.len-first.ensures)) c.truncate.ensures.items c.in-Err.ensures.err c.give_back.ensures in
     let room = c.in_ok-reserve.ensures.room in
     let long = ap (length {A = Node _}) nodes in
     record {
