@@ -187,9 +187,9 @@ impl<'p, B: BestOf<A>, A: Allocator + Copy> Searcher<'p, B, A> {
         excluded: &[u32],
     ) -> Result<bool, NoMemory>
         requires route { IsTrue (is_route self.old.asked.plan.plan self.old.asked.request route.now) }
-        requires few { detour_looks (length route.now) ≤ looks.old.left }
+        requires few { detour_looks self.old.asked.request.max_hops ≤ looks.old.left }
         ensures yes { IfOk result (λ yes. IsTrue yes → GoesOtherwise self.old.asked.plan.plan self.old.asked.request route.now excluded.now) }
-        ensures most { looks.old.left ≤ looks.new.left + detour_looks (length route.now) }
+        ensures most { looks.old.left ≤ looks.new.left + detour_looks self.old.asked.request.max_hops }
         ensures fewer { looks.new.left ≤ looks.old.left }
         ensures least { IfOk result (λ yes. IsTrue yes → looks.new.left + length route.now ≤ looks.old.left) }
         ensures same { self.new ≡ self.old }

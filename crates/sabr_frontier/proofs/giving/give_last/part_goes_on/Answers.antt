@@ -1,13 +1,10 @@
-use Rattle.std.proofs.Common.{◌≡◌, ℕ, List, ◌+◌, ◌≤◌, ◌||◌, None, Ok, Err, Result, false, arith, length, slice_index, take, drop, subst, sym, ap, ◌∙◌}
-use Rattle.std.specs.Prelude.{IfOk, IsTrue, is_some}
+use Rattle.std.proofs.Common.{◌≡◌, ℕ, List, ◌+◌, ◌||◌, None, Ok, Err, Result, false, arith, slice_index, take, drop, subst, sym, ap, ◌∙◌}
+use Rattle.std.specs.Prelude.{IfOk, is_some}
 use Rattle.std.specs.Cmp.{nat_cmp_total}
 use Rattle.std.specs.List.Sorted.{IsStrictlyIncreasing}
-use Rattle.sabr_model.specs.plan.Plan.{ContactPlan, IsPlan, TabledPlan}
-use Rattle.sabr_model.specs.routes.Arrival.{RouteRequest}
-use Rattle.sabr_model.specs.routes.Route.{is_route}
-use Rattle.sabr_model.proofs.RouteLemmas.Paths.{path_facts, route_is_path}
+use Rattle.sabr_model.specs.plan.Plan.{IsPlan, TabledPlan}
 use Rattle.sabr_search.specs.questions.Bounded.{IsFloor}
-use Rattle.sabr_search.specs.questions.Detours.{detour_looks, GoesOtherwise}
+use Rattle.sabr_search.specs.questions.Detours.{GoesOtherwise}
 use Rattle.sabr_frontier.specs.tree.Searching.{Searching, best_for}
 use Rattle.sabr_frontier.specs.tree.Left.{longer_go_on, part_goes_on}
 use Rattle.sabr_frontier.specs.tree.Giving.{wide_of}
@@ -17,40 +14,10 @@ use Rattle.sabr_frontier.proofs.TreeLemmas.ListFronts.{increasing}
 use Rattle.sabr_frontier.proofs.SessionLemmas.LeftSteps.{goes_on_otherwise}
 use Rattle.sabr_frontier.proofs.giving.give_last.part_goes_on.Goals as goal
 
-pub goes_otherwise-requires-clause-few : goal.goes_otherwise-requires-clause-few
-goes_otherwise-requires-clause-few g c =
-    let p = c.args.searcher.now.asked.plan.plan in
-    let r = c.args.searcher.now.asked.request in
-    let s = c.args.route.now in
-    let within : length s ≤ r.max_hops = (path_facts p r s (route_is_path p r s c.requires.route)).within in
-    omega (arith, within, c.requires.few)
-
 -- what holds of each value
 all_ok : {T E : Type 0} {P : T → Type 0} (r : Result T E) → ((x : T) → P x) → IfOk r P
 all_ok (Ok x) h = h x
 all_ok (Err e) h = tt
-
--- a route takes no more looks than one of as many hops as the request allows
-few_looks : (p : ContactPlan) (r : RouteRequest) (s : List ℕ) → IsTrue (is_route p r s) → (old new : ℕ) → old ≤ new + detour_looks (length s) → old ≤ new + detour_looks r.max_hops
-few_looks p r s route old new most = let within = (path_facts p r s (route_is_path p r s route)).within in omega (arith, within, most)
-
-pub returns-in_err-goes_otherwise-clause-looks : goal.returns-in_err-goes_otherwise-clause-looks
-returns-in_err-goes_otherwise-clause-looks g c = few_looks _ _ c.args.route.now c.requires.route _ _ c.goes_otherwise.ensures.most
-
-pub returns-then-branch-clause-looks : goal.returns-then-branch-clause-looks
-returns-then-branch-clause-looks g c = few_looks _ _ c.args.route.now c.requires.route _ _ c.goes_otherwise.ensures.most
-
-pub returns-in_err-excluded-clause-looks : goal.returns-in_err-excluded-clause-looks
-returns-in_err-excluded-clause-looks g c = few_looks _ _ c.args.route.now c.requires.route _ _ c.goes_otherwise.ensures.most
-
-pub returns-in_err-found-clause-looks : goal.returns-in_err-found-clause-looks
-returns-in_err-found-clause-looks g c = few_looks _ _ c.args.route.now c.requires.route _ _ c.goes_otherwise.ensures.most
-
-pub returns-then-is_some-clause-looks : goal.returns-then-is_some-clause-looks
-returns-then-is_some-clause-looks g c = few_looks _ _ c.args.route.now c.requires.route _ _ c.goes_otherwise.ensures.most
-
-pub returns-clause-looks : goal.returns-clause-looks
-returns-clause-looks g c = few_looks _ _ c.args.route.now c.requires.route _ _ c.goes_otherwise.ensures.most
 
 pub returns-then-branch-clause-ok : goal.returns-then-branch-clause-ok
 returns-then-branch-clause-ok g c =
