@@ -42,19 +42,6 @@ impl<A: Allocator + Copy> Tree<A> {
         self.last = entry.last;
     }
 
-    /// Takes routes back as [`undo`](Tree::undo) does, until the journal has as many entries as it had then.
-    fn undo_each(&mut self, start: usize)
-        requires possible { CanUndoTimes (length self.old.journal.items - start) (shape_of self.old) }
-        requires room { IsSpacious self.old }
-        ensures former { shape_of self.new ≡ undone_times (length self.old.journal.items - start) (shape_of self.old) }
-        ensures index { self.new.index.items ≡ self.old.index.items }
-        ensures room { IsSpacious self.new }
-    {
-        while self.journal.len() > start {
-            self.undo();
-        }
-    }
-
     /// Takes routes back until the journal has as many entries as it had then. It allocates nothing.
     pub fn undo_to(&mut self, start: usize)
         requires possible { CanUndoTimes (length self.old.journal.items - start) (shape_of self.old) }
@@ -64,7 +51,9 @@ impl<A: Allocator + Copy> Tree<A> {
         ensures index { self.new.index.items ≡ (shape_of self.new).index }
         ensures room { IsRoomy self.new }
     {
-        self.undo_each(start);
+        while self.journal.len() > start {
+            self.undo();
+        }
         let count = self.nodes.len();
         self.index.retain(|id| id.0 < count);
         rebuild(self.nodes.as_slice(), &mut self.winners);

@@ -1,7 +1,7 @@
 use Rattle.std.proofs.Common.{◌≡◌, ◌-◌, length}
 use Rattle.sabr_frontier.specs.tree.Shape.{shape_of}
 use Rattle.sabr_frontier.specs.tree.Undo.{CanUndoTimes, undone_times, IsSpacious}
-use Rattle.sabr_frontier.proofs.tree.Tree.undo_each.Given as goal
+use Rattle.sabr_frontier.proofs.tree.Tree.undo_to.Given as goal
 
 abbrev pub invariant-loop-self : goal.invariant-loop-self
 invariant-loop-self g l = record {
