@@ -1,11 +1,10 @@
 //! Giving the best route that the tree carries.
 
-ghost use Rattle.std.specs.Prelude.{◌≡◌, ◌+◌, ◌≤◌, length, Some, IsSome, IsTrue, IsFalse, IfOk, OnErr};
+ghost use Rattle.std.specs.Prelude.{◌≡◌, ◌+◌, ◌≤◌, IsTrue, IsFalse, IfOk, OnErr};
 ghost use Rattle.sabr_model.specs.plan.Plan.{IsPlan};
-ghost use Rattle.sabr_model.specs.routes.Record.{RouteRecord};
 ghost use Rattle.sabr_frontier.specs.listing.Listing.{searches_in};
 ghost use Rattle.sabr_frontier.specs.tree.Searching.{best_for};
-ghost use Rattle.sabr_frontier.specs.tree.Shape.{shape_of, route_at, shown};
+ghost use Rattle.sabr_frontier.specs.tree.Shape.{shape_of, shown};
 ghost use Rattle.sabr_frontier.specs.tree.Undo.{IsRoomy};
 ghost use Rattle.sabr_frontier.specs.tree.Giving.{IsNextGiven};
 ghost use Rattle.sabr_frontier.specs.tree.Sound.{IsTree};
@@ -16,7 +15,7 @@ use crate::giving::searcher::Searcher;
 use crate::tree::change::carry;
 use crate::tree::places::carried;
 use crate::tree::undo::give_back;
-use crate::tree::{Node, NodeId, Tree};
+use crate::tree::{NodeId, Tree};
 use sabr_model::{NoMemory, Route};
 use sabr_search::{BestOf, Bound};
 use std::alloc::Allocator;
@@ -30,17 +29,6 @@ pub struct GivenRoute {
     pub first: usize,
     /// The searches that it took.
     pub searches: u64,
-}
-
-/// How many hops the route has that a node carries.
-fn hops_carried<A: Allocator + Copy>(nodes: &[Node<A>], node: NodeId) -> usize
-    requires { IsSome (route_at nodes.now node) }
-    ensures { (x : RouteRecord) → route_at nodes.now node ≡ Some x → result ≡ length x.contacts }
-{
-    let Some(route) = carried(nodes, node) else {
-        unreachable!()
-    };
-    numbers(route).len()
 }
 
 impl<A: Allocator + Copy> Tree<A> {
@@ -86,7 +74,10 @@ impl<A: Allocator + Copy> Tree<A> {
         let Some(node) = self.best_node() else {
             unreachable!()
         };
-        let hops = hops_carried(self.nodes.as_slice(), node);
+        let Some(next) = carried(self.nodes.as_slice(), node) else {
+            unreachable!()
+        };
+        let hops = numbers(next).len();
         self.reserve(hops)?;
         let Some(route) = carry(&mut self.nodes, node, None) else {
             unreachable!()

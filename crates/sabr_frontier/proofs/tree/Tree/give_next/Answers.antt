@@ -1,6 +1,6 @@
 use Rattle.std.proofs.Common.{◌≡◌, ℕ, ◌+◌, ◌-◌, ◌<◌, ◌++◌, length-append, Option, ◌∷◌, [], List, length, take, arith, ap, sym, subst, refl, ◌∙◌, Some, None}
 use Rattle.std.proofs.lemmas.Option.{get_or_from_slice_get, slice_get_within}
-use Rattle.std.specs.Prelude.{IsSome, slice_get}
+use Rattle.std.specs.Prelude.{slice_get}
 use Rattle.std.specs.Option.{option_and_then}
 use Rattle.sabr_model.specs.routes.Record.{RouteRecord}
 use Rattle.sabr_search.specs.declared.bound.Bound.{Bound}
@@ -121,8 +121,12 @@ module _ {A : Type 0} {a : Asked} {t : Shape A} {id : NodeId} {w : RouteRecord} 
         ap (λ ns. route_at ns other) (nodes_found e found)
         ∙ ap (option_and_then route_of) (get_front (modify f t.nodes id.0) fresh other.0 (omega (arith, l, count, length-modify f t.nodes id.0)) ∙ get_other f t.nodes id.0 other.0 ne))
 
-pub hops_carried-hops-requires : goal.hops_carried-hops-requires
-hops_carried-hops-requires g c = subst IsSome (sym (ap (λ ns. route_at ns c.in-Some.node) c.as_slice.ensures.value ∙ c.in-Some.ensures.some.1.carries)) refl
+-- as many hops as the route that the node carries have room
+hops_are : {A : Type 0} {a : Asked} {t u : Shape A} {id : NodeId} {copy next : RouteRecord} (k : IsKnown a u id copy) → u ≡ t → {nodes : List (Node A)} → Some next ≡ route_at nodes id → nodes ≡ t.nodes → {numbers : List ℕ} → numbers ≡ next.contacts → length numbers ≡ length k.route.contacts
+hops_are {u = u} {id = id} {next = next} k same is seen are =
+    let there : Some next ≡ Some k.route = is ∙ ap (λ ns. route_at ns id) seen ∙ ap (λ (z : Shape _). route_at z.nodes id) (sym same) ∙ route_there u.nodes id k.part k.route k.stands k.carries in
+    let one : next ≡ k.route = cc in
+    ap (length {A = ℕ}) (are ∙ ap numbers_of one)
 
 pub divide-requires : goal.divide-requires
 divide-requires g c =
@@ -132,7 +136,7 @@ divide-requires g c =
     let tree = subst (IsTree a.plan.plan a.request) (sym c.reserve.ensures.same) c.requires.tree in
     let numbers = numbers_are k c.numbers.ensures in
     let now = c.in-Some-carry.ensures.nodes in
-    let hops = c.hops_carried-hops.ensures k.route (ap (λ ns. route_at ns c.in-Some.node) c.as_slice.ensures.value ∙ ap (λ (z : Shape _). route_at z.nodes c.in-Some.node) (sym c.reserve.ensures.same) ∙ route_there u.nodes c.in-Some.node k.part k.route k.stands k.carries) in
+    let hops = hops_are k c.reserve.ensures.same c.in-Some-carried.ensures c.as_slice.ensures.value c.numbers-hops.ensures in
     record {
       in_range = (let l = slice_get_within u.nodes c.in-Some.node.0 k.part k.stands in omega (arith, l, c.in-Some-carry.ensures.len));
       route = ap (is_route a.plan.plan a.request) numbers ∙ (inside a.plan.plan a.request u tree c.in-Some.node k.part k.route k.stands k.carries).0;
@@ -148,7 +152,7 @@ change-requires g c =
     let u = shape_of c.reserve.new.self in
     let room = c.in_ok-reserve.ensures.room in
     let has = c.in_ok-reserve.ensures.ok in
-    let hops = c.hops_carried-hops.ensures k.route (ap (λ ns. route_at ns c.in-Some.node) c.as_slice.ensures.value ∙ ap (λ (z : Shape _). route_at z.nodes c.in-Some.node) (sym c.reserve.ensures.same) ∙ route_there u.nodes c.in-Some.node k.part k.route k.stands k.carries) in
+    let hops = hops_are k c.reserve.ensures.same c.in-Some-carried.ensures c.as_slice.ensures.value c.numbers-hops.ensures in
     let all = long_then k c.args.bound e in
     record {
       in_range = omega (arith, inner k, long k, room.count);
