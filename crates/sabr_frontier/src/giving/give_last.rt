@@ -149,9 +149,9 @@ impl<A: Allocator + Copy> Tree<A> {
         ensures more { IfOk result (λ more. more ≡ is_some (next_route searcher.old.asked.plan.plan searcher.old.asked.request (steps_for searcher.old.asked 1 (shown (shape_of self.old))).1)) }
 
         // It takes no more searches than the step would. The question stays.
-        ensures no_fewer { searcher.old.calls.count ≤ searcher.new.calls.count }
-        ensures at_most { searcher.new.calls.count ≤ searcher.old.calls.count + searches_in searcher.old.asked.plan.plan searcher.old.asked.request 1 (shown (shape_of self.old)) }
-        ensures looks { looks.old.left ≤ looks.new.left + detour_looks searcher.old.asked.request.max_hops }
+        ensures no_fewer { OnOk result (searcher.old.calls.count ≤ searcher.new.calls.count) }
+        ensures at_most { OnOk result (searcher.new.calls.count ≤ searcher.old.calls.count + searches_in searcher.old.asked.plan.plan searcher.old.asked.request 1 (shown (shape_of self.old))) }
+        ensures looks { OnOk result (looks.old.left ≤ looks.new.left + detour_looks searcher.old.asked.request.max_hops) }
         ensures least { IfOk result (λ more. IsTrue more → searcher.new.calls.count ≡ searcher.old.calls.count → HasLooks (looks_taken looks.new) searcher.old.asked.plan.plan searcher.old.asked.request (shown (shape_of self.old))) }
         ensures same { searcher.new.asked ≡ searcher.old.asked }
     {

@@ -67,16 +67,6 @@ returns-in_default-clause-more g c =
     sym (ap (λ (z : List (List ℕ) × State). is_some (next_route a.plan.plan a.request z.1)) (no_step a c.requires.plan t c.requires.tree c.in_default.ensures.none)
     ∙ ap is_some (nothing_carried a.plan.plan a.request c.requires.plan t c.requires.tree c.in_default.ensures.none))
 
-pub returns-in_err-more-clause-at_most : goal.returns-in_err-more-clause-at_most
-returns-in_err-more-clause-at_most g c =
-    let k = known c.args.searcher.now.asked c.requires.tree c.in-Some.ensures.some (sym (c.in-Some-carried.ensures ∙ ap (λ ns. route_at ns c.in-Some.node) c.as_slice.ensures.value)) in
-    counts_known c.requires.plan c.requires.tree k _ _ c.numbers.ensures (c.goes_on_after.ensures.at_most k.part k.stands)
-
-pub returns-in_err-push-clause-at_most : goal.returns-in_err-push-clause-at_most
-returns-in_err-push-clause-at_most g c =
-    let k = known c.args.searcher.now.asked c.requires.tree c.in-Some.ensures.some (sym (c.in-Some-carried.ensures ∙ ap (λ ns. route_at ns c.in-Some.node) c.as_slice.ensures.value)) in
-    counts_known c.requires.plan c.requires.tree k _ _ c.numbers.ensures (c.goes_on_after.ensures.at_most k.part k.stands)
-
 pub returns-clause-at_most : goal.returns-clause-at_most
 returns-clause-at_most g c =
     let k = known c.args.searcher.now.asked c.requires.tree c.in-Some.ensures.some (sym (c.in-Some-carried.ensures ∙ ap (λ ns. route_at ns c.in-Some.node) c.as_slice.ensures.value)) in

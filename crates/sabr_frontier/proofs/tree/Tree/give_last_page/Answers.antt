@@ -1,5 +1,5 @@
 use Rattle.std.proofs.Common.{◌≡◌, refl, ◌+◌, ◌-◌, ◌≤◌, List, ◌++◌, ℕ, inl, arith, ap, sym, subst, ◌∙◌, zero, suc, [], Some, None, append_assoc, append-nil}
-use Rattle.std.specs.Prelude.{is_some, Result, IfOk, OnOk, Ok, Err}
+use Rattle.std.specs.Prelude.{is_some, Result, IfOk, Ok, Err}
 use Rattle.sabr_model.specs.routes.Record.{record_of, RouteRecord}
 use Rattle.sabr_frontier.specs.listing.Listing.{next_route, given_first, one_step, searches_in, steps}
 use Rattle.sabr_frontier.specs.listing.State.{State}
@@ -21,10 +21,6 @@ use Rattle.sabr_frontier.proofs.tree.Tree.give_last_page.Goals as goal
 then_ok : {T E : Type 0} {P Q : T → Type 0} (r : Result T E) → IfOk r P → ((x : T) → P x → Q x) → IfOk r Q
 then_ok (Ok x) h f = f x h
 then_ok (Err e) h f = tt
-
-always_ok : {T E P : Type 0} (r : Result T E) → P → OnOk r P
-always_ok (Ok x) h = h
-always_ok (Err e) h = tt
 
 -- ---- the steps of a page, the last of them apart
 
@@ -129,9 +125,9 @@ returns g c =
     record {
       routes = then_ok c.give_last.result told.routes (λ _. all_given a first k c.args.count less b t same step c.args.self.now.leaves.items c.give_page_up_to.new.self.leaves.items c.give_last.new.self.leaves.items given.routes);
       more = then_ok c.give_last.result told.more (λ more h. h ∙ left_after_last a first k c.args.count less b t same step);
-      no_fewer = always_ok c.give_last.result (omega (arith, given.called, told.no_fewer));
-      at_most = always_ok c.give_last.result (omega (arith, given.called, told.at_most, all));
-      looks = always_ok c.give_last.result (subst (λ (z : Asked). c.args.looks.now.left ≤ c.give_last.new.looks.left + detour_looks z.request.max_hops) same told.looks);
+      no_fewer = then_ok c.give_last.result told.no_fewer (λ _ h. omega (arith, given.called, h));
+      at_most = then_ok c.give_last.result told.at_most (λ _ h. omega (arith, given.called, h, all));
+      looks = then_ok c.give_last.result told.looks (λ _. subst (λ (z : Asked). c.args.looks.now.left ≤ c.give_last.new.looks.left + detour_looks z.request.max_hops) same);
       least = then_ok c.give_last.result told.least (λ more h so _ called.
           cut_looks a (steps_for a k first).1 t c.requires.plan given.state (looks_taken c.give_last.new.looks)
           (subst (λ (z : Asked). HasLooks (looks_taken c.give_last.new.looks) z.plan.plan z.request (shown t)) same (h so (omega (arith, called, given.called)))));

@@ -63,42 +63,35 @@ loop-left-preserved g c =
       same = c.give_next.ensures.same ∙ i.same;
     }
 
-pub returns-clause-routes : goal.returns-clause-routes
-returns-clause-routes g c =
+pub returns : goal.returns
+returns g c =
+    let a = c.args.searcher.now.asked in
+    let i = c.loop-left.invariant in
     let stop : (c.loop-left.left ≡ 0) ⊎ CarriesNone c.loop-left.self.nodes.items = elim c.loop-left-test.branch [
       | then-loop-left-test+else-not-is_empty w ↦ inr (w.is_empty.ensures.none w.if-not-is_empty.false)
       | else-loop-left-test w ↦ inl (omega (arith, w.loop-left-test.false))
     ] in
-    let a = c.args.searcher.now.asked in
+    let end = at_end c.requires.plan i.way stop in
     let before = c.args.self.now.leaves.items in
     let n = c.len-first.result in
     let all = c.deref.result.now in
     let first : n ≡ length before = omega (arith, c.len-first.ensures) in
-    c.in_ok-routes.ensures ∙ take_all (length all - n) (drop n all) (omega (arith, length-drop n all)) ∙ ap (drop n) c.deref.ensures.value
-    ∙ (λ i. drop (first i) ((at_end c.requires.plan c.loop-left.invariant.way stop).routes i)) ∙ drop_at before (records_for a (steps_for a c.args.count (shown (shape_of c.args.self.now))).0)
-
-pub returns-clause-state : goal.returns-clause-state
-returns-clause-state g c =
-    (at_end c.requires.plan c.loop-left.invariant.way (elim c.loop-left-test.branch [
-      | then-loop-left-test+else-not-is_empty w ↦ inr (w.is_empty.ensures.none w.if-not-is_empty.false)
-      | else-loop-left-test w ↦ inl (omega (arith, w.loop-left-test.false))
-    ])).state
-
-pub returns-clause-entries : goal.returns-clause-entries
-returns-clause-entries g c =
-    (at_end c.requires.plan c.loop-left.invariant.way (elim c.loop-left-test.branch [
-      | then-loop-left-test+else-not-is_empty w ↦ inr (w.is_empty.ensures.none w.if-not-is_empty.false)
-      | else-loop-left-test w ↦ inl (omega (arith, w.loop-left-test.false))
-    ])).entries
-
-pub returns-clause-searches : goal.returns-clause-searches
-returns-clause-searches g c =
-    let stop : (c.loop-left.left ≡ 0) ⊎ CarriesNone c.loop-left.self.nodes.items = elim c.loop-left-test.branch [
-      | then-loop-left-test+else-not-is_empty w ↦ inr (w.is_empty.ensures.none w.if-not-is_empty.false)
-      | else-loop-left-test w ↦ inl (omega (arith, w.loop-left-test.false))
-    ] in
-    let still = counts_idle c.args.searcher.now.asked.plan.plan c.args.searcher.now.asked.request c.requires.plan (shape_of c.loop-left.self) c.loop-left.invariant.way.sound c.loop-left.left stop in
-    omega (arith, still, c.loop-left.invariant.sum)
+    record {
+      routes = c.in_ok-routes.ensures ∙ take_all (length all - n) (drop n all) (omega (arith, length-drop n all)) ∙ ap (drop n) c.deref.ensures.value
+          ∙ (λ j. drop (first j) (end.routes j)) ∙ drop_at before (records_for a (steps_for a c.args.count (shown (shape_of c.args.self.now))).0);
+      state = end.state;
+      entries = end.entries;
+      searches = (let still = counts_idle a.plan.plan a.request c.requires.plan (shape_of c.loop-left.self) i.way.sound c.loop-left.left stop in omega (arith, still, i.sum));
+      called = i.called;
+      no_fewer = tt;
+      at_most = tt;
+      sound = i.way.sound;
+      longer = i.way.longer;
+      back = i.way.back;
+      index = i.index;
+      room = i.room;
+      same = i.same;
+    }
 
 pub returns-in_err-given-clause-at_most : goal.returns-in_err-given-clause-at_most
 returns-in_err-given-clause-at_most g c =
