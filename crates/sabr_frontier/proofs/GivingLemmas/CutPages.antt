@@ -29,6 +29,7 @@ use Rattle.sabr_frontier.proofs.TreeLemmas.CutTrees.{answer_cut, cut_self, cut_s
 use Rattle.sabr_frontier.proofs.TreeLemmas.SlotWinners.{carries_cases, standing_at}
 use Rattle.sabr_frontier.proofs.SessionLemmas.LeftSteps.{left_after, one_step_is}
 use Rattle.sabr_frontier.proofs.SessionLemmas.Pages.{counts_one, counts_stop, given_by, nothing_carried, nothing_given, steps_stop, counts_go, counts_none, steps_go, steps_none}
+use Rattle.std.proofs.lemmas.List.{drop_at}
 use Rattle.std.proofs.lemmas.List.Sums.{sum_by-cons}
 use Rattle.std.proofs.lemmas.Option.{slice_get_within}
 use Rattle.sabr_search.specs.questions.Bounded.{is_up_to}
@@ -330,10 +331,6 @@ module _ {A : Type 0} (b : ℕ) where
   changed_up_to f (m ∷ nodes) (suc i) n e =
       omega (arith, changed_up_to f nodes i n e, up_to-append b (keys_of m.route) (carried_keys nodes), up_to-append b (keys_of m.route) (carried_keys (modify f nodes i)))
 
-pub drop_at : {X : Type 0} (xs ys : List X) → drop (length xs) (xs ++ ys) ≡ ys
-drop_at [] ys = refl
-drop_at (x ∷ xs) ys = drop_at xs ys
-
 module _ {A : Type 0} {best : List ℕ → List ℕ → Option RouteRecord} {t u : Shape A} {step : GivenRoute} (w : IsNextGiven best t u step) where
   abbrev change : Node A → Node A
   change = widened (wide_of w.part w.route.contacts) (best (take w.part.length w.route.contacts) (wide_of w.part w.route.contacts))
@@ -358,7 +355,7 @@ module _ {A : Type 0} {best : List ℕ → List ℕ → Option RouteRecord} {t u
     then_noted =
         let inside : step.node.0 < length (modify change t.nodes step.node.0) = omega (arith, long, slice_get_within t.nodes step.node.0 w.part w.stands) in
         let at = ap (λ ns. slice_get ns step.node.0) nodes_are ∙ get_front (modify change t.nodes step.node.0) fresh step.node.0 inside ∙ get_same change t.nodes step.node.0 w.part w.stands in
-        let rest = (λ i. drop ((w.former ∙ sym long) i) (nodes_are i)) ∙ drop_at (modify change t.nodes step.node.0) fresh in
+        let rest = (λ i. drop ((w.former ∙ sym long) i) (nodes_are i)) ∙ drop_at (modify change t.nodes step.node.0) fresh _ refl in
         subst (λ z. AreNoted old (keys_of (change w.part).route ++ carried_keys z) new) rest (noted (change w.part) at)
 
     kept_then : (b given : ℕ) → up_to b old.keys ≤ given + up_to b (carried_keys t.nodes) → up_to b new.keys ≤ suc given + up_to b (carried_keys u.nodes)
@@ -389,15 +386,15 @@ pub record IsCutWay {A : Type 0} (a : Asked) (s : State) (all : ℕ) (before : L
   pub most : keys.most ≡ all + 2
   pub kept : (b : ℕ) → up_to b keys.keys ≤ (all - k) + up_to b (carried_keys t.nodes)
 
-pub way_first : {A : Type 0} (a : Asked) (all k : ℕ) (t : Shape A) (calls : ℕ) (none keys : SeenKeys) → k ≡ all → IsTree a.plan.plan a.request t
-    → none ≡ record { most = all + 2; keys = [] } → AreNoted none (carried_keys t.nodes) keys → IsCutWay a (shown t) all t.leaves calls k t calls keys
-way_first a all k t calls none keys e is new noted = record {
+pub way_first : {A : Type 0} (a : Asked) (all : ℕ) (t : Shape A) (calls : ℕ) (none keys : SeenKeys) → IsTree a.plan.plan a.request t
+    → none ≡ record { most = all + 2; keys = [] } → AreNoted none (carried_keys t.nodes) keys → IsCutWay a (shown t) all t.leaves calls all t calls keys
+way_first a all t calls none keys is new noted = record {
   state = shown t;
-  routes = ap (λ n. t.leaves ++ records_for a (steps_for a n (shown t)).0) e;
-  reaches = ap (λ n. (steps_for a n (shown t)).1) e;
-  shows = cut_first a (suc (suc k)) t is;
-  searches = ap (λ n. calls + searches_in a.plan.plan a.request n (shown t)) e;
-  few = omega (arith, e);
+  routes = refl;
+  reaches = refl;
+  shows = cut_first a (suc (suc all)) t is;
+  searches = refl;
+  few = omega arith;
   most = noted.most ∙ ap (λ (z : SeenKeys). z.most) new;
   kept = λ b. (let h = noted_up_to b none keys (carried_keys t.nodes) noted in let o : up_to b none.keys ≡ 0 = ap (λ (z : SeenKeys). up_to b z.keys) new in omega (arith, h, o));
 }

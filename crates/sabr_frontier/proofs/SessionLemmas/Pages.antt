@@ -164,16 +164,16 @@ pub record IsOnTheWay {A : Type 0} (p : ContactPlan) (r : RouteRequest) (s : Sta
   pub back : tree_before (length first.journal) t ≡ first
   pub entries : length t.journal + length (steps p r k (shown t)).0 ≡ length first.journal + length (steps p r all s).0
 
-pub at_first : {A : Type 0} (p : ContactPlan) (r : RouteRequest) (all k : ℕ) (t : Shape A) → k ≡ all → IsSound p r t → IsOnTheWay p r (shown t) all t k t
-at_first p r all k t e h =
+pub at_first : {A : Type 0} (p : ContactPlan) (r : RouteRequest) (all : ℕ) (t : Shape A) → IsSound p r t → IsOnTheWay p r (shown t) all t all t
+at_first p r all t h =
     let none : length t.journal - length t.journal ≡ 0 = omega arith in
     record {
-      routes = ap (λ n. t.leaves ++ map (record_of p r) (steps p r n (shown t)).0) e;
-      state = ap (λ n. (steps p r n (shown t)).1) e;
+      routes = refl;
+      state = refl;
       sound = h;
       longer = omega arith;
       back = ap (λ n. undone_times n t) none;
-      entries = ap (λ n. length t.journal + length (steps p r n (shown t)).0) e;
+      entries = refl;
     }
 
 pub one_on : {A : Type 0} (p : ContactPlan) (r : RouteRequest) (s : State) (all : ℕ) (first : Shape A) (k : ℕ) (t u : Shape A) (g : IsGiven p r t u) → IsOnTheWay p r s all first (suc k) t → IsOnTheWay p r s all first k u

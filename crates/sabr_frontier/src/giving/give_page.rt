@@ -124,12 +124,11 @@ impl<A: Allocator + Copy> Tree<A> {
     {
         let mut keys = SmallestKeys::new(searcher.alloc(), count as usize + 2);
         keys.note_all(self.nodes.as_slice())?;
-        for _ in 0..count {
-            if self.is_empty() {
-                return Ok(());
-            }
+        let mut left = count;
+        while 0 < left && !self.is_empty() {
             let given = self.give_next(searcher, keys.bound())?;
             self.note_new(given, &mut keys)?;
+            left -= 1;
         }
         Ok(())
     }

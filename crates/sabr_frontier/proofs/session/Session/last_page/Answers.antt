@@ -3,9 +3,9 @@ use Rattle.sabr_search.specs.questions.Calls.{Calls}
 use Rattle.sabr_frontier.specs.tree.Left.{HasLooks}
 use Rattle.sabr_frontier.specs.session.LastPage.{IsLastPage, LastSeen}
 use Rattle.sabr_frontier.specs.session.Session.{Seen}
-use Rattle.sabr_frontier.specs.tree.Searching.{Asked, records_for, steps_for}
+use Rattle.sabr_frontier.specs.tree.Searching.{Asked, steps_for}
 use Rattle.sabr_frontier.specs.tree.Shape.{shape_of, shown}
-use Rattle.sabr_frontier.proofs.GivingLemmas.CutPages.{drop_at}
+use Rattle.std.proofs.lemmas.List.{drop_at}
 use Rattle.sabr_frontier.proofs.GivingLemmas.Sums.{calls_go_on, looks_go_on}
 use Rattle.sabr_frontier.proofs.session.Session.last_page.Goals as goal
 
@@ -17,7 +17,7 @@ returns g c =
     let page : LastSeen = record { plan = c.take_looks-looks.new.self.asked.plan; routes = drop c.len-first.result c.give_last_page.new.self.leaves.items; more = c.in_ok-more.more; calls = c.take_looks-looks.new.self.calls; looks = c.take_looks-looks.result; detour_looks = c.taken.result } in
     subst (λ (v : Seen). IsLastPage v c.args.count page) c.self.view_is (record {
       plan = ap (λ (z : Asked). z.plan) c.take_looks-looks.ensures.begun ∙ ap (λ (z : Asked). z.plan) c.give_last_page.ensures.same;
-      routes = (let first : c.len-first.result ≡ length s.tree.leaves.items = omega (arith, c.len-first.ensures) in (λ i. drop (first i) (given.routes i)) ∙ drop_at s.tree.leaves.items (records_for a (steps_for a c.args.count (shown (shape_of s.tree))).0));
+      routes = ap (drop c.len-first.result) given.routes ∙ drop_at s.tree.leaves.items _ _ (omega (arith, c.len-first.ensures));
       more = given.more;
       go_on = calls_go_on s.searcher c.give_last_page.new.searcher c.self.invariant.1 c.give_last_page.ensures.same _ c.take_looks-looks.ensures.calls c.take_looks-looks.ensures.go_on;
       at_most = omega (arith, given.at_most, ap (λ (z : Calls). z.count) c.take_looks-looks.ensures.calls);

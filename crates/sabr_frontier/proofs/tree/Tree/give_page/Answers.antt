@@ -1,13 +1,12 @@
 use Rattle.std.proofs.Common.{◌≡◌, ℕ, ◌+◌, ◌-◌, ◌≤◌, ◌⊎◌, suc, length, length-drop, drop, arith, refl, sym, ap, subst, ◌∙◌, inl, inr, zero-add, None}
-use Rattle.std.proofs.lemmas.List.{length_push, take_all}
+use Rattle.std.proofs.lemmas.List.{drop_at, length_push, take_all}
 use Rattle.sabr_model.proofs.ListLemmas.Answered.{on_err}
 use Rattle.sabr_model.specs.routes.Record.{RouteRecord}
 use Rattle.sabr_frontier.specs.listing.Listing.{searches_in}
-use Rattle.sabr_frontier.specs.tree.Searching.{Asked, records_for, steps_for}
+use Rattle.sabr_frontier.specs.tree.Searching.{Asked}
 use Rattle.sabr_frontier.specs.tree.Shape.{shape_of, shown}
 use Rattle.sabr_frontier.specs.tree.Sound.{IsTree}
 use Rattle.sabr_frontier.specs.tree.Winners.{CarriesNone}
-use Rattle.sabr_frontier.proofs.GivingLemmas.CutPages.{drop_at}
 use Rattle.sabr_frontier.proofs.SessionLemmas.Pages.{is_given, IsOnTheWay, at_first, one_on, at_end, sound_tree, counts_on, counts_idle, counts_first, given_same}
 use Rattle.sabr_frontier.proofs.tree.Tree.give_page.Goals as goal
 use Rattle.sabr_frontier.proofs.tree.Tree.give_page.Goals.{then-loop-left-test+else-not-is_empty, else-loop-left-test}
@@ -15,7 +14,7 @@ use Rattle.sabr_frontier.proofs.tree.Tree.give_page.Goals.{then-loop-left-test+e
 pub loop-left-init : goal.loop-left-init
 loop-left-init g c = record {
   most = omega arith;
-  way = at_first c.args.searcher.now.asked.plan.plan c.args.searcher.now.asked.request c.args.count c.args.count (shape_of c.args.self.now) refl c.requires.sound;
+  way = at_first c.args.searcher.now.asked.plan.plan c.args.searcher.now.asked.request c.args.count (shape_of c.args.self.now) c.requires.sound;
   long = omega (arith, c.len-first.ensures);
   index = refl;
   room = c.requires.room;
@@ -72,13 +71,11 @@ returns g c =
       | else-loop-left-test w ↦ inl (omega (arith, w.loop-left-test.false))
     ] in
     let end = at_end c.requires.plan i.way stop in
-    let before = c.args.self.now.leaves.items in
     let n = c.len-first.result in
     let all = c.deref.result.now in
-    let first : n ≡ length before = omega (arith, c.len-first.ensures) in
     record {
       routes = c.in_ok-routes.ensures ∙ take_all (length all - n) (drop n all) (omega (arith, length-drop n all)) ∙ ap (drop n) c.deref.ensures.value
-          ∙ (λ j. drop (first j) (end.routes j)) ∙ drop_at before (records_for a (steps_for a c.args.count (shown (shape_of c.args.self.now))).0);
+          ∙ ap (drop n) end.routes ∙ drop_at c.args.self.now.leaves.items _ _ (omega (arith, c.len-first.ensures));
       state = end.state;
       entries = end.entries;
       searches = (let still = counts_idle a.plan.plan a.request c.requires.plan (shape_of c.loop-left.self) i.way.sound c.loop-left.left stop in omega (arith, still, i.sum));

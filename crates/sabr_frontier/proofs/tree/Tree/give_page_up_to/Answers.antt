@@ -1,4 +1,4 @@
-use Rattle.std.proofs.Common.{◌≡◌, ◌+◌, ◌-◌, ◌∙◌, suc, length, arith, refl, sym, subst, inl, inr}
+use Rattle.std.proofs.Common.{◌≡◌, ◌+◌, ◌-◌, ℕ, ◌∙◌, suc, length, arith, refl, sym, subst, inl, inr}
 use Rattle.sabr_model.specs.plan.Plan.{IsPlan}
 use Rattle.sabr_frontier.specs.tree.SmallestKeys.{AreNoted, CarryKeys, carried_keys}
 use Rattle.sabr_frontier.specs.tree.Searching.{Asked}
@@ -8,6 +8,7 @@ use Rattle.sabr_frontier.proofs.GivingLemmas.CutPages.{IsCutWay, step_within, tu
 use Rattle.sabr_frontier.proofs.GivingLemmas.KeptKeys.{carry_keys}
 use Rattle.sabr_frontier.proofs.SessionLemmas.Pages.{sound_tree, given_same}
 use Rattle.sabr_frontier.proofs.tree.Tree.give_page_up_to.Goals as goal
+use Rattle.sabr_frontier.proofs.tree.Tree.give_page_up_to.Goals.{then-loop-left-test+else-not-is_empty, else-loop-left-test}
 
 pub note_all-requires : goal.note_all-requires
 note_all-requires g c =
@@ -15,38 +16,29 @@ note_all-requires g c =
     let t = shape_of c.args.self.now in
     subst CarryKeys (sym c.as_slice.ensures.value) (carry_keys a.plan.plan a.request t c.requires.plan c.requires.limits (sound_tree a.plan.plan a.request (length t.journal) t c.requires.sound))
 
-pub loop-init : goal.loop-init
-loop-init g c =
+pub loop-left-init : goal.loop-left-init
+loop-left-init g c =
     let a = c.args.searcher.now.asked in
     let t = shape_of c.args.self.now in
     let tree = sound_tree a.plan.plan a.request (length t.journal) t c.requires.sound in
     let noted = subst (λ z. AreNoted c.new-keys.result (carried_keys z) c.note_all.new.self) c.as_slice.ensures.value c.in_ok-note_all.ensures in
     record {
-      way = way_first a c.args.count (c.args.count - 0) t c.args.searcher.now.calls.count c.new-keys.result c.note_all.new.self (omega arith) tree c.new-keys.ensures noted;
+      way = way_first a c.args.count t c.args.searcher.now.calls.count c.new-keys.result c.note_all.new.self tree c.new-keys.ensures noted;
       room = c.requires.room;
       same = refl;
     }
 
-pub returns-then-is_empty-clause-routes : goal.returns-then-is_empty-clause-routes
-returns-then-is_empty-clause-routes g c = (way_end c.requires.plan c.loop.invariant.way (inr (c.is_empty.ensures.none c.if-is_empty.true))).routes
-
-pub returns-then-is_empty-clause-state : goal.returns-then-is_empty-clause-state
-returns-then-is_empty-clause-state g c = (way_end c.requires.plan c.loop.invariant.way (inr (c.is_empty.ensures.none c.if-is_empty.true))).state
-
-pub returns-then-is_empty-clause-called : goal.returns-then-is_empty-clause-called
-returns-then-is_empty-clause-called g c = (way_end c.requires.plan c.loop.invariant.way (inr (c.is_empty.ensures.none c.if-is_empty.true))).searches
-
 pub give_next-requires-clause-plan : goal.give_next-requires-clause-plan
-give_next-requires-clause-plan g c = subst (λ (a : Asked). IsPlan a.plan.plan) (sym c.loop.invariant.same) c.requires.plan
+give_next-requires-clause-plan g c = subst (λ (a : Asked). IsPlan a.plan.plan) (sym c.loop-left.invariant.same) c.requires.plan
 
 pub give_next-requires-clause-tree : goal.give_next-requires-clause-tree
 give_next-requires-clause-tree g c =
-    let t = shape_of c.loop.self in
-    let way = c.loop.invariant.way in
-    subst (λ (a : Asked). IsTree a.plan.plan a.request t) (sym c.loop.invariant.same) (cut_tree c.args.searcher.now.asked (suc (suc (c.args.count - c.loop.counter))) way.state t way.shows)
+    let t = shape_of c.loop-left.self in
+    let way = c.loop-left.invariant.way in
+    subst (λ (a : Asked). IsTree a.plan.plan a.request t) (sym c.loop-left.invariant.same) (cut_tree c.args.searcher.now.asked (suc (suc c.loop-left.left)) way.state t way.shows)
 
 pub give_next-requires-clause-waiting : goal.give_next-requires-clause-waiting
-give_next-requires-clause-waiting g c = c.is_empty.ensures.some c.if-is_empty.false
+give_next-requires-clause-waiting g c = c.is_empty.ensures.some c.if-not-is_empty.true
 
 pub note_new-requires-clause-in_range : goal.note_new-requires-clause-in_range
 note_new-requires-clause-in_range g c = (step_within c.in_ok-given.ensures.ok).0
@@ -58,30 +50,29 @@ pub note_new-requires-clause-fit : goal.note_new-requires-clause-fit
 note_new-requires-clause-fit g c =
     let a = c.args.searcher.now.asked in
     let u = shape_of c.give_next.new.self in
-    let k = c.args.count - (c.loop.counter + 1) in
-    let left : c.args.count - c.loop.counter ≡ suc k = omega (arith, c.loop-test.true) in
-    let way = subst (λ n. IsCutWay a (shown (shape_of c.args.self.now)) c.args.count c.args.self.now.leaves.items c.args.searcher.now.calls.count n (shape_of c.loop.self) c.loop.searcher.calls.count c.loop.keys) left c.loop.invariant.way in
-    let turn = turn_is c.requires.plan k way c.bound.result c.bound.ensures (given_same c.bound.result c.loop.invariant.same c.in_ok-given.ensures.ok) in
+    let k : ℕ = c.loop-left.left - 1 in
+    let left : c.loop-left.left ≡ suc k = omega (arith, c.loop-left-test.true) in
+    let way = subst (λ n. IsCutWay a (shown (shape_of c.args.self.now)) c.args.count c.args.self.now.leaves.items c.args.searcher.now.calls.count n (shape_of c.loop-left.self) c.loop-left.searcher.calls.count c.loop-left.keys) left c.loop-left.invariant.way in
+    let turn = turn_is c.requires.plan k way c.bound.result c.bound.ensures (given_same c.bound.result c.loop-left.invariant.same c.in_ok-given.ensures.ok) in
     carry_keys a.plan.plan a.request u c.requires.plan c.requires.limits (cut_tree a (suc (suc k)) turn.next.1 u turn.then)
 
-pub loop-preserved : goal.loop-preserved
-loop-preserved g c =
+pub loop-left-preserved : goal.loop-left-preserved
+loop-left-preserved g c =
     let a = c.args.searcher.now.asked in
-    let k = c.args.count - (c.loop.counter + 1) in
-    let left : c.args.count - c.loop.counter ≡ suc k = omega (arith, c.loop-test.true) in
-    let way = subst (λ n. IsCutWay a (shown (shape_of c.args.self.now)) c.args.count c.args.self.now.leaves.items c.args.searcher.now.calls.count n (shape_of c.loop.self) c.loop.searcher.calls.count c.loop.keys) left c.loop.invariant.way in
-    let taken = given_same c.bound.result c.loop.invariant.same c.in_ok-given.ensures.ok in
+    let k : ℕ = c.loop-left.left - 1 in
+    let left : c.loop-left.left ≡ suc k = omega (arith, c.loop-left-test.true) in
+    let way = subst (λ n. IsCutWay a (shown (shape_of c.args.self.now)) c.args.count c.args.self.now.leaves.items c.args.searcher.now.calls.count n (shape_of c.loop-left.self) c.loop-left.searcher.calls.count c.loop-left.keys) left c.loop-left.invariant.way in
+    let taken = given_same c.bound.result c.loop-left.invariant.same c.in_ok-given.ensures.ok in
     record {
       way = way_on c.requires.plan k way c.bound.result c.bound.ensures taken c.give_next.new.searcher.calls.count c.in_ok-given.ensures.called c.note_new.new.keys c.in_ok-note_new.ensures;
       room = c.give_next.ensures.room;
-      same = c.give_next.ensures.same ∙ c.loop.invariant.same;
+      same = c.give_next.ensures.same ∙ c.loop-left.invariant.same;
     }
 
-pub returns-clause-routes : goal.returns-clause-routes
-returns-clause-routes g c = (way_end c.requires.plan c.loop.invariant.way (inl (omega (arith, c.loop-test.false)))).routes
-
-pub returns-clause-state : goal.returns-clause-state
-returns-clause-state g c = (way_end c.requires.plan c.loop.invariant.way (inl (omega (arith, c.loop-test.false)))).state
-
-pub returns-clause-called : goal.returns-clause-called
-returns-clause-called g c = (way_end c.requires.plan c.loop.invariant.way (inl (omega (arith, c.loop-test.false)))).searches
+pub returns : goal.returns
+returns g c =
+    let end = way_end c.requires.plan c.loop-left.invariant.way (elim c.loop-left-test.branch [
+      | then-loop-left-test+else-not-is_empty w ↦ inr (w.is_empty.ensures.none w.if-not-is_empty.false)
+      | else-loop-left-test w ↦ inl (omega (arith, w.loop-left-test.false))
+    ]) in
+    record { routes = end.routes; state = end.state; room = c.loop-left.invariant.room; called = end.searches; same = c.loop-left.invariant.same }
