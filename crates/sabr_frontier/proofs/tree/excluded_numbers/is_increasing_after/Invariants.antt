@@ -1,6 +1,0 @@
-use Rattle.std.proofs.Common.{◌≡◌, drop}
-use Rattle.sabr_model.specs.plan.Plan.{rises_above}
-use Rattle.sabr_frontier.proofs.tree.excluded_numbers.is_increasing_after.Given as goal
-
-abbrev pub invariant-loop-number : goal.invariant-loop-number
-invariant-loop-number l = rises_above l.first l.numbers ≡ rises_above l.low (drop l.number-index l.numbers)
