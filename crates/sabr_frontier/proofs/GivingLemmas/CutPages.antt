@@ -428,29 +428,3 @@ module _ {A : Type 0} {a : Asked} (good : IsPlan a.plan.plan) {s : State} {all :
         most = (then_noted w keys then noted).most ∙ way.most;
         kept = λ c. (let left : suc (all - suc k) ≡ all - k = omega (arith, few) in let h = kept_then w keys then noted c (all - suc k) (way.kept c) in omega (arith, left, h));
       }
-
--- the loop ends after all steps, or if no node carries a route
-pub record IsCutEnd {A : Type 0} (a : Asked) (s : State) (all : ℕ) (before : List RouteRecord) (start : ℕ) (t : Shape A) (calls : ℕ) : Type 0 where
-  pub routes : t.leaves ≡ before ++ records_for a (steps_for a all s).0
-  pub state : ShowsCut a 2 (steps_for a all s).1 t
-  pub searches : calls ≡ start + searches_in a.plan.plan a.request all s
-
-pub way_end : {A : Type 0} {a : Asked} {s : State} {all : ℕ} {before : List RouteRecord} {start k : ℕ} {t : Shape A} {calls : ℕ} {keys : SeenKeys} → IsPlan a.plan.plan
-    → IsCutWay a s all before start k t calls keys → (k ≡ 0) ⊎ CarriesNone t.nodes → IsCutEnd a s all before start t calls
-way_end {a = a} {k = k} {t = t} good way none =
-    let p = a.plan.plan in
-    let r = a.request in
-    let idle : steps_for a k way.state ≡ ([], way.state) = elim none [
-      | inl e ↦ ap (λ n. steps_for a n way.state) e ∙ steps_none p r way.state
-      | inr e ↦ steps_stop p r way.state k (cut_ended a (suc k) way.state t good way.shows e)
-    ] in
-    let still : searches_in p r k way.state ≡ 0 = elim none [
-      | inl e ↦ counts_none p r way.state k e
-      | inr e ↦ counts_stop p r way.state k (cut_ended a (suc k) way.state t good way.shows e)
-    ] in
-    let sum = way.searches in
-    record {
-      routes = sym (append-nil t.leaves) ∙ ap (λ (z : List (List ℕ) × State). t.leaves ++ records_for a z.0) (sym idle) ∙ way.routes;
-      state = subst (λ z. ShowsCut a 2 z t) (ap (λ (z : List (List ℕ) × State). z.1) (sym idle) ∙ way.reaches) (cut_weaker a (suc (suc k)) 2 way.state t (omega arith) way.shows);
-      searches = omega (arith, sum, still);
-    }

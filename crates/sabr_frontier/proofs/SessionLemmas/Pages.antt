@@ -218,22 +218,6 @@ module _ {A : Type 0} (p : ContactPlan) (r : RouteRequest) (good : IsPlan p) (t 
   more_is true none some = sym (ap is_some (nothing_carried p r good t tree_is (none refl)))
   more_is false none some = let w = some refl in sym (ap is_some (next_carried p r good t tree_is w.0 w.1).0)
 
--- what all steps gave
-pub record IsAllGiven {A : Type 0} (p : ContactPlan) (r : RouteRequest) (s : State) (all : ℕ) (first t : Shape A) : Type 0 where
-  pub routes : t.leaves ≡ first.leaves ++ map (record_of p r) (steps p r all s).0
-  pub state : shown t ≡ (steps p r all s).1
-  pub entries : length t.journal ≡ length first.journal + length (steps p r all s).0
-
--- the loop ends after all steps, or if no part carries a route
-pub at_end : {A : Type 0} {p : ContactPlan} {r : RouteRequest} {s : State} {all : ℕ} {first : Shape A} {k : ℕ} {t : Shape A} → IsPlan p → IsOnTheWay p r s all first k t → (k ≡ 0) ⊎ CarriesNone t.nodes → IsAllGiven p r s all first t
-at_end {p = p} {r = r} {k = k} {t = t} good h none =
-    let e = idle p r good t h.sound k none in
-    record {
-      routes = sym (append-nil t.leaves) ∙ ap (λ (z : List (List ℕ) × State). t.leaves ++ map (record_of p r) z.0) (sym e) ∙ h.routes;
-      state = ap (λ (z : List (List ℕ) × State). z.1) (sym e) ∙ h.state;
-      entries = (let a = h.entries in let b = ap (λ (z : List (List ℕ) × State). length z.0) e in omega (arith, a, b));
-    }
-
 pub length-former : {A : Type 0} (ss : List ℕ) (t : Shape A) → length (former_of ss t) ≡ length ss
 length-former [] t = refl
 length-former (s ∷ ss) t = ap suc (length-former ss (tree_before s t))

@@ -1,13 +1,14 @@
-use Rattle.std.proofs.Common.{◌≡◌, ℕ, ◌+◌, ◌-◌, ◌≤◌, ◌⊎◌, suc, length, length-drop, drop, arith, refl, sym, ap, subst, ◌∙◌, inl, inr, zero-add, None}
+use Rattle.std.proofs.Common.{◌≡◌, ℕ, ◌+◌, ◌-◌, ◌≤◌, ◌⊎◌, List, ◌++◌, append-nil, suc, length, length-drop, drop, arith, refl, sym, ap, subst, ◌∙◌, inl, inr, zero-add, None}
 use Rattle.std.proofs.lemmas.List.{drop_at, length_push, take_all}
 use Rattle.sabr_model.proofs.ListLemmas.Answered.{on_err}
 use Rattle.sabr_model.specs.routes.Record.{RouteRecord}
 use Rattle.sabr_frontier.specs.listing.Listing.{searches_in}
-use Rattle.sabr_frontier.specs.tree.Searching.{Asked}
+use Rattle.sabr_frontier.specs.listing.State.{State}
+use Rattle.sabr_frontier.specs.tree.Searching.{Asked, records_for}
 use Rattle.sabr_frontier.specs.tree.Shape.{shape_of, shown}
 use Rattle.sabr_frontier.specs.tree.Sound.{IsTree}
 use Rattle.sabr_frontier.specs.tree.Winners.{CarriesNone}
-use Rattle.sabr_frontier.proofs.SessionLemmas.Pages.{is_given, IsOnTheWay, at_first, one_on, at_end, sound_tree, counts_on, counts_idle, counts_first, given_same}
+use Rattle.sabr_frontier.proofs.SessionLemmas.Pages.{is_given, IsOnTheWay, at_first, one_on, idle, sound_tree, counts_on, counts_idle, counts_first, given_same}
 use Rattle.sabr_frontier.proofs.tree.Tree.give_page.Goals as goal
 use Rattle.sabr_frontier.proofs.tree.Tree.give_page.Goals.{then-loop-left-test+else-not-is_empty, else-loop-left-test}
 
@@ -70,15 +71,17 @@ returns g c =
       | then-loop-left-test+else-not-is_empty w ↦ inr (w.is_empty.ensures.none w.if-not-is_empty.false)
       | else-loop-left-test w ↦ inl (omega (arith, w.loop-left-test.false))
     ] in
-    let end = at_end c.requires.plan i.way stop in
+    let t = shape_of c.loop-left.self in
+    let end = idle a.plan.plan a.request c.requires.plan t i.way.sound c.loop-left.left stop in
+    let routes = sym (append-nil t.leaves) ∙ ap (λ (z : List (List ℕ) × State). t.leaves ++ records_for a z.0) (sym end) ∙ i.way.routes in
     let n = c.len-first.result in
     let all = c.deref.result.now in
     record {
       routes = c.in_ok-routes.ensures ∙ take_all (length all - n) (drop n all) (omega (arith, length-drop n all)) ∙ ap (drop n) c.deref.ensures.value
-          ∙ ap (drop n) end.routes ∙ drop_at c.args.self.now.leaves.items _ _ (omega (arith, c.len-first.ensures));
-      state = end.state;
-      entries = end.entries;
-      searches = (let still = counts_idle a.plan.plan a.request c.requires.plan (shape_of c.loop-left.self) i.way.sound c.loop-left.left stop in omega (arith, still, i.sum));
+          ∙ ap (drop n) routes ∙ drop_at c.args.self.now.leaves.items _ _ (omega (arith, c.len-first.ensures));
+      state = ap (λ (z : List (List ℕ) × State). z.1) (sym end) ∙ i.way.state;
+      entries = (let all = i.way.entries in let none = ap (λ (z : List (List ℕ) × State). length z.0) end in omega (arith, all, none));
+      searches = (let still = counts_idle a.plan.plan a.request c.requires.plan t i.way.sound c.loop-left.left stop in omega (arith, still, i.sum));
       called = i.called;
       no_fewer = tt;
       at_most = tt;

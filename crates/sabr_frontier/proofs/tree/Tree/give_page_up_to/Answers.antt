@@ -1,12 +1,15 @@
-use Rattle.std.proofs.Common.{◌≡◌, ◌+◌, ◌-◌, ℕ, ◌∙◌, suc, length, arith, refl, sym, subst, inl, inr}
+use Rattle.std.proofs.Common.{◌≡◌, ◌+◌, ◌-◌, ◌⊎◌, ◌++◌, ℕ, List, [], ◌∙◌, suc, length, append-nil, ap, arith, refl, sym, subst, inl, inr, None}
 use Rattle.sabr_model.specs.plan.Plan.{IsPlan}
 use Rattle.sabr_frontier.specs.tree.SmallestKeys.{AreNoted, CarryKeys, carried_keys}
-use Rattle.sabr_frontier.specs.tree.Searching.{Asked}
+use Rattle.sabr_frontier.specs.listing.Listing.{one_step, searches_in}
+use Rattle.sabr_frontier.specs.listing.State.{State}
+use Rattle.sabr_frontier.specs.tree.PageTrees.{ShowsCut}
+use Rattle.sabr_frontier.specs.tree.Searching.{Asked, records_for, steps_for}
 use Rattle.sabr_frontier.specs.tree.Shape.{shape_of, shown}
 use Rattle.sabr_frontier.specs.tree.Sound.{IsTree}
-use Rattle.sabr_frontier.proofs.GivingLemmas.CutPages.{IsCutWay, step_within, turn_is, way_end, way_first, way_on, cut_tree}
+use Rattle.sabr_frontier.proofs.GivingLemmas.CutPages.{IsCutWay, step_within, turn_is, way_first, way_on, cut_ended, cut_tree, cut_weaker}
 use Rattle.sabr_frontier.proofs.GivingLemmas.KeptKeys.{carry_keys}
-use Rattle.sabr_frontier.proofs.SessionLemmas.Pages.{sound_tree, given_same}
+use Rattle.sabr_frontier.proofs.SessionLemmas.Pages.{counts_none, counts_stop, given_same, sound_tree, steps_none, steps_stop}
 use Rattle.sabr_frontier.proofs.tree.Tree.give_page_up_to.Goals as goal
 use Rattle.sabr_frontier.proofs.tree.Tree.give_page_up_to.Goals.{then-loop-left-test+else-not-is_empty, else-loop-left-test}
 
@@ -71,8 +74,22 @@ loop-left-preserved g c =
 
 pub returns : goal.returns
 returns g c =
-    let end = way_end c.requires.plan c.loop-left.invariant.way (elim c.loop-left-test.branch [
-      | then-loop-left-test+else-not-is_empty w ↦ inr (w.is_empty.ensures.none w.if-not-is_empty.false)
+    let a = c.args.searcher.now.asked in
+    let p = a.plan.plan in
+    let r = a.request in
+    let t = shape_of c.loop-left.self in
+    let k = c.loop-left.left in
+    let way = c.loop-left.invariant.way in
+    let ended : (k ≡ 0) ⊎ (one_step p r way.state ≡ None) = elim c.loop-left-test.branch [
+      | then-loop-left-test+else-not-is_empty w ↦ inr (cut_ended a (suc k) way.state t c.requires.plan way.shows (w.is_empty.ensures.none w.if-not-is_empty.false))
       | else-loop-left-test w ↦ inl (omega (arith, w.loop-left-test.false))
-    ]) in
-    record { routes = end.routes; state = end.state; room = c.loop-left.invariant.room; called = end.searches; same = c.loop-left.invariant.same }
+    ] in
+    let idle : steps_for a k way.state ≡ ([], way.state) = elim ended [ inl e ↦ ap (λ n. steps_for a n way.state) e ∙ steps_none p r way.state | inr e ↦ steps_stop p r way.state k e ] in
+    let still : searches_in p r k way.state ≡ 0 = elim ended [ inl e ↦ counts_none p r way.state k e | inr e ↦ counts_stop p r way.state k e ] in
+    record {
+      routes = sym (append-nil t.leaves) ∙ ap (λ (z : List (List ℕ) × State). t.leaves ++ records_for a z.0) (sym idle) ∙ way.routes;
+      state = subst (λ z. ShowsCut a 2 z t) (ap (λ (z : List (List ℕ) × State). z.1) (sym idle) ∙ way.reaches) (cut_weaker a (suc (suc k)) 2 way.state t (omega arith) way.shows);
+      room = c.loop-left.invariant.room;
+      called = (let sum = way.searches in omega (arith, sum, still));
+      same = c.loop-left.invariant.same;
+    }
