@@ -1,6 +1,6 @@
 -- A page that asks up to a bound: its steps, over a tree some of whose nodes don't carry what they might, the keys that it
 -- keeps, and where it is.
-use Rattle.std.proofs.Common.{◌≡◌, ◌⊎◌, inl, inr, ℕ, zero, suc, ◌+◌, ◌≤◌, true, false, cond, ◌||◌, List, [], ◌∷◌, ◌++◌, take, drop, refl, sym, ap, subst, ◌∙◌, arith, true≢false, Option, Some, None, ◌-◌, ◌*◌, ◌<◌, Bool, length, length-append, append_assoc, append-nil, eqb-true}
+use Rattle.std.proofs.Common.{◌≡◌, ◌⊎◌, inl, inr, ℕ, zero, suc, ◌+◌, ◌≤◌, true, false, cond, ◌||◌, List, [], ◌∷◌, ◌++◌, take, drop, refl, sym, ap, subst, ◌∙◌, arith, true≢false, Option, Some, None, ◌-◌, ◌*◌, ◌<◌, Bool, length, length-append, append_assoc, eqb-true}
 use Rattle.std.proofs.lemmas.Bool.{or_cases, or_parts, or_right, leb-true, leb-false, ltb-true, ltb-false, eqb-false}
 use Rattle.std.specs.Cmp.{both_ways}
 use Rattle.std.specs.Prelude.{is_some, slice_get, nat_le, nat_lt, ◌==◌, ◌&&◌}
@@ -28,7 +28,7 @@ use Rattle.sabr_frontier.proofs.TreeLemmas.CarryingNodes.{carried_at, mapped, ne
 use Rattle.sabr_frontier.proofs.TreeLemmas.CutTrees.{answer_cut, cut_self, cut_sound, divided_cut, stands_in, still_before, IsBoundFor, at_most_one, carried_there, cut_weaken, least_same, none_same, bound_parts}
 use Rattle.sabr_frontier.proofs.TreeLemmas.SlotWinners.{carries_cases, standing_at}
 use Rattle.sabr_frontier.proofs.SessionLemmas.LeftSteps.{left_after, one_step_is}
-use Rattle.sabr_frontier.proofs.SessionLemmas.Pages.{counts_one, counts_stop, given_by, nothing_carried, nothing_given, steps_stop, counts_go, counts_none, steps_go, steps_none}
+use Rattle.sabr_frontier.proofs.SessionLemmas.Pages.{counts_one, counts_stop, given_by, nothing_carried, nothing_given, steps_stop, counts_go, steps_go}
 use Rattle.std.proofs.lemmas.List.{drop_at}
 use Rattle.std.proofs.lemmas.List.Sums.{sum_by-cons}
 use Rattle.std.proofs.lemmas.Option.{slice_get_within}

@@ -1,5 +1,5 @@
 -- Steps of a tree, one after another, and the trees before them.
-use Rattle.std.proofs.Common.{◌≡◌, ℕ, zero, suc, ◌+◌, ◌-◌, ◌<◌, ◌≤◌, Bool, true, false, not, reverse, ◌⊎◌, inl, inr, List, [], ◌∷◌, ◌++◌, map, length, refl, sym, ap, subst, ◌∙◌, arith, Some, None, append_assoc, append-nil, length-take, take, drop, Option, length-drop}
+use Rattle.std.proofs.Common.{◌≡◌, ℕ, zero, suc, ◌+◌, ◌-◌, ◌<◌, ◌≤◌, Bool, true, false, not, reverse, ◌⊎◌, inl, inr, List, [], ◌∷◌, ◌++◌, map, length, refl, sym, ap, subst, ◌∙◌, arith, Some, None, append_assoc, length-take, take, drop, Option, length-drop}
 use Rattle.sabr_model.specs.plan.Plan.{ContactPlan, IsPlan}
 use Rattle.sabr_model.specs.routes.Arrival.{RouteRequest}
 use Rattle.sabr_model.specs.routes.Record.{RouteRecord, record_of}

@@ -23,17 +23,6 @@ standing_at nodes id x h = elim (slice_get nodes id.0) as (λ o. slice_get nodes
   | Some n ↦ λ e k. (n, e, k)
 ] refl h
 
--- the same winners where each node carries what it carried
-pub winners_same : {A : Type 0} (nodes old : List (Node A)) (ids : List NodeId) → ((id : NodeId) → route_at nodes id ≡ route_at old id) → AreWinners old ids → AreWinners nodes ids
-winners_same nodes old ids same won k l =
-    let is = won k l in
-    let w = winner_at ids k in
-    record {
-      own = subst (λ (z : Option RouteRecord × Option RouteRecord). IsNoGreater z.0 z.1) (λ i. (sym (same w) i, sym (same (record { 0 = k })) i)) is.own;
-      over = λ c a b m. subst (λ (z : Option RouteRecord × Option RouteRecord). IsNoGreater z.0 z.1) (λ i. (sym (same w) i, sym (same (winner_at ids c)) i)) (is.over c a b m);
-      from = is.from;
-    }
-
 -- ---- routes that are no greater
 
 no_greater_itself : (o : Option RouteRecord) → IsNoGreater o o

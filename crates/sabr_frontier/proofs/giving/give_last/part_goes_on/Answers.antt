@@ -1,4 +1,4 @@
-use Rattle.std.proofs.Common.{◌≡◌, ℕ, List, ◌+◌, ◌||◌, None, Ok, Err, Result, false, arith, slice_index, take, drop, subst, sym, ap, ◌∙◌}
+use Rattle.std.proofs.Common.{◌≡◌, ℕ, List, ◌+◌, ◌||◌, None, false, arith, slice_index, take, drop, subst, sym, ap, ◌∙◌}
 use Rattle.std.specs.Prelude.{IfOk, is_some}
 use Rattle.std.specs.Cmp.{nat_cmp_total}
 use Rattle.std.specs.List.Sorted.{IsStrictlyIncreasing}
@@ -12,12 +12,8 @@ use Rattle.sabr_frontier.proofs.ListingLemmas.ListMembers.{Rises-put_in}
 use Rattle.sabr_frontier.proofs.TreeLemmas.Floors.{floor_after, floor_on, floor_wide}
 use Rattle.sabr_frontier.proofs.TreeLemmas.ListFronts.{increasing}
 use Rattle.sabr_frontier.proofs.SessionLemmas.LeftSteps.{goes_on_otherwise}
+use Rattle.sabr_frontier.proofs.GivingLemmas.{then_ok}
 use Rattle.sabr_frontier.proofs.giving.give_last.part_goes_on.Goals as goal
-
--- what holds of each value
-all_ok : {T E : Type 0} {P : T → Type 0} (r : Result T E) → ((x : T) → P x) → IfOk r P
-all_ok (Ok x) h = h x
-all_ok (Err e) h = tt
 
 pub returns-then-branch-clause-ok : goal.returns-then-branch-clause-ok
 returns-then-branch-clause-ok g c =
@@ -70,7 +66,7 @@ returns-clause-ok g c =
 pub returns-clause-least : goal.returns-clause-least
 returns-clause-least g c =
     let stays = ap (λ (v : Searching). v.calls.count) c.goes_otherwise.ensures.same in
-    all_ok c.longer_go_on.result (λ _ _ same. absurd (omega (arith, same, c.longer_go_on.ensures.no_fewer, c.find_best.ensures.called, stays)))
+    then_ok c.longer_go_on.result c.longer_go_on.ensures.ok (λ _ _ _ same. absurd (omega (arith, same, c.longer_go_on.ensures.no_fewer, c.find_best.ensures.called, stays)))
 
 pub returns-then-branch-clause-least : goal.returns-then-branch-clause-least
 returns-then-branch-clause-least g c _ _ = omega (arith, c.in_ok-goes_otherwise.ensures.least c.if-branch.true)

@@ -1,9 +1,8 @@
 use Rattle.std.proofs.Common.{◌≡◌, ℕ, List, true, Ok, Err, ap, sym, subst, ◌∙◌, suc, ◌+◌, ◌≤◌, Bool, false, cond, not, [], ◌∷◌, ◌++◌, map, flat_map, take, length, refl, ◌⊎◌, inl, inr, arith, true≢false, Option, Some, append_assoc, length-append}
 use Rattle.std.specs.Prelude.{IfErr, Option, Result, slice_get}
 use Rattle.std.specs.Result.{IsErrAnd}
-use Rattle.sabr_model.specs.plan.Plan.{IsPlan, TabledPlan, ContactPlan}
+use Rattle.sabr_model.specs.plan.Plan.{TabledPlan, ContactPlan}
 use Rattle.sabr_model.specs.routes.Arrival.{RouteRequest}
-use Rattle.sabr_model.specs.routes.Asking.{IsRequest}
 use Rattle.sabr_model.specs.routes.Record.{RouteRecord, record_of}
 use Rattle.sabr_search.specs.questions.Calls.{Calls}
 use Rattle.sabr_frontier.specs.declared.loader.partial_tree.PartialTree.{PartialTree}
@@ -13,7 +12,7 @@ use Rattle.sabr_frontier.specs.session.Paused.{IsPausedOver, seen_over}
 use Rattle.sabr_frontier.specs.listing.Listing.{IsState, leaves_in}
 use Rattle.sabr_frontier.specs.loading.Loading.{IsClosedState, IsCounted, IsRefusedBy, Loaded, session_with, state_with}
 use Rattle.sabr_frontier.specs.session.Session.{session_over}
-use Rattle.sabr_frontier.specs.tree.Shape.{shape_of, shown, Shape, front_of, numbers_of, part_at, part_of, prefix_of}
+use Rattle.sabr_frontier.specs.tree.Shape.{shown, Shape, front_of, numbers_of, part_at, part_of, prefix_of}
 use Rattle.sabr_frontier.specs.tree.Sound.{IsTree, AreGiven, IsLent}
 use Rattle.sabr_frontier.specs.loading.Partial.{IsLastPlace, IsLoader, partial_shape_of, is_complete, loaded, loaded_tree, PartialShape, AreLent, IsAnswered, IsGiven, IsPartial, pairs_in, parts_in, parts_of, onward, Expects}
 use Rattle.sabr_frontier.proofs.LoadingLemmas.LoadedParts.{complete_closed, incomplete_open, complete_expects, pairs_two}

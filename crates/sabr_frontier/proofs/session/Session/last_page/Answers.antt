@@ -1,4 +1,4 @@
-use Rattle.std.proofs.Common.{◌≡◌, ◌-◌, length, drop, ap, sym, subst, ◌∙◌, arith}
+use Rattle.std.proofs.Common.{◌-◌, drop, ap, sym, subst, ◌∙◌, arith}
 use Rattle.sabr_search.specs.questions.Calls.{Calls}
 use Rattle.sabr_frontier.specs.tree.Left.{HasLooks}
 use Rattle.sabr_frontier.specs.session.LastPage.{IsLastPage, LastSeen}

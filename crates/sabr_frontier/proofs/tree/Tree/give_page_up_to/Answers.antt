@@ -1,4 +1,4 @@
-use Rattle.std.proofs.Common.{◌≡◌, ◌+◌, ◌-◌, ◌⊎◌, ◌++◌, ℕ, List, [], ◌∙◌, suc, length, append-nil, ap, arith, refl, sym, subst, inl, inr, None}
+use Rattle.std.proofs.Common.{◌≡◌, ◌-◌, ◌⊎◌, ◌++◌, ℕ, List, [], ◌∙◌, suc, length, append-nil, ap, arith, refl, sym, subst, inl, inr, None}
 use Rattle.sabr_model.specs.plan.Plan.{IsPlan}
 use Rattle.sabr_frontier.specs.tree.SmallestKeys.{AreNoted, CarryKeys, carried_keys}
 use Rattle.sabr_frontier.specs.listing.Listing.{one_step, searches_in}

@@ -1,10 +1,8 @@
-use Rattle.std.proofs.Common.{◌≡◌, ◌≤◌, true, false, true≢false, ◌||◌, length, None, Ok, Err, arith, ap, sym, ◌∙◌}
-use Rattle.std.specs.Prelude.{IfOk, IsTrue}
-use Rattle.sabr_index.specs.Looks.{looks_taken}
+use Rattle.std.proofs.Common.{◌≡◌, true, false, true≢false, ◌||◌, None, arith, ap, sym, ◌∙◌}
 use Rattle.sabr_frontier.specs.declared.tree.Node.{Node}
 use Rattle.sabr_frontier.specs.tree.Searching.{best_for}
 use Rattle.sabr_frontier.specs.tree.Left.{others_carry, part_goes_on}
-use Rattle.sabr_frontier.specs.tree.Giving.{OfNode}
+use Rattle.sabr_frontier.proofs.GivingLemmas.{then_ok}
 use Rattle.sabr_frontier.proofs.TreeLemmas.ModifiedPlaces.{get_there}
 use Rattle.sabr_frontier.proofs.tree.Tree.goes_on_after.Goals as goal
 
@@ -29,10 +27,7 @@ returns-clause-ok g c =
     let best = best_for c.args.searcher.now.asked None in
     let here = get_there nodes c.args.node.0 m (omega arith) c.index.ensures in
     let others : others_carry nodes c.args.node ≡ false = ap (λ z. others_carry z c.args.node) (sym c.as_slice.ensures.value) ∙ sym c.others_carry.ensures ∙ c.if-others_carry.false in
-    elim c.part_goes_on.result as (λ r. IfOk r (λ yes. yes ≡ part_goes_on best m s) → IfOk r (λ yes. OfNode nodes c.args.node (λ n. yes ≡ (others_carry nodes c.args.node || part_goes_on best n s)))) [
-      | Ok b ↦ λ e n stands. (let same : m ≡ n = cc in e ∙ ap (λ (k : Node g.row.A.Denot). part_goes_on best k s) same ∙ ap (λ b. b || part_goes_on best n s) (sym others))
-      | Err _ ↦ λ _. tt
-    ] c.part_goes_on.ensures.ok
+    then_ok c.part_goes_on.result c.part_goes_on.ensures.ok (λ b e n stands. (let same : m ≡ n = cc in e ∙ ap (λ (k : Node g.row.A.Denot). part_goes_on best k s) same ∙ ap (λ b. b || part_goes_on best n s) (sym others)))
 
 pub returns-clause-at_most : goal.returns-clause-at_most
 returns-clause-at_most g c n stands =
@@ -47,9 +42,4 @@ returns-then-others_carry-clause-least g c _ _ none =
     absurd (true≢false (sym others ∙ none))
 
 pub returns-clause-least : goal.returns-clause-least
-returns-clause-least g c =
-    elim c.part_goes_on.result as (λ r. IfOk r (λ yes. IsTrue yes → c.part_goes_on.new.searcher.calls.count ≡ c.args.searcher.now.calls.count → length c.args.route.now ≤ looks_taken c.part_goes_on.new.looks)
-    → IfOk r (λ yes. IsTrue yes → c.part_goes_on.new.searcher.calls.count ≡ c.args.searcher.now.calls.count → others_carry c.args.self.now.nodes.items c.args.node ≡ false → length c.args.route.now ≤ looks_taken c.part_goes_on.new.looks)) [
-      | Ok b ↦ λ h so same _. h so same
-      | Err _ ↦ λ _. tt
-    ] c.part_goes_on.ensures.least
+returns-clause-least g c = then_ok c.part_goes_on.result c.part_goes_on.ensures.least (λ _ h so same _. h so same)
