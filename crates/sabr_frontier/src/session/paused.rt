@@ -43,20 +43,12 @@ impl<'p, B: BestOf<A>, A: Allocator + Copy> Session<'p, B, A> {
         ensures seen { seen_over B.calls_of self.entry.plan result ≡ self.entry }
         ensures paused { IsPausedOver self.entry.plan result }
     {
-        let Session {
-            searcher,
-            tree,
-            pages,
-            searches,
-            looks,
-        } = self;
-        let searcher = searcher.pause();
         PausedSession {
-            searcher,
-            tree,
-            pages,
-            searches,
-            looks,
+            searcher: self.searcher.pause(),
+            tree: self.tree,
+            pages: self.pages,
+            searches: self.searches,
+            looks: self.looks,
         }
     }
 }
@@ -95,11 +87,9 @@ impl<B: BestOf<A>, A: Allocator + Copy> PausedSession<B, A> {
         requires { IsPausedOver index self }
         ensures { result ≡ seen_over B.calls_of index.entry self }
     {
-        let tree = self.tree;
-        let searcher = self.searcher.resume(index);
         Session {
-            searcher,
-            tree,
+            searcher: self.searcher.resume(index),
+            tree: self.tree,
             pages: self.pages,
             searches: self.searches,
             looks: self.looks,
