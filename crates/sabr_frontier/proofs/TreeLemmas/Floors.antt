@@ -5,7 +5,7 @@ use Rattle.std.proofs.lemmas.Bool.{and_parts, and_from, or_parts, cases_lt}
 use Rattle.std.proofs.lemmas.Bool.Decides.{nat_tests}
 use Rattle.std.specs.Cmp.{nat_cmp_total}
 use Rattle.std.specs.Option.{option_map}
-use Rattle.std.specs.Prelude.{IsTrue, IsFalse, slice_get}
+use Rattle.std.specs.Prelude.{IsTrue, IsFalse, slice_get, unwrap_or}
 use Rattle.std.specs.Ordering.{nat_cmp, is_eq, is_lt}
 use Rattle.sabr_model.specs.Order.{by_numbers, put_in}
 use Rattle.sabr_model.specs.plan.Plan.{ContactPlan, IsPlan}
@@ -14,11 +14,11 @@ use Rattle.sabr_model.specs.routes.Parts.{goes_on, least_in}
 use Rattle.sabr_model.specs.routes.Record.{RouteRecord, record_of}
 use Rattle.sabr_model.specs.routes.Route.{delivery_of, is_route}
 use Rattle.sabr_model.proofs.RouteLemmas.Least.{least_some}
-use Rattle.sabr_search.specs.questions.Bounded.{IsFloor, IsSought, IsWhole}
+use Rattle.sabr_search.specs.questions.Bounded.{IsFloor, IsSought, IsWhole, no_bound}
 use Rattle.sabr_search.proofs.WayLemmas.Prefixes.{goes_on-append, goes_on_parts}
 use Rattle.sabr_frontier.specs.listing.Rising.{has}
 use Rattle.sabr_frontier.specs.tree.Searching.{Asked}
-use Rattle.sabr_frontier.specs.tree.Best.{best_of, best_up_to, bound_in, found_by, up_to}
+use Rattle.sabr_frontier.specs.tree.Best.{best_of, best_up_to, found_by, up_to}
 use Rattle.sabr_frontier.specs.tree.Shape.{numbers_of, Shape, front_of, prefix_of}
 use Rattle.sabr_frontier.proofs.ListingLemmas.AllRoutes.{has_number}
 use Rattle.sabr_frontier.proofs.ListingLemmas.ListMembers.{has-put_in, Member-append_cases}
@@ -187,7 +187,7 @@ found_best p r good b q X Beyond h = elim (least_in p r q X) as (λ o. least_in 
 ] refl
 
 -- so it is without a bound
-pub found_by_best : {A : Type 0} (p : ContactPlan) (r : RouteRequest) → IsPlan p → (o : Option Bound) (q X : List ℕ) (sought : Sought A) → IsSought p r q X (bound_in o) sought → IsWhole (bound_in o) sought → found_by sought o ≡ best_up_to p r o q X
+pub found_by_best : {A : Type 0} (p : ContactPlan) (r : RouteRequest) → IsPlan p → (o : Option Bound) (q X : List ℕ) (sought : Sought A) → IsSought p r q X (unwrap_or o no_bound) sought → IsWhole (unwrap_or o no_bound) sought → found_by sought o ≡ best_up_to p r o q X
 unfolding best_of
 found_by_best p r good (Some b) q X sought h whole = found_best p r good b q X sought h
 found_by_best p r good None q X (Route x) h whole = h

@@ -6,7 +6,7 @@ use Rattle.std.specs.declared.option.Option.TheVariants.{Some, None}
 use Rattle.sabr_search.specs.declared.bound.Bound.{Bound}
 use Rattle.sabr_search.specs.declared.bound.Sought.{Sought}
 use Rattle.sabr_search.specs.declared.bound.Sought.TheVariants.{Route, None as NoRoute, Beyond}
-use Rattle.sabr_search.specs.questions.Bounded.{is_up_to, no_bound}
+use Rattle.sabr_search.specs.questions.Bounded.{is_up_to}
 use Rattle.sabr_model.specs.plan.Plan.{ContactPlan}
 use Rattle.sabr_model.specs.routes.Arrival.{RouteRequest}
 use Rattle.sabr_model.specs.routes.Parts.{least_in}
@@ -20,11 +20,6 @@ best_of p r prefix excluded = option_map (record_of p r) (least_in p r prefix ex
 abbrev pub up_to : Bound → Option RouteRecord → Option RouteRecord
 up_to b None = None
 up_to b (Some x) = if is_up_to b x.delivery (length x.contacts) then Some x else None
-
--- the bound of a search
-abbrev pub bound_in : Option Bound → Bound
-bound_in None = no_bound
-bound_in (Some b) = b
 
 -- what of an answer is up to the bound, if there is one
 abbrev pub found_by : {A : Type 0} → Sought A → Option Bound → Option RouteRecord

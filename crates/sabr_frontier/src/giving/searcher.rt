@@ -8,23 +8,13 @@ ghost use Rattle.sabr_search.specs.answers.SearchCache.{IsSearchCache};
 ghost use Rattle.sabr_search.specs.questions.Bounded.{IsFloor};
 ghost use Rattle.sabr_search.specs.questions.Detours.{GoesOtherwise, detour_looks};
 ghost use Rattle.sabr_frontier.specs.tree.Searching.{GoOn, IsAtRest, best_for, looks_since, searching_first};
-ghost use Rattle.sabr_frontier.specs.tree.Best.{bound_in, found_by};
+ghost use Rattle.sabr_frontier.specs.tree.Best.{found_by};
 
 use sabr_index::{Index, Looks};
 use sabr_model::{NoMemory, Plan, Request, Route};
 use sabr_search::{BestOf, Bound, BoundedPart, Excluded, GhostCalls, SearchCache, Sought};
 use std::alloc::{Allocator, Global};
 use std::marker::Model;
-
-/// The bound of a search.
-fn bound_in(bound: Option<Bound>) -> Bound
-    ensures { result ≡ bound_in bound }
-{
-    match bound {
-        Some(most) => most,
-        None => Bound::none(),
-    }
-}
 
 /// The route that was found, if it is up to the bound, where there is one.
 fn up_to<A: Allocator + Copy>(sought: Sought<A>, bound: Option<Bound>) -> Option<Route<A>>
@@ -165,7 +155,7 @@ impl<'p, B: BestOf<A>, A: Allocator + Copy> Searcher<'p, B, A> {
         let part = BoundedPart {
             prefix,
             excluded,
-            bound: bound_in(bound),
+            bound: bound.unwrap_or(Bound::none()),
             floor,
         };
         let rest = &mut self.rest;
