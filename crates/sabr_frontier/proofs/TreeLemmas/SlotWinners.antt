@@ -1,6 +1,6 @@
 -- What the winners of slots are.
 use Rattle.std.proofs.Common.{◌≡◌, ◌≢◌, ℕ, zero, suc, ◌+◌, ◌-◌, ◌*◌, ◌/◌, ◌<◌, ◌≤◌, true, false, ◌⊎◌, inl, inr, List, [], ◌∷◌, ◌++◌, length, set, Option, Some, None, refl, sym, ap, subst, ◌∙◌, arith, true≢false, length-append, length-set}
-use Rattle.std.proofs.lemmas.Option.{slice_get_past, slice_get_within}
+use Rattle.std.proofs.lemmas.Option.{slice_get_within}
 use Rattle.std.specs.Prelude.{slice_get}
 use Rattle.std.specs.Option.{option_and_then}
 use Rattle.std.specs.Ordering.{is_lt}
@@ -214,9 +214,6 @@ module _ {A : Type 0} (nodes : List (Node A)) where
         | None ↦ λ _. refl
         | Some y ↦ λ f. absurd (true≢false (subst (λ o. IsNoGreater o (Some y)) e (subst (IsNoGreater (route_at nodes (winner_at ids 0))) f (below_first id (let w = standing_at nodes id y f in slice_get_within nodes id.0 w.0 w.1)))))
       ] refl
-
-    pub nothing_there : length nodes ≡ 0 → CarriesNone nodes
-    nothing_there none id = ap (option_and_then route_of) (slice_get_past nodes id.0 (omega (arith, none)))
 
     -- a winner's slot is over its own
     named : (n c : ℕ) → length ids - c ≤ n → c < length ids → (i : ℕ) × (winner_at ids c ≡ record { 0 = i }) × (i < length ids) × IsAbove c i (i + 1)

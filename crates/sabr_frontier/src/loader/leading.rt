@@ -74,6 +74,7 @@ impl Lead {
             summary: self.summary.extended(plan, prefix, number),
         })
     }
+
     /// Returns the summary of a list whose first `first` numbers lead here. It reads only the contacts after them.
     pub fn summary_of<A: Allocator + Copy>(
         self,

@@ -94,10 +94,7 @@ impl<A: Allocator + Copy> PartialTree<A> {
         requires last { last_item self.now.prefixes.items ≡ last_prefix (partial_shape_of self.now) }
         ensures { result ≡ (rise_strictly excluded.now && comes_after (parts_in (partial_shape_of self.now)) prefix.now) }
     {
-        if !is_increasing(excluded) {
-            return false;
-        }
-        self.comes_after(prefix)
+        is_increasing(excluded) && self.comes_after(prefix)
     }
 
     /// Returns where a prefix leads if it is the first that is expected, or none. That of the first part is empty.

@@ -37,15 +37,9 @@ impl<A: Allocator + Copy> Tree<A> {
         ensures some { IfSome result (λ id. (x : RouteRecord) × IsFirst self.now.nodes.items id x) }
         ensures none { IfNone result (CarriesNone self.now.nodes.items) }
     {
-        let ids = self.winners.as_slice();
-        if ids.len() == 0 {
-            return None;
-        }
-        let id = ids[0];
-        match carried(self.nodes.as_slice(), id) {
-            Some(_) => Some(id),
-            None => None,
-        }
+        let id = *self.winners.first()?;
+        carried(self.nodes.as_slice(), id)?;
+        Some(id)
     }
 
     /// Whether no node carries a route.
