@@ -36,7 +36,6 @@
 mod certify;
 mod giving;
 mod laws;
-mod lists;
 mod loader;
 mod plan_request;
 mod rows;

@@ -2,6 +2,7 @@
 
 ghost use Rattle.std.specs.Prelude.{◌≡◌, ◌<◌, true, Some, IfOk, IfErr, IfSome, IsTrue, OnOk, length, take};
 ghost use Rattle.std.specs.Option.{option_copied, option_map};
+ghost use Rattle.sabr_model.specs.plan.Plan.{has};
 ghost use Rattle.sabr_model.specs.routes.Arrival.{arrival_after};
 ghost use Rattle.sabr_model.specs.routes.Fault.{fault_of};
 ghost use Rattle.sabr_model.specs.routes.Parts.{goes_on};
@@ -12,12 +13,18 @@ ghost use Rattle.sabr_frontier.specs.loading.Partial.{IsLead};
 ghost use Rattle.sabr_frontier.specs.loading.Loading.{IsCarryFault, may_carry};
 ghost use Rattle.sabr_frontier.specs.listing.State.{part_with};
 
-use crate::lists::holds;
 use crate::loader::leading::Lead;
 use crate::loader::load_fault::LoadFault;
 use crate::plan_request::PlanRequest;
 use sabr_model::{HopFault, Plan, Request, Route, RouteSummary, follow, follow_after};
 use std::alloc::Allocator;
+
+/// Returns true if the number is one of these.
+fn holds(numbers: &[u32], number: u32) -> bool
+    ensures { result ≡ has number numbers.now }
+{
+    numbers.iter().any(|other| number == *other)
+}
 
 /// Returns true if a list begins with the prefix, is longer, and takes none of the excluded numbers next.
 fn goes_on(prefix: &[u32], excluded: &[u32], numbers: &[u32]) -> bool

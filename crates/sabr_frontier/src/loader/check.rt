@@ -5,7 +5,6 @@ ghost use Rattle.sabr_model.specs.routes.Route.{is_path};
 ghost use Rattle.sabr_frontier.specs.tree.Searching.{asked_of};
 ghost use Rattle.sabr_frontier.specs.loading.Partial.{AllGoOn, AreSteps, IsChecked, IsLead, leaves_with, onward_with, step_of};
 
-use crate::lists::longer;
 use crate::loader::leading::{ExpectedPrefix, Lead};
 use crate::plan_request::PlanRequest;
 use sabr_model::{NoMemory, Route};
@@ -61,6 +60,17 @@ impl<A: Allocator + Copy> Checked<A> {
         self.onward.push(expected)?;
         Ok(true)
     }
+}
+
+/// Returns a copy of a list with one more number at its end.
+fn longer<A: Allocator + Copy>(alloc: A, list: &[u32], number: u32) -> Result<Vec<u32, A>, NoMemory>
+    ensures { IfOk result (λ v. v.items ≡ list.now ++ number ∷ []) }
+{
+    let mut numbers = Vec::with_capacity(alloc, list.len() + 1)?;
+    let extended = numbers.extend_from_slice(list);
+    let Ok(()) = extended else { unreachable!() };
+    numbers.push_reserved(number);
+    Ok(numbers)
 }
 
 /// Returns where the excluded numbers of a prefix lead, or none if one of them makes no path. The result is gathered in
