@@ -1,5 +1,5 @@
 -- What a loader has gathered: nodes with their prefixes and where these lead, leaves, and the prefixes that are expected.
-use Rattle.std.specs.Prelude.{◌≡◌, ℕ, ◌≤◌, IsTrue, List, [], ◌∷◌, ◌++◌, length, take, Bool, true, not, ◌⊎◌, map, filter, ◌+◌, ◌<◌, false, ◌==◌, ◌&&◌, flat_map, vec_len, vec_capacity, reverse, Option, Some, None, if◌then◌else◌}
+use Rattle.std.specs.Prelude.{◌≡◌, ℕ, ◌≤◌, IsTrue, List, [], ◌∷◌, ◌++◌, length, take, Bool, true, not, ◌⊎◌, map, filter, ◌+◌, false, ◌==◌, ◌&&◌, flat_map, reverse, Option, Some, None, if◌then◌else◌}
 use Rattle.sabr_model.specs.plan.Plan.{ContactPlan, TabledPlan, IsPlan}
 use Rattle.sabr_model.specs.routes.Arrival.{RouteRequest}
 use Rattle.sabr_model.specs.routes.Route.{is_path, is_route}
@@ -160,14 +160,6 @@ with_node h q X route = record h { prefixes = h.prefixes ++ q ∷ []; last = q; 
 abbrev pub answered_by : {A : Type 0} → PartialShape A → Option (Checked A) → PartialShape A
 answered_by h None = record h { sound = false }
 answered_by h (Some j) = record h { leaves = h.leaves ++ j.leaves.items; expected = front h.expected ++ reverse j.onward.items }
-
--- there is room for a part whose prefix has this number of numbers, with these numbers of leaves and of expected
--- prefixes
-pub record HasPlaces {A : Type 0} (h : PartialTree A) (numbers leaves onward : ℕ) : Type 0 where
-  pub for_numbers : numbers ≤ vec_capacity h.last
-  pub one_node : vec_len h.nodes < vec_capacity h.nodes
-  pub for_leaves : vec_len h.leaves + leaves ≤ vec_capacity h.leaves
-  pub for_expected : vec_len h.expected + onward ≤ vec_capacity h.expected
 
 -- a partial tree with one more part, for the verdict on it
 abbrev pub IsTakenIn : {A : Type 0} → ContactPlan → RouteRequest → PartialShape A → List ℕ → List ℕ → Option RouteRecord → PartialShape A → Type 0

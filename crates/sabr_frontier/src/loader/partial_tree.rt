@@ -6,7 +6,7 @@ ghost use Rattle.sabr_model.specs.Order.{numbers_before};
 ghost use Rattle.sabr_frontier.specs.tree.Shape.{shape_of};
 ghost use Rattle.sabr_frontier.specs.tree.Undo.{IsIndexed, IsRoomy, front, last_item};
 ghost use Rattle.sabr_frontier.specs.loading.Loading.{comes_after, rise_strictly};
-ghost use Rattle.sabr_frontier.specs.loading.Partial.{AreExpected, HasPlaces, IsGiven, IsLastPlace, IsLead, IsTakenIn, IsVerdict, answered_by, is_complete, is_expected, last_prefix, loaded_tree, nothing_yet, partial_shape_of, parts_in, with_node};
+ghost use Rattle.sabr_frontier.specs.loading.Partial.{AreExpected, IsGiven, IsLastPlace, IsLead, IsTakenIn, IsVerdict, answered_by, is_complete, is_expected, last_prefix, loaded_tree, nothing_yet, partial_shape_of, parts_in, with_node};
 
 use crate::loader::check::{Checked, check};
 use crate::loader::ghost_lists::GhostLists;
@@ -142,18 +142,6 @@ impl<A: Allocator + Copy> PartialTree<A> {
         check(question, prefix, excluded, lead, room)
     }
 
-    /// Reserves room for a part whose prefix has `count` numbers, and for what it leads to.
-    fn reserve(&mut self, numbers: usize, leaves: usize, onward: usize) -> Result<(), NoMemory>
-        ensures same { partial_shape_of self.new ≡ partial_shape_of self.old }
-        ensures ok { OnOk result (HasPlaces self.new numbers leaves onward) }
-    {
-        self.last.reserve(numbers)?;
-        self.nodes.reserve(1)?;
-        self.leaves.reserve(leaves)?;
-        self.expected.reserve(onward)?;
-        Ok(())
-    }
-
     /// Adds a part after the others, for which there is room.
     fn push(&mut self, prefix: &[u32], excluded: ExcludedNumbers<A>, route: Option<Route<A>>)
         requires numbers { length prefix.now ≤ vec_capacity self.old.last }
@@ -174,47 +162,9 @@ impl<A: Allocator + Copy> PartialTree<A> {
         let Ok(()) = kept else { unreachable!() };
     }
 
-    /// Adds the part that was expected, and what it leads to. What may fail comes before the first change.
-    fn answer(
-        &mut self,
-        prefix: &[u32],
-        excluded: ExcludedNumbers<A>,
-        route: Option<Route<A>>,
-        mut checked: Checked<A>,
-    ) -> Result<(), NoMemory>
-        ensures ok { OnOk result (partial_shape_of self.new ≡ answered_by (with_node (partial_shape_of self.old) prefix.now excluded route) (Some checked)) }
-        ensures err { OnErr result (partial_shape_of self.new ≡ partial_shape_of self.old) }
-    {
-        self.reserve(prefix.len(), checked.leaves.len(), checked.onward.len())?;
-        self.push(prefix, excluded, route);
-        self.expected.pop();
-        checked.onward.reverse();
-        let appended = self.expected.append(&mut checked.onward);
-        let Ok(()) = appended else { unreachable!() };
-        let appended = self.leaves.append(&mut checked.leaves);
-        let Ok(()) = appended else { unreachable!() };
-        self.room = checked;
-        Ok(())
-    }
-
-    /// Adds a part that wasn't expected, or isn't right: from now on the parts alone are kept.
-    fn add(
-        &mut self,
-        prefix: &[u32],
-        excluded: ExcludedNumbers<A>,
-        route: Option<Route<A>>,
-    ) -> Result<(), NoMemory>
-        ensures ok { OnOk result (partial_shape_of self.new ≡ answered_by (with_node (partial_shape_of self.old) prefix.now excluded route) None) }
-        ensures err { OnErr result (partial_shape_of self.new ≡ partial_shape_of self.old) }
-    {
-        self.reserve(prefix.len(), 0, 0)?;
-        self.push(prefix, excluded, route);
-        self.sound = false;
-        Ok(())
-    }
-
     /// Adds a part that comes after the others, with the record of the route that it carries. If its prefix is the
-    /// first that is expected, `lead` is where that leads.
+    /// first that is expected, `lead` is where that leads. If it isn't, or isn't right, the parts alone are kept from
+    /// now on. What may fail comes before the first change.
     pub fn take_in(
         &mut self,
         question: &PlanRequest<'_, A>,
@@ -230,10 +180,24 @@ impl<A: Allocator + Copy> PartialTree<A> {
     {
         let checked = self.check(question, prefix, excluded, lead)?;
         let excluded = ExcludedNumbers::of(question.alloc, excluded)?;
-        match checked {
-            Some(checked) => self.answer(prefix, excluded, route, checked),
-            None => self.add(prefix, excluded, route),
-        }
+        self.last.reserve(prefix.len())?;
+        self.nodes.reserve(1)?;
+        let Some(mut checked) = checked else {
+            self.push(prefix, excluded, route);
+            self.sound = false;
+            return Ok(());
+        };
+        self.leaves.reserve(checked.leaves.len())?;
+        self.expected.reserve(checked.onward.len())?;
+        self.push(prefix, excluded, route);
+        self.expected.pop();
+        checked.onward.reverse();
+        let appended = self.expected.append(&mut checked.onward);
+        let Ok(()) = appended else { unreachable!() };
+        let appended = self.leaves.append(&mut checked.leaves);
+        let Ok(()) = appended else { unreachable!() };
+        self.room = checked;
+        Ok(())
     }
 
     /// Returns true if there is a part, each part was the first that was expected, and none is expected any more.
