@@ -1,34 +1,64 @@
-use Rattle.std.proofs.Common.{◌&&◌, ◌∙◌, true, sym, ap, ◌≡◌, ℕ, ◌<◌, List, ◌∷◌, ◌++◌, length, take, refl, arith, length-append}
+use Rattle.std.proofs.Common.{◌&&◌, ◌∙◌, true, sym, ap, subst, ◌≡◌, ℕ, ◌<◌, List, [], ◌∷◌, ◌++◌, length, take, refl, arith, length-append}
 use Rattle.std.specs.Option.{option_copied, option_map_or}
+use Rattle.std.specs.Prelude.{IfSome}
+use Rattle.sabr_model.specs.plan.Plan.{ContactPlan}
+use Rattle.sabr_model.specs.routes.Arrival.{RouteRequest}
 use Rattle.sabr_model.specs.routes.Parts.{goes_on, in_part}
 use Rattle.sabr_model.proofs.RouteLemmas.Faults.{fault_is_no_route}
 use Rattle.std.proofs.lemmas.List.{take_at}
+use Rattle.sabr_frontier.specs.declared.loader.leading.Lead.{Lead}
+use Rattle.sabr_frontier.specs.loading.Partial.{IsLead}
 use Rattle.sabr_frontier.proofs.ListingLemmas.AllRoutes.{goes_on_within}
 use Rattle.sabr_search.proofs.WayLemmas.Prefixes.{number_after_some}
 use Rattle.sabr_frontier.proofs.loader.carrying.carried.Goals as goal
+use Rattle.sabr_frontier.proofs.loader.carrying.carried.Goals.{in-Some-lead, in-None}
 
--- a list that goes on after a prefix begins with it
+-- the first numbers of a route lead there, and more come after them
+record IsKnown (p : ContactPlan) (r : RouteRequest) (s : List ℕ) (known : Lead × ℕ) : Type 0 where
+  longer : known.1 < length s
+  lead : IsLead p r (take known.1 s) known.0
 
-module _ (q X s : List ℕ) (goes : goes_on q X s ≡ true) where
+module _ (p : ContactPlan) (r : RouteRequest) (q X s : List ℕ) (goes : goes_on q X s ≡ true) (lead : Lead) where
   split : (x : ℕ) × (rest : List ℕ) × (s ≡ q ++ x ∷ rest)
   split = let w = goes_on_within q X s goes in let v = number_after_some q s w.0 w.1 in (w.0, v.0, v.1)
 
-  longer_of_going : length q < length s
-  longer_of_going =
-      let more = length-append q (split.0 ∷ split.1) in
-      let whole = ap (length {A = ℕ}) split.2 in omega (arith, more, whole)
+  longer_than : length q < length s
+  longer_than = omega (arith, length-append q (split.0 ∷ split.1), ap (length {A = ℕ}) split.2)
 
-  front_of_going : take (length q) s ≡ q
-  front_of_going = ap (take (length q)) split.2 ∙ take_at q (split.0 ∷ split.1) (length q) refl
+  -- a list that goes on after a prefix begins with it, and with nothing
+  after_prefix : IsLead p r q lead → IsKnown p r s (lead, length q)
+  after_prefix is = record { longer = longer_than; lead = subst (λ q. IsLead p r q lead) (sym (ap (take (length q)) split.2 ∙ take_at q (split.0 ∷ split.1) (length q) refl)) is }
 
-pub follow_from-requires : goal.follow_from-requires
-follow_from-requires g c =
+  after_nothing : IsLead p r [] lead → IsKnown p r s (lead, 0)
+  after_nothing is = record { longer = omega (arith, longer_than); lead = is }
+
+pub follow_after-requires : goal.follow_after-requires
+follow_after-requires g c =
+    let p = c.args.question.now.plan.now.plan in
+    let r = c.args.question.now.request in
+    let s = c.in-Some.route.now in
     let goes = sym c.goes_on.ensures ∙ c.if-not-goes_on.false in
-    record { longer = longer_of_going c.args.prefix.now c.args.excluded.now c.in-Some.route.now goes; front = front_of_going c.args.prefix.now c.args.excluded.now c.in-Some.route.now goes; lead = c.requires }
+    let known : IsKnown p r s c.match-lead.first = elim c.match-lead.branch [
+      | in-Some-lead w ↦ subst (IsKnown p r s) (sym w.first-is) (after_prefix p r c.args.prefix.now c.args.excluded.now s goes w.in-Some-lead.lead (subst (λ o. IfSome o (IsLead p r c.args.prefix.now)) w.in-Some-lead.is c.requires))
+      | in-None w ↦ subst (IsKnown p r s) (sym w.first-is) (after_nothing p r c.args.prefix.now c.args.excluded.now s goes w.start.result w.start.ensures)
+    ] in
+    record { longer = known.longer; path = known.lead.path; reached = known.lead.reached }
 
-pub returns-in_default-follow_from-clause-err : goal.returns-in_default-follow_from-clause-err
-returns-in_default-follow_from-clause-err g c =
+pub summary_of-summary-requires : goal.summary_of-summary-requires
+summary_of-summary-requires g c =
+    let p = c.args.question.now.plan.now.plan in
+    let r = c.args.question.now.request in
+    let s = c.in-Some.route.now in
+    let goes = sym c.goes_on.ensures ∙ c.if-not-goes_on.false in
+    let known : IsKnown p r s c.match-lead.first = elim c.match-lead.branch [
+      | in-Some-lead w ↦ subst (IsKnown p r s) (sym w.first-is) (after_prefix p r c.args.prefix.now c.args.excluded.now s goes w.in-Some-lead.lead (subst (λ o. IfSome o (IsLead p r c.args.prefix.now)) w.in-Some-lead.is c.requires))
+      | in-None w ↦ subst (IsKnown p r s) (sym w.first-is) (after_nothing p r c.args.prefix.now c.args.excluded.now s goes w.start.result w.start.ensures)
+    ] in
+    record { within = omega (arith, known.longer); front = known.lead.summary }
+
+pub returns-in_default-follow_after-clause-err : goal.returns-in_default-follow_after-clause-err
+returns-in_default-follow_after-clause-err g c =
     let p = c.args.question.now.plan.now.plan in
     let r = c.args.question.now.request in
     ap (λ o. option_map_or (in_part p r c.args.prefix.now c.args.excluded.now) (option_copied o) true) c.in-Some.is
-    ∙ ap (λ b. b && goes_on c.args.prefix.now c.args.excluded.now c.in-Some.route.now) (fault_is_no_route p r c.in-Some.route.now c.in_default-follow_from.field-0 c.in_default-follow_from.ensures.fault)
+    ∙ ap (λ b. b && goes_on c.args.prefix.now c.args.excluded.now c.in-Some.route.now) (fault_is_no_route p r c.in-Some.route.now c.in_default-follow_after.field-0 c.in_default-follow_after.ensures.fault)
