@@ -17,7 +17,7 @@ use Rattle.sabr_frontier.specs.listing.Listing.{state_at, next_route, one_step, 
 use Rattle.sabr_frontier.specs.listing.Laws.{PartsDivide, StatesAreTold, StepsFollow, CarriesLeast, LeavesComeFirst}
 use Rattle.sabr_frontier.proofs.ListingLemmas.ClosedTrees.{In, In_Member, Member_In, tree_has, has_tree, set_of_has, closed_tree}
 use Rattle.sabr_frontier.proofs.ListingLemmas.Division.{in_some_part, in_one_part, taken_in_none, Rises-parts, RiseInTurn}
-use Rattle.sabr_frontier.proofs.ListingLemmas.NextPlace.{next_is, step_is, none_left, not_less_itself, carried_outside, leaves_of_parts, verified, last_largest}
+use Rattle.sabr_frontier.proofs.ListingLemmas.NextPlace.{next_is, step_is, none_left, carried_outside, leaves_of_parts, verified, last_largest}
 use Rattle.sabr_frontier.proofs.ListingLemmas.AllRoutes.{route_filled, routes_apart, within_goes_on, goes_on_within, member_of, contains_of, by_key_exact, routes_rise, routes_complete}
 use Rattle.sabr_frontier.proofs.SessionLemmas.Pages.{steps_stop, steps_go, steps_none}
 use Rattle.std.proofs.lemmas.List.{drop_all, take_all, take-append-drop, length-take, length-take-le}
@@ -26,7 +26,7 @@ use Rattle.std.specs.Option.{option_map}
 use Rattle.std.specs.Ordering.{is_lt}
 use Rattle.std.specs.declared.cmp.Ordering.TheVariants.{Less}
 use Rattle.sabr_model.proofs.RouteLemmas.Listed.{key_total}
-use Rattle.sabr_frontier.proofs.ListingLemmas.ListMembers.{turned, Member-map_cases, Member-append_left, Member-append_cases}
+use Rattle.sabr_frontier.proofs.ListingLemmas.ListMembers.{not_less_itself, turned, Member-map_cases, Member-append_left, Member-append_cases}
 use Rattle.sabr_frontier.proofs.ListingLemmas.NewRoutes.{new_routes}
 use Rattle.sabr_frontier.proofs.TreeLemmas.SoundSteps.{first_formed}
 
@@ -149,7 +149,7 @@ module _ (p : ContactPlan) (r : RouteRequest) (good : IsPlan p) (i : ℕ) where
   top : (B : List (List ℕ)) → Rises (by_key p r) B → (l : List ℕ) → Member l B → before p r (last_of B) l ≡ false
   top [] h l m = absurd m
   top (b ∷ B) h l m = elim (last_largest (key_total p r) (by_key_exact p r) b B h l m) [
-    | inl e ↦ ap (before p r (last_of (b ∷ B))) e ∙ not_less_itself (key_total p r) (by_key_exact p r) (last_of (b ∷ B))
+    | inl e ↦ ap (before p r (last_of (b ∷ B))) e ∙ not_less_itself (key_total p r) (last_of (b ∷ B))
     | inr e ↦ ap is_lt (turned (key_total p r) l (last_of (b ∷ B)) Less e)
   ]
 

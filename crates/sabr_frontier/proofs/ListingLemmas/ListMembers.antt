@@ -3,8 +3,8 @@ use Rattle.std.proofs.Common.{◌≡◌, Bool, true, false, ◌||◌, cond, List
 use Rattle.std.specs.Cmp.{IsTotalOrder, both_ways}
 use Rattle.std.specs.List.{list_any}
 use Rattle.std.proofs.lemmas.Bool.{or_cases, or_left, or_right}
-use Rattle.std.proofs.lemmas.Cmp.{tied_itself, alike_right, nat_list_cmp_total}
-use Rattle.std.specs.Ordering.{is_eq, ordering_reverse, is_lt}
+use Rattle.std.proofs.lemmas.Cmp.{tied_itself, alike_right, upto, nat_list_cmp_total}
+use Rattle.std.specs.Ordering.{is_eq, ordering_reverse, is_gt, is_lt}
 use Rattle.std.specs.declared.cmp.Ordering.{Ordering}
 use Rattle.std.specs.declared.cmp.Ordering.TheVariants.{Less, Equal, Greater}
 use Rattle.sabr_frontier.specs.listing.Rising.{Below, Rises, has}
@@ -112,6 +112,10 @@ pub map_back : {X Y : Type 0} (f : X → Y) (g : Y → X) (xs : List X) → ((x 
 map_back f g [] h = refl
 map_back f g (x ∷ xs) h = λ i. h x (inl refl) i ∷ map_back f g xs (λ y m. h y (inr m)) i
 
+pub map_same : {X Y : Type 0} (f g : X → Y) (xs : List X) → ((x : X) → Member x xs → f x ≡ g x) → map f xs ≡ map g xs
+map_same f g [] h = refl
+map_same f g (x ∷ xs) h = λ i. h x (inl refl) i ∷ map_same f g xs (λ y m. h y (inr m)) i
+
 pub pairs_two : {X : Type 0} (Q : X → X → Type 0) (xs ys : List X) → InPairs Q xs → InPairs Q ys → ((a b : X) → Member a xs → Member b ys → Q a b) → InPairs Q (xs ++ ys)
 pairs_two Q [] ys h k f = k
 pairs_two Q (x ∷ xs) ys h k f = ((λ y m. elim (Member-append_cases y xs ys m) [ inl a ↦ h.0 y a | inr a ↦ f x y (inl refl) a ]), pairs_two Q xs ys h.1 k (λ a b m. f a b (inr m)))
@@ -148,6 +152,16 @@ earlier_prefix q a b e t = ap is_lt (nat_list_cmp_total.trans a b q e (less_from
 module _ {K : Type 0} {R : K → K → Ordering} (o : IsTotalOrder R) where
   pub turned : (x y : K) (r : Ordering) → R x y ≡ r → R y x ≡ ordering_reverse r
   turned x y r e = o.antisymm y x ∙ ap ordering_reverse e
+
+  pub not_less_itself : (x : K) → is_lt (R x x) ≡ false
+  not_less_itself x = ap is_lt (tied_itself o x)
+
+  -- x is not below y, and y not below z, so x is not below z
+  pub not_below : (x y z : K) → is_lt (R x y) ≡ false → is_lt (R y z) ≡ false → is_lt (R x z) ≡ false
+  not_below x y z p q = sym (from_above x z) ∙ upto o z y x (from_above y z ∙ q) (from_above x y ∙ p)
+    where
+      from_above : (x y : K) → is_gt (R y x) ≡ is_lt (R x y)
+      from_above x y = ap is_gt (o.antisymm y x) ∙ elim (R x y) as (λ r. is_gt (ordering_reverse r) ≡ is_lt r) [ Less ↦ refl | Equal ↦ refl | Greater ↦ refl ]
 
   pub Below-lower : (x y : K) (ys : List K) → R x y ≡ Less → Below R y ys → Below R x ys
   Below-lower x y [] e h = tt

@@ -17,8 +17,7 @@ use Rattle.sabr_frontier.proofs.ListingLemmas.AllRoutes.{route_filled, routes_ap
 use Rattle.sabr_frontier.proofs.SessionLemmas.Pages.{steps_stop, steps_go, steps_none}
 use Rattle.sabr_frontier.proofs.ListingLemmas.NextPlace.{carrier}
 use Rattle.std.specs.Option.{option_map}
-use Rattle.sabr_frontier.proofs.LoadingLemmas.LoadedParts.{pairs_two}
-use Rattle.sabr_frontier.proofs.ListingLemmas.ListMembers.{Member-append_cases}
+use Rattle.sabr_frontier.proofs.ListingLemmas.ListMembers.{pairs_two, Member-append_cases}
 
 module _ (p : ContactPlan) (r : RouteRequest) (good : IsPlan p) where
   -- one step from a well-formed state whose least route is x

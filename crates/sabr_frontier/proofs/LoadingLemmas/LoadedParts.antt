@@ -29,7 +29,7 @@ use Rattle.sabr_frontier.specs.loading.Partial.{onward, IsGood, Expects, AreExpe
 use Rattle.sabr_frontier.specs.loading.Loading.{comes_after, may_carry, rise_strictly, IsCarryFault, Loaded, refusal_by}
 use Rattle.sabr_frontier.specs.tree.Shape.{numbers_of}
 use Rattle.sabr_frontier.specs.tree.Undo.{last_item, front}
-use Rattle.sabr_frontier.proofs.ListingLemmas.ListMembers.{Below-lower, less_from_test, Member-append_right, Member-append_cases, Below-member, has-append, has_itself}
+use Rattle.sabr_frontier.proofs.ListingLemmas.ListMembers.{Below-lower, map_same, pairs_two, less_from_test, Member-append_right, Member-append_cases, Below-member, has-append, has_itself}
 use Rattle.sabr_frontier.proofs.ListingLemmas.ExpectedPrefixes.{Expects-push, Expects-front, Expects-one, expects_closed, closed_expects}
 use Rattle.sabr_frontier.proofs.ListingLemmas.AllRoutes.{goes_on_within, prefix_no_route}
 use Rattle.sabr_frontier.proofs.TreeLemmas.ModifiedPlaces.{get_Member, last_split, member_taken, no_last, pair_across, pairs_front, member_at}
@@ -130,31 +130,18 @@ parts_length [] (n ∷ ns) e = absurd (omega (arith, e))
 parts_length (x ∷ qs) [] e = absurd (omega (arith, e))
 parts_length (x ∷ qs) (n ∷ ns) e = ap suc (parts_length qs ns (omega (arith, e)))
 
-no_parts : {A : Type 0} (h : PartialShape A) → length h.prefixes ≡ length h.nodes → length h.nodes ≡ 0 → parts_in h ≡ []
-no_parts h e none = nil_from_length (parts_in h) (parts_length h.prefixes h.nodes e ∙ none)
+more_test : (n : ℕ) → (suc n == 0) ≡ false
+more_test n = grind (arith, nat_tests)
 
-some_first : {X : Type 0} (xs : List X) → 0 < length xs → (x : X) × (ys : List X) × (xs ≡ x ∷ ys)
-some_first [] l = absurd (omega arith)
-some_first (x ∷ xs) l = (x, xs, refl)
-
-some_part : {A : Type 0} (h : PartialShape A) → length h.prefixes ≡ length h.nodes → 0 < length h.nodes → (t : PartState) × (ts : List PartState) × (parts_in h ≡ t ∷ ts)
-some_part h e some = some_first (parts_in h) (omega (arith, parts_length h.prefixes h.nodes e, some))
-
-zero_or_more : (n : ℕ) → (n ≡ 0) ⊎ (0 < n)
-zero_or_more zero = inl refl
-zero_or_more (suc n) = inr (omega arith)
-
-zero_test : (n : ℕ) → n ≡ 0 → (n == 0) ≡ true
-zero_test n e = ap (λ n. n == 0) e
-
-more_test : (n : ℕ) → 0 < n → (n == 0) ≡ false
-more_test n l = grind (arith, nat_tests)
+-- there is no part, or a first one
+part_cases : {A : Type 0} (qs : List (List ℕ)) (ns : List (Node A)) → length qs ≡ length ns → ((ns ≡ []) × (parts_of qs ns ≡ [])) ⊎ (((length ns == 0) ≡ false) × (t : PartState) × (ts : List PartState) × (parts_of qs ns ≡ t ∷ ts))
+part_cases [] [] e = inl (refl, refl)
+part_cases [] (n ∷ ns) e = absurd (omega (arith, e))
+part_cases (q ∷ qs) [] e = absurd (omega (arith, e))
+part_cases (q ∷ qs) (n ∷ ns) e = inr (more_test (length ns), part_for q n, parts_of qs ns, refl)
 
 test_zero : (n : ℕ) → (n == 0) ≡ true → n ≡ 0
 test_zero n h = grind (arith, nat_tests)
-
-test_more : (n : ℕ) → (n == 0) ≡ false → 0 < n
-test_more n h = grind (arith, nat_tests)
 
 same_itself : (q : List ℕ) → same_numbers q q ≡ true
 same_itself q = ap is_eq (Rattle.std.proofs.lemmas.Cmp.tied_itself nat_list_cmp_total q)
@@ -163,33 +150,29 @@ same_itself q = ap is_eq (Rattle.std.proofs.lemmas.Cmp.tied_itself nat_list_cmp_
 
 -- an expected prefix is the least that is expected, and what is expected after it is smaller
 expected_first : {A : Type 0} (h : PartialShape A) (q : List ℕ) → length h.prefixes ≡ length h.nodes → (parts_in h ≡ [] → expected_in h ≡ []) → is_least h q ≡ true → expected_after (parts_in h) (expected_in h) ≡ q ∷ reverse (front (expected_in h))
-expected_first h q paired first lead = elim (zero_or_more (length h.nodes)) [
-  | inl e ↦
-      let none = no_parts h paired e in
-      let d : (length h.nodes == 0 && length q == 0) ≡ true = sym (ap (λ (z : List (List ℕ)). option_map_or (same_numbers q) (last_item z) (length h.nodes == 0 && length q == 0)) (first none)) ∙ lead in
+expected_first h q paired first lead = elim (part_cases h.prefixes h.nodes paired) [
+  | inl none ↦
+      let d : (length h.nodes == 0 && length q == 0) ≡ true = sym (ap (λ (z : List (List ℕ)). option_map_or (same_numbers q) (last_item z) (length h.nodes == 0 && length q == 0)) (first none.1)) ∙ lead in
       let empty : q ≡ [] = nil_from_length q (test_zero (length q) (and_parts (length h.nodes == 0) (length q == 0) d).1) in
-      ap (λ z. expected_after z (expected_in h)) none ∙ (λ i. sym empty i ∷ reverse (front (sym (first none) i)))
-  | inr l ↦
-      let some = some_part h paired l in
+      ap (λ z. expected_after z (expected_in h)) none.1 ∙ (λ i. sym empty i ∷ reverse (front (sym (first none.1) i)))
+  | inr some ↦
       let last : expected_in h ≡ front (expected_in h) ++ q ∷ [] = elim (last_item (expected_in h)) as (λ o. last_item (expected_in h) ≡ o → option_map_or (same_numbers q) o (length h.nodes == 0 && length q == 0) ≡ true → expected_in h ≡ front (expected_in h) ++ q ∷ []) [
-        | None ↦ λ _ k. absurd (true≢false (sym (and_parts (length h.nodes == 0) (length q == 0) k).0 ∙ more_test (length h.nodes) l))
+        | None ↦ λ _ k. absurd (true≢false (sym (and_parts (length h.nodes == 0) (length q == 0) k).0 ∙ some.0))
         | Some o ↦ λ e k. last_split (expected_in h) o e ∙ ap (λ z. front (expected_in h) ++ z ∷ []) (sym (same_numbers_tell q o k))
       ] refl lead in
-      ap (λ z. expected_after z (expected_in h)) some.2 ∙ ap reverse last ∙ reverse-append (front (expected_in h)) (q ∷ [])
+      ap (λ z. expected_after z (expected_in h)) some.3 ∙ ap reverse last ∙ reverse-append (front (expected_in h)) (q ∷ [])
 ]
 
 -- and the least that is expected comes next
 first_expected : {A : Type 0} (h : PartialShape A) (q : List ℕ) (rest : List (List ℕ)) → length h.prefixes ≡ length h.nodes → (parts_in h ≡ [] → expected_in h ≡ []) → expected_after (parts_in h) (expected_in h) ≡ q ∷ rest → is_least h q ≡ true
-first_expected h q rest paired first o = elim (zero_or_more (length h.nodes)) [
-  | inl e ↦
-      let none = no_parts h paired e in
-      let is : [] ∷ [] ≡ q ∷ rest = sym (ap (λ z. expected_after z (expected_in h)) none) ∙ o in
+first_expected h q rest paired first o = elim (part_cases h.prefixes h.nodes paired) [
+  | inl none ↦
+      let is : [] ∷ [] ≡ q ∷ rest = sym (ap (λ z. expected_after z (expected_in h)) none.1) ∙ o in
       let empty : [] ≡ q = cc in
-      ap (λ (z : List (List ℕ)). option_map_or (same_numbers q) (last_item z) (length h.nodes == 0 && length q == 0)) (first none)
-      ∙ (λ i. zero_test (length h.nodes) e i && zero_test (length q) (sym (ap (length {A = ℕ}) empty)) i)
-  | inr l ↦
-      let some = some_part h paired l in
-      let is : reverse (expected_in h) ≡ q ∷ rest = sym (ap (λ z. expected_after z (expected_in h)) some.2) ∙ o in
+      ap (λ (z : List (List ℕ)). option_map_or (same_numbers q) (last_item z) (length h.nodes == 0 && length q == 0)) (first none.1)
+      ∙ (λ i. length (none.0 i) == 0 && length (sym empty i) == 0)
+  | inr some ↦
+      let is : reverse (expected_in h) ≡ q ∷ rest = sym (ap (λ z. expected_after z (expected_in h)) some.3) ∙ o in
       let back : expected_in h ≡ reverse rest ++ q ∷ [] = sym (reverse-reverse (expected_in h)) ∙ ap reverse is ∙ reverse-append (q ∷ []) rest in
       let last : last_item (expected_in h) ≡ Some q = Rattle.sabr_frontier.proofs.TreeLemmas.ModifiedPlaces.last_item_push (expected_in h) (reverse rest) q back in
       ap (λ o. option_map_or (same_numbers q) o (length h.nodes == 0 && length q == 0)) last ∙ same_itself q
@@ -220,23 +203,12 @@ map-reverse f (x ∷ xs) = ap (map f) (reverse-append (x ∷ []) xs) ∙ map-app
 
 -- ---- those that stay after the least
 
-pub pairs_two : {X : Type 0} (Q : X → X → Type 0) (xs ys : List X) → InPairs Q xs → InPairs Q ys → ((a b : X) → Member a xs → Member b ys → Q a b) → InPairs Q (xs ++ ys)
-pairs_two Q [] ys h k f = k
-pairs_two Q (x ∷ xs) ys h k f = (
-  (λ y m. elim (Member-append_cases y xs ys m) [ inl a ↦ h.0 y a | inr a ↦ f x y (inl refl) a ]),
-  pairs_two Q xs ys h.1 k (λ a b m. f a b (inr m)),
-)
-
 pairs_of_last : {X : Type 0} (Q : X → X → Type 0) (xs : List X) (y : X) → InPairs Q (xs ++ y ∷ []) → ((x : X) → Member x xs → Q x y) × InPairs Q xs
 pairs_of_last Q xs y h = ((λ x m. pair_across Q xs (y ∷ []) x y h m (inl refl)), pairs_front Q xs (y ∷ []) h)
 
 pairs_of_all : {X : Type 0} (Q : X → X → Type 0) (xs : List X) → ((x y : X) → Member x xs → Member y xs → Q x y) → InPairs Q xs
 pairs_of_all Q [] h = tt
 pairs_of_all Q (x ∷ xs) h = ((λ y m. h x y (inl refl) (inr m)), pairs_of_all Q xs (λ y z m k. h y z (inr m) (inr k)))
-
-map_same : {X Y : Type 0} (f g : X → Y) (xs : List X) → ((x : X) → Member x xs → f x ≡ g x) → map f xs ≡ map g xs
-map_same f g [] h = refl
-map_same f g (x ∷ xs) h = λ i. h x (inl refl) i ∷ map_same f g xs (λ y m. h y (inr m)) i
 
 Member-reverse : {X : Type 0} (x : X) (xs : List X) → Member x (reverse xs) → Member x xs
 Member-reverse x [] m = m
@@ -384,7 +356,7 @@ module _ (p : ContactPlan) (r : RouteRequest) where
 
         last_then : last_item (h.prefixes ++ q ∷ []) ≡ (if length (h.nodes ++ n ∷ []) == 0 then None else Some q)
         last_then = Rattle.sabr_frontier.proofs.TreeLemmas.ModifiedPlaces.last_item_push (h.prefixes ++ q ∷ []) h.prefixes q refl
-            ∙ sym (ap (λ b. if b then None else Some q) (more_test (length (h.nodes ++ n ∷ [])) (omega (arith, length-append h.nodes (n ∷ [])))))
+            ∙ sym (ap (λ b. if b then None else Some q) (elim h.nodes as (λ ns. (length (ns ++ n ∷ []) == 0) ≡ false) [ [] ↦ refl | m ∷ ns ↦ more_test (length (ns ++ n ∷ [])) ]))
 
         records_then : (m : Node A) (x : RouteRecord) → Member m (h.nodes ++ n ∷ []) → m.route ≡ Some x → x ≡ record_of p r x.contacts
         records_then m x k a = elim (Member-append_cases m h.nodes (n ∷ []) k) [
@@ -435,8 +407,11 @@ module _ (p : ContactPlan) (r : RouteRequest) where
       complete_expects complete =
           let w = and_parts h.sound (not (length h.nodes == 0) && (length h.expected == 0)) complete in
           let v = and_parts (not (length h.nodes == 0)) (length h.expected == 0) w.1 in
-          let some = some_part h partial.paired (test_more (length h.nodes) (Rattle.std.proofs.lemmas.Bool.not-true (length h.nodes == 0) v.0)) in
-          subst (Expects route path ([] ∷ []) (pairs_in h)) (ap (λ z. expected_after z (expected_in h)) some.2 ∙ ap (λ os. reverse (map (expected_prefix h.last) os)) (nil_from_length h.expected (test_zero (length h.expected) v.1))) (partial.answered w.0).expects
+          let some : expected_after (parts_in h) (expected_in h) ≡ reverse (expected_in h) = elim (part_cases h.prefixes h.nodes partial.paired) [
+            | inl none ↦ absurd (true≢false (sym v.0 ∙ ap (λ ns. not (length {A = Node A} ns == 0)) none.0))
+            | inr some ↦ ap (λ z. expected_after z (expected_in h)) some.3
+          ] in
+          subst (Expects route path ([] ∷ []) (pairs_in h)) (some ∙ ap (λ os. reverse (map (expected_prefix h.last) os)) (nil_from_length h.expected (test_zero (length h.expected) v.1))) (partial.answered w.0).expects
 
       pub complete_closed : is_complete h ≡ true → IsClosed route path (is_prefix p r) (pairs_in h)
       complete_closed complete = expects_closed route path (is_prefix p r) (empty_is_prefix p r) (prefix_goes_on p r) (prefix_no_route p r) (pairs_in h) (complete_expects complete)
@@ -446,15 +421,14 @@ module _ (p : ContactPlan) (r : RouteRequest) where
           let o = closed_expects route path (is_prefix p r) (empty_is_prefix p r) (prefix_goes_on p r) (prefix_no_route p r) (pairs_in h) partial.order closed in
           elim (cases_Bool h.sound) [
             | inr k ↦ partial.broken k [] o
-            | inl k ↦ elim (zero_or_more (length h.nodes)) [
+            | inl k ↦ elim (part_cases h.prefixes h.nodes partial.paired) [
               | inl none ↦
-                  let is : [] ∷ [] ≡ [] = subst (λ T. Expects route path ([] ∷ []) T []) (ap (map pair_of) (no_parts h partial.paired none)) o in cc
-              | inr l ↦
-                  let some = some_part h partial.paired l in
+                  let is : [] ∷ [] ≡ [] = subst (λ T. Expects route path ([] ∷ []) T []) (ap (map pair_of) none.1) o in cc
+              | inr some ↦
                   let a = partial.answered k in
-                  let complete : reverse (expected_in h) ≡ [] = sym (ap (λ z. expected_after z (expected_in h)) some.2) ∙ Expects-one route path (pairs_in h) ([] ∷ []) (expected_after (parts_in h) (expected_in h)) [] a.expects o in
+                  let complete : reverse (expected_in h) ≡ [] = sym (ap (λ z. expected_after z (expected_in h)) some.3) ∙ Expects-one route path (pairs_in h) ([] ∷ []) (expected_after (parts_in h) (expected_in h)) [] a.expects o in
                   let empty : length h.expected ≡ 0 = sym (length-map h.expected (expected_prefix h.last)) ∙ sym (length-reverse (expected_in h)) ∙ ap length complete in
-                  true≢false (sym ((λ i. k i && (not (more_test (length h.nodes) l i) && zero_test (length h.expected) empty i))) ∙ incomplete)
+                  true≢false (sym ((λ i. k i && (not (some.0 i) && (empty i == 0)))) ∙ incomplete)
             ]
           ]
 

@@ -6,14 +6,13 @@ use Rattle.std.specs.Option.{option_and_then}
 use Rattle.std.specs.Ordering.{is_lt}
 use Rattle.std.specs.declared.cmp.Ordering.TheVariants.{Less, Equal, Greater}
 use Rattle.std.proofs.lemmas.Bool.{cases_eq, cases_lt}
-use Rattle.std.proofs.lemmas.Cmp.{tied_itself}
 use Rattle.std.proofs.lemmas.List.{get_or-set_same, get_or-set_other, get_or_append_left, get_or_at}
 use Rattle.sabr_model.specs.routes.Record.{RouteRecord, by_record, by_record_total}
 use Rattle.sabr_frontier.specs.declared.tree.NodeId.{NodeId}
 use Rattle.sabr_frontier.specs.declared.tree.Node.{Node}
 use Rattle.sabr_frontier.specs.tree.Shape.{route_at}
 use Rattle.sabr_frontier.specs.tree.Winners.{route_of, winner_at, is_lesser, IsNoGreater, IsBestOf, IsFirst, CarriesNone, IsLesser, IsWinner, IsWon, AreWinners, low, high, IsAbove, AreOthersWinners, IsRising, IsBeside}
-use Rattle.sabr_frontier.proofs.ListingLemmas.ListMembers.{turned, less_from_test}
+use Rattle.sabr_frontier.proofs.ListingLemmas.ListMembers.{turned, less_from_test, not_below, not_less_itself}
 
 -- ---- what a node carries
 
@@ -27,24 +26,13 @@ standing_at nodes id x h = elim (slice_get nodes id.0) as (λ o. slice_get nodes
 
 no_greater_itself : (o : Option RouteRecord) → IsNoGreater o o
 no_greater_itself None = refl
-no_greater_itself (Some x) = ap is_lt (tied_itself by_record_total x)
-
-not_less : (x y z : RouteRecord) → is_lt (by_record y x) ≡ false → is_lt (by_record z y) ≡ false → is_lt (by_record z x) ≡ false
-not_less x y z a b = elim (by_record z x) as (λ o. by_record z x ≡ o → is_lt o ≡ false) [
-  | Less ↦ λ e. elim (by_record y x) as (λ o. by_record y x ≡ o → is_lt o ≡ false → is_lt Less ≡ false) [
-    | Less ↦ λ _ h. absurd (true≢false h)
-    | Equal ↦ λ f _. absurd (true≢false (sym (ap is_lt (turned by_record_total y z Greater (by_record_total.congr y x z f ∙ turned by_record_total z x Less e))) ∙ b))
-    | Greater ↦ λ f _. absurd (true≢false (sym (ap is_lt (by_record_total.trans z x y e (turned by_record_total y x Greater f))) ∙ b))
-  ] refl a
-  | Equal ↦ λ _. refl
-  | Greater ↦ λ _. refl
-] refl
+no_greater_itself (Some x) = not_less_itself by_record_total x
 
 no_greater_then : (o p q : Option RouteRecord) → IsNoGreater o p → IsNoGreater p q → IsNoGreater o q
 no_greater_then o p None a b = refl
 no_greater_then o None (Some z) a b = absurd (true≢false b)
 no_greater_then None (Some y) (Some z) a b = absurd (true≢false a)
-no_greater_then (Some x) (Some y) (Some z) a b = not_less x y z a b
+no_greater_then (Some x) (Some y) (Some z) a b = not_below by_record_total z y x b a
 
 first_then : (o p : Option RouteRecord) → is_lesser o p ≡ true → IsNoGreater o p
 first_then None p e = absurd (true≢false (sym e))

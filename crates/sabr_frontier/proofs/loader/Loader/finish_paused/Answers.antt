@@ -15,7 +15,7 @@ use Rattle.sabr_frontier.specs.session.Session.{session_over}
 use Rattle.sabr_frontier.specs.tree.Shape.{shown, Shape, front_of, numbers_of, part_at, part_of, prefix_of}
 use Rattle.sabr_frontier.specs.tree.Sound.{IsTree, AreGiven, IsLent}
 use Rattle.sabr_frontier.specs.loading.Partial.{IsLastPlace, IsLoader, partial_shape_of, is_complete, loaded, loaded_tree, PartialShape, AreLent, IsAnswered, IsGiven, IsPartial, pairs_in, parts_in, parts_of, onward, Expects}
-use Rattle.sabr_frontier.proofs.LoadingLemmas.LoadedParts.{complete_closed, incomplete_open, complete_expects, pairs_two}
+use Rattle.sabr_frontier.proofs.LoadingLemmas.LoadedParts.{complete_closed, incomplete_open, complete_expects}
 use Rattle.sabr_frontier.proofs.TreeLemmas.IndexedNodes.{tree_indexed}
 use Rattle.std.proofs.lemmas.Bool.{cases_Bool}
 use Rattle.std.specs.Option.{option_map}
@@ -33,7 +33,7 @@ use Rattle.sabr_frontier.specs.listing.Tree.{set_of}
 use Rattle.sabr_frontier.specs.listing.State.{pair_of, Member, leaves, leaves_of, InPairs}
 use Rattle.sabr_frontier.specs.listing.Formed.{InOrder}
 use Rattle.sabr_frontier.specs.tree.Giving.{ids_from}
-use Rattle.sabr_frontier.proofs.ListingLemmas.ListMembers.{length-put_in, Member-map, Member-map_cases, Member-filter_cases, Member-flat_map_cases, Below-member, Less-apart}
+use Rattle.sabr_frontier.proofs.ListingLemmas.ListMembers.{pairs_two, length-put_in, Member-map, Member-map_cases, Member-filter_cases, Member-flat_map_cases, Below-member, Less-apart}
 use Rattle.sabr_frontier.proofs.ListingLemmas.NumbersAfter.{number_after-snoc, number_after-of_longer}
 use Rattle.sabr_frontier.proofs.ListingLemmas.ClosedTrees.{In_Member, Member_In, set_of_has, has_set_of, last_same, Pairs, not_empty}
 use Rattle.sabr_frontier.proofs.TreeLemmas.CarryingNodes.{front_none}
@@ -59,38 +59,26 @@ module _ (route path : List ℕ → Bool) where
         | false ↦ λ k. (y, onward route path (e.0, X), refl)
       ] none
 
-  -- the first leaf of a pair, if it has one
-  leaf_or_none : (e : List ℕ × List ℕ) (rest : List (List ℕ)) → ((s : List ℕ) × (more : List (List ℕ)) × (n : ℕ) × (leaves_of route e ++ rest ≡ s ∷ more) × (number_after e.0 s ≡ Some n)) ⊎ (leaves_of route e ≡ [])
-  leaf_or_none e rest = elim (leaves_of route e) as (λ l. leaves_of route e ≡ l → ((s : List ℕ) × (more : List (List ℕ)) × (n : ℕ) × (l ++ rest ≡ s ∷ more) × (number_after e.0 s ≡ Some n)) ⊎ (l ≡ [])) [
-    | s ∷ l ↦ λ k.
-        let v = leaf_is s e (subst (Member s) (sym k) (inl refl)) in
-        inl (s, l ++ rest, v.0, refl, ap (number_after e.0) v.1 ∙ number_after-snoc e.0 [] v.0)
-    | [] ↦ λ k. inr refl
-  ] refl
-
   -- the first leaf of a pair and those after it goes on after the pair's prefix
-  first_leaf : (e : List ℕ × List ℕ) (T : Pairs) (os : List (List ℕ)) → Expects route path os (e ∷ T) [] → (x : ℕ) → has nat_cmp x e.1 ≡ true → (s : List ℕ) × (more : List (List ℕ)) × (n : ℕ) × (flat_map (leaves_of route) (e ∷ T) ≡ s ∷ more) × (number_after e.0 s ≡ Some n)
-  first_leaf e [] os w x h = elim (leaf_or_none e (flat_map (leaves_of route) [])) [
-    | inl v ↦ v
-    | inr k ↦
-        let v = first_onward e x h k in
-        let z : ((e.0 ++ v.0 ∷ []) ∷ v.1) ++ w.0 ≡ [] = sym (ap (λ z. z ++ w.0) v.2) ∙ w.3 in
-        absurd cc
-  ]
-  first_leaf e (f ∷ T) os w x h = elim (leaf_or_none e (flat_map (leaves_of route) (f ∷ T))) [
-    | inl v ↦ v
-    | inr k ↦
-        let v = first_onward e x h k in
-        let o = w.3 in
-        let is : (e.0 ++ v.0 ∷ []) ∷ (v.1 ++ w.0) ≡ f.0 ∷ o.0 = sym (ap (λ z. z ++ w.0) v.2) ∙ o.1 in
-        let same : f.0 ≡ e.0 ++ v.0 ∷ [] = cc in
-        elim o.2.busy [
-          | inl z ↦ absurd (not_empty e.0 v.0 (sym same ∙ z))
-          | inr b ↦
-              let u = first_leaf f T (onward route path e ++ w.0) o b.0 b.1 in
-              (u.0, u.1, v.0, ap (λ z. z ++ flat_map (leaves_of route) (f ∷ T)) k ∙ u.3, number_after-of_longer e.0 u.0 v.0 u.2 (ap (λ z. number_after z u.0) (sym same) ∙ u.4))
-        ]
-  ]
+  first_leaf : (e : List ℕ × List ℕ) (own : List (List ℕ)) → leaves_of route e ≡ own → (T : Pairs) (os : List (List ℕ)) → Expects route path os (e ∷ T) [] → (x : ℕ) → has nat_cmp x e.1 ≡ true → (s : List ℕ) × (more : List (List ℕ)) × (n : ℕ) × (flat_map (leaves_of route) (e ∷ T) ≡ s ∷ more) × (number_after e.0 s ≡ Some n)
+  first_leaf e (s ∷ own) k T os w x h =
+      let v = leaf_is s e (subst (Member s) (sym k) (inl refl)) in
+      (s, own ++ flat_map (leaves_of route) T, v.0, ap (λ z. z ++ flat_map (leaves_of route) T) k, ap (number_after e.0) v.1 ∙ number_after-snoc e.0 [] v.0)
+  first_leaf e [] k [] os w x h =
+      let v = first_onward e x h k in
+      let z : ((e.0 ++ v.0 ∷ []) ∷ v.1) ++ w.0 ≡ [] = sym (ap (λ z. z ++ w.0) v.2) ∙ w.3 in
+      absurd cc
+  first_leaf e [] k (f ∷ T) os w x h =
+      let v = first_onward e x h k in
+      let o = w.3 in
+      let is : (e.0 ++ v.0 ∷ []) ∷ (v.1 ++ w.0) ≡ f.0 ∷ o.0 = sym (ap (λ z. z ++ w.0) v.2) ∙ o.1 in
+      let same : f.0 ≡ e.0 ++ v.0 ∷ [] = cc in
+      elim o.2.busy [
+        | inl z ↦ absurd (not_empty e.0 v.0 (sym same ∙ z))
+        | inr b ↦
+            let u = first_leaf f (leaves_of route f) refl T (onward route path e ++ w.0) o b.0 b.1 in
+            (u.0, u.1, v.0, ap (λ z. z ++ flat_map (leaves_of route) (f ∷ T)) k ∙ u.3, number_after-of_longer e.0 u.0 v.0 u.2 (ap (λ z. number_after z u.0) (sym same) ∙ u.4))
+      ]
 
 -- ---- the nodes have their prefixes
 
@@ -111,7 +99,7 @@ module _ (p : ContactPlan) (r : RouteRequest) (L : List RouteRecord) where
         let none : n.length ≡ 0 = len ∙ ap (length {A = ℕ}) e in
         (front_none (slice_get L n.leaf) n.length none ∙ sym e, inl none)
     | inr b ↦
-        let v = first_leaf route path (q, n.excluded) T os w b.0 b.1 in
+        let v = first_leaf route path (q, n.excluded) (leaves_of route (q, n.excluded)) refl T os w b.0 b.1 in
         let there : slice_get L n.leaf ≡ Some (record_of p r v.0) = (λ i. slice_get (is i) (leaf i)) ∙ ap (λ z. slice_get (F ++ map (record_of p r) z) (length F)) v.3 ∙ get_at_end F (map (record_of p r) v.1) (record_of p r v.0) in
         let k = begins q v.0 v.2 v.4 in
         ((λ i. front_of (there i) (len i)) ∙ k.0, inr (record_of p r v.0, there, omega (arith, len, k.1)))
