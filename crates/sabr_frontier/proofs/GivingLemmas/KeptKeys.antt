@@ -1,9 +1,9 @@
 -- The least keys of what is found, how many of them are up to a key, and that they tell routes apart.
-use Rattle.std.proofs.Common.{◌≡◌, ℕ, zero, suc, ◌+◌, ◌<◌, ◌≤◌, true, false, cond, List, [], ◌∷◌, ◌++◌, length, length-append, append_assoc, append-nil, refl, sym, ap, subst, ◌∙◌, arith, Option, Some, None, true≢false, inl, inr, get_or, take, ◌*◌, ◌/◌, max, Bool}
-use Rattle.std.specs.Prelude.{All, IfSome, IsSome, nat_le, slice_index_or, nat_lt, unwrap_or}
+use Rattle.std.proofs.Common.{◌≡◌, ℕ, zero, suc, ◌+◌, ◌<◌, ◌≤◌, true, false, cond, List, [], ◌∷◌, ◌++◌, length, length-append, append_assoc, append-nil, refl, sym, ap, subst, ◌∙◌, arith, Option, Some, None, true≢false, inl, inr, get_or, take}
+use Rattle.std.specs.Prelude.{All, IfSome, IsSome, nat_le, slice_index_or, unwrap_or}
 use Rattle.std.specs.List.{sum_by}
 use Rattle.std.specs.List.Sorted.{IsPermutation}
-use Rattle.std.proofs.lemmas.Bool.{leb-true, leb-false, le-leb, ltb-true}
+use Rattle.std.proofs.lemmas.Bool.{leb-true, leb-false, le-leb}
 use Rattle.std.proofs.lemmas.List.Elements.{All-head, All-tail, All-nil, All-cons, All-append}
 use Rattle.std.proofs.lemmas.List.Sums.{count_by-le-length, sum_by-append, sum_by-cons}
 use Rattle.std.proofs.lemmas.List.Sorted.{IsPermutation-append_comm, IsPermutation-append_left, IsPermutation-append_right, IsPermutation-refl, IsPermutation-to_front, IsPermutation-trans, length_permutation, sum_by-IsPermutation}
@@ -11,17 +11,16 @@ use Rattle.std.proofs.lemmas.List.{take_more}
 use Rattle.sabr_frontier.specs.declared.tree.Node.{Node}
 use Rattle.sabr_frontier.specs.listing.State.{Member}
 use Rattle.sabr_frontier.specs.tree.SmallestKeys.{AreLeast, AreNoted, SeenKeys, carried_keys, keys_of, CarryKeys}
-use Rattle.std.specs.Option.{option_map, option_and_then}
-use Rattle.std.proofs.lemmas.Nat.{mul-le}
+use Rattle.std.specs.Option.{option_and_then}
 use Rattle.sabr_model.specs.declared.contact.Contact.{Contact}
-use Rattle.sabr_model.specs.plan.Plan.{ContactPlan, IsPlan, IsWindow, contact_named, last_time}
-use Rattle.sabr_model.specs.plan.Light.{light_of}
-use Rattle.sabr_model.specs.routes.Arrival.{RouteRequest, cost, arrival, arrival_after}
+use Rattle.sabr_model.specs.plan.Plan.{ContactPlan, IsPlan, contact_named, last_time}
+use Rattle.sabr_model.specs.routes.Arrival.{RouteRequest, arrival, arrival_after}
 use Rattle.sabr_model.specs.routes.Asking.{IsRequest}
 use Rattle.sabr_model.specs.routes.Record.{RouteRecord}
 use Rattle.sabr_model.specs.routes.Route.{delivery_of}
-use Rattle.sabr_model.proofs.PlanLemmas.Deletions.{all_found}
-use Rattle.sabr_model.proofs.PlanLemmas.RangeOrder.{light_of_limit}
+use Rattle.sabr_model.proofs.RouteLemmas.Follows.{ends_in_time}
+use Rattle.sabr_search.proofs.LinkLemmas.PlanFacts.{arrival_parts, cost_small, light_small}
+use Rattle.sabr_search.proofs.WayLemmas.Chains.{first_arrival}
 use Rattle.sabr_model.proofs.RouteLemmas.Routes.{route_facts}
 use Rattle.sabr_frontier.specs.declared.tree.NodeId.{NodeId}
 use Rattle.sabr_frontier.specs.tree.Shape.{Shape}
@@ -187,44 +186,19 @@ module _ {A : Type 0} where
 
 -- ---- routes of an accepted plan and request are delivered early and have few hops, so that keys tell them apart
 
--- a light time and its margin make at most 2000000 seconds
-cost_bound : (margin l : ℕ) → margin ≤ 1000000 → l ≤ 1000000 → cost margin l ≤ 2000000
-cost_bound margin l hm hl =
-    let product : l * margin ≤ 1000000 * 1000000 = mul-le l margin 1000000 1000000 hl hm in
-    let most : (l * margin + 999999) / 1000000 ≤ 1000000 = omega (arith, product) in
-    omega arith
-
 -- an arrival comes at most 2000000 seconds after the largest time
-pub arrival_bound : (p : ContactPlan) (r : RouteRequest) (t u : ℕ) (c : Contact) → IsPlan p → r.margin ≤ 1000000 → c.end ≤ last_time
-    → arrival p r t c ≡ Some u → u ≤ last_time + 2000000
-arrival_bound p r t u c h hm he e = at (nat_lt (max t c.start) c.end) refl (light_of p c) refl e
-  where
-    at : (b : Bool) → nat_lt (max t c.start) c.end ≡ b → (o : Option ℕ) → light_of p c ≡ o
-        → cond b (option_map (λ l. max t c.start + cost r.margin l) o) None ≡ Some u → u ≤ last_time + 2000000
-    at false eb o eo e = absurd cc
-    at true eb None eo e = absurd cc
-    at true eb (Some l) eo e =
-        let same : max t c.start + cost r.margin l ≡ u = cc in
-        let early : max t c.start < c.end = ltb-true (max t c.start) c.end eb in
-        let light = subst (λ (o : Option ℕ). IfSome o (λ x. x ≤ 1000000)) eo (light_of_limit p c h) in
-        let costs = cost_bound r.margin l hm light in
-        omega (arith, costs)
+pub arrival_bound : (p : ContactPlan) (r : RouteRequest) (t u : ℕ) (c : Contact) → IsPlan p → r.margin ≤ 1000000 → c.end ≤ last_time → arrival p r t c ≡ Some u → u ≤ last_time + 2000000
+arrival_bound p r t u c h hm he e = let a = arrival_parts p r t c u e in omega (arith, a.sum, a.before_end, cost_small r.margin a.light (light_small p h c a.light a.in_force) hm)
 
 -- so does an arrival over several contacts, from a time that doesn't
-pub after_bound : (p : ContactPlan) (r : RouteRequest) (t d : ℕ) (s : List ℕ) → IsPlan p → r.margin ≤ 1000000 → t ≤ last_time + 2000000
-    → arrival_after p r t s ≡ Some d → d ≤ last_time + 2000000
+pub after_bound : (p : ContactPlan) (r : RouteRequest) (t d : ℕ) (s : List ℕ) → IsPlan p → r.margin ≤ 1000000 → t ≤ last_time + 2000000 → arrival_after p r t s ≡ Some d → d ≤ last_time + 2000000
 after_bound p r t d [] h hm ht e = let same : t ≡ d = cc in omega arith
-after_bound p r t d (n ∷ s) h hm ht e = named (contact_named p n) refl (λ u hu later. after_bound p r u d s h hm hu later) e
-  where
-    arrived : (c : Contact) (o : Option ℕ) → arrival p r t c ≡ o → c.end ≤ last_time → ((u : ℕ) → u ≤ last_time + 2000000 → arrival_after p r u s ≡ Some d → d ≤ last_time + 2000000)
-        → option_and_then (λ u. arrival_after p r u s) o ≡ Some d → d ≤ last_time + 2000000
-    arrived c None is he on e = absurd cc
-    arrived c (Some u) is he on e = on u (arrival_bound p r t u c h hm he is) e
-
-    named : (o : Option Contact) → contact_named p n ≡ o → ((u : ℕ) → u ≤ last_time + 2000000 → arrival_after p r u s ≡ Some d → d ≤ last_time + 2000000)
-        → option_and_then (λ c. option_and_then (λ u. arrival_after p r u s) (arrival p r t c)) o ≡ Some d → d ≤ last_time + 2000000
-    named None is on e = absurd cc
-    named (Some c) is on e = arrived c (arrival p r t c) refl (all_found (λ (x : Contact). IsWindow x.start x.end) _ p.contacts c h.contact_windows is).1 on e
+after_bound p r t d (n ∷ s) h hm ht e = elim (contact_named p n) as (λ o. contact_named p n ≡ o → d ≤ last_time + 2000000) [
+  | None ↦ λ none. absurd (let no_way : None ≡ Some d = sym (ap (option_and_then (λ c. option_and_then (λ u. arrival_after p r u s) (arrival p r t c))) none) ∙ e in cc)
+  | Some c ↦ λ named.
+      let next = first_arrival p r t n s d c named e in
+      after_bound p r next.0 d s h hm (arrival_bound p r t next.0 c h hm (ends_in_time p n c h named) next.1) next.2
+] refl
 
 some_or_zero : (o : Option ℕ) (most : ℕ) → ((d : ℕ) → o ≡ Some d → d ≤ most) → unwrap_or o 0 ≤ most
 some_or_zero None most f = omega arith
