@@ -1,7 +1,7 @@
 -- A partial tree stays in order and answered when a part is added after the others. It is complete if and only if the
 -- parts are closed. What a prefix leads to with its excluded numbers, and when a part is refused, and how.
 use Rattle.std.proofs.Common.{◌≡◌, ℕ, zero, suc, ◌+◌, ◌-◌, ◌<◌, Bool, true, false, not, ◌&&◌, nat_lt, List, [], ◌∷◌, ◌++◌, map, flat_map, reverse, if◌then◌else◌, ◌≤◌, length, take, refl, sym, ap, subst, ◌∙◌, ◌⊎◌, inl, inr, arith, true≢false, Option, Some, None, length-append, length-take-le, append-nil, cond, filter, get_or}
-use Rattle.std.specs.Prelude.{◌==◌, slice_get, IfOk, IfErr, IfSome, IfNone, Ok, Err, Result, unwrap_or}
+use Rattle.std.specs.Prelude.{◌==◌, slice_get, IfOk, IfErr, IfSome, IfNone, Ok, Err, Result}
 use Rattle.std.specs.Option.{option_map, option_map_or}
 use Rattle.std.specs.Ordering.{nat_cmp, is_lt, is_eq}
 use Rattle.std.specs.declared.cmp.Ordering.TheVariants.{Less}
@@ -42,7 +42,6 @@ use Rattle.std.proofs.lemmas.List.Elements.{filter-append}
 use Rattle.sabr_model.specs.declared.fault.HopFault.{HopFault}
 use Rattle.sabr_model.specs.declared.fault.HopFault.TheVariants.{WrongEnd}
 use Rattle.sabr_model.specs.declared.following.Reached.{Reached}
-use Rattle.sabr_model.specs.declared.route_summary.RouteSummary.{RouteSummary}
 use Rattle.sabr_model.specs.routes.Fault.{first_fault}
 use Rattle.sabr_model.proofs.RouteLemmas.Faults.{fault_is_no_route, path_is_good}
 use Rattle.sabr_model.proofs.RouteLemmas.Follows.{ends_elsewhere, ends_there, some_behind}
@@ -480,33 +479,13 @@ module _ (p : ContactPlan) (r : RouteRequest) where
   -- ---- one list of numbers
 
   module _ (q : List ℕ) (n : ℕ) (lead : Lead) (is : IsLead p r (q ++ n ∷ []) lead) where
-    abbrev s : List ℕ
-    s = q ++ n ∷ []
-
     -- a path to the destination
-    module _ (same : lead.here.node ≡ r.destination) where
-      goes_there : is_route p r s ≡ true
-      goes_there = ends_there p r s lead.here (some_behind q n) is.path is.reached same
-
-      pub leaf_there : map (record_of p r) (filter (is_route p r) (s ∷ [])) ≡ record { contacts = s; delivery = lead.here.at; until = lead.summary.until; entry = lead.summary.entry } ∷ []
-      leaf_there =
-          let until = ap (λ (t : RouteSummary). t.until) is.summary in
-          let entry = ap (λ (t : RouteSummary). t.entry) is.summary in
-          ap (λ b. map (record_of p r) (cond b (s ∷ []) [])) goes_there ∙ (λ i. record { contacts = s; delivery = unwrap_or (is.reached.at i) 0; until = sym until i; entry = sym entry i } ∷ [])
-
-      pub none_onward : filter (λ q. not (is_route p r q)) (s ∷ []) ≡ []
-      none_onward = ap (λ b. cond (not b) (s ∷ []) []) goes_there
+    pub goes_there : lead.here.node ≡ r.destination → is_route p r (q ++ n ∷ []) ≡ true
+    goes_there same = ends_there p r (q ++ n ∷ []) lead.here (some_behind q n) is.path is.reached same
 
     -- a path to another node
-    module _ (other : lead.here.node ≡ r.destination → ⊥) where
-      no_route : is_route p r s ≡ false
-      no_route = fault_is_no_route p r s WrongEnd (ends_elsewhere p r s lead.here (some_behind q n) is.path is.reached other)
-
-      pub no_leaf : filter (is_route p r) (s ∷ []) ≡ []
-      no_leaf = ap (λ b. cond b (s ∷ []) []) no_route
-
-      pub onward_there : filter (λ q. not (is_route p r q)) (s ∷ []) ≡ s ∷ []
-      onward_there = ap (λ b. cond (not b) (s ∷ []) []) no_route
+    pub goes_elsewhere : (lead.here.node ≡ r.destination → ⊥) → is_route p r (q ++ n ∷ []) ≡ false
+    goes_elsewhere other = fault_is_no_route p r (q ++ n ∷ []) WrongEnd (ends_elsewhere p r (q ++ n ∷ []) lead.here (some_behind q n) is.path is.reached other)
 
   -- a list that has a fault on the way is no path
   pub faulty_front : (o : Result Reached HopFault) (s : List ℕ) → IfErr o (λ f. first_fault p r [] s ≡ Some f) → ((here : Reached) → o ≡ Ok here → ⊥) → is_path p r s ≡ true → ⊥

@@ -1,12 +1,14 @@
-use Rattle.std.proofs.Common.{◌≡◌, ◌∷◌, ◌++◌, [], List, ℕ, map, length, refl, sym, ap, subst, ◌∙◌, inl, inr, true≢false, append-nil}
+use Rattle.std.proofs.Common.{◌≡◌, ◌∷◌, ◌++◌, [], List, ℕ, map, length, refl, sym, ap, subst, ◌∙◌, inl, inr, true≢false, append-nil, cond, not}
 use Rattle.std.proofs.lemmas.Bool.{false_from_ne_true}
+use Rattle.std.specs.Prelude.{unwrap_or}
+use Rattle.sabr_model.specs.declared.route_summary.RouteSummary.{RouteSummary}
 use Rattle.sabr_model.specs.routes.Record.{record_of}
 use Rattle.sabr_model.specs.routes.Route.{is_path}
 use Rattle.sabr_frontier.specs.declared.loader.leading.ExpectedPrefix.{ExpectedPrefix}
 use Rattle.sabr_frontier.specs.loading.Partial.{AreSteps, IsLead, step_of}
 use Rattle.std.proofs.lemmas.List.{map-append}
 use Rattle.sabr_frontier.proofs.ListingLemmas.ListMembers.{Member-append_cases}
-use Rattle.sabr_frontier.proofs.LoadingLemmas.LoadedParts.{leaf_there, no_leaf, none_onward, onward_there}
+use Rattle.sabr_frontier.proofs.LoadingLemmas.LoadedParts.{goes_elsewhere, goes_there}
 use Rattle.sabr_frontier.proofs.loader.check.Checked.put.Goals as goal
 
 pub returns-in_default : goal.returns-in_default
@@ -21,34 +23,38 @@ returns-in_default g c =
 
 pub returns-then-lead-to-clause-leaves : goal.returns-then-lead-to-clause-leaves
 returns-then-lead-to-clause-leaves g c _ =
-    let lead = c.in-Some.lead in
+    let p = c.args.question.now.plan.now.plan in
+    let r = c.args.question.now.request in
     let old = c.args.self.now.leaves.items in
-    let numbers = c.in_ok-numbers.ensures in
-    let leaf = leaf_there c.args.question.now.plan.now.plan c.args.question.now.request c.args.prefix.now c.args.number lead c.in-Some.ensures.lead (c.if-lead-to.true ∙ c.to.ensures.value) in
-    c.in_ok-push.ensures.items ∙ ap (λ x. old ++ x ∷ []) (c.route-route.ensures ∙ (λ i. record { contacts = numbers i; delivery = lead.here.at; until = lead.summary.until; entry = lead.summary.entry }))
-    ∙ sym (ap (λ z. old ++ z) leaf)
+    let is = c.in-Some.ensures.lead in
+    let goes = goes_there p r c.args.prefix.now c.args.number c.in-Some.lead is (c.if-lead-to.true ∙ c.to.ensures.value) in
+    let until = ap (λ (t : RouteSummary). t.until) is.summary in
+    let entry = ap (λ (t : RouteSummary). t.entry) is.summary in
+    c.in_ok-push.ensures.items
+    ∙ ap (λ x. old ++ x ∷ []) (c.route-route.ensures ∙ (λ i. record { contacts = c.in_ok-numbers.ensures i; delivery = unwrap_or (sym is.reached.at i) 0; until = until i; entry = entry i }))
+    ∙ sym (ap (λ b. old ++ map (record_of p r) (cond b ((c.args.prefix.now ++ c.args.number ∷ []) ∷ []) [])) goes)
 
 pub returns-then-lead-to-clause-onward : goal.returns-then-lead-to-clause-onward
 returns-then-lead-to-clause-onward g c _ =
     let old : List (List ℕ) = map (step_of c.args.prefix.now) c.args.self.now.onward.items in
-    let none = none_onward c.args.question.now.plan.now.plan c.args.question.now.request c.args.prefix.now c.args.number c.in-Some.lead c.in-Some.ensures.lead (c.if-lead-to.true ∙ c.to.ensures.value) in
-    sym (ap (λ z. old ++ z) none ∙ append-nil old)
+    let goes = goes_there c.args.question.now.plan.now.plan c.args.question.now.request c.args.prefix.now c.args.number c.in-Some.lead c.in-Some.ensures.lead (c.if-lead-to.true ∙ c.to.ensures.value) in
+    sym (ap (λ b. old ++ cond (not b) ((c.args.prefix.now ++ c.args.number ∷ []) ∷ []) []) goes ∙ append-nil old)
 
 pub returns-clause-leaves : goal.returns-clause-leaves
 returns-clause-leaves g c _ =
     let p = c.args.question.now.plan.now.plan in
     let r = c.args.question.now.request in
     let old = c.args.self.now.leaves.items in
-    let none = no_leaf p r c.args.prefix.now c.args.number c.in-Some.lead c.in-Some.ensures.lead (λ e. c.if-lead-to.false (e ∙ sym c.to.ensures.value)) in
-    sym (ap (λ z. old ++ map (record_of p r) z) none ∙ append-nil old)
+    let elsewhere = goes_elsewhere p r c.args.prefix.now c.args.number c.in-Some.lead c.in-Some.ensures.lead (λ e. c.if-lead-to.false (e ∙ sym c.to.ensures.value)) in
+    sym (ap (λ b. old ++ map (record_of p r) (cond b ((c.args.prefix.now ++ c.args.number ∷ []) ∷ []) [])) elsewhere ∙ append-nil old)
 
 pub returns-clause-onward : goal.returns-clause-onward
 returns-clause-onward g c _ =
     let q = c.args.prefix.now in
     let old = c.args.self.now.onward.items in
     let expected : ExpectedPrefix = record { length = length q; number = c.args.number; lead = c.in-Some.lead } in
-    let there = onward_there c.args.question.now.plan.now.plan c.args.question.now.request q c.args.number c.in-Some.lead c.in-Some.ensures.lead (λ e. c.if-lead-to.false (e ∙ sym c.to.ensures.value)) in
-    ap (map (step_of q)) c.in_ok-push-2.ensures.items ∙ map-append (step_of q) old (expected ∷ []) ∙ sym (ap (λ z. map (step_of q) old ++ z) there)
+    let elsewhere = goes_elsewhere c.args.question.now.plan.now.plan c.args.question.now.request q c.args.number c.in-Some.lead c.in-Some.ensures.lead (λ e. c.if-lead-to.false (e ∙ sym c.to.ensures.value)) in
+    ap (map (step_of q)) c.in_ok-push-2.ensures.items ∙ map-append (step_of q) old (expected ∷ []) ∙ sym (ap (λ b. map (step_of q) old ++ cond (not b) ((q ++ c.args.number ∷ []) ∷ []) []) elsewhere)
 
 pub returns-clause-steps : goal.returns-clause-steps
 returns-clause-steps g c known =
