@@ -33,10 +33,6 @@ abbrev pub fresh_nodes : {A : Type 0} → (List ℕ → List ℕ → Option Rout
 fresh_nodes best leaf q [] = []
 fresh_nodes best leaf q (y ∷ ys) = record { leaf = leaf; length = length q; excluded = y ∷ []; route = best q (y ∷ []) } ∷ fresh_nodes best leaf (q ++ y ∷ []) ys
 
--- the node of a leaf for the first n numbers of s, with its next number excluded
-abbrev pub fresh_node : {A : Type 0} → (List ℕ → List ℕ → Option RouteRecord) → ℕ → List ℕ → ℕ → Node A
-fresh_node best leaf s n = record { leaf = leaf; length = n; excluded = slice_index s n ∷ []; route = best (take n s) (slice_index s n ∷ []) }
-
 -- those for the beginnings of s that are longer than the node's prefix
 abbrev pub fresh_after : {A : Type 0} → (List ℕ → List ℕ → Option RouteRecord) → ℕ → Node A → List ℕ → List (Node A)
 fresh_after best leaf n s = fresh_nodes best leaf (take (n.length + 1) s) (drop (n.length + 1) s)

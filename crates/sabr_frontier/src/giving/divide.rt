@@ -1,12 +1,10 @@
 //! Dividing a part by the route that it carries: the number that it then excludes, and all searches.
 
 ghost use Rattle.std.specs.Prelude.{◌≡◌, ◌+◌, ◌≤◌, ◌<◌, ◌++◌, ◌∷◌, [], take, drop, length, slice_index, vec_len, vec_capacity, IfOk, OnOk, OnErr, IsTrue};
-ghost use Rattle.std.specs.Ordering.{nat_cmp};
 ghost use Rattle.sabr_model.specs.routes.Route.{is_route};
 ghost use Rattle.sabr_frontier.specs.tree.Searching.{best_for};
-ghost use Rattle.sabr_frontier.specs.listing.Rising.{Rises};
 ghost use Rattle.sabr_frontier.specs.tree.Undo.{modify, including};
-ghost use Rattle.sabr_frontier.specs.tree.Giving.{OfNode, fresh_after, fresh_node, fresh_nodes, wide_of};
+ghost use Rattle.sabr_frontier.specs.tree.Giving.{OfNode, fresh_nodes, wide_of};
 ghost use Rattle.sabr_frontier.specs.tree.Sound.{CanExclude};
 ghost use Rattle.sabr_frontier.specs.tree.PageTrees.{excluding, parted};
 ghost use Rattle.sabr_search.specs.questions.Bounded.{IsFloor};
@@ -71,31 +69,6 @@ pub fn find_best_after<B: BestOf<A>, A: Allocator + Copy>(
     )
 }
 
-/// Makes the node of a leaf for the first `count` numbers of a route, with its next number excluded.
-fn fresh_node<B: BestOf<A>, A: Allocator + Copy>(
-    searcher: &mut Searcher<'_, B, A>,
-    route: &[u32],
-    given: Given,
-    count: usize,
-) -> Result<Node<A>, NoMemory>
-    requires floor { IsFloor searcher.old.asked.plan.plan searcher.old.asked.request (take count route.now) [] given.floor }
-    requires route { IsTrue (is_route searcher.old.asked.plan.plan searcher.old.asked.request route.now) }
-    requires longer { count < length route.now }
-
-    // It finds the node by one search, which may fail. The question stays.
-    ensures node { IfOk result (λ n. n ≡ fresh_node (best_for searcher.old.asked given.bound) given.leaf route.now count) }
-    ensures called { searcher.new.calls.count ≡ searcher.old.calls.count + 1 }
-    ensures same { searcher.new.asked ≡ searcher.old.asked }
-{
-    let found = find_best_after(searcher, route, count, given.floor, given.bound)?;
-    Ok(Node {
-        leaf: given.leaf,
-        length: count,
-        excluded: ExcludedNumbers::one(searcher.alloc(), route[count]),
-        route: found,
-    })
-}
-
 /// Adds the nodes of a leaf for the beginnings of a route from `first` numbers on, for which there is room. Returns how
 /// many searches that took.
 #[tactic(auto, using(crate::proofs::TreeLemmas::ListFronts::fresh_push, crate::proofs::TreeLemmas::ListFronts::fresh_all))]
@@ -126,8 +99,13 @@ fn fresh_nodes<B: BestOf<A>, A: Allocator + Copy>(
 {
     let mut searches = 0;
     for count in first..route.len() {
-        let node = fresh_node(searcher, route, given, count)?;
-        nodes.push_reserved(node);
+        let found = find_best_after(searcher, route, count, given.floor, given.bound)?;
+        nodes.push_reserved(Node {
+            leaf: given.leaf,
+            length: count,
+            excluded: ExcludedNumbers::one(searcher.alloc(), route[count]),
+            route: found,
+        });
         searches += 1;
     }
     Ok(searches)
