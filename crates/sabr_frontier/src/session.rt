@@ -11,7 +11,7 @@ ghost use Rattle.sabr_frontier.specs.session.Views.{seen_left};
 pub mod last_page;
 pub mod paused;
 
-use crate::giving::searcher::Searcher;
+use crate::giving::searcher::{PausedSearcher, Searcher};
 use crate::tree::Tree;
 use crate::views::Parts;
 use sabr_index::Index;
@@ -86,7 +86,7 @@ impl<'p, B: BestOf<A>, A: Allocator + Copy> Session<'p, B, A> {
     {
         index.plan().rules_hold();
         request.limits_hold();
-        let mut searcher = Searcher::over(alloc, index, request, finder);
+        let mut searcher = PausedSearcher::new(alloc, request, finder).resume(index);
         let found = searcher.find_best(&[], &[], 0, None)?;
         let tree = Tree::root(alloc, found)?;
         searcher.take_looks();

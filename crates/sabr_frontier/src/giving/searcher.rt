@@ -71,13 +71,6 @@ impl<'p, B: BestOf<A>, A: Allocator + Copy> Model for Searcher<'p, B, A> {
 }
 
 impl<'p, B: BestOf<A>, A: Allocator + Copy> Searcher<'p, B, A> {
-    /// Makes a searcher over an index, with an empty cache.
-    pub fn over(alloc: A, index: Index<'p, A>, request: Request, finder: B) -> Searcher<'p, B, A>
-        ensures { result ≡ searching_first index.entry request (B.calls_of finder) }
-    {
-        PausedSearcher::new(alloc, request, finder).resume(index)
-    }
-
     /// Returns the searcher without its plan's index.
     pub fn pause(self) -> PausedSearcher<B, A>
         ensures request { result.request ≡ self.entry.asked.request }
