@@ -1,5 +1,5 @@
 -- Taking a route divides its part: one pair grows by a number, and a block of new parts stands at one place.
-use Rattle.std.proofs.Common.{◌≡◌, ℕ, Bool, true, false, cond, ◌&&◌, List, [], ◌∷◌, ◌++◌, map, sym, ap, subst, refl, ◌∙◌, true≢false, ◌⊎◌, inl, inr, Option, Some, None, append_assoc, append-nil}
+use Rattle.std.proofs.Common.{◌≡◌, ℕ, Bool, true, false, cond, ◌&&◌, List, [], ◌∷◌, ◌++◌, filter, map, sym, ap, subst, refl, ◌∙◌, true≢false, ◌⊎◌, inl, inr, Option, Some, None, append_assoc, append-nil}
 use Rattle.std.proofs.lemmas.Bool.{cases_Bool, cond-true, cond-false}
 use Rattle.std.proofs.lemmas.List.{map-append, append_cancel_left}
 use Rattle.std.proofs.lemmas.Cmp.{nat_list_cmp_total, nat_cmp_total, tied_itself}
@@ -12,7 +12,7 @@ use Rattle.sabr_frontier.specs.listing.Rising.{has, Below, Rises}
 use Rattle.sabr_frontier.specs.listing.Tree.{numbers_after, prefixes, tree, put_number}
 use Rattle.sabr_frontier.specs.listing.State.{PartState, pair_of, Member}
 use Rattle.sabr_frontier.specs.listing.Step.{same_pair, carried_in, carry}
-use Rattle.sabr_frontier.proofs.ListingLemmas.ListMembers.{has-put_in, put_again, is_equal, has_itself, same_members, put_in_has, Member-map, Member-map_cases, Member-append_left, Member-append_right, Member-append_cases, Below-member, Less-apart, map_map, map_back}
+use Rattle.sabr_frontier.proofs.ListingLemmas.ListMembers.{Member-filter_cases, has-put_in, put_again, is_equal, has_itself, same_members, put_in_has, Member-map, Member-map_cases, Member-append_left, Member-append_right, Member-append_cases, Below-member, Less-apart, map_map, map_back}
 use Rattle.sabr_frontier.proofs.ListingLemmas.NumbersAfter.{lists_exact, numbers_exact, number_after-snoc, number_after-compare, number_after-trans, number_after-nil, number_after-same, number_after-longer}
 use Rattle.sabr_frontier.proofs.ListingLemmas.ClosedTrees.{In, Listed, In-first, In-later, In-cases, numbers_after_has, has_numbers_after, Rises-numbers_after, Rises-prefixes, tree_same, prefixes_has, has_prefixes, Listed-within, tree_has, In_Member, Member_In, prefixes_of_tree, not_empty}
 use Rattle.sabr_search.proofs.WayLemmas.Prefixes.{number_after_some}
@@ -64,6 +64,13 @@ module _ {K : Type 0} {R : K → K → Ordering} (o : IsTotalOrder R) where
     Rises-append A B r.1 s (λ a b m n. f a b (inr m) n),
   )
 
+  pub Rises-filter : (keep : K → Bool) (A : List K) → Rises R A → Rises R (filter keep A)
+  Rises-filter keep [] r = tt
+  Rises-filter keep (x ∷ A) r = elim (keep x) as (λ b. Rises R (cond b (x ∷ filter keep A) (filter keep A))) [
+    | true ↦ (Below-from R x (filter keep A) (λ y m. Below-member o x y A r.0 (Member-filter_cases keep y A m).1), Rises-filter keep A r.1)
+    | false ↦ Rises-filter keep A r.1
+  ]
+
   pub Rises-parts : (A B : List K) → Rises R (A ++ B) → RiseInTurn R A B
   Rises-parts [] B r = (tt, r, λ a b m n. absurd m)
   Rises-parts (x ∷ A) B r =
@@ -75,9 +82,6 @@ module _ {K : Type 0} {R : K → K → Ordering} (o : IsTotalOrder R) where
       )
 
 -- ---- what stands keeps what it carried
-
-same_pair_self : (e : List ℕ × List ℕ) → same_pair e e ≡ true
-same_pair_self e = λ i. is_eq (tied_itself nat_list_cmp_total e.0 i) && is_eq (tied_itself nat_list_cmp_total e.1 i)
 
 pub same_pair_is : (e f : List ℕ × List ℕ) → same_pair e f ≡ true → e ≡ f
 same_pair_is e f h = elim (is_eq (by_numbers e.0 f.0)) as (λ b. is_eq (by_numbers e.0 f.0) ≡ b → (b && is_eq (by_numbers e.1 f.1)) ≡ true → e ≡ f) [
@@ -100,7 +104,7 @@ carried_absent parts e d f = elim (carried_cases parts e d) [ inl h ↦ h | inr 
 
 carried_stands : (parts : List PartState) (t : PartState) (d : Option (List ℕ)) → Rises by_numbers (map (λ (t : PartState). t.prefix) parts) → Member t parts → carried_in parts (pair_of t) d ≡ t.carried
 carried_stands [] t d r m = absurd m
-carried_stands (u ∷ ts) t d r (inl e) = ap (λ b. cond b u.carried (carried_in ts (pair_of t) d)) (ap (λ (z : PartState). same_pair (pair_of u) (pair_of z)) e ∙ same_pair_self (pair_of u)) ∙ ap (λ (z : PartState). z.carried) (sym e)
+carried_stands (u ∷ ts) t d r (inl e) = ap (λ b. cond b u.carried (carried_in ts (pair_of t) d)) (ap (λ (z : PartState). same_pair (pair_of u) (pair_of z)) e ∙ (λ i. is_eq (tied_itself nat_list_cmp_total u.prefix i) && is_eq (tied_itself nat_list_cmp_total u.excluded i))) ∙ ap (λ (z : PartState). z.carried) (sym e)
 carried_stands (u ∷ ts) t d r (inr m) = elim (cases_Bool (same_pair (pair_of u) (pair_of t))) [
   | inl h ↦ absurd (Less-apart nat_list_cmp_total t.prefix (ap (λ (z : List ℕ × List ℕ). by_numbers z.0 t.prefix) (sym (same_pair_is (pair_of u) (pair_of t) h)) ∙ Below-member nat_list_cmp_total u.prefix t.prefix (map (λ (t : PartState). t.prefix) ts) r.0 (Member-map (λ (t : PartState). t.prefix) t ts m)))
   | inr h ↦ ap (λ b. cond b u.carried (carried_in ts (pair_of t) d)) h ∙ carried_stands ts t d r.1 m

@@ -48,6 +48,10 @@ Member-filter_cases p e (x ∷ xs) h = elim (p x) as (λ b. p x ≡ b → Member
   | false ↦ λ t m. let w = Member-filter_cases p e xs m in (w.0, inr w.1)
 ] refl h
 
+pub filter_none : {X : Type 0} (p : X → Bool) (xs : List X) → ((x : X) → Member x xs → p x ≡ false) → filter p xs ≡ []
+filter_none p [] h = refl
+filter_none p (x ∷ xs) h = ap (λ b. cond b (x ∷ filter p xs) (filter p xs)) (h x (inl refl)) ∙ filter_none p xs (λ y m. h y (inr m))
+
 -- a member passes the test, if any does
 pub any_has : {X : Type 0} (test : X → Bool) (xs : List X) → list_any test xs ≡ true → (x : X) × Member x xs × (test x ≡ true)
 any_has test [] e = absurd (true≢false (sym e))

@@ -27,7 +27,7 @@ use Rattle.sabr_frontier.specs.tree.Giving.{widened, passing, stands_before, wid
 use Rattle.sabr_frontier.specs.tree.Sound.{IsTree, CanExclude, IsLent}
 use Rattle.sabr_frontier.specs.tree.Searching.{Asked}
 use Rattle.sabr_frontier.proofs.TreeLemmas.ListFronts.{found_is, none_found, pairs_from_rises, front_passes, back_fails}
-use Rattle.sabr_frontier.proofs.ListingLemmas.ListMembers.{is_equal, Member-map, Member-map_cases, turned, earlier_prefix, less_from_test, Member-append_left, Member-append_right, Less-apart}
+use Rattle.sabr_frontier.proofs.ListingLemmas.ListMembers.{is_equal, map_map, Member-map, Member-map_cases, turned, earlier_prefix, less_from_test, Member-append_left, Member-append_right, Less-apart}
 use Rattle.sabr_frontier.proofs.ListingLemmas.NumbersAfter.{lists_exact, number_after-snoc}
 use Rattle.sabr_frontier.proofs.ListingLemmas.ClosedTrees.{tree_has, leaves_has, Listed, closed_tree}
 use Rattle.sabr_frontier.proofs.ListingLemmas.Division.{in_one_part, begins_less, earlier_excludes, divided_set, fresh}
@@ -98,15 +98,11 @@ pub mapped : (o : Option RouteRecord) (s : List ℕ) → option_map numbers_of o
 mapped None s e = absurd cc
 mapped (Some y) s e = (y, refl, (let same : y.contacts ≡ s = cc in same))
 
-keys_map : {A : Type 0} (leaves : List RouteRecord) (nodes : List (Node A)) (ids : List NodeId) → map (λ (e : List ℕ × List ℕ). e.0) (map pair_of (map (part_at leaves nodes) ids)) ≡ map (λ (id : NodeId). (part_at leaves nodes id).prefix) ids
-keys_map leaves nodes [] = refl
-keys_map leaves nodes (id ∷ ids) = ap (λ z. (part_at leaves nodes id).prefix ∷ z) (keys_map leaves nodes ids)
-
 -- ---- the index
 
 module _ {A : Type 0} (p : ContactPlan) (r : RouteRequest) (t : Shape A) (is : IsTree p r t) where
   pub index_order : InPairs (IsBefore t.leaves t.nodes) t.index
-  index_order = pairs_from_rises nat_list_cmp_total (λ (id : NodeId). (part_at t.leaves t.nodes id).prefix) t.index (subst (Rises by_numbers) (keys_map t.leaves t.nodes t.index) is.formed.order.by_prefix)
+  index_order = pairs_from_rises nat_list_cmp_total (λ (id : NodeId). (part_at t.leaves t.nodes id).prefix) t.index (subst (Rises by_numbers) (map_map pair_of (λ (e : List ℕ × List ℕ). e.0) (map (part_at t.leaves t.nodes) t.index) ∙ map_map (part_at t.leaves t.nodes) (λ (u : PartState). u.prefix) t.index) is.formed.order.by_prefix)
 
   -- ---- other nodes stay as they are
 

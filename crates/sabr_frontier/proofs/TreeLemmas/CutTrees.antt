@@ -1,5 +1,5 @@
 -- A tree some of whose nodes don't carry what they might carries the same least route, as long as enough others are carried.
-use Rattle.std.proofs.Common.{◌≡◌, ◌⊎◌, inl, inr, ℕ, zero, suc, ◌+◌, ◌≤◌, ◌<◌, Bool, true, false, cond, List, [], ◌∷◌, ◌++◌, length, refl, sym, ap, subst, zero-add, ◌∙◌, arith, Some, None, true≢false, map, take, drop, Option}
+use Rattle.std.proofs.Common.{◌≡◌, ◌⊎◌, inl, inr, ℕ, zero, suc, ◌+◌, ◌≤◌, ◌<◌, Bool, true, false, cond, List, [], ◌∷◌, ◌++◌, length, refl, sym, ap, subst, zero-add, ◌∙◌, arith, Some, None, map, take, drop, Option}
 use Rattle.std.specs.Prelude.{slice_get}
 use Rattle.std.specs.Option.{option_and_then, option_map_or}
 use Rattle.std.specs.Cmp.{nat_cmp_is}
@@ -12,7 +12,7 @@ use Rattle.sabr_frontier.specs.declared.tree.Node.{Node}
 use Rattle.sabr_frontier.specs.declared.tree.NodeId.{NodeId}
 use Rattle.sabr_frontier.specs.tree.Undo.{modify}
 use Rattle.sabr_frontier.specs.tree.Winners.{CarriesNone, IsFirst, route_at, route_of}
-use Rattle.sabr_frontier.proofs.ListingLemmas.ListMembers.{less_from_test, Member-map, Member-map_cases}
+use Rattle.sabr_frontier.proofs.ListingLemmas.ListMembers.{less_from_test, not_below, turned, Member-map, Member-map_cases}
 use Rattle.sabr_frontier.specs.tree.PageTrees.{AreCutBy, IsCutOf, carries_before, count_before, IsCutTree}
 use Rattle.sabr_model.specs.plan.Plan.{ContactPlan, IsPlan}
 use Rattle.sabr_model.specs.routes.Arrival.{RouteRequest}
@@ -28,6 +28,8 @@ use Rattle.sabr_frontier.specs.tree.Shape.{Shape, given_at, ids_from, part_at, p
 use Rattle.sabr_frontier.specs.tree.Sound.{IsLent, IsTree}
 use Rattle.sabr_frontier.specs.tree.Giving.{divided_with, fresh_nodes, passing, wide_of, widened, with_block}
 use Rattle.sabr_frontier.proofs.TreeLemmas.ListFronts.{length_fresh}
+use Rattle.sabr_frontier.proofs.TreeLemmas.ModifiedPlaces.{Member_get, get_Member}
+use Rattle.sabr_frontier.proofs.TreeLemmas.SlotWinners.{standing_at}
 use Rattle.sabr_frontier.proofs.TreeLemmas.SoundSteps.{tree_divided}
 
 -- ---- how many carry a route before another
@@ -127,48 +129,38 @@ module _ {A : Type 0} where
   cut_carries k all u t x (inl same) e = same
   cut_carries k all u t x (inr w) e = (let none : t.route ≡ None = ap (λ (n : Node A). n.route) w.2 in absurd cc)
 
--- ---- the best of the carried routes
+-- the node that carries a route is the same in both
+pub stands_in : {A : Type 0} (k : ℕ) (all us ts : List (Node A)) → AreCutBy k all us ts → (node : NodeId) (n : Node A) (x : RouteRecord) → slice_get ts node.0 ≡ Some n → n.route ≡ Some x → slice_get us node.0 ≡ Some n
+stands_in k all us ts h node n x stands carries = let w = cut_get k all us ts node.0 n h stands in w.1 ∙ ap Some (sym (cut_carries k all w.0 n x w.2 carries))
 
--- what is above a lesser one is above
-above_lesser : (x y z : RouteRecord) → is_lt (by_record z y) ≡ true → is_lt (by_record z x) ≡ false → is_lt (by_record y x) ≡ false
-above_lesser x y z less not = elim (is_lt (by_record y x)) as (λ b. is_lt (by_record y x) ≡ b → b ≡ false) [
-  | true ↦ λ e. absurd (true≢false (sym (ap is_lt (by_record_total.trans z y x (less_from_test (by_record z y) less) (less_from_test (by_record y x) e))) ∙ not))
-  | false ↦ λ _. refl
-] refl
+-- ---- the best of the carried routes
 
 module _ {A : Type 0} (k : ℕ) (us ts : List (Node A)) (h : AreCutBy (suc k) ts us ts) where
   -- what a node might carry is carried, or comes after what one carries
   pub carried_or_after : (id : NodeId) (y : RouteRecord) → route_at us id ≡ Some y → (route_at ts id ≡ Some y) ⊎ ((j : NodeId) × (z : RouteRecord) × (route_at ts j ≡ Some z) × (is_lt (by_record z y) ≡ true))
-  carried_or_after id y e = elim (slice_get us id.0) as (λ o. slice_get us id.0 ≡ o → option_and_then route_of o ≡ Some y → (route_at ts id ≡ Some y) ⊎ ((j : NodeId) × (z : RouteRecord) × (route_at ts j ≡ Some z) × (is_lt (by_record z y) ≡ true))) [
-    | None ↦ λ _ c. absurd cc
-    | Some u ↦ λ at c.
-        let w = cut_back (suc k) ts us ts id.0 u h at in
-        elim w.2 [
-          | inl same ↦ inl (ap (option_and_then route_of) w.1 ∙ ap (λ (n : Node A). n.route) same ∙ c)
-          | inr v ↦
-              let is : v.0 ≡ y = (let there = v.1 in cc) in
-              let many = v.3 in
-              let before = some_before v.0 ts (omega (arith, many)) in
-              let j : NodeId = record { 0 = before.0 } in
-              inr (j, before.2, ap (option_and_then route_of) before.3 ∙ before.4, ap (λ x. is_lt (by_record before.2 x)) (sym is) ∙ before.5)
-        ]
-  ] refl e
+  carried_or_after id y e =
+      let at = standing_at us id y e in
+      let w = cut_back (suc k) ts us ts id.0 at.0 h at.1 in
+      elim w.2 [
+        | inl same ↦ inl (ap (option_and_then route_of) w.1 ∙ ap (λ (n : Node A). n.route) same ∙ at.2)
+        | inr v ↦
+            let is : v.0 ≡ y = (let there = v.1 in let c = at.2 in cc) in
+            let many = v.3 in
+            let before = some_before v.0 ts (omega (arith, many)) in
+            let j : NodeId = record { 0 = before.0 } in
+            inr (j, before.2, ap (option_and_then route_of) before.3 ∙ before.4, ap (λ x. is_lt (by_record before.2 x)) (sym is) ∙ before.5)
+      ]
 
   -- what is carried might be
   pub carried_there : (id : NodeId) (x : RouteRecord) → route_at ts id ≡ Some x → route_at us id ≡ Some x
-  carried_there id x e = elim (slice_get ts id.0) as (λ o. slice_get ts id.0 ≡ o → option_and_then route_of o ≡ Some x → route_at us id ≡ Some x) [
-    | None ↦ λ _ c. absurd cc
-    | Some t ↦ λ at c.
-        let w = cut_get (suc k) ts us ts id.0 t h at in
-        ap (option_and_then route_of) w.1 ∙ ap (λ (n : Node A). n.route) (sym (cut_carries (suc k) ts w.0 t x w.2 c)) ∙ c
-  ] refl e
+  carried_there id x e = let at = standing_at ts id x e in ap (option_and_then route_of) (stands_in (suc k) ts us ts h id at.0 x at.1 at.2) ∙ at.2
 
   pub least_same : (id : NodeId) (x : RouteRecord) → IsFirst ts id x → IsFirst us id x
   least_same id x first = record {
     carries = carried_there id x first.carries;
     least = λ j y e. elim (carried_or_after j y e) [
       | inl there ↦ first.least j y there
-      | inr w ↦ above_lesser x y w.1 w.3 (first.least w.0 w.1 w.2)
+      | inr w ↦ not_below by_record_total y w.1 x (ap is_lt (turned by_record_total w.1 y Less (less_from_test (by_record w.1 y) w.3))) (first.least w.0 w.1 w.2)
     ];
   }
 
@@ -230,11 +222,7 @@ module _ {A : Type 0} (k : ℕ) (all : List (Node A)) where
   cut_length (u ∷ us) (t ∷ ts) h = ap suc (cut_length us ts h.1)
 
   cut_member : (us ts : List (Node A)) → AreCutBy k all us ts → (t : Node A) → Member t ts → (u : Node A) × Member u us × IsCutOf k all u t
-  cut_member [] [] h t m = absurd m
-  cut_member [] (v ∷ ts) h t m = absurd h
-  cut_member (u ∷ us) [] h t m = absurd h
-  cut_member (u ∷ us) (v ∷ ts) h t (inl e) = (u, inl refl, subst (IsCutOf k all u) (sym e) h.0)
-  cut_member (u ∷ us) (v ∷ ts) h t (inr m) = let w = cut_member us ts h.1 t m in (w.0, inr w.1, w.2)
+  cut_member us ts h t m = let g = Member_get t ts m in let w = cut_get k all us ts g.0 t h g.1 in (w.0, get_Member us g.0 w.0 w.1, w.2)
 
   module _ (lent : List RouteRecord) where
     cut_pair : (us ts : List (Node A)) → AreCutBy k all us ts → (i : ℕ) → pair_of (part_of lent (slice_get ts i)) ≡ pair_of (part_of lent (slice_get us i))
@@ -351,10 +339,6 @@ module _ {A : Type 0} (k : ℕ) (all : List (Node A)) (best cut : List ℕ → L
     | inl same ↦ inl (λ i. widened wide (same i) n)
     | inr w ↦ inr (w.0, w.1, (λ i. widened wide (w.2 i) n), w.3)
   ]
-
--- the node that carries a route is the same in both
-pub stands_in : {A : Type 0} (k : ℕ) (all us ts : List (Node A)) → AreCutBy k all us ts → (node : NodeId) (n : Node A) (x : RouteRecord) → slice_get ts node.0 ≡ Some n → n.route ≡ Some x → slice_get us node.0 ≡ Some n
-stands_in k all us ts h node n x stands carries = let w = cut_get k all us ts node.0 n h stands in w.1 ∙ ap Some (sym (cut_carries k all w.0 n x w.2 carries))
 
 -- a route that many nodes come before has one fewer before it at the most
 pub still_before : {A : Type 0} (k : ℕ) (best : List ℕ → List ℕ → Option RouteRecord) (t : Shape A) (node : NodeId) (n : Node A) (x y : RouteRecord) → suc k ≤ count_before y t.nodes → k ≤ count_before y (divided_with best t node n x).nodes

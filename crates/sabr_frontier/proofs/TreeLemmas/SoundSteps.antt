@@ -1,5 +1,5 @@
 -- A sound tree stays sound where a node's route is given, and the undo of that gives the tree back.
-use Rattle.std.proofs.Common.{◌≡◌, ℕ, ◌+◌, ◌<◌, nat_lt, List, [], ◌∷◌, ◌++◌, length, take, drop, refl, sym, ap, subst, ◌∙◌, ◌⊎◌, inl, inr, arith, Option, Some, append_assoc, length-append, slice_index, take_at, ◌≤◌, zero, suc, Bool, true, false, cond, filter, take-append-drop, append-nil, map, None}
+use Rattle.std.proofs.Common.{◌≡◌, ℕ, ◌+◌, ◌<◌, nat_lt, List, [], ◌∷◌, ◌++◌, length, take, drop, refl, sym, ap, subst, ◌∙◌, ◌⊎◌, inl, inr, arith, Option, Some, append_assoc, length-append, slice_index, take_at, ◌≤◌, Bool, true, cond, filter, take-append-drop, append-nil, map, None}
 use Rattle.std.specs.Prelude.{slice_get, slice_index_or, not, nat_eq}
 use Rattle.std.proofs.lemmas.Bool.{cases_lt, lt-ltb}
 use Rattle.std.proofs.lemmas.Option.{get_or_from_slice_get}
@@ -19,7 +19,7 @@ use Rattle.sabr_frontier.specs.tree.Undo.{modify, undone, CanUndo, IsIndexed, gi
 use Rattle.sabr_frontier.specs.tree.Best.{best_of}
 use Rattle.sabr_frontier.specs.tree.Giving.{passing, stands_before, widened, wide_of, fresh_nodes, ids_from, divided_with, changed_by, with_block}
 use Rattle.sabr_frontier.specs.tree.Sound.{IsTree, IsLent, AreGiven}
-use Rattle.sabr_frontier.proofs.ListingLemmas.ListMembers.{Member-append_left, Member-append_right, Member-append_cases}
+use Rattle.sabr_frontier.proofs.ListingLemmas.ListMembers.{filter_none, Member-append_left, Member-append_right, Member-append_cases}
 use Rattle.sabr_frontier.proofs.ListingLemmas.ClosedTrees.{In-put_in, put_in-In, In_Member, Member_In}
 use Rattle.sabr_frontier.proofs.ListingLemmas.FormedSteps.{formed_after, leaves_after, formed_start}
 use Rattle.sabr_frontier.proofs.TreeLemmas.ListFronts.{forget-put_in}
@@ -40,10 +40,6 @@ use Rattle.sabr_frontier.specs.session.Views.{seen_at, seen_node}
 pub filter_all : {X : Type 0} (p : X → Bool) (xs : List X) → ((x : X) → Member x xs → p x ≡ true) → filter p xs ≡ xs
 filter_all p [] h = refl
 filter_all p (x ∷ xs) h = ap (λ b. cond b (x ∷ filter p xs) (filter p xs)) (h x (inl refl)) ∙ ap (λ t. x ∷ t) (filter_all p xs (λ y m. h y (inr m)))
-
-not_below : (f n c : ℕ) → c ≤ f → filter (λ (id : NodeId). nat_lt id.0 c) (ids_from f n) ≡ []
-not_below f zero c l = refl
-not_below f (suc n) c l = let no : nat_lt f c ≡ false = grind (arith, nat_tests) in ap (λ b. cond b (record { 0 = f } ∷ filter (λ (id : NodeId). nat_lt id.0 c) (ids_from (suc f) n)) (filter (λ (id : NodeId). nat_lt id.0 c) (ids_from (suc f) n))) no ∙ not_below (suc f) n c (omega arith)
 
 module _ {A : Type 0} (t : Shape A) (node : NodeId) (part : Node A) (r : RouteRecord) (wide : List ℕ) (found : Option RouteRecord) (fresh : List (Node A)) (place : ℕ)
     (stands : slice_get t.nodes node.0 ≡ Some part)
@@ -67,7 +63,7 @@ module _ {A : Type 0} (t : Shape A) (node : NodeId) (part : Node A) (r : RouteRe
       let p : NodeId → Bool = λ id. nat_lt id.0 (length t.nodes) in
       let block : List NodeId = ids_from (length t.nodes) (length fresh) in
       filter-append p (take place t.index ++ block) (drop place t.index)
-      ∙ ap (λ z. z ++ filter p (drop place t.index)) (filter-append p (take place t.index) block ∙ ap (λ z. filter p (take place t.index) ++ z) (not_below (length t.nodes) (length fresh) (length t.nodes) (omega arith)) ∙ append-nil (filter p (take place t.index)))
+      ∙ ap (λ z. z ++ filter p (drop place t.index)) (filter-append p (take place t.index) block ∙ ap (λ z. filter p (take place t.index) ++ z) (filter_none p block (λ id m. let l = (ids_cases id (length t.nodes) (length fresh) m).0 in grind (arith, nat_tests))) ∙ append-nil (filter p (take place t.index)))
       ∙ sym (filter-append p (take place t.index) (drop place t.index)) ∙ ap (filter p) (take-append-drop place t.index) ∙ filter_all p t.index known
 
   pub undone-after : undone after ≡ t

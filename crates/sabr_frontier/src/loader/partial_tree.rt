@@ -4,9 +4,9 @@ ghost use Rattle.std.specs.Prelude.{◌≡◌, [], true, ◌&&◌, ◌<◌, ◌�
 ghost use Rattle.std.specs.Option.{option_map_or};
 ghost use Rattle.sabr_model.specs.Order.{numbers_before};
 ghost use Rattle.sabr_frontier.specs.tree.Shape.{shape_of};
-ghost use Rattle.sabr_frontier.specs.tree.Undo.{IsIndexed, IsRoomy, front, last_item};
+ghost use Rattle.sabr_frontier.specs.tree.Undo.{IsIndexed, IsRoomy, last_item};
 ghost use Rattle.sabr_frontier.specs.loading.Loading.{comes_after, rise_strictly};
-ghost use Rattle.sabr_frontier.specs.loading.Partial.{AreExpected, IsGiven, IsLastPlace, IsLead, IsTakenIn, IsVerdict, answered_by, is_complete, is_expected, last_prefix, loaded_tree, nothing_yet, partial_shape_of, parts_in, with_node};
+ghost use Rattle.sabr_frontier.specs.loading.Partial.{AreExpected, IsGiven, IsLastPlace, IsLead, IsTakenIn, IsVerdict, is_complete, is_expected, last_prefix, loaded_tree, nothing_yet, partial_shape_of, parts_in, with_node};
 
 use crate::loader::check::{Checked, check};
 use crate::loader::ghost_lists::GhostLists;

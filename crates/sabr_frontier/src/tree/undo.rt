@@ -1,7 +1,6 @@
 //! Taking routes back that were given, without memory.
 
-ghost use Rattle.std.specs.Prelude.{◌≡◌, ◌-◌, ◌<◌, nat_lt, length, vec_len, vec_capacity};
-ghost use Rattle.std.specs.List.{filter};
+ghost use Rattle.std.specs.Prelude.{◌≡◌, ◌-◌, ◌<◌, length, vec_len};
 ghost use Rattle.sabr_frontier.specs.tree.Shape.{shape_of};
 ghost use Rattle.sabr_frontier.specs.tree.Undo.{CanUndo, CanUndoTimes, IsIndexBack, IsLonger, IsRoomy, IsSpacious, undone, undone_times, given_back, modify};
 
