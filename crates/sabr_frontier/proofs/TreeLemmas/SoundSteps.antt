@@ -1,5 +1,5 @@
 -- A sound tree stays sound where a node's route is given, and the undo of that gives the tree back.
-use Rattle.std.proofs.Common.{◌≡◌, ℕ, ◌+◌, ◌<◌, nat_lt, List, [], ◌∷◌, ◌++◌, length, take, drop, refl, sym, ap, subst, ◌∙◌, ◌⊎◌, inl, inr, arith, Option, Some, append_assoc, length-append, slice_index, take_at, ◌≤◌, Bool, true, cond, filter, take-append-drop, append-nil, map, None}
+use Rattle.std.proofs.Common.{◌≡◌, ℕ, ◌+◌, ◌<◌, nat_lt, List, [], ◌∷◌, ◌++◌, length, take, drop, refl, sym, ap, subst, ◌∙◌, ◌⊎◌, inl, inr, arith, Option, Some, append_assoc, length-append, slice_index, take_at, Bool, true, cond, filter, take-append-drop, append-nil, map, None}
 use Rattle.std.specs.Prelude.{slice_get, slice_index_or, not, nat_eq}
 use Rattle.std.proofs.lemmas.Bool.{cases_lt, lt-ltb}
 use Rattle.std.proofs.lemmas.Option.{get_or_from_slice_get}
