@@ -29,27 +29,20 @@ pub struct Page<A: Allocator + Copy> {
     pub searches: u64,
 }
 
-/// Copies a route.
-fn copied<A: Allocator + Copy>(alloc: A, route: &Route<A>) -> Result<Route<A>, NoMemory>
-    ensures { IfOk result (λ x. x ≡ route.now) }
-{
-    let contacts = Vec::from_slice(alloc, route.contacts.as_slice())?;
-    Ok(Route {
-        contacts: Numbers::new(contacts),
-        delivery: route.delivery,
-        until: route.until,
-        entry: route.entry,
-    })
-}
-
 /// Copies routes.
 fn copies<A: Allocator + Copy>(alloc: A, routes: &[Route<A>]) -> Result<Vec<Route<A>, A>, NoMemory>
     ensures { IfOk result (λ v. v.items ≡ routes.now) }
 {
     let mut copies = Vec::with_capacity(alloc, routes.len())?;
     for place in 0..routes.len() {
-        let route = copied(alloc, &routes[place])?;
-        copies.push_reserved(route);
+        let route = &routes[place];
+        let contacts = Vec::from_slice(alloc, route.contacts.as_slice())?;
+        copies.push_reserved(Route {
+            contacts: Numbers::new(contacts),
+            delivery: route.delivery,
+            until: route.until,
+            entry: route.entry,
+        });
     }
     Ok(copies)
 }
