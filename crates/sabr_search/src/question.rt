@@ -90,21 +90,6 @@ impl<'t, 'a, 'p, A: Allocator + Copy> Question<'t, 'a, 'p, A> {
         }
     }
 
-    /// The same question, which another search is to answer.
-    pub fn with_task<'u, 'b>(&self, task: &'u Task<'b, A>) -> Question<'u, 'b, 'p, A>
-        ensures task { result.task.now ≡ task.now }
-        ensures prefix { result.prefix.now ≡ self.now.prefix.now }
-        ensures bound { result.bound ≡ self.now.bound }
-    {
-        Question {
-            task,
-            prefix: self.prefix,
-            summary: self.summary,
-            bound: self.bound,
-            floor: self.floor,
-        }
-    }
-
     /// The most hops that a way after the prefix may have: those that the limit leaves, and fewer than there are nodes.
     pub fn hops_left(&self) -> usize
         requires { IsTask self.now.task.now }

@@ -152,7 +152,13 @@ impl<A: Allocator + Copy> Search<A> {
         ensures memory { IsMemory (tabled_of asked.now.task.now) asked.now.task.now.request memory.new }
     {
         let task = asked.task.with_forbidden(&memory.wide_questions.forbidden);
-        let wide = asked.with_task(&task);
+        let wide = Question {
+            task: &task,
+            prefix: asked.prefix,
+            summary: asked.summary,
+            bound: asked.bound,
+            floor: asked.floor,
+        };
         let found = self.run(&wide, &memory.node_bounds, looks)?;
         Ok(memory.answers.cache(&wide, &found, breadth))
     }
@@ -247,7 +253,7 @@ impl<A: Allocator + Copy> Search<A> {
         ensures counted { IfOk result (λ answer. sought_hops answer ≤ looks_taken looks.new) }
         ensures cut { IfOk result (IsCutUpTo asked.now.task.now.plan asked.now.task.now.request.max_hops asked.now.bound asked.now.prefix.now (looks_taken looks.new)) }
     {
-        let aside = looks.set_aside(asked.task.two_scans());
+        let aside = looks.set_aside(2 * asked.task.one_scan());
         let found = self.find_early(memory, asked, looks);
         looks.put_back(aside);
         let early = found?;

@@ -219,13 +219,6 @@ impl<'a, A: Allocator + Copy> Task<'a, A> {
         self.index.contacts()
     }
 
-    /// As many looks as two scans of all contacts take.
-    pub fn two_scans(&self) -> u64
-        ensures { result ≡ 2 * length self.now.plan.contacts }
-    {
-        2 * self.one_scan()
-    }
-
     /// Returns how many passes of a link, from this one on, are excluded: 0 if a way may take this one, and otherwise
     /// at most one more than its `next_numbers`. Only contacts that the start sends are excluded. One finger serves a
     /// whole walk over the passes of a link.

@@ -223,7 +223,7 @@ impl<A: Allocator + Copy> Relaxation<A> {
         ensures rises { OnOk result ((k : ℕ) → slice_index self.old.seconds.items k ≤ slice_index self.new.seconds.items k) }
         ensures relaxed { OnOk result (AreAllRelaxed backward.now.rule backward.now.task.now self.new.seconds.items) }
     {
-        for _ in 0..backward.task.two_scans() {
+        for _ in 0..2 * backward.task.one_scan() {
             let Some(event) = self.queue.pop() else {
                 return Ok(());
             };
