@@ -1,5 +1,6 @@
 -- From the least way of a search to the law of finders, and the bounds on looks.
 use Rattle.std.proofs.Common.{◌≡◌, inl, inr, ℕ, suc, ◌+◌, ◌≤◌, true, eqb, ltb, List, [], ◌∷◌, ◌++◌, length, map, Some, None, refl, ap, sym, subst, ◌∙◌, ⊎_elim, arith, length-append}
+use Rattle.std.proofs.lemmas.List.{length-map}
 use Rattle.std.specs.Prelude.{IsTrue}
 use Rattle.std.specs.List.{AllByRecursion}
 use Rattle.std.specs.Option.{option_map}
@@ -48,17 +49,13 @@ received p a (n ∷ s) b x chain h =
     ⊎_elim (λ here. (n, f.contact, f.named, sym (eqb-true x f.contact.to here))) (λ later. received p f.contact.to s b x f.rest later)
     (or_cases (eqb x f.contact.to) (has x (receivers p s)) (sym (ap (has x) (receivers-cons p n s f.contact f.named)) ∙ h))
 
-map_size : (cs : List Contact) → length (map (λ (c : Contact). c.to) cs) ≡ length cs
-map_size [] = refl
-map_size (c ∷ cs) = ap suc (map_size cs)
-
 -- a chain that comes to no node twice has no more contacts than the plan
 pub chain_few : (p : ContactPlan) (a : ℕ) (s : List ℕ) (b : ℕ) → chain_end p a s ≡ Some b → are_different (receivers p s) ≡ true → length s ≤ length p.contacts
 chain_few p a s b chain differ =
     let few = few_different (receivers p s) (map (λ (c : Contact). c.to) p.contacts) differ
     (λ q h. (let m = received p a s b q chain h in
     has_from_in q (map (λ (c : Contact). c.to) p.contacts) (subst (λ x. IsIn x (map (λ (c : Contact). c.to) p.contacts)) m.3 (in_map (λ (c : Contact). c.to) m.1 p.contacts (contact_in p m.0 m.1 m.2))))) in
-    omega (arith, few, receivers_length p a s b chain, map_size p.contacts)
+    omega (arith, few, receivers_length p a s b chain, length-map p.contacts (λ (c : Contact). c.to))
 
 pub route_few : (p : ContactPlan) (r : RouteRequest) (s : List ℕ) → IsTrue (is_route p r s) → length s ≤ length p.contacts
 route_few p r s route =

@@ -1,15 +1,16 @@
 -- The lists of layers that are made backward: one write in a list, and one node that is noted to be too late later than
 -- before.
 use Rattle.std.proofs.Common.{◌≡◌, ℕ, zero, suc, ◌<◌, ◌∷◌, [], List, length, false, Some, slice_get, slice_index, slice_index_or, slice_set, refl, ap, arith, ◌≢◌, ◌⊎◌, inl, inr, ◌-◌, ◌≤◌, ◌++◌, take, sym, ◌∙◌, length-append}
+use Rattle.std.proofs.lemmas.List.{get_or-set_other, get_or-set_same, length-set}
 use Rattle.std.proofs.lemmas.Bool.{cases_lt, cases_eq}
 use Rattle.std.proofs.lemmas.Grind.{common_steps}
+use Rattle.sabr_model.proofs.ListLemmas.Members.{push_cases, push_new, push_old}
 use Rattle.sabr_search.specs.questions.Task.{SearchTask, IsTask, Takes}
 use Rattle.std.proofs.lemmas.Option.{slice_get_within}
 use Rattle.sabr_search.specs.declared.backward.deadlines.Deadline.{Deadline}
 use Rattle.sabr_search.specs.layers.Late.{InTimeFor, IsLateEntry, AreLate, IsLeftInTime}
 use Rattle.sabr_search.proofs.ForwardLemmas.LayerEntries.{same_below}
 use Rattle.sabr_search.proofs.WayLemmas.RoutesAndWays.{takes_timely, same_some}
-use Rattle.sabr_search.proofs.ForwardLemmas.Queues.{set_here}
 
 -- One write in a list.
 
@@ -25,47 +26,12 @@ get_set_other (y ∷ xs) zero (suc j) x other = refl
 get_set_other (y ∷ xs) (suc k) zero x other = refl
 get_set_other (y ∷ xs) (suc k) (suc j) x other = get_set_other xs k j x (λ same. other (ap suc same))
 
-pub set_other : (xs : List ℕ) (k j b : ℕ) → (j ≡ k → ⊥) → slice_index (slice_set xs k b) j ≡ slice_index xs j
-set_other xs k j b other = grind (arith, common_steps)
-
-pub get_push_here : {X : Type 0} (xs : List X) (y : X) → slice_get (xs ++ y ∷ []) (length xs) ≡ Some y
-get_push_here [] y = refl
-get_push_here (x ∷ xs) y = get_push_here xs y
-
-pub get_push_before : {X : Type 0} (xs : List X) (y : X) (p : ℕ) → p < length xs → slice_get (xs ++ y ∷ []) p ≡ slice_get xs p
-get_push_before [] y p less = absurd (omega arith)
-get_push_before (x ∷ xs) y zero less = refl
-get_push_before (x ∷ xs) y (suc p) less = get_push_before xs y p (omega arith)
-
--- an element of a list with one more is one of before or that one
-pub push_cases : {X : Type 0} (xs : List X) (y : X) (p : ℕ) (e : X) → slice_get (xs ++ y ∷ []) p ≡ Some e → ((p < length xs) × (slice_get xs p ≡ Some e)) ⊎ ((p ≡ length xs) × (e ≡ y))
-push_cases xs y p e at = elim (cases_lt p (length xs)) [
-  | inl before ↦ inl (before, sym (get_push_before xs y p before) ∙ at)
-  | inr behind ↦
-      (let here : p ≡ length xs = omega (arith, slice_get_within (xs ++ y ∷ []) p e at, length-append xs (y ∷ [])) in
-      inr (here, same_some (sym at ∙ ap (slice_get (xs ++ y ∷ [])) here ∙ get_push_here xs y)))
-]
-
 -- an element of a list with one changed is one of before or that one
 pub set_cases : {X : Type 0} (xs : List X) (k : ℕ) (y : X) (p : ℕ) (e : X) → k < length xs → slice_get (slice_set xs k y) p ≡ Some e → ((p ≢ k) × (slice_get xs p ≡ Some e)) ⊎ ((p ≡ k) × (e ≡ y))
 set_cases xs k y p e less at = elim (cases_eq p k) [
   | inl same ↦ inr (same, same_some (sym at ∙ ap (slice_get (slice_set xs k y)) same ∙ get_set_here xs k y less))
   | inr other ↦ inl (other, sym (get_set_other xs k p y other) ∙ at)
 ]
-
-pub take_set : {X : Type 0} (k : ℕ) (xs : List X) (at : ℕ) (y : X) → k ≤ at → take k (slice_set xs at y) ≡ take k xs
-take_set zero xs at y le = refl
-take_set (suc k) [] at y le = refl
-take_set (suc k) (x ∷ xs) zero y le = absurd (omega arith)
-take_set (suc k) (x ∷ xs) (suc at) y le = ap (λ zs. x ∷ zs) (take_set k xs at y (omega arith))
-
-pub take_push : {X : Type 0} (k : ℕ) (xs : List X) (y : X) → k ≤ length xs → take k (xs ++ y ∷ []) ≡ take k xs
-take_push zero xs y le = refl
-take_push (suc k) [] y le = absurd (omega arith)
-take_push (suc k) (x ∷ xs) y le = ap (λ zs. x ∷ zs) (take_push k xs y (omega arith))
-
-pub set_many : {X : Type 0} (xs : List X) (k : ℕ) (b : X) → length (slice_set xs k b) ≡ length xs
-set_many xs k b = grind (arith, common_steps)
 
 module _ (task : SearchTask) (first begin : ℕ) (late place : List ℕ) (entries : List Deadline) (was : AreLate task first begin late place entries)
     (u x : ℕ) (inside : u < length task.table) (permitted : slice_index_or task.forbidden u false ≡ false) (other : u ≢ task.goal) (later : slice_index late u < x)
@@ -74,12 +40,12 @@ module _ (task : SearchTask) (first begin : ℕ) (late place : List ℕ) (entrie
   f = record { node = u; before = x }
 
   now_late : slice_index (slice_set late u x) u ≡ x
-  now_late = set_here late u x (omega (arith, was.many))
+  now_late = get_or-set_same late u x 0 (omega (arith, was.many))
 
   pub late_rises : (k : ℕ) → slice_index late k ≤ slice_index (slice_set late u x) k
   late_rises k = elim (cases_eq k u) [
     | inl same ↦ rw same (omega (arith, now_late))
-    | inr differs ↦ omega (arith, set_other late u k x differs)
+    | inr differs ↦ omega (arith, get_or-set_other late u k x 0 differs)
   ]
 
   new_entry : (e : Deadline) → e ≡ record { node = u; before = x } → IsLateEntry task e
@@ -109,13 +75,13 @@ module _ (task : SearchTask) (first begin : ℕ) (late place : List ℕ) (entrie
     pub changed_late : AreLate task first begin (slice_set late u x) place (slice_set entries (slice_index place u) (record { node = u; before = x }))
     changed_late = record {
       flags = was.flags;
-      many = set_many late u x ∙ was.many;
+      many = length-set late u x ∙ was.many;
       later = was.later;
-      begins = omega (arith, was.begins, set_many entries (slice_index place u) f);
+      begins = omega (arith, was.begins, length-set entries (slice_index place u) f);
       top = λ v less some. elim (cases_eq v u) [
         | inl same ↦ rw (same, now_late) (get_set_here entries (slice_index place u) f at_within)
         | inr differs ↦
-            (let keeps : slice_index (slice_set late u x) v ≡ slice_index late v = set_other late u v x differs in
+            (let keeps : slice_index (slice_set late u x) v ≡ slice_index late v = get_or-set_other late u v x 0 differs in
             let old = was.top v less (omega (arith, some, keeps)) in
             let away : slice_index place v ≡ slice_index place u → ⊥ = λ same. differs (ap (λ (y : Deadline). y.node) (same_some (sym old ∙ ap (slice_get entries) same ∙ e0_at))) in
             rw keeps (get_set_other entries (slice_index place u) (slice_index place v) f away ∙ old))
@@ -157,63 +123,63 @@ module _ (task : SearchTask) (first begin : ℕ) (late place : List ℕ) (entrie
 
   module _ (below : 0 < slice_index late u → slice_index place u < begin) where
     in_time_pushed : (w b : ℕ) → InTimeFor entries first begin w b → InTimeFor (entries ++ record { node = u; before = x } ∷ []) first begin w b
-    in_time_pushed w b t = (t.0, t.1, t.2, t.3, get_push_before entries (record { node = u; before = x }) t.0 (slice_get_within entries t.0 t.1 t.4) ∙ t.4, t.5, t.6)
+    in_time_pushed w b t = (t.0, t.1, t.2, t.3, push_old entries (record { node = u; before = x }) t.0 t.1 t.4, t.5, t.6)
 
     place_many : length (slice_set place u (length entries)) ≡ length task.table
-    place_many = set_many place u (length entries) ∙ was.flags
+    place_many = length-set place u (length entries) ∙ was.flags
 
     place_here : slice_index (slice_set place u (length entries)) u ≡ length entries
-    place_here = set_here place u (length entries) (omega (arith, was.flags))
+    place_here = get_or-set_same place u (length entries) 0 (omega (arith, was.flags))
 
     pub pushed_late : AreLate task first begin (slice_set late u x) (slice_set place u (length entries)) (entries ++ record { node = u; before = x } ∷ [])
     pushed_late = record {
       flags = place_many;
-      many = set_many late u x ∙ was.many;
+      many = length-set late u x ∙ was.many;
       later = was.later;
       begins = omega (arith, was.begins, length-append entries (f ∷ []));
       top = λ v less some. elim (cases_eq v u) [
-        | inl same ↦ rw (same, now_late, place_here) (get_push_here entries f)
+        | inl same ↦ rw (same, now_late, place_here) (push_new entries f)
         | inr differs ↦
-            (let keeps : slice_index (slice_set late u x) v ≡ slice_index late v = set_other late u v x differs in
-            let stays : slice_index (slice_set place u (length entries)) v ≡ slice_index place v = set_other place u v (length entries) differs in
+            (let keeps : slice_index (slice_set late u x) v ≡ slice_index late v = get_or-set_other late u v x 0 differs in
+            let stays : slice_index (slice_set place u (length entries)) v ≡ slice_index place v = get_or-set_other place u v (length entries) 0 differs in
             let old = was.top v less (omega (arith, some, keeps)) in
-            rw (keeps, stays) (get_push_before entries f (slice_index place v) (slice_get_within entries (slice_index place v) (record { node = v; before = slice_index late v }) old) ∙ old))
+            rw (keeps, stays) (push_old entries f (slice_index place v) _ old))
       ];
-      goal = λ e at. was.goal e (sym (get_push_before entries f 0 (omega (arith, was.later, was.begins))) ∙ at);
+      goal = λ e at. elim (push_cases entries f 0 e at) [ inl old ↦ was.goal e old | inr here ↦ absurd (omega (arith, here.0, was.later, was.begins)) ];
       each = λ p e some at. elim (push_cases entries f p e at) [
-        | inl old ↦ was.each p e some old.1
-        | inr here ↦ new_entry e here.1
+        | inl old ↦ was.each p e some old
+        | inr here ↦ new_entry e (sym here.1)
       ];
       by = λ p e at. elim (push_cases entries f p e at) [
-        | inl old ↦ old_by p e old.1
-        | inr here ↦ new_by e here.1
+        | inl old ↦ old_by p e old
+        | inr here ↦ new_by e (sym here.1)
       ];
       rising = λ p q e g some less at_p at_q same. elim (push_cases entries f q g at_q) [
         | inl old_q ↦ elim (push_cases entries f p e at_p) [
-          | inl old_p ↦ was.rising p q e g some less old_p.1 old_q.1 same
-          | inr here_p ↦ absurd (omega (arith, here_p.0, old_q.0))
+          | inl old_p ↦ was.rising p q e g some less old_p old_q same
+          | inr here_p ↦ absurd (omega (arith, here_p.0, slice_get_within entries q g old_q))
         ]
         | inr here_q ↦ elim (push_cases entries f p e at_p) [
           | inl old_p ↦
-              (let e_node : e.node ≡ u = same ∙ ap (λ (y : Deadline). y.node) here_q.1 in
-              omega (arith, was.by p e old_p.1, ap (slice_index late) e_node, later, ap (λ (y : Deadline). y.before) here_q.1))
+              (let e_node : e.node ≡ u = same ∙ ap (λ (y : Deadline). y.node) (sym here_q.1) in
+              omega (arith, was.by p e old_p, ap (slice_index late) e_node, later, ap (λ (y : Deadline). y.before) here_q.1))
           | inr here_p ↦ absurd (omega (arith, here_p.0, here_q.0))
         ]
       ];
       once = λ p e from at. elim (push_cases entries f p e at) [
         | inl old ↦ elim (cases_eq e.node u) [
           | inl same ↦
-              (let entry = was.each p e (omega (arith, from, was.later)) old.1 in
-              absurd (omega (arith, was.once p e from old.1, ap (slice_index place) same, below (omega (arith, entry.some, was.by p e old.1, ap (slice_index late) same)))))
-          | inr differs ↦ set_other place u e.node (length entries) differs ∙ was.once p e from old.1
+              (let entry = was.each p e (omega (arith, from, was.later)) old in
+              absurd (omega (arith, was.once p e from old, ap (slice_index place) same, below (omega (arith, entry.some, was.by p e old, ap (slice_index late) same)))))
+          | inr differs ↦ get_or-set_other place u e.node (length entries) 0 differs ∙ was.once p e from old
         ]
-        | inr here ↦ ap (λ (y : Deadline). slice_index (slice_set place u (length entries)) y.node) here.1 ∙ place_here ∙ sym here.0
+        | inr here ↦ ap (λ (y : Deadline). slice_index (slice_set place u (length entries)) y.node) (sym here.1) ∙ place_here ∙ sym here.0
       ];
       sound = λ p e t from at less. elim (push_cases entries f p e at) [
-        | inl old ↦ (let s = was.sound p e t from old.1 less in (s.0, s.1, s.2, s.3, in_time_pushed s.1 s.2 s.4))
+        | inl old ↦ (let s = was.sound p e t from old less in (s.0, s.1, s.2, s.3, in_time_pushed s.1 s.2 s.4))
         | inr here ↦
             (let s = sound t (omega (arith, less, ap (λ (y : Deadline). y.before) here.1)) in
-            rw here.1 (s.0, s.1, s.2, s.3, in_time_pushed s.1 s.2 s.4))
+            rw (← here.1) (s.0, s.1, s.2, s.3, in_time_pushed s.1 s.2 s.4))
       ];
     }
 

@@ -1,5 +1,6 @@
 -- One layer more, backward from the goal.
 use Rattle.std.proofs.Common.{◌≡◌, ◌≢◌, inl, inr, ℕ, zero, suc, ◌+◌, ◌<◌, ◌≤◌, List, [], ◌∷◌, ◌++◌, length, take, replicate, false, Some, slice_get, slice_index, slice_index_or, refl, ap, sym, ◌∙◌, arith, length-append, add-one}
+use Rattle.std.proofs.lemmas.List.{get_or_append_left, get_or_past, get_or_push}
 use Rattle.std.proofs.lemmas.Bool.{cases_lt, cases_eq}
 use Rattle.std.proofs.lemmas.Option.{slice_get_within}
 use Rattle.sabr_search.specs.declared.backward.deadlines.Deadline.{Deadline}
@@ -9,7 +10,7 @@ use Rattle.sabr_search.specs.layers.Late.{InTimeFor, AreLate, AreLeftInTimeFrom,
 use Rattle.sabr_search.proofs.ForwardLemmas.LayerEntries.{same_below}
 use Rattle.sabr_search.proofs.ForwardLemmas.Forward.{last_or_before}
 use Rattle.sabr_search.proofs.WayLemmas.RoutesAndWays.{same_some}
-use Rattle.sabr_search.proofs.ForwardLemmas.MadeLayers.{index_before, index_at, index_past, layer_of}
+use Rattle.sabr_search.proofs.ForwardLemmas.MadeLayers.{layer_of}
 
 -- the layers up to `left` hops from the goal
 pub record AreBackLayers (task : SearchTask) (since : List ℕ) (d left : ℕ) (ends late place : List ℕ) (entries : List Deadline) : Type 0 where
@@ -70,10 +71,10 @@ module _ (task : SearchTask) (is : IsTask task) (since : List ℕ) (d left : ℕ
     (in_time : AreLeftInTimeFrom task since entries (slice_index ends left) (slice_index ends (left + 1)) late')
     (ends_is : ends' ≡ ends ++ length entries' ∷ []) where
   end_before : (j : ℕ) → j ≤ left + 1 → slice_index ends' j ≡ slice_index ends j
-  end_before j le = ap (λ xs. slice_index xs j) ends_is ∙ index_before ends (length entries') j (omega (arith, made.many))
+  end_before j le = ap (λ xs. slice_index xs j) ends_is ∙ get_or_append_left ends (length entries' ∷ []) 0 j (omega (arith, made.many))
 
   last' : slice_index ends' (left + 1 + 1) ≡ length entries'
-  last' = ap (λ xs. slice_index xs (left + 1 + 1)) ends_is ∙ index_at ends (length entries') (left + 1 + 1) (omega (arith, made.many))
+  last' = ap (λ xs. slice_index xs (left + 1 + 1)) ends_is ∙ get_or_push ends (length entries') 0 (left + 1 + 1) (omega (arith, made.many))
 
   many' : length ends' ≡ left + 1 + 2
   many' = omega (arith, ap length ends_is, length-append ends (length entries' ∷ []), made.many)
@@ -94,7 +95,7 @@ module _ (task : SearchTask) (is : IsTask task) (since : List ℕ) (d left : ℕ
   entry_kept : (h v x : ℕ) → HasDeadline ends entries h v x → HasDeadline ends' entries' h v x
   entry_kept h v x e = elim (cases_lt left h) [
     | inr early ↦ (e.0, omega (arith, end_before h (omega arith), e.1), omega (arith, end_before (h + 1) (omega arith), e.2), kept e.0 (record { node = v; before = x }) e.3)
-    | inl late_is ↦ absurd (omega (arith, index_past ends (h + 1) (omega (arith, made.many)), e.2))
+    | inl late_is ↦ absurd (omega (arith, get_or_past ends (h + 1) 0 (omega (arith, made.many)), e.2))
   ]
 
   entry_was : (h v x : ℕ) → h ≤ left → HasDeadline ends' entries' h v x → HasDeadline ends entries h v x
@@ -216,11 +217,6 @@ module _ (task : SearchTask) (since : List ℕ) (d left : ℕ) (ends late place 
   unmet_by j x e late_is by = omega (arith, made.layers.lists.by e.0 (record { node = w; before = x }) e.3)
 
 -- zeros stand in a list of them
-pub all_zero : (n k : ℕ) → slice_index (replicate n 0) k ≡ 0
-all_zero zero k = refl
-all_zero (suc n) zero = refl
-all_zero (suc n) (suc k) = all_zero n k
-
 -- the goal's entry is its only one
 pub linked_first : (e : Deadline) → AreLinked (e ∷ []) (0 ∷ [])
 linked_first e = record {

@@ -1,11 +1,11 @@
 -- Relaxing links backward: what holds meanwhile, and what it comes to.
-use Rattle.std.proofs.Common.{◌≡◌, ◌≢◌, inl, inr, ℕ, ◌+◌, ◌-◌, ◌<◌, ◌≤◌, min, Bool, true, false, List, [], ◌∷◌, length, replicate, Contains, All, slice_get, slice_index, slice_index_or, slice_set, Some, subst, refl, ap, sym, ◌∙◌, arith}
+use Rattle.std.proofs.Common.{◌≡◌, ◌≢◌, inl, inr, ℕ, ◌+◌, ◌-◌, ◌<◌, ◌≤◌, min, true, false, List, [], ◌∷◌, length, replicate, Contains, All, slice_get, slice_index, slice_index_or, slice_set, Some, subst, refl, ap, sym, ◌∙◌, arith}
 use Rattle.std.specs.List.Sorted.{IsPermutation}
 use Rattle.std.proofs.lemmas.Bool.{cases_lt, cases_eq, both_ways, cases_Bool}
 use Rattle.std.proofs.lemmas.Grind.{common_steps}
 use Rattle.std.proofs.lemmas.List.Elements.{All-cons, All-head, All-tail, Contains-append_right, Contains-append_cases}
 use Rattle.std.proofs.lemmas.List.Sorted.{All-permutation, Contains-permutation}
-use Rattle.std.proofs.lemmas.List.{length-replicate}
+use Rattle.std.proofs.lemmas.List.{length-replicate, get_or-set_other, get_or-set_same, length-set}
 use Rattle.std.proofs.lemmas.Option.{slice_get_within}
 use Rattle.sabr_model.specs.plan.Plan.{TabledPlan, has}
 use Rattle.sabr_model.specs.routes.Arrival.{RouteRequest, cost}
@@ -26,17 +26,8 @@ use Rattle.sabr_search.proofs.LinkLemmas.Linking.{cost_rises}
 use Rattle.sabr_search.proofs.LinkLemmas.OverLinks.{over_pass, step_over}
 use Rattle.sabr_search.proofs.WayLemmas.RoutesAndWays.{same_some}
 use Rattle.sabr_search.proofs.ForwardLemmas.Forward.{last_or_before}
-use Rattle.sabr_search.proofs.ForwardLemmas.Queues.{set_here, set_other, set_many, all_off, only_one}
-use Rattle.sabr_search.proofs.WayLemmas.EarliestSeconds.{same_everywhere, replicate_many}
-
-flag_off : (xs : List Bool) (k : ℕ) → slice_index_or (slice_set xs k false) k false ≡ false
-flag_off xs k = grind (arith, common_steps)
-
-flag_apart : (xs : List Bool) (k j : ℕ) (b : Bool) → j ≢ k → slice_index_or (slice_set xs k b) j false ≡ slice_index_or xs j false
-flag_apart xs k j b other = grind (arith, common_steps)
-
-flags_many : (xs : List Bool) (k : ℕ) (b : Bool) → length (slice_set xs k b) ≡ length xs
-flags_many xs k b = grind (arith, common_steps)
+use Rattle.sabr_search.proofs.ForwardLemmas.Queues.{only_one, all_same, off_here}
+use Rattle.sabr_search.proofs.WayLemmas.EarliestSeconds.{same_everywhere}
 
 -- at first the goal alone waits
 pub first_relaxing : {A : Type 0} (backward : Backward A) → IsTask backward.task.now → (s : Relaxation A) (until : ℕ) → IsBegun backward.task.now until s → AreRelaxing backward s (length backward.task.now.table)
@@ -45,22 +36,22 @@ first_relaxing backward is s until begun =
     let zeros : List ℕ = replicate (length task.forbidden) 0 in
     let event : Visit = record { at = 0; node = task.goal } in
     record {
-      many = ap length begun.seconds_are ∙ set_many zeros task.goal until ∙ replicate_many (length task.forbidden) 0 ∙ is.as_many;
+      many = ap length begun.seconds_are ∙ length-set zeros task.goal until ∙ length-replicate {A = ℕ} (length task.forbidden) 0 ∙ is.as_many;
       hops_many = begun.hops_many ∙ is.as_many;
       flags = ap length begun.relaxed_is ∙ length-replicate (length task.forbidden) false ∙ is.as_many;
       inside = All-permutation (λ (e : Visit). e.node < length task.table) (event ∷ []) s.queue begun.waits (All-cons (λ (e : Visit). e.node < length task.table) event [] is.goal_in (λ i d lt. absurd (omega (arith, lt))));
       waits = λ w w_in off some. elim (cases_eq w task.goal) [
         | inl same ↦ (event, Contains-permutation (event ∷ []) s.queue event begun.waits (0, omega arith, refl), sym same)
-        | inr other ↦ absurd (omega (arith, some, ap (λ xs. slice_index xs w) begun.seconds_are, set_other zeros task.goal until w other, same_everywhere (length task.forbidden) 0 w))
+        | inr other ↦ absurd (omega (arith, some, ap (λ xs. slice_index xs w) begun.seconds_are, get_or-set_other zeros task.goal w until 0 other, same_everywhere (length task.forbidden) 0 w))
       ];
-      over = λ w other on. absurd (both_ways (slice_index_or s.relaxed.items w false) (ap (λ xs. slice_index_or xs w false) begun.relaxed_is ∙ all_off (length task.forbidden) w) on);
+      over = λ w other on. absurd (both_ways (slice_index_or s.relaxed.items w false) (ap (λ xs. slice_index_or xs w false) begun.relaxed_is ∙ all_same (length task.forbidden) false w) on);
     }
 
 -- one second more is later than it was
 pub late_rises : (late : List ℕ) (u last : ℕ) → u < length late → slice_index late u < last → (k : ℕ) → slice_index late k ≤ slice_index (slice_set late u last) k
 late_rises late u last inside less k = elim (cases_eq k u) [
-  | inl same ↦ omega (arith, ap (slice_index late) same, less, ap (slice_index (slice_set late u last)) same, set_here late u last inside)
-  | inr differ ↦ omega (arith, set_other late u last k differ)
+  | inl same ↦ omega (arith, ap (slice_index late) same, less, ap (slice_index (slice_set late u last)) same, get_or-set_same late u last 0 inside)
+  | inr differ ↦ omega (arith, get_or-set_other late u k last 0 differ)
 ]
 
 -- what a step is left by stays so when the second of its sender rises
@@ -91,22 +82,22 @@ module _ {A : Type 0} (backward : Backward A) (s s' : Relaxation A) (now node la
   raised_later k = rw raised.seconds_are (late_rises s.seconds.items node last (omega (arith, within, was.many)) less k)
 
   pub raised_here : slice_index s'.seconds.items node ≡ last
-  raised_here = rw raised.seconds_are (set_here s.seconds.items node last (omega (arith, within, was.many)))
+  raised_here = rw raised.seconds_are (get_or-set_same s.seconds.items node last 0 (omega (arith, within, was.many)))
 
   pub raised_other : (k : ℕ) → k ≢ node → slice_index s'.seconds.items k ≡ slice_index s.seconds.items k
-  raised_other k other = rw raised.seconds_are (set_other s.seconds.items node last k other)
+  raised_other k other = rw raised.seconds_are (get_or-set_other s.seconds.items node k last 0 other)
 
   flag_other : (k : ℕ) → k ≢ node → slice_index_or s'.relaxed.items k false ≡ slice_index_or s.relaxed.items k false
-  flag_other k other = rw raised.relaxed_is (flag_apart s.relaxed.items node k false other)
+  flag_other k other = rw raised.relaxed_is (get_or-set_other s.relaxed.items node k false false other)
 
   flag_here : slice_index_or s'.relaxed.items node false ≡ false
-  flag_here = rw raised.relaxed_is (flag_off s.relaxed.items node)
+  flag_here = rw raised.relaxed_is (off_here s.relaxed.items node)
 
   pub still_relaxing : AreRelaxing backward s' now
   still_relaxing = record {
-    many = ap length raised.seconds_are ∙ set_many s.seconds.items node last ∙ was.many;
+    many = ap length raised.seconds_are ∙ length-set s.seconds.items node last ∙ was.many;
     hops_many = raised.hops_many ∙ was.hops_many;
-    flags = ap length raised.relaxed_is ∙ flags_many s.relaxed.items node false ∙ was.flags;
+    flags = ap length raised.relaxed_is ∙ length-set s.relaxed.items node false ∙ was.flags;
     inside = All-permutation (λ (e : Visit). e.node < length searched.table) (event ∷ s.queue) s'.queue raised.waits (All-cons (λ (e : Visit). e.node < length searched.table) event s.queue within was.inside);
     waits = λ w w_in off some. elim (cases_eq w node) [
       | inl same ↦ (event, Contains-permutation (event ∷ s.queue) s'.queue event raised.waits (0, omega arith, refl), sym same)
@@ -183,20 +174,20 @@ module _ {A : Type 0} (backward : Backward A) (s s' : Relaxation A) (e : Visit) 
   begun flags_are = record {
     many = rw seconds_same was.many;
     hops_many = rw hops_same was.hops_many;
-    flags = ap length flags_are ∙ flags_many s.relaxed.items e.node true ∙ was.flags;
+    flags = ap length flags_are ∙ length-set s.relaxed.items e.node true ∙ was.flags;
     inside = All-tail (λ (f : Visit). f.node < most) e s'.queue all_inside;
     waits = rw (seconds_same, flags_are) (λ w w_in off some. elim (cases_eq w e.node) [
       | inl same ↦ absurd (both_ways (slice_index_or (slice_set s.relaxed.items e.node true) w false) off (ap (λ k. slice_index_or (slice_set s.relaxed.items e.node true) k false) same ∙ here))
-      | inr other ↦ rest_waits w other w_in (sym (flag_apart s.relaxed.items e.node w true other) ∙ off) some
+      | inr other ↦ rest_waits w other w_in (sym (get_or-set_other s.relaxed.items e.node w true false other) ∙ off) some
     ]);
-    over = rw (seconds_same, flags_are) (λ w other on. was.over w (λ same. past w same on) (sym (flag_apart s.relaxed.items e.node w true other) ∙ on));
+    over = rw (seconds_same, flags_are) (λ w other on. was.over w (λ same. past w same on) (sym (get_or-set_other s.relaxed.items e.node w true false other) ∙ on));
   }
     where
       here : slice_index_or (slice_set s.relaxed.items e.node true) e.node false ≡ true
       here = (let within : e.node < length s.relaxed.items = omega (arith, next_inside backward s e s'.queue was moved, was.flags) in grind (arith, common_steps, within))
 
       past : (w : ℕ) → w ≡ most → slice_index_or (slice_set s.relaxed.items e.node true) w false ≡ true → ⊥
-      past w same on = (let far : length (slice_set s.relaxed.items e.node true) ≤ w = omega (arith, flags_many s.relaxed.items e.node true, was.flags, same) in both_ways (slice_index_or (slice_set s.relaxed.items e.node true) w false) (grind (arith, common_steps, far)) on)
+      past w same on = (let far : length (slice_set s.relaxed.items e.node true) ≤ w = omega (arith, length-set s.relaxed.items e.node true, was.flags, same) in both_ways (slice_index_or (slice_set s.relaxed.items e.node true) w false) (grind (arith, common_steps, far)) on)
 
 -- all links to a node are relaxed
 pub finished : {A : Type 0} (backward : Backward A) (s : Relaxation A) (now : ℕ) → AreRelaxing backward s now → IsRelaxed backward.rule backward.task.now s.seconds.items now → AreRelaxing backward s (length backward.task.now.table)
@@ -248,7 +239,7 @@ other_node task whole u between same = between.other (same_some (sym between.sta
 pub goal_begun : {A : Type 0} (task : SearchTask) → IsTask task → (until : ℕ) (s : Relaxation A) → IsBegun task until s → slice_index s.seconds.items task.goal ≡ until
 goal_begun task is until s begun =
     let zeros : List ℕ = replicate (length task.forbidden) 0 in
-    ap (λ xs. slice_index xs task.goal) begun.seconds_are ∙ set_here zeros task.goal until (omega (arith, replicate_many (length task.forbidden) 0, is.as_many, is.goal_in))
+    ap (λ xs. slice_index xs task.goal) begun.seconds_are ∙ get_or-set_same zeros task.goal until 0 (omega (arith, length-replicate {A = ℕ} (length task.forbidden) 0, is.as_many, is.goal_in))
 
 -- so these are seconds from which on no way delivers before that one
 pub late_for : (task : SearchTask) → IsWholeGraph task → (until : ℕ) (late : List ℕ) → until ≤ slice_index late task.goal → AreAllRelaxed Passes task late → AreLateFor (tabled_of task) task.request until late

@@ -1,13 +1,13 @@
 -- Layers backward from the goal: as far as they were made, and as far as one likes if the last one has no entry; and what
 -- a question's own layers say.
 use Rattle.std.proofs.Common.{◌≡◌, inl, inr, ℕ, zero, suc, ◌+◌, ◌<◌, List, Some, slice_get, slice_index, ap, sym, ◌∙◌, arith, ◌≤◌, false, [], ◌∷◌, length, slice_index_or, refl, add-one}
+use Rattle.std.proofs.lemmas.List.{get_or_past}
 use Rattle.std.proofs.lemmas.Bool.{cases_lt, cases_eq, both_ways}
 use Rattle.sabr_search.specs.declared.backward.deadlines.Deadline.{Deadline}
 use Rattle.sabr_search.specs.declared.backward.deadlines.Deadlines.{Deadlines}
 use Rattle.sabr_search.specs.questions.Task.{SearchTask, IsTask, Takes}
 use Rattle.sabr_search.specs.layers.Deadlines.{AreLinked, HasDeadline}
 use Rattle.sabr_search.specs.layers.WholeDeadlines.{AreWhole, AreMet, AreSound, IsDeadEnd, AreWholeDeadlinesOf}
-use Rattle.sabr_search.proofs.ForwardLemmas.MadeLayers.{index_past}
 use Rattle.sabr_search.proofs.BackwardLemmas.LateMade.{AreBackLayers, open_entry, AreLateLayers, IsMet}
 use Rattle.sabr_search.proofs.WholeLemmas.Chained.{last_of}
 use Rattle.sabr_search.specs.questions.FirstSteps.{Leads}
@@ -20,7 +20,7 @@ module _ {A : Type 0} (task : SearchTask) (is : IsTask task) (since : List ℕ) 
   -- no entry is after the last layer
   pub up_to_last : (j v x : ℕ) → HasDeadline s.ends.items s.entries.items j v x → j < left + 1
   up_to_last j v x e = elim (cases_lt left j) [
-    | inl past ↦ absurd (omega (arith, index_past s.ends.items (j + 1) (omega (arith, made.many)), e.2))
+    | inl past ↦ absurd (omega (arith, get_or_past s.ends.items (j + 1) 0 (omega (arith, made.many)), e.2))
     | inr within ↦ omega (arith, within)
   ]
 

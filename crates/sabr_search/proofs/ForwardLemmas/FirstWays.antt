@@ -5,7 +5,7 @@ use Rattle.std.specs.List.Sorted.{IsPermutation}
 use Rattle.std.proofs.lemmas.Bool.{cases_lt, cases_eq, both_ways, cases_Bool, false_from_ne_true}
 use Rattle.std.proofs.lemmas.List.Sums.{count_by-le-length}
 use Rattle.std.proofs.lemmas.List.Elements.{at_read}
-use Rattle.std.proofs.lemmas.List.{length-replicate}
+use Rattle.std.proofs.lemmas.List.{length-replicate, get_or-set_other, get_or-set_same, get_or_past, length-set}
 use Rattle.std.proofs.lemmas.Option.{slice_get_within}
 use Rattle.sabr_search.specs.declared.visit.Visit.{Visit}
 use Rattle.sabr_search.specs.declared.found.Best.{Best}
@@ -18,8 +18,7 @@ use Rattle.sabr_search.proofs.WayLemmas.Ways.{Leads-later}
 use Rattle.sabr_search.proofs.LinkLemmas.PlanFacts.{settled_more, senders_length}
 use Rattle.sabr_search.proofs.WayLemmas.RoutesAndWays.{takes_timely}
 use Rattle.sabr_search.proofs.AnswerLemmas.Law.{way_early}
-use Rattle.sabr_search.proofs.ForwardLemmas.MadeLayers.{index_past}
-use Rattle.sabr_search.proofs.ForwardLemmas.Queues.{flag_here, flag_other, flag_many, all_off, set_here, set_many, count_more, count_short, head_inside, head_open, head_other, head_soon, settles}
+use Rattle.sabr_search.proofs.ForwardLemmas.Queues.{count_more, count_short, head_inside, head_open, head_other, head_soon, settles, all_same}
 
 -- the number of contacts that the settled nodes send
 abbrev pub sent_by_settled : SearchTask → List Bool → ℕ
@@ -40,7 +39,7 @@ module _ (task : SearchTask) (until : ℕ) (late costs : List ℕ) (settled : Li
     many = state.many;
     start_settled = start;
     start_reached = fallen.kept task.start start ∙ reached;
-    goal_unsettled = flag_other settled u task.goal other ∙ goal;
+    goal_unsettled = get_or-set_other settled u task.goal true false other ∙ goal;
     closed = λ k on. omega (arith, fallen.lowered k, closed k on);
     lowered = state.lowered;
     queue_is = state.queue_is;
@@ -54,8 +53,8 @@ module _ (task : SearchTask) (until : ℕ) (late costs : List ℕ) (settled : Li
 -- a flag that is on stays on
 pub flag_stays : (settled : List Bool) (u k : ℕ) → u < length settled → slice_index_or settled k false ≡ true → slice_index_or (slice_set settled u true) k false ≡ true
 flag_stays settled u k within on = elim (cases_eq k u) [
-  | inl same ↦ ap (λ j. slice_index_or (slice_set settled u true) j false) same ∙ flag_here settled u within
-  | inr other ↦ flag_other settled u k other ∙ on
+  | inl same ↦ ap (λ j. slice_index_or (slice_set settled u true) j false) same ∙ get_or-set_same settled u true false within
+  | inr other ↦ get_or-set_other settled u k true false other ∙ on
 ]
 
 -- the contacts of the settled nodes come to no more than those of the plan
@@ -197,18 +196,18 @@ module _ (task : SearchTask) (is : IsTask task) (off settled : List Bool) (u : �
   off_within = omega (arith, u_is, is.start_in, is.as_many, ap length off_is, length-replicate (length task.forbidden) false)
 
   off_at : (k : ℕ) → slice_index_or off k false ≡ false
-  off_at k = ap (λ flags. slice_index_or flags k false) off_is ∙ all_off (length task.forbidden) k
+  off_at k = ap (λ flags. slice_index_or flags k false) off_is ∙ all_same (length task.forbidden) false k
 
   -- the start alone is settled
   pub start_on : slice_index_or settled task.start false ≡ true
-  start_on = rw settled_is (ap (λ k. slice_index_or (slice_set off u true) k false) (sym u_is) ∙ flag_here off u off_within)
+  start_on = rw settled_is (ap (λ k. slice_index_or (slice_set off u true) k false) (sym u_is) ∙ get_or-set_same off u true false off_within)
 
   only_start : (k : ℕ) → slice_index_or settled k false ≡ true → k ≡ task.start
   only_start k on = elim (cases_eq k u) [
     | inl same ↦ same ∙ u_is
     | inr other ↦
         (let there : slice_index_or (slice_set off u true) k false ≡ true = rw settled_is at on in
-        absurd (both_ways (slice_index_or off k false) (off_at k) (sym (flag_other off u k other) ∙ there)))
+        absurd (both_ways (slice_index_or off k false) (off_at k) (sym (get_or-set_other off u k true false other) ∙ there)))
   ]
 
   pub one_settled : settled_count settled ≡ 1
@@ -225,7 +224,7 @@ module _ (task : SearchTask) (is : IsTask task) (off settled : List Bool) (u : �
     opened_by : AreBy task late arrival
     opened_by k open' = elim (cases_lt k (length arrival)) [
       | inl within ↦ omega (arith, opened.unreached k within open')
-      | inr past ↦ omega (arith, index_past arrival k past)
+      | inr past ↦ omega (arith, get_or_past arrival k 0 past)
     ]
 
     pub start_state : IsBound task until late costs → (hops : List ℕ) (queue : List Visit) (best : Best) → length hops ≡ length task.forbidden → queue ≡ [] → best.hops ≡ 0 → best.delivery ≡ until → until ≤ latest_arrival + 1 → AreSettling task until late costs settled u task.at arrival (slice_set hops u 0) queue best
@@ -234,7 +233,7 @@ module _ (task : SearchTask) (is : IsTask task) (off settled : List Bool) (u : �
       real = ([], sym no_hops, (sym u_is, refl));
       few = omega (arith, no_hops, one_settled);
       flags = opened.flags;
-      many = ap length settled_is ∙ flag_many off u ∙ ap length off_is ∙ length-replicate (length task.forbidden) false;
+      many = ap length settled_is ∙ length-set off u true ∙ ap length off_is ∙ length-replicate (length task.forbidden) false;
       closed = opened.closed;
       early = λ n w b step k on open'. absurd (both_ways (slice_index_or task.forbidden k false) open' (ap (λ j. slice_index_or task.forbidden j false) (only_start k on) ∙ is.start_forbidden));
       lowered = opened_by;
@@ -247,14 +246,14 @@ module _ (task : SearchTask) (is : IsTask task) (off settled : List Bool) (u : �
         permitted = λ i d lt. absurd (omega (arith, lt));
         other = λ i d lt. absurd (omega (arith, lt));
       };
-      hops_are = record { many = set_many hops u 0 ∙ hops_many; ways = λ k within open' less. absurd (omega (arith, opened.unreached k within open', less)) };
+      hops_are = record { many = length-set hops u 0 ∙ hops_many; ways = λ k within open' less. absurd (omega (arith, opened.unreached k within open', less)) };
       found = inl (none, delivery);
       sooner = omega (arith, delivery, early);
       goal_late = omega (arith, delivery, bound.goal, opened.unreached task.goal (omega (arith, opened.flags, is.as_many, is.goal_in)) is.goal_open);
     })
       where
         no_hops : slice_index (slice_set hops u 0) u ≡ 0
-        no_hops = set_here hops u 0 (omega (arith, hops_many, u_is, is.start_in, is.as_many))
+        no_hops = get_or-set_same hops u 0 0 (omega (arith, hops_many, u_is, is.start_in, is.as_many))
 
     -- and once all of them are taken
     pub start_settled : (t : ℕ) (arrival' hops : List ℕ) (queue : List Visit) (best0 best : Best) → AreSettling task until late costs settled u t arrival' hops queue best → IsFallen settled arrival best0 arrival' best →

@@ -2,7 +2,7 @@
 use Rattle.std.proofs.Common.{◌≡◌, ◌≢◌, ◌⊎◌, inl, inr, ℕ, zero, suc, ◌+◌, ◌*◌, ◌<◌, ◌≤◌, List, [], ◌∷◌, ◌++◌, length, false, Option, Some, None, slice_get, slice_index, slice_index_or, refl, ap, sym, ◌∙◌, arith, length-append, add-one}
 use Rattle.std.proofs.Math.Nat.{mul-le-mul_right}
 use Rattle.std.proofs.lemmas.Bool.{cases_lt, cases_eq}
-use Rattle.std.proofs.lemmas.List.{get_or_append_left, get_or_push}
+use Rattle.std.proofs.lemmas.List.{get_or_append_left, get_or_push, get_or_past}
 use Rattle.std.proofs.lemmas.Option.{slice_get-get_or, slice_get_within, get_or_from_slice_get}
 use Rattle.sabr_search.specs.declared.visit.Visit.{Visit}
 use Rattle.sabr_search.specs.declared.found.Best.{Best}
@@ -47,17 +47,6 @@ way_open task (n ∷ []) u t v e more way = rw way.3.0 at way.2.permitted
 way_open task (n ∷ m ∷ ns) u t v e more way = way_open task (m ∷ ns) way.0 way.1 v e (omega arith) way.3
 
 -- reading a list with one element more
-pub index_before : (xs : List ℕ) (x i : ℕ) → i < length xs → slice_index (xs ++ x ∷ []) i ≡ slice_index xs i
-index_before xs x i less = get_or_append_left xs (x ∷ []) 0 i less
-
-pub index_at : (xs : List ℕ) (x i : ℕ) → i ≡ length xs → slice_index (xs ++ x ∷ []) i ≡ x
-index_at xs x i e = get_or_push xs x 0 i (sym e)
-
-pub index_past : (xs : List ℕ) (i : ℕ) → length xs ≤ i → slice_index xs i ≡ 0
-index_past [] i le = refl
-index_past (x ∷ xs) zero le = absurd (omega arith)
-index_past (x ∷ xs) (suc i) le = index_past xs i (omega arith)
-
 -- each place below a bound lies in a layer before it
 pub layer_of : (bounds : List ℕ) (p m : ℕ) → slice_index bounds 0 ≡ 0 → p < slice_index bounds m → (j : ℕ) × (j + 1 ≤ m) × (slice_index bounds j ≤ p) × (p < slice_index bounds (j + 1))
 layer_of bounds p zero first less = absurd (omega (arith, first))
@@ -76,10 +65,10 @@ module _ (task : SearchTask) (is : IsTask task) (until hop : ℕ) (bounds arriva
   many' = omega (arith, ap length bounds_is, length-append bounds (length reached' ∷ []), made.many)
 
   bound_before : (j : ℕ) → j ≤ hop + 1 → slice_index bounds' j ≡ slice_index bounds j
-  bound_before j le = ap (λ xs. slice_index xs j) bounds_is ∙ index_before bounds (length reached') j (omega (arith, made.many))
+  bound_before j le = ap (λ xs. slice_index xs j) bounds_is ∙ get_or_append_left bounds (length reached' ∷ []) 0 j (omega (arith, made.many))
 
   last' : slice_index bounds' (hop + 1 + 1) ≡ length reached'
-  last' = ap (λ xs. slice_index xs (hop + 1 + 1)) bounds_is ∙ index_at bounds (length reached') (hop + 1 + 1) (omega (arith, made.many))
+  last' = ap (λ xs. slice_index xs (hop + 1 + 1)) bounds_is ∙ get_or_push bounds (length reached') 0 (hop + 1 + 1) (omega (arith, made.many))
 
   kept : (p : ℕ) (e : Visit) → slice_get reached p ≡ Some e → slice_get reached' p ≡ Some e
   kept p e at = same_below (slice_index bounds (hop + 1)) reached reached' (sym lowered.before) p e (omega (arith, made.last_bound, slice_get_within reached p e at)) at
@@ -91,7 +80,7 @@ module _ (task : SearchTask) (is : IsTask task) (until hop : ℕ) (bounds arriva
   entry_kept : (h v a : ℕ) → Entry bounds reached h v a → Entry bounds' reached' h v a
   entry_kept h v a e = elim (cases_lt hop h) [
     | inr early ↦ (e.0, omega (arith, bound_before h (omega arith), e.1), omega (arith, bound_before (h + 1) (omega arith), e.2), kept e.0 (record { node = v; at = a }) e.3)
-    | inl late ↦ absurd (omega (arith, index_past bounds (h + 1) (omega (arith, made.many)), e.2))
+    | inl late ↦ absurd (omega (arith, get_or_past bounds (h + 1) 0 (omega (arith, made.many)), e.2))
   ]
 
   -- bounds rise along the layers
@@ -154,7 +143,7 @@ module _ (task : SearchTask) (is : IsTask task) (until hop : ℕ) (bounds arriva
   real' h v a e = elim (cases_lt hop h) [
     | inr early ↦ made.real h v a (entry_was h v a early e)
     | inl late ↦ elim (cases_eq h (hop + 1)) [
-      | inr later ↦ absurd (omega (arith, index_past bounds' (h + 1) (omega (arith, many')), e.2))
+      | inr later ↦ absurd (omega (arith, get_or_past bounds' (h + 1) 0 (omega (arith, many')), e.2))
       | inl here ↦
           (let d : Visit = record { node = v; at = a } in
           let lower : slice_index bounds' h ≡ length reached = ap (slice_index bounds') here ∙ bound_before (hop + 1) (omega arith) ∙ made.last_bound in
@@ -289,7 +278,7 @@ module _ (task : SearchTask) (is : IsTask task) (until hop : ℕ) (bounds arriva
         | inl before ↦ made.taken j v a n w b before en s
         | inr behind ↦ elim (cases_eq j hop) [
           | inl here ↦ absurd (omega (arith, en.1, en.2, none, ap (slice_index bounds) here, ap (λ k. slice_index bounds (k + 1)) here))
-          | inr past ↦ absurd (omega (arith, en.2, index_past bounds (j + 1) (omega (arith, made.many))))
+          | inr past ↦ absurd (omega (arith, en.2, get_or_past bounds (j + 1) 0 (omega (arith, made.many))))
         ]
       ]
 
@@ -421,7 +410,7 @@ layers_first task until bounds arrival place reached bounds_is reached_is lists 
             let first : e.0 ≡ 0 = omega (arith, slice_get_within one e.0 d e.3) in
             let is : record { node = task.start; at = task.at } ≡ d = same_some (ap (slice_get one) (sym first) ∙ e.3) in
             ([], sym zero_is, (ap (λ (y : Visit). y.node) is, ap (λ (y : Visit). y.at) is)))
-        | inr other ↦ absurd (omega (arith, index_past (0 ∷ 1 ∷ []) (h + 1) (omega arith), e.2))
+        | inr other ↦ absurd (omega (arith, get_or_past (0 ∷ 1 ∷ []) (h + 1) 0 (omega arith), e.2))
       ];
       taken = λ j v a n w b less e s. absurd (omega arith);
       found = inl (refl, refl);
@@ -458,7 +447,7 @@ module _ (task : SearchTask) (is : IsTask task) (until hop first begin : ℕ) (a
       (best' : Best) → ((delivery < best.delivery) × (best' ≡ record { delivery = delivery; hops = hop + 1 })) ⊎ ((best.delivery ≤ delivery) × (best' ≡ best)) → AreMade task until (hop + 1) begin arrival' place' reached' best'
   made_next arrival' place' reached' delivery lowered known best' which = (
     made.0 ++ length reached' ∷ [],
-    index_before made.0 (length reached') (hop + 1) (omega (arith, made.2.many)) ∙ last,
+    get_or_append_left made.0 (length reached' ∷ []) 0 (hop + 1) (omega (arith, made.2.many)) ∙ last,
     layers_next task is until hop made.0 arrival place reached best made.2 (made.0 ++ length reached' ∷ []) arrival' place' reached' delivery (rw (made.1, last) lowered) (rw (made.1, last) known) refl best' which,
   )
 

@@ -1,5 +1,6 @@
 -- The events that wait while nodes are settled: one more, and the earliest taken out.
 use Rattle.std.proofs.Common.{◌≡◌, ◌≢◌, inl, inr, ℕ, zero, suc, ◌+◌, ◌-◌, ◌<◌, ◌≤◌, List, [], ◌∷◌, ◌++◌, length, replicate, Bool, true, false, cond, slice_index, slice_index_or, slice_set, All, Contains, refl, ap, sym, ◌∙◌, arith, length-append}
+use Rattle.std.proofs.lemmas.List.{get_or-set_other, get_or-set_same, length-set}
 use Rattle.std.specs.List.Sorted.{IsPermutation}
 use Rattle.std.proofs.lemmas.Bool.{cases_eq, both_ways, false_from_ne_true}
 use Rattle.std.proofs.lemmas.Grind.{common_steps}
@@ -16,27 +17,12 @@ use Rattle.sabr_search.proofs.WayLemmas.RoutesAndWays.{takes_timely}
 use Rattle.sabr_search.proofs.ForwardLemmas.Forward.{known_lower}
 
 -- a list of numbers after one is set
-pub set_here : (xs : List ℕ) (k b : ℕ) → k < length xs → slice_index (slice_set xs k b) k ≡ b
-set_here xs k b within = grind (arith, common_steps)
-
-pub set_other : (xs : List ℕ) (k b j : ℕ) → j ≢ k → slice_index (slice_set xs k b) j ≡ slice_index xs j
-set_other xs k b j other = grind (arith, common_steps)
-
 pub set_falls : (xs : List ℕ) (k b : ℕ) → k < length xs → b < slice_index xs k → (j : ℕ) → slice_index (slice_set xs k b) j ≤ slice_index xs j
 set_falls xs k b within less j = grind (arith, common_steps)
 
-pub set_many : (xs : List ℕ) (k b : ℕ) → length (slice_set xs k b) ≡ length xs
-set_many xs k b = grind (arith, common_steps)
-
 -- flags after one is set
-pub flag_here : (xs : List Bool) (k : ℕ) → k < length xs → slice_index_or (slice_set xs k true) k false ≡ true
-flag_here xs k within = grind (arith, common_steps)
-
-pub flag_other : (xs : List Bool) (k j : ℕ) → j ≢ k → slice_index_or (slice_set xs k true) j false ≡ slice_index_or xs j false
-flag_other xs k j other = grind (arith, common_steps)
-
-pub flag_many : (xs : List Bool) (k : ℕ) → length (slice_set xs k true) ≡ length xs
-flag_many xs k = grind (arith, common_steps)
+pub off_here : (xs : List Bool) (k : ℕ) → slice_index_or (slice_set xs k false) k false ≡ false
+off_here xs k = grind (arith, common_steps)
 
 -- a flag that is on is in the list
 pub flag_within : (settled : List Bool) (k : ℕ) → slice_index_or settled k false ≡ true → k < length settled
@@ -44,11 +30,11 @@ flag_within [] k on = absurd (both_ways false refl on)
 flag_within (x ∷ settled) zero on = omega arith
 flag_within (x ∷ settled) (suc k) on = omega (arith, flag_within settled k on)
 
--- no flag of a list of flags that are off is on
-pub all_off : (n k : ℕ) → slice_index_or (replicate n false) k false ≡ false
-all_off zero k = refl
-all_off (suc n) zero = refl
-all_off (suc n) (suc k) = all_off n k
+-- a list of one element has it everywhere
+pub all_same : {X : Type 0} (n : ℕ) (x : X) (k : ℕ) → slice_index_or (replicate n x) k x ≡ x
+all_same zero x k = refl
+all_same (suc n) x zero = refl
+all_same (suc n) x (suc k) = all_same n x k
 
 -- one node more is settled
 pub count_more : (settled : List Bool) (k : ℕ) → k < length settled → slice_index_or settled k false ≡ false → settled_count (slice_set settled k true) ≡ settled_count settled + 1
@@ -60,7 +46,7 @@ count_more settled k within off =
 -- some node is not settled
 pub count_short : (settled : List Bool) (k : ℕ) → k < length settled → slice_index_or settled k false ≡ false → settled_count settled < length settled
 count_short settled k within off =
-    omega (arith, count_more settled k within off, count_by-le-length (λ (b : Bool). b) (slice_set settled k true), flag_many settled k)
+    omega (arith, count_more settled k within off, count_by-le-length (λ (b : Bool). b) (slice_set settled k true), length-set settled k true)
 
 -- one step more
 pub way_more : (task : SearchTask) → IsTask task → (n u h t w x : ℕ) → IsWayTo task u h t → Takes task n u t w x → IsWayTo task w (h + 1) x
@@ -124,7 +110,7 @@ module _ (task : SearchTask) (is : IsTask task) (until : ℕ) (late costs : List
   falls = set_falls arrival w b within less
 
   kept : (k : ℕ) → slice_index_or settled k false ≡ true → slice_index (slice_set arrival w b) k ≡ slice_index arrival k
-  kept k on = set_other arrival w b k (λ same. both_ways (slice_index_or settled w false) unsettled (rw same at on))
+  kept k on = get_or-set_other arrival w k b 0 (λ same. both_ways (slice_index_or settled w false) unsettled (rw same at on))
 
   all_more : (P : Visit → Type 0) → P event → All P queue → All P queue'
   all_more P here rest = All-permutation P (event ∷ queue) queue' moved (All-cons P event queue here rest)
@@ -133,13 +119,13 @@ module _ (task : SearchTask) (is : IsTask task) (until : ℕ) (late costs : List
   queue_more =
       let was = so_far.queue_is in
       let arrival' = slice_set arrival w b in
-      let many : length arrival' ≡ length arrival = set_many arrival w b in
-      let here : slice_index arrival' w ≡ b = set_here arrival w b within in
+      let many : length arrival' ≡ length arrival = length-set arrival w b in
+      let here : slice_index arrival' w ≡ b = get_or-set_same arrival w b 0 within in
       record {
         waits = λ k inside open' off reached. elim (cases_eq k w) [
           | inl same ↦ rw same (event, Contains-permutation (event ∷ queue) queue' event moved (0, omega arith, refl), refl, omega (arith, at_is, here))
           | inr differ ↦
-              let same = set_other arrival w b k differ in
+              let same = get_or-set_other arrival w k b 0 differ in
               let waits = was.waits k (omega (arith, many)) open' off (omega (arith, same)) in
               (waits.0, Contains-permutation (event ∷ queue) queue' waits.0 moved (Contains-append_right (event ∷ []) queue waits.0 waits.1), waits.2, omega (arith, waits.3, same))
         ];
@@ -154,17 +140,17 @@ module _ (task : SearchTask) (is : IsTask task) (until : ℕ) (late costs : List
   hops_more : AreHops task late settled (slice_set arrival w b) (slice_set hops w (h + 1))
   hops_more =
       let was = so_far.hops_are in
-      let arrives : slice_index (slice_set arrival w b) w ≡ b = set_here arrival w b within in
-      let counts : slice_index (slice_set hops w (h + 1)) w ≡ h + 1 = set_here hops w (h + 1) (omega (arith, was.many, so_far.flags, within)) in
+      let arrives : slice_index (slice_set arrival w b) w ≡ b = get_or-set_same arrival w b 0 within in
+      let counts : slice_index (slice_set hops w (h + 1)) w ≡ h + 1 = get_or-set_same hops w (h + 1) 0 (omega (arith, was.many, so_far.flags, within)) in
       let here : IsWayTo task w (slice_index (slice_set hops w (h + 1)) w) (slice_index (slice_set arrival w b) w) = way_same task w (h + 1) _ b _ counts arrives (way_more task is n u h t w b (rw h_is so_far.real) step) in
       record {
-        many = set_many hops w (h + 1) ∙ was.many;
+        many = length-set hops w (h + 1) ∙ was.many;
         ways = λ k inside open' reached. elim (cases_eq k w) [
           | inl same ↦ rw same (omega (arith, counts, h_is, so_far.few), here)
           | inr differ ↦
-              (let at = set_other arrival w b k differ in
-              let by = set_other hops w (h + 1) k differ in
-              let way = was.ways k (omega (arith, inside, set_many arrival w b)) open' (omega (arith, at, reached)) in
+              (let at = get_or-set_other arrival w k b 0 differ in
+              let by = get_or-set_other hops w k (h + 1) 0 differ in
+              let way = was.ways k (omega (arith, inside, length-set arrival w b)) open' (omega (arith, at, reached)) in
               (omega (arith, by, way.0), way_same task k (slice_index hops k) _ (slice_index arrival k) _ by at way.1))
         ];
       }
@@ -172,9 +158,9 @@ module _ (task : SearchTask) (is : IsTask task) (until : ℕ) (late costs : List
   pub pushed : AreSettling task until late costs settled u t (slice_set arrival w b) (slice_set hops w (h + 1)) queue' best
   pushed = record {
     on = so_far.on;
-    real = way_same task u _ _ t t (set_other hops w (h + 1) u apart) refl so_far.real;
-    few = omega (arith, set_other hops w (h + 1) u apart, so_far.few);
-    flags = set_many arrival w b ∙ so_far.flags;
+    real = way_same task u _ _ t t (get_or-set_other hops w u (h + 1) 0 apart) refl so_far.real;
+    few = omega (arith, get_or-set_other hops w u (h + 1) 0 apart, so_far.few);
+    flags = length-set arrival w b ∙ so_far.flags;
     many = so_far.many;
     closed = λ k e. omega (arith, falls k, so_far.closed k e);
     early = λ m v x s k on open'. omega (arith, kept k on, so_far.early m v x s k on open');
@@ -183,7 +169,7 @@ module _ (task : SearchTask) (is : IsTask task) (until : ℕ) (late costs : List
     hops_are = hops_more;
     found = so_far.found;
     sooner = so_far.sooner;
-    goal_late = omega (arith, set_other arrival w b task.goal (λ same. other (sym same)), so_far.goal_late);
+    goal_late = omega (arith, get_or-set_other arrival w task.goal b 0 (λ same. other (sym same)), so_far.goal_late);
   }
 
   pub pushed_falls : IsFallen settled arrival best (slice_set arrival w b) best
@@ -211,7 +197,7 @@ taken_settled task costs settled u t arrival0 best0 arrival best reached taken f
           known n w b (rw here at step))
       | inr other ↦
           (let step : Takes task n v (slice_index arrival0 v) w b = rw same at s in
-          known_lower task.goal arrival0 arrival (best0.delivery - slice_index costs w) (best.delivery - slice_index costs w) w b fallen.lowered (omega (arith, fallen.lower)) (taken v n w b (sym (flag_other settled u v other) ∙ on) step))
+          known_lower task.goal arrival0 arrival (best0.delivery - slice_index costs w) (best.delivery - slice_index costs w) w b fallen.lowered (omega (arith, fallen.lower)) (taken v n w b (sym (get_or-set_other settled u v true false other) ∙ on) step))
     ]
 
 -- the one element of a list of one
@@ -277,13 +263,13 @@ module _ (task : SearchTask) (bounds costs : List ℕ) (settled : List Bool) (ar
     early_after t le by k on open' =
         elim (cases_eq k e.node) [
           | inl same ↦ omega (arith, ap (λ (j : ℕ). slice_index arrival j) same, ap (λ (j : ℕ). slice_index costs j) same, head_late)
-          | inr other ↦ by k (sym (flag_other settled e.node k other) ∙ on) open'
+          | inr other ↦ by k (sym (get_or-set_other settled e.node k true false other) ∙ on) open'
         ]
 
     unsettled_before : (k : ℕ) → slice_index_or (slice_set settled e.node true) k false ≡ false → (k ≢ e.node) × (slice_index_or settled k false ≡ false)
     unsettled_before k off =
-        let other : k ≢ e.node = λ same. (let on : slice_index_or (slice_set settled e.node true) k false ≡ true = rw same (flag_here settled e.node within) in cc) in
-        (other, sym (flag_other settled e.node k other) ∙ off)
+        let other : k ≢ e.node = λ same. (let on : slice_index_or (slice_set settled e.node true) k false ≡ true = rw same (get_or-set_same settled e.node true false within) in cc) in
+        (other, sym (get_or-set_other settled e.node k true false other) ∙ off)
 
     queue_settled : IsQueue task bounds costs (slice_set settled e.node true) arrival queue'
     queue_settled = record {
@@ -302,11 +288,11 @@ module _ (task : SearchTask) (bounds costs : List ℕ) (settled : List Bool) (ar
     pub settles : (until : ℕ) (hops : List ℕ) (best : Best) → IsBound task until bounds costs → length arrival ≡ length task.forbidden → length settled ≡ length task.forbidden → AreClosed task.forbidden arrival task.at → task.at ≤ slice_index arrival e.node → AreBy task bounds arrival → best.delivery ≤ latest_arrival + 1 →
         best.delivery ≤ slice_index arrival task.goal → IsFound task until (settled_count settled) best → AreHops task bounds settled arrival hops → AreSettling task until bounds costs (slice_set settled e.node true) e.node (slice_index arrival e.node) arrival hops queue' best
     settles until hops best bound flags many closed since lowered sooner goal_late found hops_are = record {
-      on = flag_here settled e.node within;
+      on = get_or-set_same settled e.node true false within;
       real = (hops_are.ways e.node head_inside head_open head_soon).1;
       few = omega (arith, (hops_are.ways e.node head_inside head_open head_soon).0, count_more settled e.node within unsettled);
       flags = flags;
-      many = flag_many settled e.node ∙ many;
+      many = length-set settled e.node true ∙ many;
       closed = λ k on. omega (arith, closed k on, since);
       early = λ n w b step.
           let later : e.at ≤ b + slice_index costs w = omega (arith, head_arrives unsettled, bound.lowers n e.node (slice_index arrival e.node) w b step head_open (omega (arith, bound.since, since))) in

@@ -1,6 +1,7 @@
 -- What a plan's rules say of a contact of a number, of its hop and its arrival, and of the table of nodes; and how many
 -- contacts are looked at.
 use Rattle.std.proofs.Common.{◌≡◌, ℕ, ◌+◌, ◌<◌, ◌≤◌, max, true, false, cond, ltb, refl, arith, ◌≢◌, ◌⊎◌, inl, inr, ◌==◌, List, [], ◌∷◌, length, Bool, slice_index_or, slice_set, eq-eqb, ne_eqb, zero, suc, eqb, map, take, slice_get, sym, ap, ◌∙◌, ⊎_elim, add-one, ◌*◌, ◌&&◌, not, subst}
+use Rattle.std.proofs.lemmas.List.{length-map}
 use Rattle.std.proofs.lemmas.Bool.{ltb-true, both_ways, eqb-true, or_cases, cases_Bool, and_parts, not-true, false_from_ne_true, cond-true, lt-ltb}
 use Rattle.std.specs.Option.{option_map}
 use Rattle.std.specs.declared.option.Option.TheVariants.{Some, None}
@@ -97,13 +98,9 @@ place_is p table nodes u x e = nodes.apart (place_in table x) u x (place_found t
 pub few_different : (xs ys : List ℕ) → are_different xs ≡ true → ((q : ℕ) → has q xs ≡ true → has q ys ≡ true) → length xs ≤ length ys
 few_different xs ys d inside = length-le_from_is_member nat_eq_equiv xs ys (distinct_from_different xs d) inside
 
-map_length : {X : Type 0} (f : X → ℕ) (xs : List X) → length (map f xs) ≡ length xs
-map_length f [] = refl
-map_length f (x ∷ xs) = ap suc (map_length f xs)
-
 -- all nodes together send as many contacts as the plan has
 pub senders_length : (task : SearchTask) → length (senders task) ≡ length task.plan.contacts
-senders_length task = map_length (λ (c : Contact). place_in task.table c.from) task.plan.contacts
+senders_length task = length-map task.plan.contacts (λ (c : Contact). place_in task.table c.from)
 
 -- a sum over the first of a list, with one more, and over all
 sum_next : {X : Type 0} (f : X → ℕ) (xs : List X) (k : ℕ) (x : X) → slice_get xs k ≡ Some x → sum_by f (take (suc k) xs) ≡ sum_by f (take k xs) + f x

@@ -1,5 +1,6 @@
 -- Before which second no way comes to a node, and the least way within other limits.
 use Rattle.std.proofs.Common.{◌≡◌, inl, inr, ℕ, zero, suc, ◌<◌, ◌≤◌, ◌-◌, min, max, List, [], ◌∷◌, ◌++◌, length, take, replicate, slice_index, ◌∙◌, arith}
+use Rattle.std.proofs.lemmas.List.{get_or_past, length-replicate}
 use Rattle.std.proofs.lemmas.Bool.{cases_lt}
 use Rattle.std.proofs.lemmas.Grind.{common_steps}
 use Rattle.std.proofs.lemmas.List.FromFn.{get_or-map-range_with_len, length-map-range_with_len}
@@ -8,7 +9,6 @@ use Rattle.sabr_search.specs.layers.Late.{AreSince, AreArrivals}
 use Rattle.sabr_search.specs.layers.Since.{first_of, since_at, since_of}
 use Rattle.sabr_search.specs.layers.Settling.{AreArrivalsBy}
 use Rattle.sabr_search.proofs.WayLemmas.Ways.{Leads-later}
-use Rattle.sabr_search.proofs.ForwardLemmas.MadeLayers.{index_past}
 use Rattle.sabr_search.proofs.WayLemmas.RoutesAndWays.{takes_timely}
 
 pub same_everywhere : (n x k : ℕ) → slice_index (replicate n x) k ≤ x
@@ -16,13 +16,10 @@ same_everywhere zero x k = omega arith
 same_everywhere (suc n) x zero = omega arith
 same_everywhere (suc n) x (suc k) = same_everywhere n x k
 
-pub replicate_many : (n x : ℕ) → length (replicate n x) ≡ n
-replicate_many n x = grind (arith, common_steps)
-
 -- no way comes to a node before the search starts
 pub arrivals_since : (task : SearchTask) → IsTask task → (n : ℕ) → n ≡ length task.forbidden → AreArrivals task (replicate n task.at)
 arrivals_since task is n n_is = record {
-  flags = replicate_many n task.at ∙ n_is ∙ is.as_many;
+  flags = length-replicate n task.at ∙ n_is ∙ is.as_many;
   least = λ ns v t some way. omega (arith, same_everywhere n task.at v, Leads-later (Takes task) (takes_timely task is.nodes) ns task.start task.at v t way);
 }
 
@@ -35,7 +32,7 @@ since_read nodes arrival costs soon d k less = get_or-map-range_with_len (since_
 pub since_most : (nodes : ℕ) (arrival costs soon : List ℕ) (d k : ℕ) → slice_index (since_of nodes arrival costs soon d) k ≤ since_at arrival costs soon d k
 since_most nodes arrival costs soon d k = elim (cases_lt k nodes) [
   | inl less ↦ omega (arith, since_read nodes arrival costs soon d k less)
-  | inr past ↦ omega (arith, index_past (since_of nodes arrival costs soon d) k (omega (arith, since_many nodes arrival costs soon d)))
+  | inr past ↦ omega (arith, get_or_past (since_of nodes arrival costs soon d) k 0 (omega (arith, since_many nodes arrival costs soon d)))
 ]
 
 pub first_before : (a l s : ℕ) → a < l → first_of a l s ≡ a

@@ -1,9 +1,10 @@
 -- Forbidding nodes, and going along a prefix.
 use Rattle.std.proofs.Common.{◌≡◌, ◌≢◌, inl, inr, ℕ, zero, suc, ◌+◌, ◌<◌, ◌≤◌, Bool, true, false, not, ◌||◌, eqb, List, [], ◌∷◌, ◌++◌, length, take, drop, Some, None, slice_get, slice_index, slice_index_or, slice_set, refl, ap, sym, subst, ◌∙◌, arith, length-append}
+use Rattle.sabr_search.proofs.ForwardLemmas.Queues.{off_here}
 use Rattle.std.specs.Prelude.{IsTrue}
 use Rattle.std.specs.Option.{option_and_then}
 use Rattle.std.proofs.lemmas.Bool.{or_right, or_from, eq-eqb, ne_eqb, both_ways, cases_eq, and_parts, not-true}
-use Rattle.std.proofs.lemmas.List.{take_more, take-take, take-append-drop}
+use Rattle.std.proofs.lemmas.List.{take_more, take-take, take-append-drop, get_or-set_other, get_or-set_same, length-set}
 use Rattle.std.proofs.lemmas.Grind.{common_steps}
 use Rattle.std.proofs.lemmas.Option.{slice_get_within, slice_get-get_or, get_or_from_slice_get}
 use Rattle.sabr_model.specs.declared.contact.Contact.{Contact}
@@ -27,9 +28,8 @@ use Rattle.sabr_search.proofs.WayLemmas.Prefixes.{IsPrefix}
 use Rattle.sabr_model.proofs.PlanLemmas.Tabled.{has_place}
 use Rattle.sabr_model.proofs.RouteLemmas.Paths.{IsHop, hop_facts, beginning_is_path, receivers_push, chain_end_push, arrival_after_push}
 use Rattle.sabr_model.proofs.RouteLemmas.Prefixes.{prefix_is_path}
-use Rattle.sabr_search.proofs.BackwardLemmas.LateLists.{push_cases}
+use Rattle.sabr_model.proofs.ListLemmas.Members.{push_cases}
 use Rattle.sabr_search.proofs.AnswerLemmas.Law.{received}
-use Rattle.sabr_search.proofs.ForwardLemmas.Queues.{flag_here, flag_other, flag_many}
 
 or_false : (b : Bool) → (b || false) ≡ b
 or_false true = refl
@@ -38,38 +38,29 @@ or_false false = refl
 -- a node more is forbidden
 pub forbidden_more : (p : ContactPlan) (table : List ℕ) → HasNodes p table → (forbidden : List Bool) (test test' : ℕ → Bool) (k node : ℕ) → AreForbidden table forbidden test → slice_get table k ≡ Some node → ((x : ℕ) → test' x ≡ (test x || eqb x node)) → AreForbidden table (slice_set forbidden k true) test'
 forbidden_more p table nodes forbidden test test' k node so_far at more = record {
-  many = flag_many forbidden k ∙ so_far.many;
+  many = length-set forbidden k true ∙ so_far.many;
   flag = λ j x here. elim (cases_eq j k) [
     | inl same ↦
         (let node_is : x ≡ node = (let q : Some x ≡ Some node = sym here ∙ ap (slice_get table) same ∙ at in cc (q)) in
-        ap (λ i. slice_index_or (slice_set forbidden k true) i false) same ∙ flag_here forbidden k (omega (arith, so_far.many, slice_get_within table k node at))
+        ap (λ i. slice_index_or (slice_set forbidden k true) i false) same ∙ get_or-set_same forbidden k true false (omega (arith, so_far.many, slice_get_within table k node at))
         ∙ sym (more x ∙ or_right (test x) (eqb x node) (eq-eqb x node node_is)))
     | inr other ↦
         (let differ : x ≡ node → ⊥ = λ same. other (nodes.apart j k node (here ∙ ap Some same) at) in
-        flag_other forbidden k j other ∙ so_far.flag j x here ∙ sym (more x ∙ ap (λ b. test x || b) (ne_eqb x node differ) ∙ or_false (test x)))
+        get_or-set_other forbidden k j true false other ∙ so_far.flag j x here ∙ sym (more x ∙ ap (λ b. test x || b) (ne_eqb x node differ) ∙ or_false (test x)))
   ];
 }
-
-pub off_here : (xs : List Bool) (k : ℕ) → slice_index_or (slice_set xs k false) k false ≡ false
-off_here xs k = grind (arith, common_steps)
-
-pub off_other : (xs : List Bool) (k j : ℕ) → j ≢ k → slice_index_or (slice_set xs k false) j false ≡ slice_index_or xs j false
-off_other xs k j other = grind (arith, common_steps)
-
-off_many : (xs : List Bool) (k : ℕ) → length (slice_set xs k false) ≡ length xs
-off_many xs k = grind (arith, common_steps)
 
 -- a node less is forbidden
 pub forbidden_less : (p : ContactPlan) (table : List ℕ) → HasNodes p table → (forbidden : List Bool) (test test' : ℕ → Bool) (k node : ℕ) → AreForbidden table forbidden test' → slice_get table k ≡ Some node → ((x : ℕ) → test' x ≡ (test x || eqb x node)) → test node ≡ false → AreForbidden table (slice_set forbidden k false) test
 forbidden_less p table nodes forbidden test test' k node so_far at more off = record {
-  many = off_many forbidden k ∙ so_far.many;
+  many = length-set forbidden k false ∙ so_far.many;
   flag = λ j x here. elim (cases_eq j k) [
     | inl same ↦
         (let node_is : x ≡ node = (let q : Some x ≡ Some node = sym here ∙ ap (slice_get table) same ∙ at in cc (q)) in
         ap (λ i. slice_index_or (slice_set forbidden k false) i false) same ∙ off_here forbidden k ∙ sym (ap test node_is ∙ off))
     | inr other ↦
         (let differ : x ≡ node → ⊥ = λ same. other (nodes.apart j k node (here ∙ ap Some same) at) in
-        off_other forbidden k j other ∙ so_far.flag j x here ∙ more x ∙ ap (λ b. test x || b) (ne_eqb x node differ) ∙ or_false (test x))
+        get_or-set_other forbidden k j false false other ∙ so_far.flag j x here ∙ more x ∙ ap (λ b. test x || b) (ne_eqb x node differ) ∙ or_false (test x))
   ];
 }
 
@@ -174,8 +165,8 @@ pub stops_more : (p : TabledPlan) (r : RouteRequest) (prefix : List ℕ) (i : �
 stops_more p r prefix i stops next many are here = (
   omega (arith, length-append stops (next ∷ []), many),
   λ j stop at. elim (push_cases stops next j stop at) [
-    | inl old ↦ are j stop old.1
-    | inr new ↦ (let j_is : i + 1 ≡ j = sym many ∙ sym new.0 in subst (λ k. IsStop p r (take k prefix) stop) j_is (subst (IsStop p r (take (i + 1) prefix)) (sym new.1) here))
+    | inl old ↦ are j stop old
+    | inr new ↦ (let j_is : i + 1 ≡ j = sym many ∙ sym new.0 in subst (λ k. IsStop p r (take k prefix) stop) j_is (subst (IsStop p r (take (i + 1) prefix)) new.1 here))
   ],
 )
 

@@ -5,10 +5,11 @@ use Rattle.std.proofs.lemmas.Bool.{cases_lt, cases_eq}
 use Rattle.std.proofs.lemmas.Bool.Decides.{nat_tests}
 use Rattle.std.proofs.lemmas.Option.{slice_get_within}
 use Rattle.std.proofs.Math.Seq.{get_or-append_seam}
-use Rattle.std.proofs.lemmas.List.{get_or_append_left}
+use Rattle.std.proofs.lemmas.List.{get_or_append_left, length-set, take-append-le, take-set-le}
 use Rattle.sabr_search.specs.declared.backward.deadlines.Deadline.{Deadline}
 use Rattle.sabr_search.specs.layers.Deadlines.{AreLinked, IsLastBelow, IsLatestWithin, IsOf, head_of}
-use Rattle.sabr_search.proofs.BackwardLemmas.LateLists.{get_set_here, get_set_other, get_push_before, push_cases, set_cases, set_many, changed_late, pushed_late, take_set, take_push}
+use Rattle.sabr_search.proofs.BackwardLemmas.LateLists.{get_set_here, get_set_other, set_cases, changed_late, pushed_late}
+use Rattle.sabr_model.proofs.ListLemmas.Members.{push_cases, push_old}
 use Rattle.sabr_search.proofs.WayLemmas.RoutesAndWays.{same_some}
 use Rattle.sabr_search.specs.declared.backward.deadlines.Deadlines.{Deadlines}
 use Rattle.sabr_search.specs.declared.backward.from_goal.Aim.{Aim}
@@ -45,22 +46,23 @@ module _ (entries : List Deadline) (k u x y : ℕ) (there : slice_get entries k 
 
   pub linked_set : (fewer : List ℕ) → AreLinked entries fewer → AreLinked (slice_set entries k (record { node = u; before = x })) fewer
   linked_set fewer was = record {
-    many = was.many ∙ sym (set_many entries k (record { node = u; before = x }));
+    many = was.many ∙ sym (length-set entries k (record { node = u; before = x }));
     each = λ p v here. below_kept entries _ v p (slice_index fewer p) (λ q less. set_of q v) (λ q less. of_set q v) (was.each p v (of_set p v here));
   }
 
 -- one more entry comes
 module _ (entries : List Deadline) (f : Deadline) where
   push_kept : (v end place : ℕ) → end ≤ length entries → IsLastBelow entries v end place → IsLastBelow (entries ++ f ∷ []) v end place
-  push_kept v end place all = below_kept entries (entries ++ f ∷ []) v end place (λ q less here. (here.0, get_push_before entries f q (omega (arith, less, all)) ∙ here.1)) (λ q less here. (here.0, sym (get_push_before entries f q (omega (arith, less, all))) ∙ here.1))
+  push_kept v end place all = below_kept entries (entries ++ f ∷ []) v end place (λ q less here. (here.0, push_old entries f q _ here.1))
+      (λ q less here. elim (push_cases entries f q _ here.1) [ inl old ↦ (here.0, old) | inr new ↦ absurd (omega (arith, new.0, less, all)) ])
 
   pub linked_push : (fewer : List ℕ) (head : ℕ) → AreLinked entries fewer → IsLastBelow entries f.node (length entries) head → AreLinked (entries ++ f ∷ []) (fewer ++ head ∷ [])
   linked_push fewer head was last = record {
     many = omega (arith, length-append entries (f ∷ []), length-append fewer (head ∷ []), was.many);
     each = λ p v here. elim (push_cases entries f p _ here.1) [
-      | inl old ↦ rw (get_or_append_left fewer (head ∷ []) 0 p (omega (arith, was.many, old.0))) (push_kept v p (slice_index fewer p) (omega (arith, old.0)) (was.each p v (here.0, old.1)))
+      | inl old ↦ (let within = slice_get_within entries p _ old in rw (get_or_append_left fewer (head ∷ []) 0 p (omega (arith, was.many, within))) (push_kept v p (slice_index fewer p) (omega (arith, within)) (was.each p v (here.0, old))))
       | inr new ↦
-          (let node : v ≡ f.node = ap (λ (e : Deadline). e.node) new.1 in
+          (let node : v ≡ f.node = ap (λ (e : Deadline). e.node) (sym new.1) in
           let seam : slice_index (fewer ++ head ∷ []) p ≡ head = ap (slice_index (fewer ++ head ∷ [])) (new.0 ∙ sym was.many) ∙ get_or-append_seam fewer head [] 0 in
           rw (node, seam, new.0) (push_kept f.node (length entries) head (omega arith) last))
     ];
@@ -169,11 +171,11 @@ late_noted task first begin s t was linked u x inside permitted other later soun
       record {
         lists = rw (here.1, is) (changed_late task first begin s.late.items s.place.items s.entries.items was u x inside permitted other later sound some above);
         linked = rw (is, here.3) (linked_set s.entries.items (slice_index s.place.items u) u x (slice_index s.late.items u) (was.top u inside some) s.fewer.items linked);
-        kept = rw is (take_set begin s.entries.items (slice_index s.place.items u) (record { node = u; before = x }) above);
+        kept = rw is (take-set-le begin s.entries.items (slice_index s.place.items u) (record { node = u; before = x }) above);
       })
 ]
 late_noted task first begin s t was linked u x inside permitted other later sound (inr new) = record {
   lists = rw (new.1, new.2) (pushed_late task first begin s.late.items s.place.items s.entries.items was u x inside permitted other later sound (λ some. omega (arith, new.0, head_some s.late.items s.place.items u some)));
   linked = rw (new.2, new.3) (linked_push s.entries.items (record { node = u; before = x }) s.fewer.items _ linked (last_of task first begin s.late.items s.place.items s.entries.items was u inside));
-  kept = rw new.2 (take_push begin s.entries.items (record { node = u; before = x }) was.begins);
+  kept = rw new.2 (take-append-le begin s.entries.items ((record { node = u; before = x }) ∷ []) was.begins);
 }

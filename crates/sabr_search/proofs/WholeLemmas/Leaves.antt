@@ -1,6 +1,7 @@
 -- Layers made for the whole graph leave out no way of a part's question; and what dead ends say of other seconds and
 -- hops.
 use Rattle.std.proofs.Common.{◌≡◌, inl, inr, ℕ, ◌+◌, ◌<◌, ◌≤◌, Bool, true, false, List, [], ◌∷◌, ◌++◌, length, slice_get, slice_index, slice_index_or, Some, refl, ap, sym, subst, ◌∙◌, arith, length-append, zero, suc, ◌-◌, min, add-zero}
+use Rattle.std.proofs.lemmas.List.{get_or_past}
 use Rattle.std.proofs.lemmas.Bool.{cases_eq, cases_lt, both_ways}
 use Rattle.std.proofs.lemmas.Bool.Decides.{nat_tests}
 use Rattle.std.proofs.lemmas.Option.{slice_get-get_or}
@@ -18,7 +19,6 @@ use Rattle.sabr_search.proofs.WayLemmas.RoutesAndWays.{takes_timely}
 use Rattle.sabr_search.proofs.WayLemmas.Prefixes.{prefix_facts}
 use Rattle.sabr_search.proofs.AnswerLemmas.Answered.{of_request, stop_of, soon_after, receivers_open}
 use Rattle.sabr_search.proofs.ForwardLemmas.FirstWays.{goal_other}
-use Rattle.sabr_search.proofs.ForwardLemmas.MadeLayers.{index_past}
 
 -- the node at which a way of some hops ends is one that a step takes
 way_ends : (task : SearchTask) (Open : ℕ → Type 0) → ((n u t w b : ℕ) → Takes task n u t w b → Open w) → (ns : List ℕ) (u t v e : ℕ) → Leads (Takes task) u t ns v e → 0 < length ns → Open v
@@ -182,7 +182,7 @@ module _ {A : Type 0} (task : SearchTask) (is : IsTask task) (d hops : ℕ) (s :
             (let sum : (i + 1) + (last - (i + 1)) ≡ last = omega (arith, entry.2, within) in
             let rise : slice_index ends (i + 1) ≤ slice_index ends last = rw sum at (rises ends over.layers.rising (i + 1) (last - (i + 1)) (omega (arith, sum, within))) in
             omega (arith, entry.4, latest place.0 (record { node = u; before = entry.1 }) (omega (arith, place.2, rise)) place.3 refl))
-        | inr past ↦ absurd (omega (arith, place.2, index_past ends (i + 1) past))
+        | inr past ↦ absurd (omega (arith, place.2, get_or_past ends (i + 1) 0 past))
       ]
 
   -- whoever a way of the question leads to a node after a second that none of its entries of so many hops exceeds is at a dead

@@ -4,7 +4,7 @@ use Rattle.std.specs.Prelude.{IfSome, IfNone, eqb}
 use Rattle.std.specs.declared.option.Option.{Option}
 use Rattle.std.specs.declared.option.Option.TheVariants.{Some, None}
 use Rattle.std.proofs.lemmas.List.Elements.{All-get_or}
-use Rattle.std.proofs.lemmas.List.{length-map}
+use Rattle.std.proofs.lemmas.List.{length-map, get_or_past}
 use Rattle.std.proofs.lemmas.List.Sums.{count_by-le-length}
 use Rattle.sabr_search.specs.questions.Linked.{degree, senders}
 use Rattle.sabr_search.proofs.LinkLemmas.PlanFacts.{senders_length}
@@ -23,7 +23,7 @@ use Rattle.sabr_search.specs.layers.WholeDeadlines.{AreDeadEnds, AreSound, IsDea
 use Rattle.sabr_search.specs.layers.Deadlines.{IsInTimeWithin, IsLatestWithin, end_within}
 use Rattle.sabr_search.proofs.WayLemmas.Ways.{Leads-append}
 use Rattle.sabr_search.proofs.WayLemmas.RoutesAndWays.{takes_timely, same_some}
-use Rattle.sabr_search.proofs.ForwardLemmas.MadeLayers.{index_past, layer_of, spent_more}
+use Rattle.sabr_search.proofs.ForwardLemmas.MadeLayers.{layer_of, spent_more}
 use Rattle.sabr_search.proofs.WholeLemmas.Leaves.{dead_later, dead_too_late}
 
 abbrev pub visit_of : Step → Visit
@@ -171,7 +171,7 @@ module _ {A : Type 0} (task : SearchTask) (is : IsTask task) (d hops : ℕ) (lay
   pub some_end : 0 < length layers.ends.items
   some_end = elim (cases_lt 1 (length layers.ends.items)) [
     | inl some ↦ omega (arith, some)
-    | inr few ↦ absurd (omega (arith, index_past layers.ends.items 1 few, over.layers.second_end))
+    | inr few ↦ absurd (omega (arith, get_or_past layers.ends.items 1 0 few, over.layers.second_end))
   ]
 
   -- an entry before the end of those of so many hops

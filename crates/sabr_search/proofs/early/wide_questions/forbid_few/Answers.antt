@@ -1,11 +1,11 @@
 use Rattle.std.proofs.Common.{◌≡◌, ◌≢◌, ◌≤◌, ℕ, Bool, true, false, List, [], length, slice_index_or, slice_set, inl, inr, ap, sym, ◌∙◌, arith}
+use Rattle.std.proofs.lemmas.List.{get_or-set_other, get_or-set_same, length-set}
 use Rattle.std.proofs.lemmas.Bool.{cases_lt, both_ways}
 use Rattle.std.proofs.lemmas.Option.{slice_get-get_or}
 use Rattle.std.proofs.lemmas.Grind.{common_steps}
 use Rattle.sabr_search.specs.questions.Task.{SearchTask, IsTask, IsOfRequest, is_closed}
 use Rattle.sabr_search.specs.questions.PrefixPath.{AreForbidden}
 use Rattle.sabr_search.specs.answers.Answers.{narrowed, ForbidsFewer}
-use Rattle.sabr_search.proofs.ForwardLemmas.Queues.{flag_here, flag_other, flag_many}
 use Rattle.sabr_search.proofs.early.wide_questions.forbid_few.Goals as goal
 
 -- a flag past the end is off
@@ -18,11 +18,11 @@ module _ (task : SearchTask) (is : IsTask task) (request : IsOfRequest task) (fo
 
   fewer_forbidden : ForbidsFewer task here
   fewer_forbidden = record {
-    many = flag_many forbidden task.start ∙ are.many ∙ sym is.as_many;
-    start = flag_here forbidden task.start (omega (arith, are.many, is.start_in));
+    many = length-set forbidden task.start true ∙ are.many ∙ sym is.as_many;
+    start = get_or-set_same forbidden task.start true false (omega (arith, are.many, is.start_in));
     opens = λ k open'.
         let other : k ≢ task.start = λ same. both_ways (slice_index_or task.forbidden task.start false) (sym (ap (λ j. slice_index_or task.forbidden j false) same) ∙ open') is.start_forbidden in
-        flag_other forbidden task.start k other ∙ elim (cases_lt k (length task.table)) [
+        get_or-set_other forbidden task.start k true false other ∙ elim (cases_lt k (length task.table)) [
           | inl within ↦
               (let at = slice_get-get_or task.table k 0 within in
               are.flag k _ at ∙ request.closes k _ at open')
@@ -35,8 +35,8 @@ module _ (task : SearchTask) (is : IsTask task) (request : IsOfRequest task) (fo
     goal_is = request.goal_is;
     since = request.since;
     closes = λ k x at open'.
-        let other : k ≢ task.start = λ same. both_ways (slice_index_or here task.start false) (sym (ap (λ j. slice_index_or here j false) same) ∙ open') (flag_here forbidden task.start (omega (arith, are.many, is.start_in))) in
-        sym (are.flag k x at) ∙ sym (flag_other forbidden task.start k other) ∙ open';
+        let other : k ≢ task.start = λ same. both_ways (slice_index_or here task.start false) (sym (ap (λ j. slice_index_or here j false) same) ∙ open') (get_or-set_same forbidden task.start true false (omega (arith, are.many, is.start_in))) in
+        sym (are.flag k x at) ∙ sym (get_or-set_other forbidden task.start k true false other) ∙ open';
   }
 
 pub reset-requires : goal.reset-requires

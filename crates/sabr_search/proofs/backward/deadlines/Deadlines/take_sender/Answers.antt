@@ -1,4 +1,5 @@
 use Rattle.std.proofs.Common.{◌≡◌, ◌+◌, slice_index, arith}
+use Rattle.std.proofs.lemmas.List.{get_or-set_same}
 use Rattle.sabr_search.proofs.ForwardLemmas.LayerEntries.{read_at}
 use Rattle.sabr_search.proofs.BackwardLemmas.LateLists.{sound_back}
 use Rattle.sabr_search.proofs.BackwardLemmas.Relaxing.{late_rises}
@@ -9,7 +10,6 @@ use Rattle.sabr_search.specs.layers.Late.{IsNotedLate}
 use Rattle.sabr_search.proofs.backward.deadlines.Deadlines.take_sender.Given.{Over}
 use Rattle.sabr_search.proofs.backward.deadlines.Deadlines.take_sender.Goals.{After-index-begin}
 use Rattle.sabr_search.proofs.backward.deadlines.Deadlines.take_sender.Goals as goal
-use Rattle.sabr_search.proofs.ForwardLemmas.Queues.{set_here}
 
 pub returns-then-last-max-clause-in_time : goal.returns-then-last-max-clause-in_time
 returns-then-last-max-clause-in_time g c = λ n t w b has s less permitted other soon.
@@ -55,4 +55,4 @@ returns-clause-grown g c =
 
 pub returns-clause-in_time : goal.returns-clause-in_time
 returns-clause-in_time g c = λ n t w b has s less permitted other soon.
-    rw c.in_ok-note_late.ensures.late (omega (arith, set_here c.args.self.now.late.items c.args.from.node c.leave_over-last.result (omega (arith, c.requires.node, c.requires.growing.lists.many)), c.leave_over-last.ensures.full n t w b has s less))
+    rw c.in_ok-note_late.ensures.late (omega (arith, get_or-set_same c.args.self.now.late.items c.args.from.node c.leave_over-last.result 0 (omega (arith, c.requires.node, c.requires.growing.lists.many)), c.leave_over-last.ensures.full n t w b has s less))

@@ -1,9 +1,10 @@
 use Rattle.std.proofs.Common.{◌≡◌, ◌≢◌, ℕ, ◌<◌, inl, inr, length, false, slice_index, slice_index_or, refl, ap, sym, ◌∙◌, arith}
+use Rattle.std.proofs.lemmas.List.{get_or-set_same, length-set}
 use Rattle.std.proofs.lemmas.Bool.{false_from_ne_true}
 use Rattle.sabr_search.specs.questions.Task.{Takes}
 use Rattle.sabr_search.proofs.ForwardLemmas.MadeLayers.{goal_unreached}
 use Rattle.sabr_search.proofs.ForwardLemmas.Forward.{known_old, lowered_none}
-use Rattle.sabr_search.proofs.ForwardLemmas.Queues.{set_here, set_falls, set_many}
+use Rattle.sabr_search.proofs.ForwardLemmas.Queues.{set_falls}
 use Rattle.sabr_search.proofs.LinkLemmas.OverLinks.{over_pass, step_over}
 use Rattle.sabr_search.proofs.forward.layers.Layers.take_link.Goals as goal
 
@@ -50,7 +51,7 @@ returns-clause-lowered g c =
     let noted = c.in_ok-note.ensures in
     record {
       lists = record {
-        flags = rw noted.arrivals (set_many own.arrival.items w b ∙ was.flags);
+        flags = rw noted.arrivals (length-set own.arrival.items w b ∙ was.flags);
         closed = λ k on. rw noted.arrivals (omega (arith, set_falls own.arrival.items w b within less k, was.closed k on));
         placed = noted.placed;
         linked = noted.linked task.forbidden was.linked;
@@ -65,7 +66,7 @@ returns-clause-lowered g c =
         ];
         by = λ p d inside. elim (noted.entries p d inside) [
           | inl old ↦ rw (noted.arrivals, old.1) (omega (arith, set_falls own.arrival.items w b within less (slice_index_or own.reached.items p d).node, was.by p d old.0))
-          | inr here ↦ rw (noted.arrivals, here.0, here.1) (omega (arith, set_here own.arrival.items w b within))
+          | inr here ↦ rw (noted.arrivals, here.0, here.1) (omega (arith, get_or-set_same own.arrival.items w b 0 within))
         ];
       };
       lower = omega arith;
@@ -88,4 +89,4 @@ returns-clause-known g c = λ n w x has s.
     let other : to ≢ task.goal = λ same. c.if-to-goal.false (same ∙ sym c.goal.ensures) in
     let within : to < length own.arrival.items = omega (arith, c.requires.lists.flags, c.requires.task.as_many, c.requires.receiver) in
     let over = over_pass task c.requires.task u to t has.1 w x (c.requires.link.0.each has.0 has.1 has.2) (step_over task c.args.link.passes.now n u t w x has s) in
-    rw (over.receiver, c.in_ok-note.ensures.arrivals) (inr (other, omega (arith, set_here own.arrival.items to c.arrive_over-arrival.result within, c.arrive_over-arrival.ensures.full n w x has s)))
+    rw (over.receiver, c.in_ok-note.ensures.arrivals) (inr (other, omega (arith, get_or-set_same own.arrival.items to c.arrive_over-arrival.result 0 within, c.arrive_over-arrival.ensures.full n w x has s)))

@@ -1,9 +1,10 @@
 use Rattle.std.proofs.Common.{◌≡◌, ◌≢◌, ◌⊎◌, inl, inr, ℕ, ◌+◌, ◌-◌, ◌<◌, Bool, false, List, Some, length, vec_len, slice_get, slice_index_or, slice_set, ap, sym, ◌∙◌, arith}
+use Rattle.std.proofs.lemmas.List.{get_or-set_other}
+use Rattle.sabr_search.proofs.ForwardLemmas.Queues.{off_here}
 use Rattle.std.proofs.lemmas.Bool.{cases_eq, both_ways}
 use Rattle.std.proofs.lemmas.Grind.{common_steps}
 use Rattle.std.proofs.lemmas.Option.{slice_get-get_or, slice_get_within, get_or_from_slice_get}
 use Rattle.sabr_search.specs.answers.CachedAnswers.{IsListing}
-use Rattle.sabr_search.proofs.WayLemmas.PrefixPaths.{off_here, off_other}
 use Rattle.sabr_search.proofs.prefix_path.forbidden_nodes.ForbiddenNodes.allow.Goals as goal
 
 -- the last node takes the place of one that is opened
@@ -35,7 +36,7 @@ module _ (flags : List Bool) (nodes nodes' : List ℕ) (node place : ℕ) (was :
     listed = λ k on. elim (cases_eq k node) [
       | inl same ↦ absurd (both_ways (slice_index_or (slice_set flags node false) node false) (off_here flags node) (ap (λ j. slice_index_or (slice_set flags node false) j false) (sym same) ∙ on))
       | inr other ↦
-          let old = was.listed k (sym (off_other flags node k other) ∙ on) in
+          let old = was.listed k (sym (get_or-set_other flags node k false false other) ∙ on) in
           let apart : place ≢ old.0 = λ same. other (let q : Some k ≡ Some node = sym old.1 ∙ ap (slice_get nodes) (sym same) ∙ at in cc (q)) in
           elim (cases_eq (old.0 + 1) (length nodes)) [
             | inl i_last ↦ (place, moved old.0 k i_last apart old.1)
@@ -43,9 +44,9 @@ module _ (flags : List Bool) (nodes nodes' : List ℕ) (node place : ℕ) (was :
           ]
     ];
     all = λ i k listed. elim (before i k listed) [
-      | inl old ↦ off_other flags node k (λ same. old.0 (was.once i place node (old.1 ∙ ap Some same) at)) ∙ was.all i k old.1
+      | inl old ↦ get_or-set_other flags node k false false (λ same. old.0 (was.once i place node (old.1 ∙ ap Some same) at)) ∙ was.all i k old.1
       | inr old ↦
-          off_other flags node k (λ same. let q = was.once last place node (old.1 ∙ ap Some same) at in let within = slice_get_within nodes' i k listed in absurd (omega (arith, q, old.0, within, less, end))) ∙ was.all last k old.1
+          get_or-set_other flags node k false false (λ same. let q = was.once last place node (old.1 ∙ ap Some same) at in let within = slice_get_within nodes' i k listed in absurd (omega (arith, q, old.0, within, less, end))) ∙ was.all last k old.1
     ];
     once = λ i j k one other.
         let i_in = slice_get_within nodes' i k one in
