@@ -5,9 +5,9 @@ use Rattle.std.proofs.lemmas.Bool.{cases_lt, cases_eq}
 use Rattle.std.proofs.lemmas.Option.{slice_get_within}
 use Rattle.sabr_search.specs.declared.backward.deadlines.Deadline.{Deadline}
 use Rattle.sabr_search.specs.questions.Task.{SearchTask, Takes, IsTask}
-use Rattle.sabr_search.specs.layers.Deadlines.{AreLinked, HasDeadline}
+use Rattle.sabr_search.specs.layers.Deadlines.{AreLinked, HasDeadline, IsApart}
 use Rattle.sabr_search.specs.layers.Late.{InTimeFor, AreLate, AreLeftInTimeFrom, IsLeftInTimeBy}
-use Rattle.sabr_search.proofs.ForwardLemmas.LayerEntries.{same_below}
+use Rattle.sabr_search.proofs.ForwardLemmas.LayerEntries.{AreBounds, bound_before, bounds_next, still, stands_still, stood, apart_next}
 use Rattle.sabr_search.proofs.ForwardLemmas.Forward.{last_or_before}
 use Rattle.sabr_search.proofs.WayLemmas.RoutesAndWays.{same_some}
 use Rattle.sabr_search.proofs.ForwardLemmas.MadeLayers.{layer_of}
@@ -15,13 +15,9 @@ use Rattle.sabr_search.proofs.ForwardLemmas.MadeLayers.{layer_of}
 -- the layers up to `left` hops from the goal
 pub record AreBackLayers (task : SearchTask) (since : List ℕ) (d left : ℕ) (ends late place : List ℕ) (entries : List Deadline) : Type 0 where
   pub lists : AreLate task (slice_index ends left) (slice_index ends (left + 1)) late place entries
-  pub many : length ends ≡ left + 2
-  pub first_end : slice_index ends 0 ≡ 0
-  pub second_end : slice_index ends 1 ≡ 1
-  pub rising : (j : ℕ) → j ≤ left → slice_index ends j ≤ slice_index ends (j + 1)
-  pub last_end : slice_index ends (left + 1) ≡ length entries
+  pub bounds_are : AreBounds left ends entries
   pub goal_first : slice_get entries 0 ≡ Some (record { node = task.goal; before = d + 1 })
-  pub apart : (h p q : ℕ) (e f : Deadline) → h ≤ left → slice_index ends h ≤ p → slice_index ends h ≤ q → p < slice_index ends (h + 1) → q < slice_index ends (h + 1) → slice_get entries p ≡ Some e → slice_get entries q ≡ Some f → e.node ≡ f.node → p ≡ q
+  pub apart : (h : ℕ) → h ≤ left → IsApart ends entries h
   pub sound : (h v x t : ℕ) → h < left → HasDeadline ends entries (h + 1) v x → t < x → (n : ℕ) × (w : ℕ) × (b : ℕ) × (y : ℕ) × Takes task n v t w b × HasDeadline ends entries h w y × (b < y)
   pub taken : (j w x n u t b : ℕ) → j < left → HasDeadline ends entries j w x → b < x → Takes task n u t w b → IsLeftInTimeBy task since (HasDeadline ends entries) j u t
 
@@ -70,39 +66,17 @@ module _ (task : SearchTask) (is : IsTask task) (since : List ℕ) (d left : ℕ
     (kept_all : take (slice_index ends (left + 1)) entries' ≡ take (slice_index ends (left + 1)) entries)
     (in_time : AreLeftInTimeFrom task since entries (slice_index ends left) (slice_index ends (left + 1)) late')
     (ends_is : ends' ≡ ends ++ length entries' ∷ []) where
+  next : AreBounds (left + 1) ends' entries'
+  next = bounds_next left ends entries made.bounds_are ends' entries' kept_all after.begins ends_is
+
   end_before : (j : ℕ) → j ≤ left + 1 → slice_index ends' j ≡ slice_index ends j
-  end_before j le = ap (λ xs. slice_index xs j) ends_is ∙ get_or_append_left ends (length entries' ∷ []) 0 j (omega (arith, made.many))
-
-  last' : slice_index ends' (left + 1 + 1) ≡ length entries'
-  last' = ap (λ xs. slice_index xs (left + 1 + 1)) ends_is ∙ get_or_push ends (length entries') 0 (left + 1 + 1) (omega (arith, made.many))
-
-  many' : length ends' ≡ left + 1 + 2
-  many' = omega (arith, ap length ends_is, length-append ends (length entries' ∷ []), made.many)
-
-  kept : (p : ℕ) (e : Deadline) → slice_get entries p ≡ Some e → slice_get entries' p ≡ Some e
-  kept p e at = same_below (slice_index ends (left + 1)) entries entries' (sym kept_all) p e (omega (arith, made.last_end, slice_get_within entries p e at)) at
-
-  was : (p : ℕ) (e : Deadline) → p < length entries → slice_get entries' p ≡ Some e → slice_get entries p ≡ Some e
-  was p e less at = same_below (slice_index ends (left + 1)) entries' entries kept_all p e (omega (arith, made.last_end)) at
-
-  ends_rise : (h m : ℕ) → h + 1 ≤ m → m ≤ left + 1 → slice_index ends (h + 1) ≤ slice_index ends m
-  ends_rise h zero le top = absurd (omega arith)
-  ends_rise h (suc m) le top = elim (cases_eq h m) [
-    | inl same ↦ rw (same, add-one) (omega arith)
-    | inr other ↦ rw (← add-one m) (omega (arith, ends_rise h m (omega arith) (omega arith), made.rising m (omega arith)))
-  ]
+  end_before = bound_before left ends entries made.bounds_are ends' entries' kept_all after.begins ends_is
 
   entry_kept : (h v x : ℕ) → HasDeadline ends entries h v x → HasDeadline ends' entries' h v x
-  entry_kept h v x e = elim (cases_lt left h) [
-    | inr early ↦ (e.0, omega (arith, end_before h (omega arith), e.1), omega (arith, end_before (h + 1) (omega arith), e.2), kept e.0 (record { node = v; before = x }) e.3)
-    | inl late_is ↦ absurd (omega (arith, get_or_past ends (h + 1) 0 (omega (arith, made.many)), e.2))
-  ]
+  entry_kept h v x = stands_still left ends entries made.bounds_are ends' entries' kept_all after.begins ends_is h (record { node = v; before = x })
 
   entry_was : (h v x : ℕ) → h ≤ left → HasDeadline ends' entries' h v x → HasDeadline ends entries h v x
-  entry_was h v x le e =
-      let above : slice_index ends (h + 1) ≤ slice_index ends (left + 1) = ends_rise h (left + 1) (omega arith) (omega arith) in
-      let below : e.0 < slice_index ends (h + 1) = omega (arith, end_before (h + 1) (omega arith), e.2) in
-      (e.0, omega (arith, end_before h (omega arith), e.1), below, was e.0 (record { node = v; before = x }) (omega (arith, made.last_end)) e.3)
+  entry_was h v x = stood left ends entries made.bounds_are ends' entries' kept_all after.begins ends_is h (record { node = v; before = x })
 
   -- an entry of the new layer
   entry_new : (h v x : ℕ) → h ≡ left + 1 → HasDeadline ends' entries' h v x → (p : ℕ) × (slice_index ends (left + 1) ≤ p) × (slice_get entries' p ≡ Some (record { node = v; before = x }))
@@ -116,27 +90,6 @@ module _ (task : SearchTask) (is : IsTask task) (since : List ℕ) (d left : ℕ
         (t.0, omega (arith, end_before left (omega arith), ap (slice_index ends') same, t.2), omega (arith, end_before (left + 1) (omega arith), ap (λ k. slice_index ends' (k + 1)) same, t.3), t.4 ∙ ap (λ k. Some (record { node = k; before = e.before })) t.5),
         t.6,
       )
-
-  apart' : (h p q : ℕ) (e f : Deadline) → h ≤ left + 1 → slice_index ends' h ≤ p → slice_index ends' h ≤ q → p < slice_index ends' (h + 1) → q < slice_index ends' (h + 1) → slice_get entries' p ≡ Some e → slice_get entries' q ≡ Some f → e.node ≡ f.node → p ≡ q
-  apart' h p q e f le above_p above_q below_p below_q at_p at_q same = elim (cases_eq h (left + 1)) [
-    | inl here ↦
-        (let lower : slice_index ends' h ≡ slice_index ends (left + 1) = ap (slice_index ends') here ∙ end_before (left + 1) (omega arith) in
-        sym (after.once p e (omega (arith, lower)) at_p) ∙ ap (slice_index place') same ∙ after.once q f (omega (arith, lower)) at_q)
-    | inr other ↦
-        (let early : h ≤ left = omega arith in
-        let rise : slice_index ends (h + 1) ≤ slice_index ends (left + 1) = ends_rise h (left + 1) (omega arith) (omega arith) in
-        let one : slice_get entries p ≡ Some e = was p e (omega (arith, made.last_end, end_before (h + 1) (omega arith))) at_p in
-        let two : slice_get entries q ≡ Some f = was q f (omega (arith, made.last_end, end_before (h + 1) (omega arith))) at_q in
-        made.apart h p q e f early (omega (arith, end_before h (omega arith))) (omega (arith, end_before h (omega arith))) (omega (arith, end_before (h + 1) (omega arith))) (omega (arith, end_before (h + 1) (omega arith))) one two same)
-  ]
-
-  rising' : (j : ℕ) → j ≤ left + 1 → slice_index ends' j ≤ slice_index ends' (j + 1)
-  rising' j le = elim (cases_eq j (left + 1)) [
-    | inl here ↦ (let lower : slice_index ends' j ≡ slice_index ends (left + 1) = ap (slice_index ends') here ∙ end_before (left + 1) (omega arith) in
-        let upper : slice_index ends' (j + 1) ≡ length entries' = ap (λ k. slice_index ends' (k + 1)) here ∙ last' in
-        omega (arith, after.begins))
-    | inr other ↦ omega (arith, end_before j le, end_before (j + 1) (omega arith), made.rising j (omega arith))
-  ]
 
   sound' : (h v x t : ℕ) → h < left + 1 → HasDeadline ends' entries' (h + 1) v x → t < x → (n : ℕ) × (w : ℕ) × (b : ℕ) × (y : ℕ) × Takes task n v t w b × HasDeadline ends' entries' h w y × (b < y)
   sound' h v x t less e by = elim (last_or_before h left less) [
@@ -156,7 +109,7 @@ module _ (task : SearchTask) (is : IsTask task) (since : List ℕ) (d left : ℕ
       let on = after.top v inside (omega arith) in
       let p : ℕ = slice_index place' v in
       let within : p < length entries' = slice_get_within entries' p (record { node = v; before = slice_index late' v }) on in
-      let layer = layer_of ends' p (left + 1 + 1) (end_before 0 (omega arith) ∙ made.first_end) (omega (arith, last')) in
+      let layer = layer_of ends' p (left + 1 + 1) next.first (omega (arith, next.last)) in
       (layer.0, slice_index late' v, omega (arith, layer.1), (p, layer.2, layer.3, on), by)
 
   taken' : (j w x n u t b : ℕ) → j < left + 1 → HasDeadline ends' entries' j w x → b < x → Takes task n u t w b → IsLeftInTimeBy task since (HasDeadline ends' entries') j u t
@@ -174,14 +127,10 @@ module _ (task : SearchTask) (is : IsTask task) (since : List ℕ) (d left : ℕ
   -- the layers with the new one
   pub back_next : AreBackLayers task since d (left + 1) ends' late' place' entries'
   back_next = record {
-    lists = nothing_past task (slice_index ends left) (slice_index ends (left + 1)) _ _ late' place' entries' after last';
-    many = many';
-    first_end = end_before 0 (omega arith) ∙ made.first_end;
-    second_end = end_before 1 (omega arith) ∙ made.second_end;
-    rising = rising';
-    last_end = last';
-    goal_first = kept 0 (record { node = task.goal; before = d + 1 }) made.goal_first;
-    apart = apart';
+    lists = nothing_past task (slice_index ends left) (slice_index ends (left + 1)) _ _ late' place' entries' after next.last;
+    bounds_are = next;
+    goal_first = still left ends entries made.bounds_are ends' entries' kept_all after.begins ends_is 0 (record { node = task.goal; before = d + 1 }) made.goal_first;
+    apart = apart_next left ends entries made.bounds_are ends' entries' kept_all after.begins ends_is (λ (e : Deadline). e.node) made.apart (λ p q e f above_p above_q at_p at_q same. sym (after.once p e above_p at_p) ∙ ap (slice_index place') same ∙ after.once q f above_q at_q);
     sound = sound';
     taken = taken';
   }
@@ -205,7 +154,7 @@ module _ (task : SearchTask) (since : List ℕ) (d left : ℕ) (ends late place 
   met_by by =
       let on = made.layers.lists.top w (slice_get_within task.table w step.contact.to step.receiver) (omega arith) in
       let within : slice_index place w < length entries = slice_get_within entries (slice_index place w) (record { node = w; before = slice_index late w }) on in
-      let layer = layer_of ends (slice_index place w) (left + 1) made.layers.first_end (omega (arith, made.layers.last_end)) in
+      let layer = layer_of ends (slice_index place w) (left + 1) made.layers.bounds_are.first (omega (arith, made.layers.bounds_are.last)) in
       let entry : HasDeadline ends entries layer.0 w (slice_index late w) = (slice_index place w, layer.2, layer.3, on) in
       elim (last_or_before layer.0 left (omega (arith, layer.1))) [
         | inl before ↦ absurd (made.unmet layer.0 w (slice_index late w) n b before entry by step)
@@ -250,13 +199,9 @@ back_first task is since d ends late place entries ends_is entries_is places pla
         once = λ p e from at. absurd (omega (arith, slice_get_within (record { node = task.goal; before = d + 1 } ∷ []) p e at));
         sound = λ p e t from at less. absurd (omega (arith, slice_get_within (record { node = task.goal; before = d + 1 } ∷ []) p e at));
       };
-      many = refl;
-      first_end = refl;
-      second_end = refl;
-      rising = λ j le. (let zero_is : j ≡ 0 = omega arith in rw zero_is (omega arith));
-      last_end = refl;
+      bounds_are = record { many = refl; first = refl; second = refl; rising = λ j le. (let zero_is : j ≡ 0 = omega arith in rw zero_is (omega arith)); last = refl };
       goal_first = refl;
-      apart = λ h p q e f le above_p above_q below_p below_q at_p at_q same. omega (arith, slice_get_within (record { node = task.goal; before = d + 1 } ∷ []) p e at_p, slice_get_within (record { node = task.goal; before = d + 1 } ∷ []) q f at_q);
+      apart = λ h le p q e f above_p above_q below_p below_q at_p at_q same. omega (arith, slice_get_within (record { node = task.goal; before = d + 1 } ∷ []) p e at_p, slice_get_within (record { node = task.goal; before = d + 1 } ∷ []) q f at_q);
       sound = λ h v x t less e by. absurd (omega arith);
       taken = λ j w x n u t b less e by step. absurd (omega arith);
     })

@@ -20,7 +20,7 @@ module _ {A : Type 0} (task : SearchTask) (is : IsTask task) (since : List ℕ) 
   -- no entry is after the last layer
   pub up_to_last : (j v x : ℕ) → HasDeadline s.ends.items s.entries.items j v x → j < left + 1
   up_to_last j v x e = elim (cases_lt left j) [
-    | inl past ↦ absurd (omega (arith, get_or_past s.ends.items (j + 1) 0 (omega (arith, made.many)), e.2))
+    | inl past ↦ absurd (omega (arith, get_or_past s.ends.items (j + 1) 0 (omega (arith, made.bounds_are.many)), e.2))
     | inr within ↦ omega (arith, within)
   ]
 
@@ -45,9 +45,9 @@ module _ {A : Type 0} (task : SearchTask) (is : IsTask task) (since : List ℕ) 
       later = later;
       by = made.lists.by;
     };
-    first_end = made.first_end;
-    second_end = made.second_end;
-    rising = λ j less. made.rising j (omega (arith, less, made.many));
+    first_end = made.bounds_are.first;
+    second_end = made.bounds_are.second;
+    rising = λ j less. made.bounds_are.rising j (omega (arith, less, made.bounds_are.many));
     goal_first = made.goal_first;
     permitted = λ p v here. (open_entry task is _ _ s.late.items s.place.items s.entries.items made.lists p _ here.1).1;
     taken = λ j w x n u t b less e by step. made.taken j w x n u t b (within j w x less e) e by step;
@@ -60,7 +60,7 @@ module _ {A : Type 0} (task : SearchTask) (is : IsTask task) (since : List ℕ) 
   -- layer 0 is the goal
   base : (v x : ℕ) → HasDeadline s.ends.items s.entries.items 0 v x → (v ≡ task.goal) × (x ≡ d + 1)
   base v x e =
-      let zero_is : e.0 ≡ 0 = omega (arith, e.2, made.layers.second_end) in
+      let zero_is : e.0 ≡ 0 = omega (arith, e.2, made.layers.bounds_are.second) in
       let same : record { node = v; before = x } ≡ record { node = task.goal; before = d + 1 } = same_some (sym e.3 ∙ ap (slice_get s.entries.items) zero_is ∙ made.layers.goal_first) in
       (ap (λ (y : Deadline). y.node) same, ap (λ (y : Deadline). y.before) same)
 

@@ -1,8 +1,8 @@
 -- The entries between two places of a list, their nodes, and how many contacts these send.
-use Rattle.std.proofs.Common.{◌≡◌, ℕ, zero, suc, ◌+◌, ◌-◌, ◌<◌, ◌≤◌, List, [], ◌∷◌, ◌++◌, length, map, take, drop, true, false, cond, ◌||◌, ◌==◌, eqb, Some, slice_get, slice_index, slice_index_or, refl, ap, sym, ◌∙◌, ⊎_elim, arith, length-take, length-drop, ◌⊎◌, inl, inr}
+use Rattle.std.proofs.Common.{◌≡◌, ℕ, zero, suc, ◌+◌, ◌-◌, ◌<◌, ◌≤◌, List, [], ◌∷◌, ◌++◌, length, map, take, drop, true, false, cond, ◌||◌, ◌==◌, eqb, Some, slice_get, slice_index, slice_index_or, refl, ap, sym, ◌∙◌, ⊎_elim, arith, length-take, length-drop, ◌⊎◌, inl, inr, add-one, length-append}
 use Rattle.std.specs.List.{count_by}
-use Rattle.std.proofs.lemmas.Bool.{eq-eqb, ne_eqb, cases_Bool, false_from_ne_true, cases_eq}
-use Rattle.std.proofs.lemmas.List.{take_more, drop-append-le, get_or-drop, get_or-take, length-map, map-append}
+use Rattle.std.proofs.lemmas.Bool.{eq-eqb, ne_eqb, cases_Bool, false_from_ne_true, cases_eq, cases_lt}
+use Rattle.std.proofs.lemmas.List.{take_more, drop-append-le, get_or-drop, get_or-take, get_or_append_left, get_or_push, get_or_past, length-map, map-append}
 use Rattle.std.proofs.lemmas.List.Folds.{list_any-append}
 use Rattle.std.proofs.lemmas.List.Sums.{sum_by-cons, count_by-le-length}
 use Rattle.std.proofs.lemmas.Option.{slice_get-get_or, slice_get_within, get_or_from_slice_get, slice_get_read}
@@ -92,6 +92,84 @@ sent_at_most task nodes = omega (arith, count_by-le-length (λ k. has k nodes) (
 pub entry_read : {X : Type 0} (reached reached0 : List X) (begin place : ℕ) (e : X) → take begin reached ≡ take begin reached0 → place < begin → begin ≤ length reached → e ≡ slice_index_or reached place e → slice_get reached0 place ≡ Some e
 entry_read reached reached0 begin place e before less within is =
     same_below begin reached reached0 before place e less (slice_get_read reached (length reached) place e refl (omega arith) is)
+
+-- ---- layers that lie one after another among entries
+
+-- each up to `top` has the entries from its bound to before the next, and the first has one
+pub record AreBounds {X : Type 0} (top : ℕ) (bounds : List ℕ) (entries : List X) : Type 0 where
+  pub many : length bounds ≡ top + 2
+  pub first : slice_index bounds 0 ≡ 0
+  pub second : slice_index bounds 1 ≡ 1
+  pub rising : (j : ℕ) → j ≤ top → slice_index bounds j ≤ slice_index bounds (j + 1)
+  pub last : slice_index bounds (top + 1) ≡ length entries
+
+-- layer h has this entry
+abbrev pub Stands : {X : Type 0} → List ℕ → List X → ℕ → X → Type 0
+Stands bounds entries h x = (p : ℕ) × (slice_index bounds h ≤ p) × (p < slice_index bounds (h + 1)) × (slice_get entries p ≡ Some x)
+
+-- layer h has each node once
+abbrev pub AreApart : {X : Type 0} → (X → ℕ) → List ℕ → List X → ℕ → Type 0
+AreApart {X} node bounds entries h =
+    (p q : ℕ) (e f : X) → slice_index bounds h ≤ p → slice_index bounds h ≤ q → p < slice_index bounds (h + 1) → q < slice_index bounds (h + 1) → slice_get entries p ≡ Some e → slice_get entries q ≡ Some f → node e ≡ node f → p ≡ q
+
+-- one layer more, whose entries come after the others
+module _ {X : Type 0} (top : ℕ) (bounds : List ℕ) (entries : List X) (are : AreBounds top bounds entries) (bounds' : List ℕ) (entries' : List X)
+    (kept : take (slice_index bounds (top + 1)) entries' ≡ take (slice_index bounds (top + 1)) entries) (within : slice_index bounds (top + 1) ≤ length entries') (bounds_is : bounds' ≡ bounds ++ length entries' ∷ []) where
+  pub bound_before : (j : ℕ) → j ≤ top + 1 → slice_index bounds' j ≡ slice_index bounds j
+  bound_before j le = ap (λ xs. slice_index xs j) bounds_is ∙ get_or_append_left bounds (length entries' ∷ []) 0 j (omega (arith, are.many))
+
+  last' : slice_index bounds' (top + 1 + 1) ≡ length entries'
+  last' = ap (λ xs. slice_index xs (top + 1 + 1)) bounds_is ∙ get_or_push bounds (length entries') 0 (top + 1 + 1) (omega (arith, are.many))
+
+  pub bounds_next : AreBounds (top + 1) bounds' entries'
+  bounds_next = record {
+    many = omega (arith, ap length bounds_is, length-append bounds (length entries' ∷ []), are.many);
+    first = bound_before 0 (omega arith) ∙ are.first;
+    second = bound_before 1 (omega arith) ∙ are.second;
+    rising = λ j le. elim (cases_eq j (top + 1)) [
+      | inl here ↦ omega (arith, ap (slice_index bounds') here, ap (λ k. slice_index bounds' (k + 1)) here, bound_before (top + 1) (omega arith), last', within)
+      | inr other ↦ omega (arith, bound_before j le, bound_before (j + 1) (omega arith), are.rising j (omega arith))
+    ];
+    last = last';
+  }
+
+  pub still : (p : ℕ) (x : X) → slice_get entries p ≡ Some x → slice_get entries' p ≡ Some x
+  still p x at = same_below (slice_index bounds (top + 1)) entries entries' (sym kept) p x (omega (arith, are.last, slice_get_within entries p x at)) at
+
+  rise : (h m : ℕ) → h + 1 ≤ m → m ≤ top + 1 → slice_index bounds (h + 1) ≤ slice_index bounds m
+  rise h zero le most = absurd (omega arith)
+  rise h (suc m) le most = elim (cases_eq h m) [
+    | inl same ↦ rw (same, add-one) (omega arith)
+    | inr other ↦ rw (← add-one m) (omega (arith, rise h m (omega arith) (omega arith), are.rising m (omega arith)))
+  ]
+
+  -- an old entry stays in its layer
+  pub stands_still : (h : ℕ) (x : X) → Stands bounds entries h x → Stands bounds' entries' h x
+  stands_still h x e = elim (cases_lt top h) [
+    | inr early ↦ (e.0, omega (arith, bound_before h (omega arith), e.1), omega (arith, bound_before (h + 1) (omega arith), e.2), still e.0 x e.3)
+    | inl late ↦ absurd (omega (arith, get_or_past bounds (h + 1) 0 (omega (arith, are.many)), e.2))
+  ]
+
+  -- an entry of an old layer was there
+  pub stood : (h : ℕ) (x : X) → h ≤ top → Stands bounds' entries' h x → Stands bounds entries h x
+  stood h x le e =
+      let below : e.0 < slice_index bounds (h + 1) = omega (arith, bound_before (h + 1) (omega arith), e.2) in
+      (e.0, omega (arith, bound_before h (omega arith), e.1), below, same_below (slice_index bounds (top + 1)) entries' entries kept e.0 x (omega (arith, below, rise h (top + 1) (omega arith) (omega arith))) e.3)
+
+  -- each layer has each node once if the new one does
+  pub apart_next : (node : X → ℕ) → ((h : ℕ) → h ≤ top → AreApart node bounds entries h) →
+      ((p q : ℕ) (e f : X) → slice_index bounds (top + 1) ≤ p → slice_index bounds (top + 1) ≤ q → slice_get entries' p ≡ Some e → slice_get entries' q ≡ Some f → node e ≡ node f → p ≡ q) →
+      (h : ℕ) → h ≤ top + 1 → AreApart node bounds' entries' h
+  unfolding stood
+  apart_next node apart once h le p q e f above_p above_q below_p below_q at_p at_q same = elim (cases_eq h (top + 1)) [
+    | inl here ↦
+        (let lower : slice_index bounds' h ≡ slice_index bounds (top + 1) = ap (slice_index bounds') here ∙ bound_before (top + 1) (omega arith) in
+        once p q e f (omega (arith, lower)) (omega (arith, lower)) at_p at_q same)
+    | inr other ↦
+        (let one = stood h e (omega arith) (p, above_p, below_p, at_p) in
+        let two = stood h f (omega arith) (q, above_q, below_q, at_q) in
+        apart h (omega arith) p q e f one.1 two.1 one.2 two.2 one.3 two.3 same)
+  ]
 
 -- the node of the next entry is not among those of the entries before it
 pub fresh_node : {X : Type 0} (node : X → ℕ) (entries : List X) (first begin place : ℕ) (e : X) →

@@ -1,8 +1,8 @@
 -- One layer more: what the next layer leaves is again layers.
-use Rattle.std.proofs.Common.{◌≡◌, ◌≢◌, ◌⊎◌, inl, inr, ℕ, zero, suc, ◌+◌, ◌*◌, ◌<◌, ◌≤◌, List, [], ◌∷◌, ◌++◌, length, false, Option, Some, None, slice_get, slice_index, slice_index_or, refl, ap, sym, ◌∙◌, arith, length-append, add-one}
+use Rattle.std.proofs.Common.{◌≡◌, ◌≢◌, ◌⊎◌, inl, inr, ℕ, zero, suc, ◌+◌, ◌*◌, ◌<◌, ◌≤◌, List, [], ◌∷◌, ◌++◌, length, Bool, false, Option, Some, None, slice_get, slice_index, slice_index_or, refl, ap, sym, ◌∙◌, arith, length-append, add-one}
 use Rattle.std.proofs.Math.Nat.{mul-le-mul_right}
 use Rattle.std.proofs.lemmas.Bool.{cases_lt, cases_eq}
-use Rattle.std.proofs.lemmas.List.{get_or_append_left, get_or_push, get_or_past}
+use Rattle.std.proofs.lemmas.List.{get_or_append_left, get_or_past}
 use Rattle.std.proofs.lemmas.Option.{slice_get-get_or, slice_get_within, get_or_from_slice_get}
 use Rattle.sabr_search.specs.declared.visit.Visit.{Visit}
 use Rattle.sabr_search.specs.declared.found.Best.{Best}
@@ -12,7 +12,7 @@ use Rattle.sabr_search.specs.questions.Task.{SearchTask, Takes, IsTask, never}
 use Rattle.sabr_search.specs.layers.Lists.{AreLists, IsLowered, IsKnownFrom, GivenFrom, AreSources, IsBroughtTo, IsWayTo, IsFound, IsMade, IsFoundBest}
 use Rattle.sabr_search.specs.layers.Late.{IsNoneSooner}
 use Rattle.sabr_search.proofs.WayLemmas.Ways.{Leads-append, Leads-later}
-use Rattle.sabr_search.proofs.ForwardLemmas.LayerEntries.{ReachedBy, IsTaken, none_sooner, same_below}
+use Rattle.sabr_search.proofs.ForwardLemmas.LayerEntries.{ReachedBy, IsTaken, none_sooner, AreBounds, AreApart, bound_before, bounds_next, still, stands_still, stood, apart_next}
 use Rattle.sabr_search.proofs.ForwardLemmas.Forward.{last_or_before}
 use Rattle.sabr_search.proofs.WayLemmas.RoutesAndWays.{same_some, takes_timely}
 use Rattle.sabr_search.proofs.LinkLemmas.PlanFacts.{takes_early}
@@ -25,13 +25,9 @@ Entry bounds reached h v a = (p : ℕ) × (slice_index bounds h ≤ p) × (p < s
 -- layers up to `hop` are made, of what comes before second `until`
 pub record AreLayers (task : SearchTask) (until hop : ℕ) (bounds arrival place : List ℕ) (reached : List Visit) (best : Best) : Type 0 where
   pub lists : AreLists task.forbidden task.goal task.at (slice_index bounds (hop + 1)) arrival place reached
-  pub many : length bounds ≡ hop + 2
-  pub first_bound : slice_index bounds 0 ≡ 0
-  pub second_bound : slice_index bounds 1 ≡ 1
-  pub rising : (j : ℕ) → j ≤ hop → slice_index bounds j ≤ slice_index bounds (j + 1)
-  pub last_bound : slice_index bounds (hop + 1) ≡ length reached
+  pub bounds_are : AreBounds hop bounds reached
   pub begins : slice_get reached 0 ≡ Some (record { node = task.start; at = task.at })
-  pub apart : (h p q : ℕ) (e f : Visit) → h ≤ hop → slice_index bounds h ≤ p → slice_index bounds h ≤ q → p < slice_index bounds (h + 1) → q < slice_index bounds (h + 1) → slice_get reached p ≡ Some e → slice_get reached q ≡ Some f → e.node ≡ f.node → p ≡ q
+  pub apart : (h : ℕ) → h ≤ hop → AreApart (λ (e : Visit). e.node) bounds reached h
   pub real : (h v a : ℕ) → Entry bounds reached h v a → IsWayTo task v h a
   pub taken : IsTaken (Takes task) (Entry bounds reached) hop best.delivery
   pub found : IsFound task until hop best
@@ -46,7 +42,6 @@ way_open task [] u t v e more way = absurd (omega (arith, more))
 way_open task (n ∷ []) u t v e more way = rw way.3.0 at way.2.permitted
 way_open task (n ∷ m ∷ ns) u t v e more way = way_open task (m ∷ ns) way.0 way.1 v e (omega arith) way.3
 
--- reading a list with one element more
 -- each place below a bound lies in a layer before it
 pub layer_of : (bounds : List ℕ) (p m : ℕ) → slice_index bounds 0 ≡ 0 → p < slice_index bounds m → (j : ℕ) × (j + 1 ≤ m) × (slice_index bounds j ≤ p) × (p < slice_index bounds (j + 1))
 layer_of bounds p zero first less = absurd (omega (arith, first))
@@ -55,62 +50,43 @@ layer_of bounds p (suc m) first less = elim (cases_lt p (slice_index bounds m)) 
   | inr behind ↦ (m, omega arith, behind, rw (add-one) less)
 ]
 
+-- an open node that is reached has an entry with its arrival
+entry_of : {forbidden : List Bool} {goal t begin hop : ℕ} {bounds arrival place : List ℕ} {reached : List Visit} → AreLists forbidden goal t begin arrival place reached → AreBounds hop bounds reached →
+    (w : ℕ) → w < length arrival → slice_index_or forbidden w false ≡ false → slice_index arrival w < never → (h : ℕ) × (h ≤ hop) × Entry bounds reached h w (slice_index arrival w)
+entry_of {forbidden} {goal} {t} {begin} {hop} {bounds} {arrival} {place} {reached} lists are w within permitted early =
+    let linked = lists.linked in
+    let p : ℕ = slice_index place w in
+    let d : Visit = record { node = 0; at = 0 } in
+    let inside : p < length reached = lists.placed.within w (omega (arith, within, linked.as_many)) in
+    let e : Visit = slice_index_or reached p d in
+    let there : slice_get reached p ≡ Some (record { node = w; at = slice_index arrival w }) = slice_get-get_or reached p d inside ∙ ap (λ k. Some (record { node = k; at = e.at })) (linked.node w d within permitted early) ∙ ap (λ k. Some (record { node = w; at = k })) (linked.time w d within permitted early) in
+    let layer = layer_of bounds p (hop + 1) are.first (omega (arith, are.last, inside)) in
+    (layer.0, omega (arith, layer.1), (p, layer.2, layer.3, there))
+
+-- what is found is not later
+pub below_until : (task : SearchTask) (until hop : ℕ) (bounds arrival place : List ℕ) (reached : List Visit) (best : Best) → AreLayers task until hop bounds arrival place reached best → best.delivery ≤ until
+below_until task until hop bounds arrival place reached best made = elim made.found [ inl none ↦ omega (arith, none.1) | inr found ↦ omega (arith, found.2) ]
+
 -- layers with one bound more
 module _ (task : SearchTask) (is : IsTask task) (until hop : ℕ) (bounds arrival place : List ℕ) (reached : List Visit) (best : Best) (made : AreLayers task until hop bounds arrival place reached best)
     (bounds' arrival' place' : List ℕ) (reached' : List Visit) (delivery : ℕ)
     (lowered : IsLowered task.forbidden task.goal task.at (slice_index bounds (hop + 1)) (GivenFrom task reached (slice_index bounds hop) (slice_index bounds (hop + 1))) arrival reached best.delivery arrival' place' reached' delivery)
     (known : IsKnownFrom task reached (slice_index bounds hop) (slice_index bounds (hop + 1)) arrival' delivery)
     (bounds_is : bounds' ≡ bounds ++ length reached' ∷ []) where
-  many' : length bounds' ≡ hop + 1 + 2
-  many' = omega (arith, ap length bounds_is, length-append bounds (length reached' ∷ []), made.many)
+  next : AreBounds (hop + 1) bounds' reached'
+  next = bounds_next hop bounds reached made.bounds_are bounds' reached' lowered.before lowered.lists.layer.begins bounds_is
 
-  bound_before : (j : ℕ) → j ≤ hop + 1 → slice_index bounds' j ≡ slice_index bounds j
-  bound_before j le = ap (λ xs. slice_index xs j) bounds_is ∙ get_or_append_left bounds (length reached' ∷ []) 0 j (omega (arith, made.many))
-
-  last' : slice_index bounds' (hop + 1 + 1) ≡ length reached'
-  last' = ap (λ xs. slice_index xs (hop + 1 + 1)) bounds_is ∙ get_or_push bounds (length reached') 0 (hop + 1 + 1) (omega (arith, made.many))
-
-  kept : (p : ℕ) (e : Visit) → slice_get reached p ≡ Some e → slice_get reached' p ≡ Some e
-  kept p e at = same_below (slice_index bounds (hop + 1)) reached reached' (sym lowered.before) p e (omega (arith, made.last_bound, slice_get_within reached p e at)) at
-
-  was : (p : ℕ) (e : Visit) → p < length reached → slice_get reached' p ≡ Some e → slice_get reached p ≡ Some e
-  was p e less at = same_below (slice_index bounds (hop + 1)) reached' reached lowered.before p e (omega (arith, made.last_bound)) at
-
-  -- an old entry stays in its layer
   entry_kept : (h v a : ℕ) → Entry bounds reached h v a → Entry bounds' reached' h v a
-  entry_kept h v a e = elim (cases_lt hop h) [
-    | inr early ↦ (e.0, omega (arith, bound_before h (omega arith), e.1), omega (arith, bound_before (h + 1) (omega arith), e.2), kept e.0 (record { node = v; at = a }) e.3)
-    | inl late ↦ absurd (omega (arith, get_or_past bounds (h + 1) 0 (omega (arith, made.many)), e.2))
-  ]
+  entry_kept h v a = stands_still hop bounds reached made.bounds_are bounds' reached' lowered.before lowered.lists.layer.begins bounds_is h (record { node = v; at = a })
 
-  -- bounds rise along the layers
-  bounds_rise : (h m : ℕ) → h + 1 ≤ m → m ≤ hop + 1 → slice_index bounds (h + 1) ≤ slice_index bounds m
-  bounds_rise h zero le top = absurd (omega arith)
-  bounds_rise h (suc m) le top = elim (cases_eq h m) [
-    | inl same ↦ rw (same, add-one) (omega arith)
-    | inr other ↦ rw (← add-one m) (omega (arith, bounds_rise h m (omega arith) (omega arith), made.rising m (omega arith)))
-  ]
-
-  -- an entry of an old layer was there
   entry_was : (h v a : ℕ) → h ≤ hop → Entry bounds' reached' h v a → Entry bounds reached h v a
-  entry_was h v a le e =
-      let above : slice_index bounds (h + 1) ≤ slice_index bounds (hop + 1) = bounds_rise h (hop + 1) (omega arith) (omega arith) in
-      let below : e.0 < slice_index bounds (h + 1) = omega (arith, bound_before (h + 1) (omega arith), e.2) in
-      (e.0, omega (arith, bound_before h (omega arith), e.1), below, was e.0 (record { node = v; at = a }) (omega (arith, made.last_bound)) e.3)
+  entry_was h v a = stood hop bounds reached made.bounds_are bounds' reached' lowered.before lowered.lists.layer.begins bounds_is h (record { node = v; at = a })
 
   -- a node that is reached by second b, before every arrival is late, has an entry by then
   reached_by : (w b : ℕ) → slice_index_or task.forbidden w false ≡ false → w < length arrival' → slice_index arrival' w ≤ b → b < never → ReachedBy (Entry bounds' reached') (hop + 1) w b
   reached_by w b permitted within le early =
-      let linked = lowered.lists.linked in
-      let p : ℕ = slice_index place' w in
-      let inside : p < length reached' = lowered.lists.placed.within w (omega (arith, linked.as_many)) in
-      let d : Visit = record { node = 0; at = 0 } in
-      let e : Visit = slice_index_or reached' p d in
-      let at : slice_get reached' p ≡ Some e = slice_get-get_or reached' p d inside in
-      let node : e.node ≡ w = linked.node w d within permitted (omega arith) in
-      let time : e.at ≡ slice_index arrival' w = linked.time w d within permitted (omega arith) in
-      let layer = layer_of bounds' p (hop + 1 + 1) (bound_before 0 (omega arith) ∙ made.first_bound) (omega (arith, last')) in
-      (layer.0, e.at, omega (arith, layer.1), omega (arith, time), (p, layer.2, layer.3, at ∙ ap (λ k. Some (record { node = k; at = e.at })) node))
+      let r = entry_of lowered.lists next w within permitted (omega (arith, le, early)) in
+      (r.0, slice_index arrival' w, r.1, le, r.2)
 
   -- every step of the layers so far is taken
   taken' : IsTaken (Takes task) (Entry bounds' reached') (hop + 1) delivery
@@ -143,10 +119,10 @@ module _ (task : SearchTask) (is : IsTask task) (until hop : ℕ) (bounds arriva
   real' h v a e = elim (cases_lt hop h) [
     | inr early ↦ made.real h v a (entry_was h v a early e)
     | inl late ↦ elim (cases_eq h (hop + 1)) [
-      | inr later ↦ absurd (omega (arith, get_or_past bounds' (h + 1) 0 (omega (arith, many')), e.2))
+      | inr later ↦ absurd (omega (arith, get_or_past bounds' (h + 1) 0 (omega (arith, next.many)), e.2))
       | inl here ↦
           (let d : Visit = record { node = v; at = a } in
-          let lower : slice_index bounds' h ≡ length reached = ap (slice_index bounds') here ∙ bound_before (hop + 1) (omega arith) ∙ made.last_bound in
+          let lower : slice_index bounds' h ≡ length reached = ap (slice_index bounds') here ∙ bound_before hop bounds reached made.bounds_are bounds' reached' lowered.before lowered.lists.layer.begins bounds_is (hop + 1) (omega arith) ∙ made.bounds_are.last in
           let inside : e.0 < length reached' = slice_get_within reached' e.0 d e.3 in
           let read : slice_index_or reached' e.0 d ≡ d = get_or_from_slice_get reached' e.0 d d e.3 in
           elim (lowered.adds e.0 d inside) [
@@ -157,34 +133,17 @@ module _ (task : SearchTask) (is : IsTask task) (until hop : ℕ) (bounds arriva
   ]
 
   -- entries of one layer are of different nodes
-  apart' : (h p q : ℕ) (e f : Visit) → h ≤ hop + 1 → slice_index bounds' h ≤ p → slice_index bounds' h ≤ q → p < slice_index bounds' (h + 1) → q < slice_index bounds' (h + 1) → slice_get reached' p ≡ Some e → slice_get reached' q ≡ Some f → e.node ≡ f.node → p ≡ q
-  apart' h p q e f le above_p above_q below_p below_q at_p at_q same = elim (cases_eq h (hop + 1)) [
-    | inl here ↦
-        (let lower : slice_index bounds' h ≡ slice_index bounds (hop + 1) = ap (slice_index bounds') here ∙ bound_before (hop + 1) (omega arith) in
-        let once = lowered.lists.layer.once in
-        let read_p : slice_index_or reached' p e ≡ e = get_or_from_slice_get reached' p e e at_p in
-        let read_q : slice_index_or reached' q f ≡ f = get_or_from_slice_get reached' q f f at_q in
-        let one : slice_index place' e.node ≡ p = rw read_p at (once p e (omega (arith, lower)) (slice_get_within reached' p e at_p)) in
-        let two : slice_index place' f.node ≡ q = rw read_q at (once q f (omega (arith, lower)) (slice_get_within reached' q f at_q)) in
-        sym one ∙ ap (slice_index place') same ∙ two)
-    | inr other ↦
-        (let early : h ≤ hop = omega arith in
-        let rise : slice_index bounds (h + 1) ≤ slice_index bounds (hop + 1) = bounds_rise h (hop + 1) (omega arith) (omega arith) in
-        let one : slice_get reached p ≡ Some e = was p e (omega (arith, made.last_bound, bound_before (h + 1) (omega arith))) at_p in
-        let two : slice_get reached q ≡ Some f = was q f (omega (arith, made.last_bound, bound_before (h + 1) (omega arith))) at_q in
-        made.apart h p q e f early (omega (arith, bound_before h (omega arith))) (omega (arith, bound_before h (omega arith))) (omega (arith, bound_before (h + 1) (omega arith))) (omega (arith, bound_before (h + 1) (omega arith))) one two same)
-  ]
-
-  rising' : (j : ℕ) → j ≤ hop + 1 → slice_index bounds' j ≤ slice_index bounds' (j + 1)
-  rising' j le = elim (cases_eq j (hop + 1)) [
-    | inl here ↦ (let lower : slice_index bounds' j ≡ slice_index bounds (hop + 1) = ap (slice_index bounds') here ∙ bound_before (hop + 1) (omega arith) in
-        let upper : slice_index bounds' (j + 1) ≡ length reached' = ap (λ k. slice_index bounds' (k + 1)) here ∙ last' in
-        omega (arith, lowered.lists.layer.begins))
-    | inr other ↦ omega (arith, bound_before j le, bound_before (j + 1) (omega arith), made.rising j (omega arith))
-  ]
+  apart' : (h : ℕ) → h ≤ hop + 1 → AreApart (λ (e : Visit). e.node) bounds' reached' h
+  apart' = apart_next hop bounds reached made.bounds_are bounds' reached' lowered.before lowered.lists.layer.begins bounds_is (λ (e : Visit). e.node) made.apart
+      (λ p q e f above_p above_q at_p at_q same.
+      let read_p : slice_index_or reached' p e ≡ e = get_or_from_slice_get reached' p e e at_p in
+      let read_q : slice_index_or reached' q f ≡ f = get_or_from_slice_get reached' q f f at_q in
+      let one : slice_index place' e.node ≡ p = rw read_p at (lowered.lists.layer.once p e above_p (slice_get_within reached' p e at_p)) in
+      let two : slice_index place' f.node ≡ q = rw read_q at (lowered.lists.layer.once q f above_q (slice_get_within reached' q f at_q)) in
+      sym one ∙ ap (slice_index place') same ∙ two)
 
   begins' : slice_get reached' 0 ≡ Some (record { node = task.start; at = task.at })
-  begins' = kept 0 (record { node = task.start; at = task.at }) made.begins
+  begins' = still hop bounds reached made.bounds_are bounds' reached' lowered.before lowered.lists.layer.begins bounds_is 0 (record { node = task.start; at = task.at }) made.begins
 
   lists' : AreLists task.forbidden task.goal task.at (slice_index bounds' (hop + 1 + 1)) arrival' place' reached'
   lists' = record {
@@ -192,71 +151,41 @@ module _ (task : SearchTask) (is : IsTask task) (until hop : ℕ) (bounds arriva
     closed = lowered.lists.closed;
     placed = lowered.lists.placed;
     linked = lowered.lists.linked;
-    layer = record { begins = omega (arith, last'); once = λ p d le less. absurd (omega (arith, last')) };
+    layer = record { begins = omega (arith, next.last); once = λ p d le less. absurd (omega (arith, next.last)) };
     inside = lowered.lists.inside;
     other = lowered.lists.other;
     by = lowered.lists.by;
   }
 
-  -- if the delivery falls, the new layer is the first that reaches the goal by then
-  pub layers_better : delivery < best.delivery → best.delivery ≤ until → AreLayers task until (hop + 1) bounds' arrival' place' reached' (record { delivery = delivery; hops = hop + 1 })
-  layers_better sooner below = record {
+  -- the layers with the new one: if the delivery falls, it is the first that reaches the goal by then, and otherwise what was
+  -- found stays
+  pub layers_next : (best' : Best) → ((delivery < best.delivery) × (best' ≡ record { delivery = delivery; hops = hop + 1 })) ⊎ ((best.delivery ≤ delivery) × (best' ≡ best)) → AreLayers task until (hop + 1) bounds' arrival' place' reached' best'
+  layers_next best' which = record {
     lists = lists';
-    many = many';
-    first_bound = bound_before 0 (omega arith) ∙ made.first_bound;
-    second_bound = bound_before 1 (omega arith) ∙ made.second_bound;
-    rising = rising';
-    last_bound = last';
+    bounds_are = next;
     begins = begins';
     apart = apart';
     real = real';
-    taken = taken';
-    found = elim lowered.found [
-      | inl same ↦ absurd (omega (arith, same))
-      | inr given ↦ inr (
-        omega arith,
-        omega arith,
-        omega arith,
-        way_on task.goal delivery given,
-      )
-    ];
-  }
-
-  -- if it doesn't, what was found stays
-  pub layers_same : best.delivery ≤ delivery → AreLayers task until (hop + 1) bounds' arrival' place' reached' best
-  layers_same late = record {
-    lists = lists';
-    many = many';
-    first_bound = bound_before 0 (omega arith) ∙ made.first_bound;
-    second_bound = bound_before 1 (omega arith) ∙ made.second_bound;
-    rising = rising';
-    last_bound = last';
-    begins = begins';
-    apart = apart';
-    real = real';
-    taken = rw (sames) taken';
-    found = elim made.found [
-      | inl none ↦ inl none
-      | inr found ↦ inr (
-        found.0,
-        omega (arith, found.1),
-        found.2,
-        found.3,
-      )
+    taken = rw delivery_is taken';
+    found = elim which [
+      | inl better ↦ rw better.1 (elim lowered.found [
+        | inl same ↦ absurd (omega (arith, same, better.0))
+        | inr given ↦ inr (omega arith, omega arith, omega (arith, better.0, below_until task until hop bounds arrival place reached best made), way_on task.goal delivery given)
+      ])
+      | inr same ↦ rw same.1 (elim made.found [ inl none ↦ inl none | inr found ↦ inr (found.0, omega (arith, found.1), found.2, found.3) ])
     ];
   }
     where
-      sames : best.delivery ≡ delivery
-      sames = omega (arith, lowered.lower)
-
--- what is found is not later
-pub below_until : (task : SearchTask) (until hop : ℕ) (bounds arrival place : List ℕ) (reached : List Visit) (best : Best) → AreLayers task until hop bounds arrival place reached best → best.delivery ≤ until
-below_until task until hop bounds arrival place reached best made = elim made.found [ inl none ↦ omega (arith, none.1) | inr found ↦ omega (arith, found.2) ]
+      delivery_is : best'.delivery ≡ delivery
+      delivery_is = elim which [
+        | inl better ↦ ap (λ (b : Best). b.delivery) better.1
+        | inr same ↦ omega (arith, ap (λ (b : Best). b.delivery) same.1, same.0, lowered.lower)
+      ]
 
 -- the start is the first entry, and no entry is the goal's
 module _ (task : SearchTask) (is : IsTask task) (until hop : ℕ) (bounds arrival place : List ℕ) (reached : List Visit) (best : Best) (made : AreLayers task until hop bounds arrival place reached best) where
   start_entry : Entry bounds reached 0 task.start task.at
-  start_entry = (0, omega (arith, made.first_bound), omega (arith, made.second_bound), made.begins)
+  start_entry = (0, omega (arith, made.bounds_are.first), omega (arith, made.bounds_are.second), made.begins)
 
   goal_never : (h a : ℕ) → Entry bounds reached h task.goal a → ⊥
   goal_never h a e =
@@ -278,7 +207,7 @@ module _ (task : SearchTask) (is : IsTask task) (until hop : ℕ) (bounds arriva
         | inl before ↦ made.taken j v a n w b before en s
         | inr behind ↦ elim (cases_eq j hop) [
           | inl here ↦ absurd (omega (arith, en.1, en.2, none, ap (slice_index bounds) here, ap (λ k. slice_index bounds (k + 1)) here))
-          | inr past ↦ absurd (omega (arith, en.2, get_or_past bounds (j + 1) 0 (omega (arith, made.many))))
+          | inr past ↦ absurd (omega (arith, en.2, get_or_past bounds (j + 1) 0 (omega (arith, made.bounds_are.many))))
         ]
       ]
 
@@ -326,21 +255,13 @@ module _ (task : SearchTask) (is : IsTask task) (until hop : ℕ) (bounds arriva
   way_with_last delivery sooner (u, n, permitted, s) =
       let timely = takes_timely task is.nodes in
       let a : ℕ = slice_index arrival u in
-      let d : Visit = record { node = 0; at = 0 } in
       let within : u < length arrival = omega (arith, made.lists.flags, is.as_many, slice_get_within task.table u s.contact.from s.sender) in
       let early : a < never = omega (arith, timely.later n u a task.goal delivery s, takes_early task is n u a task.goal delivery s) in
-      let linked = made.lists.linked in
-      let p : ℕ = slice_index place u in
-      let inside : p < length reached = made.lists.placed.within u (omega (arith, linked.as_many)) in
-      let e : Visit = slice_index_or reached p d in
-      let at : slice_get reached p ≡ Some e = slice_get-get_or reached p d inside in
-      let is_there : slice_get reached p ≡ Some (record { node = u; at = a }) = at ∙ ap (λ k. Some (record { node = k; at = e.at })) (linked.node u d within permitted early) ∙ ap (λ k. Some (record { node = u; at = k })) (linked.time u d within permitted early) in
-      let layer = layer_of bounds p (hop + 1) made.first_bound (omega (arith, made.last_bound)) in
-      let en : Entry bounds reached layer.0 u a = (p, layer.2, layer.3, is_there) in
-      elim (last_or_before layer.0 hop (omega (arith, layer.1))) [
-        | inl before ↦ absurd (elim (made.taken layer.0 u a n task.goal delivery before en s) [ inl late ↦ omega (arith, late, sooner) | inr r ↦ goal_never r.0 r.1 r.4 ])
+      let en = entry_of made.lists made.bounds_are u within permitted early in
+      elim (last_or_before en.0 hop (omega (arith, en.1))) [
+        | inl before ↦ absurd (elim (made.taken en.0 u a n task.goal delivery before en.2 s) [ inl late ↦ omega (arith, late, sooner) | inr r ↦ goal_never r.0 r.1 r.4 ])
         | inr same ↦
-            (let front = made.real layer.0 u a en in
+            (let front = made.real en.0 u a en.2 in
             (front.0 ++ n ∷ [], omega (arith, length-append front.0 (n ∷ []), front.1, same), Leads-append (Takes task) timely front.0 (n ∷ []) task.start task.at u a task.goal delivery front.2 (task.goal, delivery, s, (refl, refl))))
       ]
 
@@ -350,27 +271,15 @@ module _ (task : SearchTask) (is : IsTask task) (until hop : ℕ) (bounds arriva
     inside = λ p e at. (let read : slice_index_or reached p e ≡ e = get_or_from_slice_get reached p e e at in
         omega (arith, is.as_many, ap (λ (y : Visit). y.node) read, made.lists.inside p e (slice_get_within reached p e at)));
     since = λ p e at.
-        (let layer = layer_of bounds p (hop + 1) made.first_bound (omega (arith, made.last_bound, slice_get_within reached p e at)) in
+        (let layer = layer_of bounds p (hop + 1) made.bounds_are.first (omega (arith, made.bounds_are.last, slice_get_within reached p e at)) in
         let way = made.real layer.0 e.node e.at (p, layer.2, layer.3, at) in
         Leads-later (Takes task) (takes_timely task is.nodes) way.0 task.start task.at e.node e.at way.2);
     early = λ p e at.
-        (let layer = layer_of bounds p (hop + 1) made.first_bound (omega (arith, made.last_bound, slice_get_within reached p e at)) in
+        (let layer = layer_of bounds p (hop + 1) made.bounds_are.first (omega (arith, made.bounds_are.last, slice_get_within reached p e at)) in
         let way = made.real layer.0 e.node e.at (p, layer.2, layer.3, at) in
         way_early task is way.0 task.start task.at e.node e.at is.time way.2);
-    apart = λ p q e f above_p above_q below_p below_q at_p at_q same. made.apart hop p q e f (omega arith) above_p above_q below_p below_q at_p at_q same;
+    apart = λ p q e f above_p above_q below_p below_q at_p at_q same. made.apart hop (omega arith) p q e f above_p above_q below_p below_q at_p at_q same;
   }
-
--- the layers with one more, whatever the new layer brings
-pub layers_next : (task : SearchTask) → IsTask task → (until hop : ℕ) (bounds arrival place : List ℕ) (reached : List Visit) (best : Best) → AreLayers task until hop bounds arrival place reached best →
-    (bounds' arrival' place' : List ℕ) (reached' : List Visit) (delivery : ℕ) →
-    IsLowered task.forbidden task.goal task.at (slice_index bounds (hop + 1)) (GivenFrom task reached (slice_index bounds hop) (slice_index bounds (hop + 1))) arrival reached best.delivery arrival' place' reached' delivery →
-    IsKnownFrom task reached (slice_index bounds hop) (slice_index bounds (hop + 1)) arrival' delivery →
-    bounds' ≡ bounds ++ length reached' ∷ [] → (best' : Best) → ((delivery < best.delivery) × (best' ≡ record { delivery = delivery; hops = hop + 1 })) ⊎ ((best.delivery ≤ delivery) × (best' ≡ best)) →
-    AreLayers task until (hop + 1) bounds' arrival' place' reached' best'
-layers_next task is until hop bounds arrival place reached best made bounds' arrival' place' reached' delivery lowered known bounds_is best' (inl better) =
-    rw better.1 (layers_better task is until hop bounds arrival place reached best made bounds' arrival' place' reached' delivery lowered known bounds_is better.0 (below_until task until hop bounds arrival place reached best made))
-layers_next task is until hop bounds arrival place reached best made bounds' arrival' place' reached' delivery lowered known bounds_is best' (inr same) =
-    rw same.1 (layers_same task is until hop bounds arrival place reached best made bounds' arrival' place' reached' delivery lowered known bounds_is same.0)
 
 -- the looks for one layer more are within those of all of them
 pub layer_more : (hop hops contacts : ℕ) → hop < hops → hop * contacts + contacts ≤ hops * contacts
@@ -397,20 +306,16 @@ pub layers_first : (task : SearchTask) (until : ℕ) (bounds arrival place : Lis
 layers_first task until bounds arrival place reached bounds_is reached_is lists =
     rw (bounds_is, reached_is) (record {
       lists = rw reached_is at lists;
-      many = refl;
-      first_bound = refl;
-      second_bound = refl;
-      rising = λ j le. (let zero_is : j ≡ 0 = omega arith in rw zero_is (omega arith));
-      last_bound = refl;
+      bounds_are = record { many = refl; first = refl; second = refl; rising = λ j le. (let zero_is : j ≡ 0 = omega arith in rw zero_is (omega arith)); last = refl };
       begins = refl;
-      apart = λ h p q e f le above_p above_q below_p below_q at_p at_q same. omega (arith, slice_get_within one p e at_p, slice_get_within one q f at_q);
+      apart = λ h le p q e f above_p above_q below_p below_q at_p at_q same. omega (arith, slice_get_within one p e at_p, slice_get_within one q f at_q);
       real = λ h v a e. elim (cases_eq h 0) [
         | inl zero_is ↦
             (let d : Visit = record { node = v; at = a } in
             let first : e.0 ≡ 0 = omega (arith, slice_get_within one e.0 d e.3) in
             let is : record { node = task.start; at = task.at } ≡ d = same_some (ap (slice_get one) (sym first) ∙ e.3) in
             ([], sym zero_is, (ap (λ (y : Visit). y.node) is, ap (λ (y : Visit). y.at) is)))
-        | inr other ↦ absurd (omega (arith, get_or_past (0 ∷ 1 ∷ []) (h + 1) 0 (omega arith), e.2))
+        | inr other ↦ absurd (omega (arith, get_or_past {X = ℕ} (0 ∷ 1 ∷ []) (h + 1) 0 (omega arith), e.2))
       ];
       taken = λ j v a n w b less e s. absurd (omega arith);
       found = inl (refl, refl);
@@ -434,7 +339,7 @@ best_within task until hop bounds arrival place reached best made hops within le
 
 module _ (task : SearchTask) (is : IsTask task) (until hop first begin : ℕ) (arrival place : List ℕ) (reached : List Visit) (best : Best) (made : AreMade task until hop first arrival place reached best) (end : begin ≡ length reached) where
   last : slice_index made.0 (hop + 1) ≡ begin
-  last = made.2.last_bound ∙ sym end
+  last = made.2.bounds_are.last ∙ sym end
 
   pub made_lists : AreLists task.forbidden task.goal task.at begin arrival place reached
   made_lists = rw last at made.2.lists
@@ -447,7 +352,7 @@ module _ (task : SearchTask) (is : IsTask task) (until hop first begin : ℕ) (a
       (best' : Best) → ((delivery < best.delivery) × (best' ≡ record { delivery = delivery; hops = hop + 1 })) ⊎ ((best.delivery ≤ delivery) × (best' ≡ best)) → AreMade task until (hop + 1) begin arrival' place' reached' best'
   made_next arrival' place' reached' delivery lowered known best' which = (
     made.0 ++ length reached' ∷ [],
-    get_or_append_left made.0 (length reached' ∷ []) 0 (hop + 1) (omega (arith, made.2.many)) ∙ last,
+    get_or_append_left made.0 (length reached' ∷ []) 0 (hop + 1) (omega (arith, made.2.bounds_are.many)) ∙ last,
     layers_next task is until hop made.0 arrival place reached best made.2 (made.0 ++ length reached' ∷ []) arrival' place' reached' delivery (rw (made.1, last) lowered) (rw (made.1, last) known) refl best' which,
   )
 
@@ -455,7 +360,7 @@ module _ (task : SearchTask) (is : IsTask task) (until hop first begin : ℕ) (a
 pub made_all : (task : SearchTask) → IsTask task → (until hop first : ℕ) (arrival place : List ℕ) (reached : List Visit) (best : Best) → (made : AreMade task until hop first arrival place reached best) → first ≡ length reached →
     (ns : List ℕ) (e : ℕ) → Leads (Takes task) task.start task.at ns task.goal e → best.delivery ≤ e
 made_all task is until hop first arrival place reached best made none ns e way =
-    least_of_all task is until hop made.0 arrival place reached best made.2 (made.1 ∙ none ∙ sym made.2.last_bound) ns e way
+    least_of_all task is until hop made.0 arrival place reached best made.2 (made.1 ∙ none ∙ sym made.2.bounds_are.last) ns e way
 
 -- with the links to the goal as one layer more, what is found is the best
 pub made_last : (task : SearchTask) → IsTask task → (until hop first : ℕ) (arrival place : List ℕ) (reached : List Visit) (best : Best) → AreMade task until hop first arrival place reached best → 0 < hop → (hops : ℕ) → hop + 1 ≡ hops → (delivery : ℕ) → delivery ≤ best.delivery →

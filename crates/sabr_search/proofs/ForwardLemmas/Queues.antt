@@ -257,6 +257,18 @@ module _ (task : SearchTask) (bounds costs : List ℕ) (settled : List Bool) (ar
     | inr rest ↦ (waits.0, rest, waits.2, waits.3)
   ]
 
+  -- what still waits, if only its node may be settled besides
+  queue_rest : (settled' : List Bool) → ((k : ℕ) → slice_index_or settled' k false ≡ false → (k ≢ e.node) × (slice_index_or settled k false ≡ false)) → All (λ (f : Visit). AreSettledBy task costs settled' arrival f.at) queue' → IsQueue task bounds costs settled' arrival queue'
+  queue_rest settled' apart order = record {
+    waits = λ k inside open' off reached. rest_waits k _ (apart k off).0 (was.waits k inside open' (apart k off).1 reached);
+    late = tail (λ (f : Visit). slice_index arrival f.node + slice_index costs f.node ≤ f.at) was.late;
+    before = tail (λ (f : Visit). f.at < slice_index_or bounds f.node never + slice_index costs f.node) was.before;
+    order = order;
+    inside = tail (λ (f : Visit). f.node < length arrival) was.inside;
+    permitted = tail (λ (f : Visit). slice_index_or task.forbidden f.node false ≡ false) was.permitted;
+    other = tail (λ (f : Visit). f.node ≢ task.goal) was.other;
+  }
+
   -- its node is settled
   module _ (within : e.node < length settled) (unsettled : slice_index_or settled e.node false ≡ false) where
     early_after : (t : ℕ) → e.at ≤ t → AreSettledBy task costs settled arrival t → AreSettledBy task costs (slice_set settled e.node true) arrival t
@@ -272,17 +284,7 @@ module _ (task : SearchTask) (bounds costs : List ℕ) (settled : List Bool) (ar
         (other, sym (get_or-set_other settled e.node k true false other) ∙ off)
 
     queue_settled : IsQueue task bounds costs (slice_set settled e.node true) arrival queue'
-    queue_settled = record {
-      waits = λ k inside open' off reached.
-          let before = unsettled_before k off in
-          rest_waits k _ before.0 (was.waits k inside open' before.1 reached);
-      late = tail (λ (f : Visit). slice_index arrival f.node + slice_index costs f.node ≤ f.at) was.late;
-      before = tail (λ (f : Visit). f.at < slice_index_or bounds f.node never + slice_index costs f.node) was.before;
-      order = λ i d lt. early_after _ (first i d lt) (tail (λ (f : Visit). AreSettledBy task costs settled arrival f.at) was.order i d lt);
-      inside = tail (λ (f : Visit). f.node < length arrival) was.inside;
-      permitted = tail (λ (f : Visit). slice_index_or task.forbidden f.node false ≡ false) was.permitted;
-      other = tail (λ (f : Visit). f.node ≢ task.goal) was.other;
-    }
+    queue_settled = queue_rest (slice_set settled e.node true) unsettled_before (λ i d lt. early_after _ (first i d lt) (tail (λ (f : Visit). AreSettledBy task costs settled arrival f.at) was.order i d lt))
 
     -- so its contacts can be taken
     pub settles : (until : ℕ) (hops : List ℕ) (best : Best) → IsBound task until bounds costs → length arrival ≡ length task.forbidden → length settled ≡ length task.forbidden → AreClosed task.forbidden arrival task.at → task.at ≤ slice_index arrival e.node → AreBy task bounds arrival → best.delivery ≤ latest_arrival + 1 →
@@ -310,12 +312,4 @@ module _ (task : SearchTask) (bounds costs : List ℕ) (settled : List Bool) (ar
 
   -- an event of a node that is settled already goes
   pub queue_stale : slice_index_or settled e.node false ≡ true → IsQueue task bounds costs settled arrival queue'
-  queue_stale on = record {
-    waits = λ k inside open' off reached. rest_waits k _ (λ same. both_ways (slice_index_or settled k false) off (ap (λ (j : ℕ). slice_index_or settled j false) same ∙ on)) (was.waits k inside open' off reached);
-    late = tail (λ (f : Visit). slice_index arrival f.node + slice_index costs f.node ≤ f.at) was.late;
-    before = tail (λ (f : Visit). f.at < slice_index_or bounds f.node never + slice_index costs f.node) was.before;
-    order = tail (λ (f : Visit). AreSettledBy task costs settled arrival f.at) was.order;
-    inside = tail (λ (f : Visit). f.node < length arrival) was.inside;
-    permitted = tail (λ (f : Visit). slice_index_or task.forbidden f.node false ≡ false) was.permitted;
-    other = tail (λ (f : Visit). f.node ≢ task.goal) was.other;
-  }
+  queue_stale on = queue_rest settled (λ k off. ((λ same. both_ways (slice_index_or settled k false) off (ap (λ (j : ℕ). slice_index_or settled j false) same ∙ on)), off)) (tail (λ (f : Visit). AreSettledBy task costs settled arrival f.at) was.order)

@@ -15,10 +15,10 @@ loop-left-init g c =
 pub next_back-requires-clause-growing : goal.next_back-requires-clause-growing
 next_back-requires-clause-growing g c =
     let made = c.loop-left.invariant.made in
-    record { task = c.requires.task; arrivals = c.requires.arrivals.flags; bounded = omega (arith, made.many); lists = made.lists; linked = c.loop-left.invariant.linked }
+    record { task = c.requires.task; arrivals = c.requires.arrivals.flags; bounded = omega (arith, made.bounds_are.many); lists = made.lists; linked = c.loop-left.invariant.linked }
 
 pub next_back-requires-clause-apart : goal.next_back-requires-clause-apart
-next_back-requires-clause-apart g c = λ p q e f. c.loop-left.invariant.made.apart c.loop-left.left p q e f (omega arith)
+next_back-requires-clause-apart g c = c.loop-left.invariant.made.apart c.loop-left.left (omega arith)
 
 pub loop-left-preserved : goal.loop-left-preserved
 loop-left-preserved g c =
@@ -41,5 +41,5 @@ returns-then-index g c =
     let old = c.loop-left.self in
     let made = c.loop-left.invariant.made in
     let empty : slice_index old.ends.items left ≡ slice_index old.ends.items (left + 1) =
-    sym (read_at old.ends.items left c.index.result.now (omega (arith, made.many)) c.index.ensures) ∙ c.if-index.true ∙ read_at old.ends.items (left + 1) c.index-in-loop-left.result.now (omega (arith, made.many)) c.index-in-loop-left.ensures in
+    sym (read_at old.ends.items left c.index.result.now (omega (arith, made.bounds_are.many)) c.index.ensures) ∙ c.if-index.true ∙ read_at old.ends.items (left + 1) c.index-in-loop-left.result.now (omega (arith, made.bounds_are.many)) c.index-in-loop-left.ensures in
     record { whole = λ most. whole_of c.args.aim.now.task.now c.requires.task _ _ left old made c.loop-left.invariant.linked most (λ j v x less. before_last c.args.aim.now.task.now c.requires.task _ _ left old made empty j v x) }

@@ -28,10 +28,10 @@ is_met-requires g c = λ k s at.
 pub next_back-requires-clause-growing : goal.next_back-requires-clause-growing
 next_back-requires-clause-growing g c =
     let made = c.loop-left.invariant.made.layers in
-    record { task = c.requires.task; arrivals = c.requires.arrivals.flags; bounded = omega (arith, made.many); lists = made.lists; linked = c.loop-left.invariant.linked }
+    record { task = c.requires.task; arrivals = c.requires.arrivals.flags; bounded = omega (arith, made.bounds_are.many); lists = made.lists; linked = c.loop-left.invariant.linked }
 
 pub next_back-requires-clause-apart : goal.next_back-requires-clause-apart
-next_back-requires-clause-apart g c = λ p q e f. c.loop-left.invariant.made.layers.apart c.loop-left.left p q e f (omega arith)
+next_back-requires-clause-apart g c = c.loop-left.invariant.made.layers.apart c.loop-left.left (omega arith)
 
 pub returns-then-is_met-clause-made : goal.returns-then-is_met-clause-made
 returns-then-is_met-clause-made g c =
@@ -72,7 +72,7 @@ returns-then-index-clause-made g c =
     let old = c.loop-left.self in
     let made = c.loop-left.invariant.made in
     let empty : slice_index old.ends.items left ≡ slice_index old.ends.items (left + 1) =
-    sym (read_at old.ends.items left c.index.result.now (omega (arith, made.layers.many)) c.index.ensures) ∙ c.if-index.true ∙ read_at old.ends.items (left + 1) c.index-in-loop-left.result.now (omega (arith, made.layers.many)) c.index-in-loop-left.ensures in
+    sym (read_at old.ends.items left c.index.result.now (omega (arith, made.layers.bounds_are.many)) c.index.ensures) ∙ c.if-index.true ∙ read_at old.ends.items (left + 1) c.index-in-loop-left.result.now (omega (arith, made.layers.bounds_are.many)) c.index-in-loop-left.ensures in
     let dead = own_dead c.args.aim.now.task.now c.requires.task _ c.requires.arrivals _ left old made c.loop-left.invariant.linked c.args.hops (λ j v x less. before_last c.args.aim.now.task.now c.requires.task _ _ left old made.layers empty j v x) in
     λ ns e le way. dead ns c.args.aim.now.task.now.at e (omega arith) le way
 
