@@ -2,8 +2,7 @@
 -- before.
 use Rattle.std.proofs.Common.{◌≡◌, ℕ, zero, suc, ◌<◌, ◌∷◌, [], List, length, false, Some, slice_get, slice_index, slice_index_or, slice_set, refl, ap, arith, ◌≢◌, ◌⊎◌, inl, inr, ◌-◌, ◌≤◌, ◌++◌, take, sym, ◌∙◌, length-append}
 use Rattle.std.proofs.lemmas.List.{get_or-set_other, get_or-set_same, length-set}
-use Rattle.std.proofs.lemmas.Bool.{cases_lt, cases_eq}
-use Rattle.std.proofs.lemmas.Grind.{common_steps}
+use Rattle.std.proofs.lemmas.Bool.{cases_eq}
 use Rattle.sabr_model.proofs.ListLemmas.Members.{push_cases, push_new, push_old}
 use Rattle.sabr_search.specs.questions.Task.{SearchTask, IsTask, Takes}
 use Rattle.std.proofs.lemmas.Option.{slice_get_within}

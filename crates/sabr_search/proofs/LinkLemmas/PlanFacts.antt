@@ -1,26 +1,26 @@
 -- What a plan's rules say of a contact of a number, of its hop and its arrival, and of the table of nodes; and how many
 -- contacts are looked at.
-use Rattle.std.proofs.Common.{◌≡◌, ℕ, ◌+◌, ◌<◌, ◌≤◌, max, true, false, cond, ltb, refl, arith, ◌≢◌, ◌⊎◌, inl, inr, ◌==◌, List, [], ◌∷◌, length, Bool, slice_index_or, slice_set, eq-eqb, ne_eqb, zero, suc, eqb, map, take, slice_get, sym, ap, ◌∙◌, ⊎_elim, add-one, ◌*◌, ◌&&◌, not, subst}
+use Rattle.std.proofs.Common.{◌≡◌, ℕ, ◌+◌, ◌<◌, ◌≤◌, max, true, false, cond, ltb, refl, arith, ◌≢◌, ◌⊎◌, inl, inr, ◌==◌, List, [], ◌∷◌, length, Bool, slice_index_or, slice_set, eq-eqb, ne_eqb, zero, suc, eqb, take, slice_get, sym, ap, ◌∙◌, ⊎_elim, add-one, ◌*◌, ◌&&◌}
 use Rattle.std.proofs.lemmas.List.{length-map}
-use Rattle.std.proofs.lemmas.Bool.{ltb-true, both_ways, eqb-true, or_cases, cases_Bool, and_parts, not-true, false_from_ne_true, cond-true, lt-ltb}
+use Rattle.std.proofs.lemmas.Bool.{ltb-true, both_ways, eqb-true, or_cases, cases_Bool, cases_eq, false_from_ne_true, cond-true, lt-ltb}
 use Rattle.std.specs.Option.{option_map}
 use Rattle.std.specs.declared.option.Option.TheVariants.{Some, None}
 use Rattle.sabr_model.specs.declared.contact.Contact.{Contact}
 use Rattle.sabr_model.specs.plan.Plan.{ContactPlan, has, are_different, TabledPlan, IsPlan, IsWindow, contact_named}
-use Rattle.sabr_model.specs.plan.Light.{light_of, light_of_pair, or_else, is_within}
+use Rattle.sabr_model.specs.plan.Light.{light_of}
 use Rattle.sabr_model.specs.routes.Arrival.{RouteRequest, cost, arrival}
-use Rattle.std.specs.List.{count_by, sum_by, find}
+use Rattle.std.specs.List.{count_by, sum_by}
 use Rattle.std.proofs.lemmas.List.Sums.{sum_by-cons}
 use Rattle.std.proofs.lemmas.Grind.{common_steps}
 use Rattle.std.specs.Cmp.{nat_eq_equiv}
 use Rattle.std.proofs.lemmas.Map.Made.{length-le_from_is_member}
 use Rattle.sabr_search.specs.questions.Task.{SearchTask, HasNodes, IsTask, Takes, latest_arrival}
 use Rattle.sabr_search.specs.questions.Linked.{place_in, senders, IsHopAt}
-use Rattle.sabr_model.proofs.RouteLemmas.Listed.{distinct_from_different, in_from_has, has_from_in}
-use Rattle.sabr_model.proofs.PlanLemmas.Tabled.{has_place}
-use Rattle.std.specs.Prelude.{IfSome, Contains, ◌↔◌}
+use Rattle.sabr_model.proofs.RouteLemmas.Listed.{distinct_from_different, in_from_has, has_from_in, named_is}
+use Rattle.sabr_model.proofs.PlanLemmas.Tabled.{has_place, place_one}
+use Rattle.sabr_model.proofs.PlanLemmas.RangeOrder.{light_of_limit}
+use Rattle.std.specs.Prelude.{Contains, ◌↔◌}
 use Rattle.std.specs.declared.option.Option.{Option}
-use Rattle.sabr_model.specs.declared.contact.Range.{Range}
 use Rattle.sabr_model.specs.declared.hop.Hop.{Hop}
 use Rattle.sabr_model.specs.plan.Table.{ends_of}
 use Rattle.sabr_model.specs.plan.Tabled.{IsTabled, IsHopOf, IsHopNamed}
@@ -30,22 +30,28 @@ use Rattle.std.proofs.Math.Nat.{mul-le-mul}
 
 -- The arrival over one contact.
 
--- what an arrival is made of
-pub record IsArrival (p : ContactPlan) (r : RouteRequest) (t : ℕ) (c : Contact) (b : ℕ) : Type 0 where
+-- what an arrival is made of, over a contact with this window and light time
+pub record IsArrival (margin t start end : ℕ) (known : Option ℕ) (b : ℕ) : Type 0 where
   pub light : ℕ
-  pub in_force : light_of p c ≡ Some light
-  pub before_end : max t c.start < c.end
-  pub sum : b ≡ max t c.start + cost r.margin light
+  pub in_force : known ≡ Some light
+  pub before_end : max t start < end
+  pub sum : b ≡ max t start + cost margin light
 
-pub arrival_parts : (p : ContactPlan) (r : RouteRequest) (t : ℕ) (c : Contact) (b : ℕ) → arrival p r t c ≡ Some b → IsArrival p r t c b
-arrival_parts p r t c b e =
-    elim (ltb (max t c.start) c.end) as (λ w. ltb (max t c.start) c.end ≡ w → cond w (option_map (λ l. max t c.start + cost r.margin l) (light_of p c)) None ≡ Some b → IsArrival p r t c b) [
+arrival_of : (margin t start end : ℕ) (known : Option ℕ) (b : ℕ) → cond (ltb (max t start) end) (option_map (λ l. max t start + cost margin l) known) None ≡ Some b → IsArrival margin t start end known b
+arrival_of margin t start end known b e =
+    elim (ltb (max t start) end) as (λ w. ltb (max t start) end ≡ w → cond w (option_map (λ l. max t start + cost margin l) known) None ≡ Some b → IsArrival margin t start end known b) [
       | false ↦ λ q h. absurd cc
-      | true ↦ λ q h. elim (light_of p c) as (λ o. light_of p c ≡ o → option_map (λ l. max t c.start + cost r.margin l) o ≡ Some b → IsArrival p r t c b) [
+      | true ↦ λ q h. elim known as (λ o. known ≡ o → option_map (λ l. max t start + cost margin l) o ≡ Some b → IsArrival margin t start end known b) [
         | None ↦ λ f g. absurd cc
-        | Some l ↦ λ f g. (let same : max t c.start + cost r.margin l ≡ b = cc (g) in record { light = l; in_force = f; before_end = ltb-true (max t c.start) c.end q; sum = omega (arith, same) })
+        | Some l ↦ λ f g. (let same : max t start + cost margin l ≡ b = cc (g) in record { light = l; in_force = f; before_end = ltb-true (max t start) end q; sum = omega (arith, same) })
       ] refl h
     ] refl e
+
+pub arrival_parts : (p : ContactPlan) (r : RouteRequest) (t : ℕ) (c : Contact) (b : ℕ) → arrival p r t c ≡ Some b → IsArrival r.margin t c.start c.end (light_of p c) b
+arrival_parts p r t c b e = arrival_of r.margin t c.start c.end (light_of p c) b e
+
+pub hop_arrives : (margin t b : ℕ) (h : Hop) → hop_arrival margin t h ≡ Some b → IsArrival margin t h.start h.end h.light b
+hop_arrives margin t b h e = arrival_of margin t h.start h.end h.light b e
 
 pub arrives_later : (p : ContactPlan) (r : RouteRequest) (t : ℕ) (c : Contact) (b : ℕ) → arrival p r t c ≡ Some b → t ≤ b
 arrives_later p r t c b e = let a = arrival_parts p r t c b e in omega (arith, a.sum)
@@ -55,13 +61,10 @@ arrives_later p r t c b e = let a = arrival_parts p r t c b e in omega (arith, a
 count_by-cons : {X : Type 0} (p : X → Bool) (x : X) (xs : List X) → count_by p (x ∷ xs) ≡ cond (p x) 1 0 + count_by p xs
 count_by-cons p x xs = sum_by-cons (λ y. cond (p y) 1 0) x xs
 
-same_or_other : (f k : ℕ) → (f ≡ k) ⊎ (f ≢ k)
-same_or_other f k = grind arith
-
 flag_at : (flags : List Bool) (k f : ℕ) → k < length flags → slice_index_or flags k false ≡ false →
     cond (slice_index_or (slice_set flags k true) f false) 1 0 ≡ cond (slice_index_or flags f false) 1 0 + cond (f == k) 1 0
 flag_at flags k f in' off =
-    elim (same_or_other f k) [
+    elim (cases_eq f k) [
       | inl same ↦
           let on : slice_index_or (slice_set flags k true) f false ≡ true = grind (arith, common_steps) in
           let was : slice_index_or flags f false ≡ false = grind (arith, common_steps) in
@@ -116,75 +119,26 @@ sum_taken_le f xs zero = omega arith
 sum_taken_le f [] (suc k) = omega arith
 sum_taken_le f (y ∷ ys) (suc k) = omega (arith, sum_by-cons f y (take k ys), sum_by-cons f y ys, sum_taken_le f ys k)
 
--- what a search through a list finds is in the list and passes
-pub found_in : {X : Type 0} (test : X → Bool) (xs : List X) (x : X) → find test xs ≡ Some x → IsIn x xs × (test x ≡ true)
-found_in test [] x h = absurd cc
-found_in test (y ∷ ys) x h =
-    elim (test y) as (λ b. test y ≡ b → cond b (Some y) (find test ys) ≡ Some x → IsIn x (y ∷ ys) × (test x ≡ true)) [
-      | true ↦ λ e g. (let same : y ≡ x = cc (g) in (inl (sym same), ap test (sym same) ∙ e))
-      | false ↦ λ e g. (let m = found_in test ys x g in (inr m.0, m.1))
-    ] refl h
-
 pub contact_in : (p : ContactPlan) (n : ℕ) (c : Contact) → contact_named p n ≡ Some c → IsIn c p.contacts
-contact_in p n c h = (found_in (λ (d : Contact). eqb d.number n) p.contacts c h).0
+contact_in p n c h = (named_is p.contacts n c h).0
 
 pub contact_window : (p : ContactPlan) → IsPlan p → (n : ℕ) (c : Contact) → contact_named p n ≡ Some c → IsWindow c.start c.end
 contact_window p good n c h = all_in (λ (d : Contact). IsWindow d.start d.end) p.contacts good.contact_windows c (contact_in p n c h)
 
-light_of_pair_small : (p : ContactPlan) → IsPlan p → (one other t l : ℕ) → light_of_pair p.ranges one other t ≡ Some l → l ≤ 1000000
-light_of_pair_small p good one other t l h =
-    elim (find (λ (r : Range). eqb r.one one && eqb r.other other && is_within r.start r.end t) p.ranges) as
-    (λ o. find (λ (r : Range). eqb r.one one && eqb r.other other && is_within r.start r.end t) p.ranges ≡ o → option_map (λ (r : Range). r.light) o ≡ Some l → l ≤ 1000000) [
-      | None ↦ λ e g. absurd cc
-      | Some r ↦ λ e g.
-          (let small = all_in (λ (r : Range). r.light ≤ 1000000) p.ranges good.lights r (found_in (λ (r : Range). eqb r.one one && eqb r.other other && is_within r.start r.end t) p.ranges r e).0 in
-          let same : r.light ≡ l = cc (g) in omega arith)
-    ] refl h
-
 pub light_small : (p : ContactPlan) → IsPlan p → (c : Contact) (l : ℕ) → light_of p c ≡ Some l → l ≤ 1000000
-light_small p good c l h =
-    elim (light_of_pair p.ranges c.from c.to c.start) as
-    (λ o. light_of_pair p.ranges c.from c.to c.start ≡ o → or_else o (cond (ltb c.to c.from) (light_of_pair p.ranges c.to c.from c.start) None) ≡ Some l → l ≤ 1000000) [
-      | Some x ↦ λ e g. light_of_pair_small p good c.from c.to c.start l (e ∙ g)
-      | None ↦ λ e g. elim (ltb c.to c.from) as (λ b. cond b (light_of_pair p.ranges c.to c.from c.start) None ≡ Some l → l ≤ 1000000) [
-        | true ↦ λ f. light_of_pair_small p good c.to c.from c.start l f
-        | false ↦ λ f. absurd cc
-      ] g
-    ] refl h
-
-some_light : (o : Option ℕ) → ((l : ℕ) → o ≡ Some l → l ≤ 1000000) → IfSome o (λ l. l ≤ 1000000)
-some_light None h = tt
-some_light (Some l) h = h l refl
+light_small p good c l h = rw h at (light_of_limit p c good)
 
 -- the hop of a standing contact is small
 pub hop_small : (p : TabledPlan) → IsPlan p.plan → (n : ℕ) (h : Hop) → IsHopNamed p n h → IsSmall h
 hop_small p good n h named =
     record {
       ends = (let w = contact_window p.plan good n named.contact named.named in omega (arith, w.1, named.is.end));
-      near = some_light h.light (λ l e. light_small p.plan good named.contact l (sym named.is.light ∙ e));
+      near = rw named.is.light (light_of_limit p.plan named.contact good);
     }
 
 -- the arrival over a contact is that over its hop
 pub hop_arrival_is : (p : TabledPlan) (r : RouteRequest) (t : ℕ) (c : Contact) (h : Hop) → IsHopOf p c h → arrival p.plan r t c ≡ hop_arrival r.margin t h
-hop_arrival_is p r t c h is =
-    let a : ℕ → ℕ → Option ℕ → Option ℕ = λ start end light. cond (ltb (max t start) end) (option_map (λ l. max t start + cost r.margin l) light) None in
-    let at_start : a c.start c.end (light_of p.plan c) ≡ a h.start c.end (light_of p.plan c) = ap (λ s. a s c.end (light_of p.plan c)) (sym is.start) in
-    let at_end : a h.start c.end (light_of p.plan c) ≡ a h.start h.end (light_of p.plan c) = ap (λ e. a h.start e (light_of p.plan c)) (sym is.end) in
-    at_start ∙ at_end ∙ ap (a h.start h.end) (sym is.light)
-
--- no two places of a list without repetition have one element
-pub places_apart : (xs : List ℕ) → are_different xs ≡ true → (i j x : ℕ) → slice_get xs i ≡ Some x → slice_get xs j ≡ Some x → i ≡ j
-places_apart [] d i j x e f = absurd cc
-places_apart (y ∷ ys) d zero zero x e f = refl
-places_apart (y ∷ ys) d zero (suc j) x e f =
-    let parts = and_parts (not (has y ys)) (are_different ys) d in
-    let same : y ≡ x = cc (e) in
-    absurd (both_ways (has y ys) (not-true (has y ys) parts.0) (subst (λ w. has w ys ≡ true) (sym same) (has_place ys j x f)))
-places_apart (y ∷ ys) d (suc i) zero x e f =
-    let parts = and_parts (not (has y ys)) (are_different ys) d in
-    let same : y ≡ x = cc (f) in
-    absurd (both_ways (has y ys) (not-true (has y ys) parts.0) (subst (λ w. has w ys ≡ true) (sym same) (has_place ys i x e)))
-places_apart (y ∷ ys) d (suc i) (suc j) x e f = ap suc (places_apart ys (and_parts (not (has y ys)) (are_different ys) d).1 i j x e f)
+hop_arrival_is p r t c h is = rw (is.start, is.end, is.light) refl
 
 pub place_of : (xs : List ℕ) (x : ℕ) → IsIn x xs → (k : ℕ) × (slice_get xs k ≡ Some x)
 place_of [] x h = absurd h
@@ -196,7 +150,7 @@ end_in p n c h x e = has_from_in x (ends_of p.contacts) (in_flat_map (λ (d : Co
 -- the table of a plan has the ends of each standing contact
 pub has_nodes : (p : TabledPlan) → IsTabled p → HasNodes p.plan p.table
 has_nodes p tabled = record {
-  apart = places_apart p.table tabled.once;
+  apart = λ i j x. place_one p.table i j x tabled.once;
   senders = λ n c h. place_of p.table c.from (in_from_has c.from p.table (tabled.nodes c.from ∙ end_in p.plan n c h c.from (inl refl)));
   receivers = λ n c h. place_of p.table c.to (in_from_has c.to p.table (tabled.nodes c.to ∙ end_in p.plan n c h c.to (inr (inl refl))));
 }
@@ -207,22 +161,6 @@ has_from_iff true xs n h = sym (has_from_in n xs (in_from_Contains xs n (h.0 ref
 has_from_iff false xs n h = sym (false_from_ne_true (has n xs) (λ e. let no : false ≡ true = h.1 (Contains-from_in xs n (in_from_has n xs e)) in cc))
 
 -- when a hop arrives
-pub record HopArrives (margin t b : ℕ) (h : Hop) : Type 0 where
-  pub light : ℕ
-  pub in_force : h.light ≡ Some light
-  pub before_end : max t h.start < h.end
-  pub sum : b ≡ max t h.start + cost margin light
-
-pub hop_arrives : (margin t b : ℕ) (h : Hop) → hop_arrival margin t h ≡ Some b → HopArrives margin t b h
-hop_arrives margin t b h e =
-    elim (ltb (max t h.start) h.end) as (λ w. ltb (max t h.start) h.end ≡ w → cond w (option_map (λ l. max t h.start + cost margin l) h.light) None ≡ Some b → HopArrives margin t b h) [
-      | false ↦ λ q g. absurd cc
-      | true ↦ λ q g. elim h.light as (λ o. h.light ≡ o → option_map (λ l. max t h.start + cost margin l) o ≡ Some b → HopArrives margin t b h) [
-        | None ↦ λ f k. absurd cc
-        | Some l ↦ λ f k. (let same : max t h.start + cost margin l ≡ b = cc (k) in record { light = l; in_force = f; before_end = ltb-true (max t h.start) h.end q; sum = omega (arith, same) })
-      ] refl g
-    ] refl e
-
 pub hop_arrival_there : (margin t l : ℕ) (h : Hop) → h.light ≡ Some l → max t h.start < h.end → hop_arrival margin t h ≡ Some (max t h.start + cost margin l)
 hop_arrival_there margin t l h light less =
     cond-true (ltb (max t h.start) h.end) (option_map (λ k. max t h.start + cost margin k) h.light) None (lt-ltb (max t h.start) h.end less)

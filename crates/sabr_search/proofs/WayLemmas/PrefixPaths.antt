@@ -1,11 +1,9 @@
 -- Forbidding nodes, and going along a prefix.
 use Rattle.std.proofs.Common.{◌≡◌, ◌≢◌, inl, inr, ℕ, zero, suc, ◌+◌, ◌<◌, ◌≤◌, Bool, true, false, not, ◌||◌, eqb, List, [], ◌∷◌, ◌++◌, length, take, drop, Some, None, slice_get, slice_index, slice_index_or, slice_set, refl, ap, sym, subst, ◌∙◌, arith, length-append}
-use Rattle.sabr_search.proofs.ForwardLemmas.Queues.{off_here}
 use Rattle.std.specs.Prelude.{IsTrue}
 use Rattle.std.specs.Option.{option_and_then}
 use Rattle.std.proofs.lemmas.Bool.{or_right, or_from, eq-eqb, ne_eqb, both_ways, cases_eq, and_parts, not-true}
 use Rattle.std.proofs.lemmas.List.{take_more, take-take, take-append-drop, get_or-set_other, get_or-set_same, length-set}
-use Rattle.std.proofs.lemmas.Grind.{common_steps}
 use Rattle.std.proofs.lemmas.Option.{slice_get_within, slice_get-get_or, get_or_from_slice_get}
 use Rattle.sabr_model.specs.declared.contact.Contact.{Contact}
 use Rattle.sabr_model.specs.declared.hop.Hop.{Hop}
@@ -31,38 +29,31 @@ use Rattle.sabr_model.proofs.RouteLemmas.Prefixes.{prefix_is_path}
 use Rattle.sabr_model.proofs.ListLemmas.Members.{push_cases}
 use Rattle.sabr_search.proofs.AnswerLemmas.Law.{received}
 
-or_false : (b : Bool) → (b || false) ≡ b
+pub or_false : (b : Bool) → (b || false) ≡ b
 or_false true = refl
 or_false false = refl
 
--- a node more is forbidden
-pub forbidden_more : (p : ContactPlan) (table : List ℕ) → HasNodes p table → (forbidden : List Bool) (test test' : ℕ → Bool) (k node : ℕ) → AreForbidden table forbidden test → slice_get table k ≡ Some node → ((x : ℕ) → test' x ≡ (test x || eqb x node)) → AreForbidden table (slice_set forbidden k true) test'
-forbidden_more p table nodes forbidden test test' k node so_far at more = record {
-  many = length-set forbidden k true ∙ so_far.many;
+-- the flag of one node is set
+forbidden_set : (p : ContactPlan) (table : List ℕ) → HasNodes p table → (forbidden : List Bool) (test test' : ℕ → Bool) (k node : ℕ) (flag : Bool) → AreForbidden table forbidden test → slice_get table k ≡ Some node →
+    test' node ≡ flag → ((x : ℕ) → x ≢ node → test' x ≡ test x) → AreForbidden table (slice_set forbidden k flag) test'
+forbidden_set p table nodes forbidden test test' k node flag so_far at own others = record {
+  many = length-set forbidden k flag ∙ so_far.many;
   flag = λ j x here. elim (cases_eq j k) [
     | inl same ↦
         (let node_is : x ≡ node = (let q : Some x ≡ Some node = sym here ∙ ap (slice_get table) same ∙ at in cc (q)) in
-        ap (λ i. slice_index_or (slice_set forbidden k true) i false) same ∙ get_or-set_same forbidden k true false (omega (arith, so_far.many, slice_get_within table k node at))
-        ∙ sym (more x ∙ or_right (test x) (eqb x node) (eq-eqb x node node_is)))
-    | inr other ↦
-        (let differ : x ≡ node → ⊥ = λ same. other (nodes.apart j k node (here ∙ ap Some same) at) in
-        get_or-set_other forbidden k j true false other ∙ so_far.flag j x here ∙ sym (more x ∙ ap (λ b. test x || b) (ne_eqb x node differ) ∙ or_false (test x)))
+        ap (λ i. slice_index_or (slice_set forbidden k flag) i false) same ∙ get_or-set_same forbidden k flag false (omega (arith, so_far.many, slice_get_within table k node at)) ∙ sym (ap test' node_is ∙ own))
+    | inr other ↦ get_or-set_other forbidden k j flag false other ∙ so_far.flag j x here ∙ sym (others x (λ same. other (nodes.apart j k node (here ∙ ap Some same) at)))
   ];
 }
 
+-- a node more is forbidden
+pub forbidden_more : (p : ContactPlan) (table : List ℕ) → HasNodes p table → (forbidden : List Bool) (test test' : ℕ → Bool) (k node : ℕ) → AreForbidden table forbidden test → slice_get table k ≡ Some node → ((x : ℕ) → test' x ≡ (test x || eqb x node)) → AreForbidden table (slice_set forbidden k true) test'
+forbidden_more p table nodes forbidden test test' k node so_far at more = forbidden_set p table nodes forbidden test test' k node true so_far at (more node ∙ or_right (test node) (eqb node node) (eq-eqb node node refl))
+    (λ x differ. more x ∙ ap (λ b. test x || b) (ne_eqb x node differ) ∙ or_false (test x))
+
 -- a node less is forbidden
 pub forbidden_less : (p : ContactPlan) (table : List ℕ) → HasNodes p table → (forbidden : List Bool) (test test' : ℕ → Bool) (k node : ℕ) → AreForbidden table forbidden test' → slice_get table k ≡ Some node → ((x : ℕ) → test' x ≡ (test x || eqb x node)) → test node ≡ false → AreForbidden table (slice_set forbidden k false) test
-forbidden_less p table nodes forbidden test test' k node so_far at more off = record {
-  many = length-set forbidden k false ∙ so_far.many;
-  flag = λ j x here. elim (cases_eq j k) [
-    | inl same ↦
-        (let node_is : x ≡ node = (let q : Some x ≡ Some node = sym here ∙ ap (slice_get table) same ∙ at in cc (q)) in
-        ap (λ i. slice_index_or (slice_set forbidden k false) i false) same ∙ off_here forbidden k ∙ sym (ap test node_is ∙ off))
-    | inr other ↦
-        (let differ : x ≡ node → ⊥ = λ same. other (nodes.apart j k node (here ∙ ap Some same) at) in
-        get_or-set_other forbidden k j false false other ∙ so_far.flag j x here ∙ more x ∙ ap (λ b. test x || b) (ne_eqb x node differ) ∙ or_false (test x))
-  ];
-}
+forbidden_less p table nodes forbidden test test' k node so_far at more off = forbidden_set p table nodes forbidden test' test k node false so_far at off (λ x differ. sym (more x ∙ ap (λ b. test x || b) (ne_eqb x node differ) ∙ or_false (test x)))
 
 -- a node that isn't in the table needs no flag
 pub forbidden_same : (table : List ℕ) (forbidden : List Bool) (test test' : ℕ → Bool) → AreForbidden table forbidden test → ((x : ℕ) → has x table ≡ true → test' x ≡ test x) → AreForbidden table forbidden test'

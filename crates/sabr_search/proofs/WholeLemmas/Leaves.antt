@@ -1,11 +1,10 @@
 -- Layers made for the whole graph leave out no way of a part's question; and what dead ends say of other seconds and
 -- hops.
-use Rattle.std.proofs.Common.{◌≡◌, inl, inr, ℕ, ◌+◌, ◌<◌, ◌≤◌, Bool, true, false, List, [], ◌∷◌, ◌++◌, length, slice_get, slice_index, slice_index_or, Some, refl, ap, sym, subst, ◌∙◌, arith, length-append, zero, suc, ◌-◌, min, add-zero}
+use Rattle.std.proofs.Common.{◌≡◌, inl, inr, ℕ, ◌+◌, ◌<◌, ◌≤◌, true, false, List, [], ◌∷◌, ◌++◌, length, slice_get, slice_index, slice_index_or, Some, refl, ap, sym, subst, ◌∙◌, arith, length-append, zero, suc, ◌-◌, min, add-zero}
 use Rattle.std.proofs.lemmas.List.{get_or_past}
 use Rattle.std.proofs.lemmas.Bool.{cases_eq, cases_lt, both_ways}
 use Rattle.std.proofs.lemmas.Bool.Decides.{nat_tests}
 use Rattle.std.proofs.lemmas.Option.{slice_get-get_or}
-use Rattle.std.proofs.lemmas.Grind.{common_steps}
 use Rattle.sabr_model.specs.plan.Plan.{TabledPlan, contact_named, has}
 use Rattle.sabr_model.specs.routes.Arrival.{RouteRequest, arrival}
 use Rattle.sabr_search.specs.declared.backward.deadlines.Deadlines.{Deadlines}
@@ -25,10 +24,6 @@ way_ends : (task : SearchTask) (Open : ℕ → Type 0) → ((n u t w b : ℕ) �
 way_ends task Open each [] u t v e way some = absurd (omega arith)
 way_ends task Open each (n ∷ []) u t v e way some = rw (← way.3.0) (each n u t way.0 way.1 way.2)
 way_ends task Open each (n ∷ m ∷ ns) u t v e way some = way_ends task Open each (m ∷ ns) way.0 way.1 v e way.3 (omega arith)
-
--- a flag past the end is off
-past_end : (flags : List Bool) (k : ℕ) → length flags ≤ k → slice_index_or flags k false ≡ false
-past_end flags k le = grind (arith, common_steps)
 
 -- no way over the whole graph comes to where a question starts any sooner, unless it starts at the source
 start_soon : (task : SearchTask) (prefix : List ℕ) → IsAsked task prefix → (soon : List ℕ) → AreSoonFor (tabled_of task) task.request soon → is_closed task.plan task.request [] task.request.source ≡ true →
@@ -56,7 +51,7 @@ module _ (whole task : SearchTask) (prefix : List ℕ) (first : IsAsked whole []
     | inl within ↦
         (let at = slice_get-get_or task.table k 0 within in
         forbidden_there k _ at ∙ (of_request task prefix asked.behind).closes k _ at open')
-    | inr past ↦ past_end whole.forbidden k (omega (arith, past, first.task_is.as_many, ap length table_is))
+    | inr past ↦ get_or_past whole.forbidden k false (omega (arith, past, first.task_is.as_many, ap length table_is))
   ]
 
   goal_there : whole.goal ≡ task.goal

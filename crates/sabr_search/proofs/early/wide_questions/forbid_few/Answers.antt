@@ -1,16 +1,11 @@
 use Rattle.std.proofs.Common.{◌≡◌, ◌≢◌, ◌≤◌, ℕ, Bool, true, false, List, [], length, slice_index_or, slice_set, inl, inr, ap, sym, ◌∙◌, arith}
-use Rattle.std.proofs.lemmas.List.{get_or-set_other, get_or-set_same, length-set}
+use Rattle.std.proofs.lemmas.List.{get_or_past, get_or-set_other, get_or-set_same, length-set}
 use Rattle.std.proofs.lemmas.Bool.{cases_lt, both_ways}
 use Rattle.std.proofs.lemmas.Option.{slice_get-get_or}
-use Rattle.std.proofs.lemmas.Grind.{common_steps}
 use Rattle.sabr_search.specs.questions.Task.{SearchTask, IsTask, IsOfRequest, is_closed}
 use Rattle.sabr_search.specs.questions.PrefixPath.{AreForbidden}
 use Rattle.sabr_search.specs.answers.Answers.{narrowed, ForbidsFewer}
 use Rattle.sabr_search.proofs.early.wide_questions.forbid_few.Goals as goal
-
--- a flag past the end is off
-past_end : (flags : List Bool) (k : ℕ) → length flags ≤ k → slice_index_or flags k false ≡ false
-past_end flags k le = grind (arith, common_steps)
 
 module _ (task : SearchTask) (is : IsTask task) (request : IsOfRequest task) (forbidden : List Bool) (are : AreForbidden task.table forbidden (is_closed task.plan task.request [])) where
   abbrev here : List Bool
@@ -26,7 +21,7 @@ module _ (task : SearchTask) (is : IsTask task) (request : IsOfRequest task) (fo
           | inl within ↦
               (let at = slice_get-get_or task.table k 0 within in
               are.flag k _ at ∙ request.closes k _ at open')
-          | inr past ↦ past_end forbidden k (omega (arith, past, are.many))
+          | inr past ↦ get_or_past forbidden k false (omega (arith, past, are.many))
         ];
   }
 

@@ -1,13 +1,9 @@
-use Rattle.std.proofs.Common.{◌≡◌, Bool, true, false, ◌||◌, [], refl, ap, subst, ◌∙◌}
+use Rattle.std.proofs.Common.{◌≡◌, true, ◌||◌, [], ap, subst, ◌∙◌}
 use Rattle.std.proofs.lemmas.Bool.{ne_eqb, both_ways}
 use Rattle.sabr_model.specs.plan.Plan.{has}
 use Rattle.sabr_search.specs.questions.Task.{is_closed}
-use Rattle.sabr_search.proofs.WayLemmas.PrefixPaths.{forbidden_more, forbidden_same, closed_none}
+use Rattle.sabr_search.proofs.WayLemmas.PrefixPaths.{or_false, forbidden_more, forbidden_same, closed_none}
 use Rattle.sabr_search.proofs.prefix_path.closed.forbid_closed.Goals as goal
-
-or_false : (b : Bool) → (b || false) ≡ b
-or_false true = refl
-or_false false = refl
 
 pub returns-in_default : goal.returns-in_default
 returns-in_default g c =
