@@ -29,6 +29,10 @@ use Rattle.sabr_search.proofs.WayLemmas.RoutesAndWays.{same_some}
 abbrev pub no_pass : Pass
 no_pass = record { number = 0; receiver = 0; light = 0; start = 0; end = 0; latest_end = 0; least_light_before = 0; least_light_after = 0; least_number_after = 0; next_numbers = 0 }
 
+-- the pass that a walk looks at
+pub looked : (passes : List Pass) (i : ℕ) (x : Pass) → i < length passes → x ≡ slice_index_or passes i no_pass → slice_get passes i ≡ Some x
+looked passes i x within same = slice_get-get_or passes i no_pass within ∙ ap Some (sym same)
+
 abbrev pub no_link : Link
 no_link = record { receiver = 0; first = 0; end = 0; bounds = record { latest_end = 0; least_light = 0; soonest = 0 } }
 

@@ -1,9 +1,9 @@
-use Rattle.std.proofs.Common.{◌≡◌, inl, inr, Some, slice_get, sym, ◌∙◌, arith, ap}
-use Rattle.std.proofs.lemmas.Option.{slice_get-get_or, slice_get_within}
+use Rattle.std.proofs.Common.{◌≡◌, inl, inr, sym, ◌∙◌, arith}
+use Rattle.std.proofs.lemmas.Option.{slice_get_within}
 use Rattle.std.proofs.lemmas.Bool.{cases_lt}
 use Rattle.sabr_search.proofs.LinkLemmas.PlanFacts.{hop_arrives}
 use Rattle.sabr_search.proofs.ForwardLemmas.Forward.{step_of_hop, last_or_before}
-use Rattle.sabr_search.proofs.LinkLemmas.OverLinks.{no_pass, none_ended, none_excluded, late_over, ruled_out, pass_takes, step_at, step_over}
+use Rattle.sabr_search.proofs.LinkLemmas.OverLinks.{looked, none_ended, none_excluded, late_over, ruled_out, pass_takes, step_at, step_over}
 use Rattle.sabr_search.proofs.task.Task.arrive_over.Goals as goal
 use Rattle.sabr_search.proofs.task.Task.arrive_over.Goals.{in-Some+else-arrives_no_sooner, in_default}
 use Rattle.sabr_search.proofs.WayLemmas.RoutesAndWays.{same_some}
@@ -27,33 +27,24 @@ loop-place-init g c = record {
 pub returns-then-comes_late-clause-full : goal.returns-then-comes_late-clause-full
 returns-then-comes_late-clause-full g c = λ n w b has s.
     let task = c.args.self.now in
-    let passes = c.args.link.passes.now in
-    let i = c.loop-place.place in
-    let pass = c.look-pass.result in
-    let here : slice_get passes i ≡ Some pass = slice_get-get_or passes i no_pass c.loop-place-test.true ∙ ap Some (sym c.look-pass.ensures.same) in
-    let step = step_over task passes n c.args.link.from c.args.at w b has s in
-    elim (cases_lt has.0 i) [
+    let here = looked c.args.link.passes.now c.loop-place.place c.look-pass.result c.loop-place-test.true c.look-pass.ensures.same in
+    let step = step_over task c.args.link.passes.now n c.args.link.from c.args.at w b has s in
+    elim (cases_lt has.0 c.loop-place.place) [
       | inl before ↦ c.loop-place.invariant.full has.0 has.1 w b before has.2 step
       | inr behind ↦
-          late_over task c.requires.task c.args.link.from c.args.link.to passes c.requires.link.0 c.args.at c.loop-place.earliest i pass here
+          late_over task c.requires.task c.args.link.from c.args.link.to c.args.link.passes.now c.requires.link.0 c.args.at c.loop-place.earliest c.loop-place.place c.look-pass.result here
           (c.comes_late.ensures c.if-comes_late.true) has.0 has.1 w b behind has.2 step
     ]
 
 pub hop_over-hop-requires-clause-pass : goal.hop_over-hop-requires-clause-pass
 hop_over-hop-requires-clause-pass g c =
-    let passes = c.args.link.passes.now in
-    let i = c.loop-place.place in
-    let pass = c.look-pass.result in
-    let here : slice_get passes i ≡ Some pass = slice_get-get_or passes i no_pass c.loop-place-test.true ∙ ap Some (sym c.look-pass.ensures.same) in
-    (c.args.link.from, c.requires.link.0.each i pass here)
+    let here = looked c.args.link.passes.now c.loop-place.place c.look-pass.result c.loop-place-test.true c.look-pass.ensures.same in
+    (c.args.link.from, c.requires.link.0.each c.loop-place.place c.look-pass.result here)
 
 pub loop-place-preserved-then-excluded-gt0 : goal.loop-place-preserved-then-excluded-gt0
 loop-place-preserved-then-excluded-gt0 g c =
     let task = c.args.self.now in
-    let passes = c.args.link.passes.now in
-    let i = c.loop-place.place in
-    let pass = c.look-pass.result in
-    let here : slice_get passes i ≡ Some pass = slice_get-get_or passes i no_pass c.loop-place-test.true ∙ ap Some (sym c.look-pass.ensures.same) in
+    let here = looked c.args.link.passes.now c.loop-place.place c.look-pass.result c.loop-place-test.true c.look-pass.ensures.same in
     let so_far = c.loop-place.invariant in
     record {
       within = omega (arith, c.loop-place-test.true);
@@ -63,21 +54,18 @@ loop-place-preserved-then-excluded-gt0 g c =
       later = so_far.later;
       upper = so_far.upper;
       sound = so_far.sound;
-      full = λ k x w b less at s. elim (cases_lt k i) [
+      full = λ k x w b less at s. elim (cases_lt k c.loop-place.place) [
         | inl before ↦ so_far.full k x w b before at s
-        | inr behind ↦ absurd (none_excluded task c.requires.task c.args.link.from c.args.link.to passes c.requires.link.0 c.args.at i k c.excluded_from-excluded.result pass x w b here behind (omega (arith, less)) at c.excluded_from-excluded.ensures.in_row c.excluded_from-excluded.ensures.some s)
+        | inr behind ↦ absurd (none_excluded task c.requires.task c.args.link.from c.args.link.to c.args.link.passes.now c.requires.link.0 c.args.at c.loop-place.place k c.excluded_from-excluded.result c.look-pass.result x w b here behind (omega (arith, less)) at c.excluded_from-excluded.ensures.in_row c.excluded_from-excluded.ensures.some s)
       ];
     }
 
 pub loop-place-preserved : goal.loop-place-preserved
 loop-place-preserved g c =
     let task = c.args.self.now in
-    let passes = c.args.link.passes.now in
-    let i = c.loop-place.place in
     let u = c.args.link.from in
     let t = c.args.at in
-    let pass = c.look-pass.result in
-    let here : slice_get passes i ≡ Some pass = slice_get-get_or passes i no_pass c.loop-place-test.true ∙ ap Some (sym c.look-pass.ensures.same) in
+    let here = looked c.args.link.passes.now c.loop-place.place c.look-pass.result c.loop-place-test.true c.look-pass.ensures.same in
     let so_far = c.loop-place.invariant in
     let hop = c.hop_over-hop.result in
     let is_hop = c.hop_over-hop.ensures.value in
@@ -92,11 +80,11 @@ loop-place-preserved g c =
             later = omega (arith, (hop_arrives task.request.margin t z.in-Some.arrival hop got.0).sum);
             upper = omega (arith, so_far.upper, got.1);
             sound = λ less open'.
-                (pass.number, pass_takes task c.requires.task u c.args.link.to t pass z.in-Some.arrival hop (c.requires.link.0.each i pass here) c.hop_over-hop.ensures.receiver is_hop open' (c.excluded_from-excluded.ensures.none (omega (arith, c.if-excluded-gt0.false))) got.0);
-            full = λ k x w b less at s. elim (last_or_before k i less) [
+                (c.look-pass.result.number, pass_takes task c.requires.task u c.args.link.to t c.look-pass.result z.in-Some.arrival hop (c.requires.link.0.each c.loop-place.place c.look-pass.result here) c.hop_over-hop.ensures.receiver is_hop open' (c.excluded_from-excluded.ensures.none (omega (arith, c.if-excluded-gt0.false))) got.0);
+            full = λ k x w b less at s. elim (last_or_before k c.loop-place.place less) [
               | inl before ↦ omega (arith, so_far.full k x w b before at s, got.1)
               | inr same ↦
-                  (let step = step_of_hop task c.requires.task pass.number hop is_hop u t w b (step_at task passes u t i k pass x w b here at same s) in
+                  (let step = step_of_hop task c.requires.task c.look-pass.result.number hop is_hop u t w b (step_at task c.args.link.passes.now u t c.loop-place.place k c.look-pass.result x w b here at same s) in
                   omega (arith, same_some (sym got.0 ∙ step.1)))
             ];
           }))
@@ -109,10 +97,10 @@ loop-place-preserved g c =
             later = so_far.later;
             upper = so_far.upper;
             sound = so_far.sound;
-            full = λ k x w b less at s. elim (last_or_before k i less) [
+            full = λ k x w b less at s. elim (last_or_before k c.loop-place.place less) [
               | inl before ↦ so_far.full k x w b before at s
               | inr same ↦
-                  (let step = step_of_hop task c.requires.task pass.number hop is_hop u t w b (step_at task passes u t i k pass x w b here at same s) in
+                  (let step = step_of_hop task c.requires.task c.look-pass.result.number hop is_hop u t w b (step_at task c.args.link.passes.now u t c.loop-place.place k c.look-pass.result x w b here at same s) in
                   z.in_default.ensures.none b step.1)
             ];
           })
@@ -121,12 +109,10 @@ loop-place-preserved g c =
 pub returns-then-arrives_no_sooner-clause-sound : goal.returns-then-arrives_no_sooner-clause-sound
 returns-then-arrives_no_sooner-clause-sound g c = λ less open'.
     let task = c.args.self.now in
-    let passes = c.args.link.passes.now in
-    let pass = c.look-pass.result in
-    let here : slice_get passes c.loop-place.place ≡ Some pass = slice_get-get_or passes c.loop-place.place no_pass c.loop-place-test.true ∙ ap Some (sym c.look-pass.ensures.same) in
+    let here = looked c.args.link.passes.now c.loop-place.place c.look-pass.result c.loop-place-test.true c.look-pass.ensures.same in
     let got = c.in-Some.ensures.some in (
-      pass.number,
-      pass_takes task c.requires.task c.args.link.from c.args.link.to c.args.at pass c.in-Some.arrival c.hop_over-hop.result (c.requires.link.0.each c.loop-place.place pass here) c.hop_over-hop.ensures.receiver c.hop_over-hop.ensures.value open' (c.excluded_from-excluded.ensures.none (omega (arith, c.if-excluded-gt0.false))) got.0,
+      c.look-pass.result.number,
+      pass_takes task c.requires.task c.args.link.from c.args.link.to c.args.at c.look-pass.result c.in-Some.arrival c.hop_over-hop.result (c.requires.link.0.each c.loop-place.place c.look-pass.result here) c.hop_over-hop.ensures.receiver c.hop_over-hop.ensures.value open' (c.excluded_from-excluded.ensures.none (omega (arith, c.if-excluded-gt0.false))) got.0,
     )
 
 pub returns-then-arrives_no_sooner-clause-full : goal.returns-then-arrives_no_sooner-clause-full
@@ -135,5 +121,4 @@ returns-then-arrives_no_sooner-clause-full g c = λ n w b has s.
 
 pub returns-clause-full : goal.returns-clause-full
 returns-clause-full g c = λ n w b has s.
-    let passes = c.args.link.passes.now in
-    c.loop-place.invariant.full has.0 has.1 w b (omega (arith, slice_get_within passes has.0 has.1 has.2, c.loop-place-test.false)) has.2 (step_over c.args.self.now passes n c.args.link.from c.args.at w b has s)
+    c.loop-place.invariant.full has.0 has.1 w b (omega (arith, slice_get_within c.args.link.passes.now has.0 has.1 has.2, c.loop-place-test.false)) has.2 (step_over c.args.self.now c.args.link.passes.now n c.args.link.from c.args.at w b has s)

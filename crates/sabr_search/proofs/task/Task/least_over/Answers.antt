@@ -1,8 +1,8 @@
-use Rattle.std.proofs.Common.{◌≡◌, inl, inr, Some, slice_get, refl, arith, ap, sym, ◌∙◌}
-use Rattle.std.proofs.lemmas.Option.{slice_get-get_or, slice_get_within}
+use Rattle.std.proofs.Common.{◌≡◌, inl, inr, refl, arith, ◌∙◌}
+use Rattle.std.proofs.lemmas.Option.{slice_get_within}
 use Rattle.std.proofs.lemmas.Bool.{cases_lt}
 use Rattle.sabr_search.proofs.ForwardLemmas.Forward.{step_of_hop, last_or_before}
-use Rattle.sabr_search.proofs.LinkLemmas.OverLinks.{no_pass, none_ended, none_excluded, late_over, ruled_out, pass_takes, step_at, step_over, same_number, at_most_more}
+use Rattle.sabr_search.proofs.LinkLemmas.OverLinks.{looked, none_ended, none_excluded, late_over, ruled_out, pass_takes, step_at, step_over, same_number, at_most_more}
 use Rattle.sabr_search.proofs.task.Task.least_over.Goals as goal
 
 pub returns-then-rules_out-clause-full : goal.returns-then-rules_out-clause-full
@@ -23,15 +23,12 @@ loop-place-init g c = record {
 pub returns-then-comes_late-clause-full : goal.returns-then-comes_late-clause-full
 returns-then-comes_late-clause-full g c = λ n w b has s early.
     let task = c.args.self.now in
-    let passes = c.args.link.passes.now in
-    let i = c.loop-place.place in
-    let pass = c.look-pass.result in
-    let here : slice_get passes i ≡ Some pass = slice_get-get_or passes i no_pass c.loop-place-test.true ∙ ap Some (sym c.look-pass.ensures.same) in
-    let step = step_over task passes n c.args.link.from c.args.at w b has s in
-    rw (← has.3) (elim (cases_lt has.0 i) [
+    let here = looked c.args.link.passes.now c.loop-place.place c.look-pass.result c.loop-place-test.true c.look-pass.ensures.same in
+    let step = step_over task c.args.link.passes.now n c.args.link.from c.args.at w b has s in
+    rw (← has.3) (elim (cases_lt has.0 c.loop-place.place) [
       | inl before ↦ c.loop-place.invariant.full has.0 has.1 w b before has.2 step early
       | inr behind ↦
-          (let late = late_over task c.requires.task c.args.link.from c.args.link.to passes c.requires.link.0 c.args.at c.args.before i pass here
+          (let late = late_over task c.requires.task c.args.link.from c.args.link.to c.args.link.passes.now c.requires.link.0 c.args.at c.args.before c.loop-place.place c.look-pass.result here
           (c.comes_late.ensures c.if-comes_late.true) has.0 has.1 w b behind has.2 step in
           absurd (omega (arith, late, early)))
     ])
@@ -39,30 +36,21 @@ returns-then-comes_late-clause-full g c = λ n w b has s early.
 pub returns-then-is_at_most-clause-full : goal.returns-then-is_at_most-clause-full
 returns-then-is_at_most-clause-full g c = λ n w b has s early.
     let task = c.args.self.now in
-    let passes = c.args.link.passes.now in
-    let i = c.loop-place.place in
-    let pass = c.look-pass.result in
-    let here : slice_get passes i ≡ Some pass = slice_get-get_or passes i no_pass c.loop-place-test.true ∙ ap Some (sym c.look-pass.ensures.same) in
-    let step = step_over task passes n c.args.link.from c.args.at w b has s in
-    rw (← has.3) (elim (cases_lt has.0 i) [
+    let here = looked c.args.link.passes.now c.loop-place.place c.look-pass.result c.loop-place-test.true c.look-pass.ensures.same in
+    let step = step_over task c.args.link.passes.now n c.args.link.from c.args.at w b has s in
+    rw (← has.3) (elim (cases_lt has.0 c.loop-place.place) [
       | inl before ↦ c.loop-place.invariant.full has.0 has.1 w b before has.2 step early
-      | inr behind ↦ at_most_more c.loop-place.chosen pass.least_number_after has.1.number (c.requires.link.0.kept i has.0 pass has.1 behind here has.2).number_after (rw c.pass.ensures at (c.is_at_most.ensures.at_most c.if-is_at_most.true))
+      | inr behind ↦ at_most_more c.loop-place.chosen c.look-pass.result.least_number_after has.1.number (c.requires.link.0.kept c.loop-place.place has.0 c.look-pass.result has.1 behind here has.2).number_after (rw c.pass.ensures at (c.is_at_most.ensures.at_most c.if-is_at_most.true))
     ])
 
 pub hop_over-hop-requires-clause-pass : goal.hop_over-hop-requires-clause-pass
 hop_over-hop-requires-clause-pass g c =
-    let passes = c.args.link.passes.now in
-    let i = c.loop-place.place in
-    let pass = c.look-pass.result in
-    let here : slice_get passes i ≡ Some pass = slice_get-get_or passes i no_pass c.loop-place-test.true ∙ ap Some (sym c.look-pass.ensures.same) in
-    (c.args.link.from, c.requires.link.0.each i pass here)
+    let here = looked c.args.link.passes.now c.loop-place.place c.look-pass.result c.loop-place-test.true c.look-pass.ensures.same in
+    (c.args.link.from, c.requires.link.0.each c.loop-place.place c.look-pass.result here)
 
 pub loop-place-preserved-then-is_at_most-2 : goal.loop-place-preserved-then-is_at_most-2
 loop-place-preserved-then-is_at_most-2 g c =
-    let passes = c.args.link.passes.now in
-    let i = c.loop-place.place in
-    let pass = c.look-pass.result in
-    let here : slice_get passes i ≡ Some pass = slice_get-get_or passes i no_pass c.loop-place-test.true ∙ ap Some (sym c.look-pass.ensures.same) in
+    let here = looked c.args.link.passes.now c.loop-place.place c.look-pass.result c.loop-place-test.true c.look-pass.ensures.same in
     let so_far = c.loop-place.invariant in
     record {
       within = omega (arith, c.loop-place-test.true);
@@ -71,19 +59,16 @@ loop-place-preserved-then-is_at_most-2 g c =
       some_looks = inr (omega (arith, so_far.looked, c.look-pass.ensures.counted));
       lower = so_far.lower;
       sound = so_far.sound;
-      full = λ k x w b less at s early. elim (last_or_before k i less) [
+      full = λ k x w b less at s early. elim (last_or_before k c.loop-place.place less) [
         | inl before ↦ so_far.full k x w b before at s early
-        | inr same ↦ rw (← same_number passes i k pass x here at same) (rw c.number-number.ensures at (c.is_at_most-in-loop-place.ensures.at_most c.if-is_at_most-2.true))
+        | inr same ↦ rw (← same_number c.args.link.passes.now c.loop-place.place k c.look-pass.result x here at same) (rw c.number-number.ensures at (c.is_at_most-in-loop-place.ensures.at_most c.if-is_at_most-2.true))
       ];
     }
 
 pub loop-place-preserved-then-excluded-gt0 : goal.loop-place-preserved-then-excluded-gt0
 loop-place-preserved-then-excluded-gt0 g c =
     let task = c.args.self.now in
-    let passes = c.args.link.passes.now in
-    let i = c.loop-place.place in
-    let pass = c.look-pass.result in
-    let here : slice_get passes i ≡ Some pass = slice_get-get_or passes i no_pass c.loop-place-test.true ∙ ap Some (sym c.look-pass.ensures.same) in
+    let here = looked c.args.link.passes.now c.loop-place.place c.look-pass.result c.loop-place-test.true c.look-pass.ensures.same in
     let so_far = c.loop-place.invariant in
     record {
       within = omega (arith, c.loop-place-test.true);
@@ -92,21 +77,18 @@ loop-place-preserved-then-excluded-gt0 g c =
       some_looks = inr (omega (arith, so_far.looked, c.look-pass.ensures.counted));
       lower = so_far.lower;
       sound = so_far.sound;
-      full = λ k x w b less at s early. elim (cases_lt k i) [
+      full = λ k x w b less at s early. elim (cases_lt k c.loop-place.place) [
         | inl before ↦ so_far.full k x w b before at s early
-        | inr behind ↦ absurd (none_excluded task c.requires.task c.args.link.from c.args.link.to passes c.requires.link.0 c.args.at i k c.excluded_from-excluded.result pass x w b here behind (omega (arith, less)) at c.excluded_from-excluded.ensures.in_row c.excluded_from-excluded.ensures.some s)
+        | inr behind ↦ absurd (none_excluded task c.requires.task c.args.link.from c.args.link.to c.args.link.passes.now c.requires.link.0 c.args.at c.loop-place.place k c.excluded_from-excluded.result c.look-pass.result x w b here behind (omega (arith, less)) at c.excluded_from-excluded.ensures.in_row c.excluded_from-excluded.ensures.some s)
       ];
     }
 
 pub loop-place-preserved-in-Some : goal.loop-place-preserved-in-Some
 loop-place-preserved-in-Some g c =
     let task = c.args.self.now in
-    let passes = c.args.link.passes.now in
-    let i = c.loop-place.place in
     let u = c.args.link.from in
     let t = c.args.at in
-    let pass = c.look-pass.result in
-    let here : slice_get passes i ≡ Some pass = slice_get-get_or passes i no_pass c.loop-place-test.true ∙ ap Some (sym c.look-pass.ensures.same) in
+    let here = looked c.args.link.passes.now c.loop-place.place c.look-pass.result c.loop-place-test.true c.look-pass.ensures.same in
     let so_far = c.loop-place.invariant in
     let hop = c.hop_over-hop.result in
     let got = c.in-Some.ensures.some in
@@ -116,22 +98,19 @@ loop-place-preserved-in-Some g c =
       looked = omega (arith, so_far.looked, c.look-pass.ensures.counted);
       some_looks = inr (omega (arith, so_far.looked, c.look-pass.ensures.counted));
       lower = λ n h. c.is_at_most-in-loop-place.ensures.above c.if-is_at_most-2.false n (so_far.lower n h);
-      sound = rw c.number-number.ensures (inr (refl, got.1, λ open'. pass_takes task c.requires.task u c.args.link.to t pass c.in-Some.arrival hop (c.requires.link.0.each i pass here) c.hop_over-hop.ensures.receiver c.hop_over-hop.ensures.value open' (c.excluded_from-excluded.ensures.none (omega (arith, c.if-excluded-gt0.false))) got.0));
-      full = λ k x w b less at s early. elim (last_or_before k i less) [
+      sound = rw c.number-number.ensures (inr (refl, got.1, λ open'. pass_takes task c.requires.task u c.args.link.to t c.look-pass.result c.in-Some.arrival hop (c.requires.link.0.each c.loop-place.place c.look-pass.result here) c.hop_over-hop.ensures.receiver c.hop_over-hop.ensures.value open' (c.excluded_from-excluded.ensures.none (omega (arith, c.if-excluded-gt0.false))) got.0));
+      full = λ k x w b less at s early. elim (last_or_before k c.loop-place.place less) [
         | inl before ↦ c.is_at_most-in-loop-place.ensures.above c.if-is_at_most-2.false x.number (so_far.full k x w b before at s early)
-        | inr same ↦ omega (arith, same_number passes i k pass x here at same, c.number-number.ensures)
+        | inr same ↦ omega (arith, same_number c.args.link.passes.now c.loop-place.place k c.look-pass.result x here at same, c.number-number.ensures)
       ];
     }
 
 pub loop-place-preserved : goal.loop-place-preserved
 loop-place-preserved g c =
     let task = c.args.self.now in
-    let passes = c.args.link.passes.now in
-    let i = c.loop-place.place in
     let u = c.args.link.from in
     let t = c.args.at in
-    let pass = c.look-pass.result in
-    let here : slice_get passes i ≡ Some pass = slice_get-get_or passes i no_pass c.loop-place-test.true ∙ ap Some (sym c.look-pass.ensures.same) in
+    let here = looked c.args.link.passes.now c.loop-place.place c.look-pass.result c.loop-place-test.true c.look-pass.ensures.same in
     let so_far = c.loop-place.invariant in
     let hop = c.hop_over-hop.result in
     record {
@@ -141,18 +120,17 @@ loop-place-preserved g c =
       some_looks = inr (omega (arith, so_far.looked, c.look-pass.ensures.counted));
       lower = so_far.lower;
       sound = so_far.sound;
-      full = λ k x w b less at s early. elim (last_or_before k i less) [
+      full = λ k x w b less at s early. elim (last_or_before k c.loop-place.place less) [
         | inl before ↦ so_far.full k x w b before at s early
         | inr same ↦
-            (let step = step_of_hop task c.requires.task pass.number hop c.hop_over-hop.ensures.value u t w b (step_at task passes u t i k pass x w b here at same s) in
+            (let step = step_of_hop task c.requires.task c.look-pass.result.number hop c.hop_over-hop.ensures.value u t w b (step_at task c.args.link.passes.now u t c.loop-place.place k c.look-pass.result x w b here at same s) in
             absurd (omega (arith, early, c.in_default.ensures.none b step.1)))
       ];
     }
 
 pub returns-clause-full : goal.returns-clause-full
 returns-clause-full g c = λ n w b has s early.
-    let passes = c.args.link.passes.now in
-    rw (← has.3) (c.loop-place.invariant.full has.0 has.1 w b (omega (arith, slice_get_within passes has.0 has.1 has.2, c.loop-place-test.false)) has.2 (step_over c.args.self.now passes n c.args.link.from c.args.at w b has s) early)
+    rw (← has.3) (c.loop-place.invariant.full has.0 has.1 w b (omega (arith, slice_get_within c.args.link.passes.now has.0 has.1 has.2, c.loop-place-test.false)) has.2 (step_over c.args.self.now c.args.link.passes.now n c.args.link.from c.args.at w b has s) early)
 
 pub returns-then-comes_late-clause-some_looks : goal.returns-then-comes_late-clause-some_looks
 returns-then-comes_late-clause-some_looks g c = inr (omega (arith, c.loop-place.invariant.looked, c.look-pass.ensures.counted))

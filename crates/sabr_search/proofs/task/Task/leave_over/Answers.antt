@@ -1,9 +1,8 @@
-use Rattle.std.proofs.Common.{◌≡◌, ◌-◌, inl, inr, Some, slice_get, arith, ap, sym, ◌∙◌}
-use Rattle.std.proofs.lemmas.Option.{slice_get-get_or}
+use Rattle.std.proofs.Common.{◌≡◌, ◌-◌, inl, inr, arith, ◌∙◌}
 use Rattle.std.proofs.lemmas.Bool.{cases_lt, cases_eq}
 use Rattle.sabr_search.proofs.LinkLemmas.PlanFacts.{hop_at_window}
 use Rattle.sabr_search.proofs.ForwardLemmas.Forward.{step_of_hop}
-use Rattle.sabr_search.proofs.LinkLemmas.OverLinks.{no_pass, starts_late, none_later, pass_takes, step_at, step_over}
+use Rattle.sabr_search.proofs.LinkLemmas.OverLinks.{looked, starts_late, none_later, pass_takes, step_at, step_over}
 use Rattle.sabr_search.proofs.task.Task.leave_over.Goals as goal
 
 pub loop-back-init : goal.loop-back-init
@@ -20,25 +19,21 @@ loop-back-init g c = record {
 pub returns-then-leaves_no_later-clause-full : goal.returns-then-leaves_no_later-clause-full
 returns-then-leaves_no_later-clause-full g c = λ n t w b has s less.
     let task = c.args.self.now in
-    let passes = c.args.link.passes.now in
     let i = c.begun-end.result - 1 - c.loop-back.back in
-    let pass = c.look-pass.result in
-    let here : slice_get passes i ≡ Some pass = slice_get-get_or passes i no_pass (omega (arith, c.loop-back-test.true, c.begun-end.ensures.within)) ∙ ap Some (sym c.look-pass.ensures.same) in
-    let step = step_over task passes n c.args.link.from t w b has s in
+    let here = looked c.args.link.passes.now i c.look-pass.result (omega (arith, c.loop-back-test.true, c.begun-end.ensures.within)) c.look-pass.ensures.same in
+    let step = step_over task c.args.link.passes.now n c.args.link.from t w b has s in
     elim (cases_lt i has.0) [
       | inl above ↦ c.loop-back.invariant.full has.0 has.1 t w b (omega (arith, above, c.loop-back-test.true)) has.2 step less
       | inr below ↦
-          none_later task c.requires.task c.args.link.from c.args.link.to passes c.requires.link.0 c.loop-back.last c.args.before i pass here
+          none_later task c.requires.task c.args.link.from c.args.link.to c.args.link.passes.now c.requires.link.0 c.loop-back.last c.args.before i c.look-pass.result here
           (rw c.pass.ensures at (c.leaves_no_later.ensures c.if-leaves_no_later.true)) has.0 has.1 t w b below has.2 step less
     ]
 
 pub hop_over-hop-requires-clause-pass : goal.hop_over-hop-requires-clause-pass
 hop_over-hop-requires-clause-pass g c =
-    let passes = c.args.link.passes.now in
     let i = c.begun-end.result - 1 - c.loop-back.back in
-    let pass = c.look-pass.result in
-    let here : slice_get passes i ≡ Some pass = slice_get-get_or passes i no_pass (omega (arith, c.loop-back-test.true, c.begun-end.ensures.within)) ∙ ap Some (sym c.look-pass.ensures.same) in
-    (c.args.link.from, c.requires.link.0.each i pass here)
+    let here = looked c.args.link.passes.now i c.look-pass.result (omega (arith, c.loop-back-test.true, c.begun-end.ensures.within)) c.look-pass.ensures.same in
+    (c.args.link.from, c.requires.link.0.each i c.look-pass.result here)
 
 pub leave_before-requires-clause-window : goal.leave_before-requires-clause-window
 leave_before-requires-clause-window g c = hop_at_window c.args.self.now c.requires.task _ c.hop_over-hop.result c.hop_over-hop.ensures.value
@@ -46,11 +41,9 @@ leave_before-requires-clause-window g c = hop_at_window c.args.self.now c.requir
 pub loop-back-preserved : goal.loop-back-preserved
 loop-back-preserved g c =
     let task = c.args.self.now in
-    let passes = c.args.link.passes.now in
     let i = c.begun-end.result - 1 - c.loop-back.back in
     let u = c.args.link.from in
-    let pass = c.look-pass.result in
-    let here : slice_get passes i ≡ Some pass = slice_get-get_or passes i no_pass (omega (arith, c.loop-back-test.true, c.begun-end.ensures.within)) ∙ ap Some (sym c.look-pass.ensures.same) in
+    let here = looked c.args.link.passes.now i c.look-pass.result (omega (arith, c.loop-back-test.true, c.begun-end.ensures.within)) c.look-pass.ensures.same in
     let so_far = c.loop-back.invariant in
     let hop = c.hop_over-hop.result in
     let is_hop = c.hop_over-hop.ensures.value in
@@ -63,11 +56,11 @@ loop-back-preserved g c =
         | inl before ↦ so_far.sound t from before
         | inr behind ↦
             (let sent = c.leave_before.ensures.in_time t (omega (arith, c.max-last.ensures, less, behind)) in
-            (sent.0, sent.2, λ open'. (pass.number, pass_takes task c.requires.task u c.args.link.to t pass sent.0 hop (c.requires.link.0.each i pass here) c.hop_over-hop.ensures.receiver is_hop open' (λ same. absurd (c.requires.other same)) sent.1)))
+            (sent.0, sent.2, λ open'. (c.look-pass.result.number, pass_takes task c.requires.task u c.args.link.to t c.look-pass.result sent.0 hop (c.requires.link.0.each i c.look-pass.result here) c.hop_over-hop.ensures.receiver is_hop open' (λ same. absurd (c.requires.other same)) sent.1)))
       ];
       full = λ k x t w b le at s less. elim (cases_eq k i) [
         | inl same ↦
-            (let step = step_of_hop task c.requires.task pass.number hop is_hop u t w b (step_at task passes u t i k pass x w b here at same s) in
+            (let step = step_of_hop task c.requires.task c.look-pass.result.number hop is_hop u t w b (step_at task c.args.link.passes.now u t i k c.look-pass.result x w b here at same s) in
             elim (cases_lt t c.leave_before.result) [
               | inl before ↦ omega (arith, c.max-last.ensures, before)
               | inr behind ↦ absurd (omega (arith, less, c.leave_before.ensures.missed t b behind step.1))
