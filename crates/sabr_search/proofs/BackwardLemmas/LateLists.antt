@@ -10,6 +10,7 @@ use Rattle.sabr_search.specs.declared.backward.deadlines.Deadline.{Deadline}
 use Rattle.sabr_search.specs.layers.Late.{InTimeFor, IsLateEntry, AreLate, IsLeftInTime}
 use Rattle.sabr_search.proofs.ForwardLemmas.LayerEntries.{same_below}
 use Rattle.sabr_search.proofs.WayLemmas.RoutesAndWays.{takes_timely, same_some}
+use Rattle.sabr_search.proofs.BackwardLemmas.Relaxing.{late_rises}
 
 -- One write in a list.
 
@@ -41,146 +42,91 @@ module _ (task : SearchTask) (first begin : ℕ) (late place : List ℕ) (entrie
   now_late : slice_index (slice_set late u x) u ≡ x
   now_late = get_or-set_same late u x 0 (omega (arith, was.many))
 
-  pub late_rises : (k : ℕ) → slice_index late k ≤ slice_index (slice_set late u x) k
-  late_rises k = elim (cases_eq k u) [
-    | inl same ↦ rw same (omega (arith, now_late))
-    | inr differs ↦ omega (arith, get_or-set_other late u k x 0 differs)
-  ]
-
   new_entry : (e : Deadline) → e ≡ record { node = u; before = x } → IsLateEntry task e
   new_entry e is = rw is (record { inside = inside; permitted = permitted; other = other; some = omega (arith, later) })
 
   -- an entry of before or the new one is too late no later than its node
   old_by : (p : ℕ) (e : Deadline) → slice_get entries p ≡ Some e → e.before ≤ slice_index (slice_set late u x) e.node
-  old_by p e at = omega (arith, was.by p e at, late_rises e.node)
+  old_by p e at = omega (arith, was.by p e at, late_rises late u x (omega (arith, was.many)) later e.node)
 
   new_by : (e : Deadline) → e ≡ record { node = u; before = x } → e.before ≤ slice_index (slice_set late u x) e.node
   new_by e is = rw is (omega (arith, now_late))
 
-  module _ (some : 0 < slice_index late u) (above : begin ≤ slice_index place u) where
-    -- what stands there
-    abbrev e0 : Deadline
-    e0 = record { node = u; before = slice_index late u }
+  -- u has the new entry at a place of the layer, and other entries stay
+  module _ (place' : List ℕ) (entries' : List Deadline) (at : ℕ) (flags : length place' ≡ length task.table) (begins : begin ≤ length entries') (above : begin ≤ at)
+      (here : slice_get entries' at ≡ Some f) (placed : slice_index place' u ≡ at) (others : (v : ℕ) → v ≢ u → slice_index place' v ≡ slice_index place v)
+      (stays : (p : ℕ) (e : Deadline) → slice_get entries p ≡ Some e → (p < begin) ⊎ (e.node ≢ u) → slice_get entries' p ≡ Some e)
+      (cases : (p : ℕ) (e : Deadline) → slice_get entries' p ≡ Some e → ((p ≢ at) × (slice_get entries p ≡ Some e)) ⊎ ((p ≡ at) × (e ≡ f)))
+      (alone : (p : ℕ) (e : Deadline) → begin ≤ p → slice_get entries p ≡ Some e → e.node ≡ u → p ≡ at) where
+    in_time : (w b : ℕ) → InTimeFor entries first begin w b → InTimeFor entries' first begin w b
+    in_time w b t = (t.0, t.1, t.2, t.3, stays t.0 t.1 t.4 (inl t.3), t.5, t.6)
 
-    e0_at : slice_get entries (slice_index place u) ≡ Some (record { node = u; before = slice_index late u })
-    e0_at = was.top u inside some
-
-    at_within : slice_index place u < length entries
-    at_within = slice_get_within entries (slice_index place u) e0 e0_at
-
-    in_time_changed : (w b : ℕ) → InTimeFor entries first begin w b → InTimeFor (slice_set entries (slice_index place u) (record { node = u; before = x })) first begin w b
-    in_time_changed w b t = (t.0, t.1, t.2, t.3, get_set_other entries (slice_index place u) t.0 (record { node = u; before = x }) (λ same. omega (arith, same, t.3)) ∙ t.4, t.5, t.6)
-
-    pub changed_late : AreLate task first begin (slice_set late u x) place (slice_set entries (slice_index place u) (record { node = u; before = x }))
-    changed_late = record {
-      flags = was.flags;
+    noted_late : AreLate task first begin (slice_set late u x) place' entries'
+    noted_late = record {
+      flags = flags;
       many = length-set late u x ∙ was.many;
       later = was.later;
-      begins = omega (arith, was.begins, length-set entries (slice_index place u) f);
+      begins = begins;
       top = λ v less some. elim (cases_eq v u) [
-        | inl same ↦ rw (same, now_late) (get_set_here entries (slice_index place u) f at_within)
+        | inl same ↦ rw (same, now_late, placed) here
         | inr differs ↦
             (let keeps : slice_index (slice_set late u x) v ≡ slice_index late v = get_or-set_other late u v x 0 differs in
-            let old = was.top v less (omega (arith, some, keeps)) in
-            let away : slice_index place v ≡ slice_index place u → ⊥ = λ same. differs (ap (λ (y : Deadline). y.node) (same_some (sym old ∙ ap (slice_get entries) same ∙ e0_at))) in
-            rw keeps (get_set_other entries (slice_index place u) (slice_index place v) f away ∙ old))
+            rw (keeps, others v differs) (stays (slice_index place v) _ (was.top v less (omega (arith, some, keeps))) (inr differs)))
       ];
-      goal = λ e at. was.goal e (sym (get_set_other entries (slice_index place u) 0 f (λ same. omega (arith, same, above, was.later))) ∙ at);
-      each = λ p e some at. elim (set_cases entries (slice_index place u) f p e at_within at) [
-        | inl old ↦ was.each p e some old.1
-        | inr here ↦ new_entry e here.1
-      ];
-      by = λ p e at. elim (set_cases entries (slice_index place u) f p e at_within at) [
-        | inl old ↦ old_by p e old.1
-        | inr here ↦ new_by e here.1
-      ];
-      rising = λ p q e g some less at_p at_q same. elim (set_cases entries (slice_index place u) f p e at_within at_p) [
-        | inl old_p ↦ elim (set_cases entries (slice_index place u) f q g at_within at_q) [
+      goal = λ e there. elim (cases 0 e there) [ inl old ↦ was.goal e old.1 | inr new ↦ absurd (omega (arith, new.0, above, was.later)) ];
+      each = λ p e some there. elim (cases p e there) [ inl old ↦ was.each p e some old.1 | inr new ↦ new_entry e new.1 ];
+      by = λ p e there. elim (cases p e there) [ inl old ↦ old_by p e old.1 | inr new ↦ new_by e new.1 ];
+      rising = λ p q e g some less at_p at_q same. elim (cases p e at_p) [
+        | inl old_p ↦ elim (cases q g at_q) [
           | inl old_q ↦ was.rising p q e g some less old_p.1 old_q.1 same
-          | inr here_q ↦
-              (let node : e.node ≡ e0.node = same ∙ ap (λ (y : Deadline). y.node) here_q.1 in
-              omega (arith, was.rising p (slice_index place u) e e0 some (omega (arith, here_q.0)) old_p.1 e0_at node, later, ap (λ (y : Deadline). y.before) here_q.1))
+          | inr new ↦
+              (let node : e.node ≡ u = same ∙ ap (λ (y : Deadline). y.node) new.1 in
+              omega (arith, was.by p e old_p.1, ap (slice_index late) node, later, ap (λ (y : Deadline). y.before) new.1))
         ]
-        | inr here_p ↦ elim (set_cases entries (slice_index place u) f q g at_within at_q) [
+        | inr new ↦ elim (cases q g at_q) [
           | inl old_q ↦
-              (let g_node : g.node ≡ u = sym same ∙ ap (λ (y : Deadline). y.node) here_p.1 in
-              absurd (omega (arith, was.once q g (omega (arith, here_p.0)) old_q.1, ap (slice_index place) g_node, here_p.0)))
-          | inr here_q ↦ absurd (omega (arith, here_p.0, here_q.0))
+              (let node : g.node ≡ u = sym same ∙ ap (λ (y : Deadline). y.node) new.1 in
+              absurd (omega (arith, less, new.0, alone q g (omega (arith, less, new.0, above)) old_q.1 node)))
+          | inr both ↦ absurd (omega (arith, less, new.0, both.0))
         ]
       ];
-      once = λ p e from at. elim (set_cases entries (slice_index place u) f p e at_within at) [
-        | inl old ↦ was.once p e from old.1
-        | inr here ↦ ap (λ (y : Deadline). slice_index place y.node) here.1 ∙ sym here.0
+      once = λ p e from there. elim (cases p e there) [
+        | inl old ↦ others e.node (λ same. old.0 (alone p e from old.1 same)) ∙ was.once p e from old.1
+        | inr new ↦ ap (λ (y : Deadline). slice_index place' y.node) new.1 ∙ placed ∙ sym new.0
       ];
-      sound = λ p e t from at less. elim (set_cases entries (slice_index place u) f p e at_within at) [
-        | inl old ↦ (let s = was.sound p e t from old.1 less in (s.0, s.1, s.2, s.3, in_time_changed s.1 s.2 s.4))
-        | inr here ↦
-            (let s = sound t (omega (arith, less, ap (λ (y : Deadline). y.before) here.1)) in
-            rw here.1 (s.0, s.1, s.2, s.3, in_time_changed s.1 s.2 s.4))
+      sound = λ p e t from there less. elim (cases p e there) [
+        | inl old ↦ (let s = was.sound p e t from old.1 less in (s.0, s.1, s.2, s.3, in_time s.1 s.2 s.4))
+        | inr new ↦
+            (let s = sound t (omega (arith, less, ap (λ (y : Deadline). y.before) new.1)) in
+            rw new.1 (s.0, s.1, s.2, s.3, in_time s.1 s.2 s.4))
       ];
     }
 
-  module _ (below : 0 < slice_index late u → slice_index place u < begin) where
-    in_time_pushed : (w b : ℕ) → InTimeFor entries first begin w b → InTimeFor (entries ++ record { node = u; before = x } ∷ []) first begin w b
-    in_time_pushed w b t = (t.0, t.1, t.2, t.3, push_old entries (record { node = u; before = x }) t.0 t.1 t.4, t.5, t.6)
+  -- its entry in the layer is changed
+  pub changed_late : 0 < slice_index late u → begin ≤ slice_index place u → AreLate task first begin (slice_set late u x) place (slice_set entries (slice_index place u) (record { node = u; before = x }))
+  changed_late some above =
+      let at : ℕ = slice_index place u in
+      let there : slice_get entries at ≡ Some (record { node = u; before = slice_index late u }) = was.top u inside some in
+      let within : at < length entries = slice_get_within entries at _ there in
+      noted_late place (slice_set entries at f) at was.flags (omega (arith, was.begins, length-set entries at f)) above (get_set_here entries at f within) refl (λ v differs. refl)
+      (λ p e old why.
+      get_set_other entries at p f
+      (λ same. elim why [
+        | inl before ↦ omega (arith, same, before, above)
+        | inr differs ↦ differs (ap (λ (y : Deadline). y.node) (same_some (sym old ∙ ap (slice_get entries) same ∙ there)))
+      ])
+      ∙ old)
+      (λ p e new. set_cases entries at f p e within new) (λ p e from old node. sym (was.once p e from old) ∙ ap (slice_index place) node)
 
-    place_many : length (slice_set place u (length entries)) ≡ length task.table
-    place_many = length-set place u (length entries) ∙ was.flags
-
-    place_here : slice_index (slice_set place u (length entries)) u ≡ length entries
-    place_here = get_or-set_same place u (length entries) 0 (omega (arith, was.flags))
-
-    pub pushed_late : AreLate task first begin (slice_set late u x) (slice_set place u (length entries)) (entries ++ record { node = u; before = x } ∷ [])
-    pushed_late = record {
-      flags = place_many;
-      many = length-set late u x ∙ was.many;
-      later = was.later;
-      begins = omega (arith, was.begins, length-append entries (f ∷ []));
-      top = λ v less some. elim (cases_eq v u) [
-        | inl same ↦ rw (same, now_late, place_here) (push_new entries f)
-        | inr differs ↦
-            (let keeps : slice_index (slice_set late u x) v ≡ slice_index late v = get_or-set_other late u v x 0 differs in
-            let stays : slice_index (slice_set place u (length entries)) v ≡ slice_index place v = get_or-set_other place u v (length entries) 0 differs in
-            let old = was.top v less (omega (arith, some, keeps)) in
-            rw (keeps, stays) (push_old entries f (slice_index place v) _ old))
-      ];
-      goal = λ e at. elim (push_cases entries f 0 e at) [ inl old ↦ was.goal e old | inr here ↦ absurd (omega (arith, here.0, was.later, was.begins)) ];
-      each = λ p e some at. elim (push_cases entries f p e at) [
-        | inl old ↦ was.each p e some old
-        | inr here ↦ new_entry e (sym here.1)
-      ];
-      by = λ p e at. elim (push_cases entries f p e at) [
-        | inl old ↦ old_by p e old
-        | inr here ↦ new_by e (sym here.1)
-      ];
-      rising = λ p q e g some less at_p at_q same. elim (push_cases entries f q g at_q) [
-        | inl old_q ↦ elim (push_cases entries f p e at_p) [
-          | inl old_p ↦ was.rising p q e g some less old_p old_q same
-          | inr here_p ↦ absurd (omega (arith, here_p.0, slice_get_within entries q g old_q))
-        ]
-        | inr here_q ↦ elim (push_cases entries f p e at_p) [
-          | inl old_p ↦
-              (let e_node : e.node ≡ u = same ∙ ap (λ (y : Deadline). y.node) (sym here_q.1) in
-              omega (arith, was.by p e old_p, ap (slice_index late) e_node, later, ap (λ (y : Deadline). y.before) here_q.1))
-          | inr here_p ↦ absurd (omega (arith, here_p.0, here_q.0))
-        ]
-      ];
-      once = λ p e from at. elim (push_cases entries f p e at) [
-        | inl old ↦ elim (cases_eq e.node u) [
-          | inl same ↦
-              (let entry = was.each p e (omega (arith, from, was.later)) old in
-              absurd (omega (arith, was.once p e from old, ap (slice_index place) same, below (omega (arith, entry.some, was.by p e old, ap (slice_index late) same)))))
-          | inr differs ↦ get_or-set_other place u e.node (length entries) 0 differs ∙ was.once p e from old
-        ]
-        | inr here ↦ ap (λ (y : Deadline). slice_index (slice_set place u (length entries)) y.node) (sym here.1) ∙ place_here ∙ sym here.0
-      ];
-      sound = λ p e t from at less. elim (push_cases entries f p e at) [
-        | inl old ↦ (let s = was.sound p e t from old less in (s.0, s.1, s.2, s.3, in_time_pushed s.1 s.2 s.4))
-        | inr here ↦
-            (let s = sound t (omega (arith, less, ap (λ (y : Deadline). y.before) here.1)) in
-            rw (← here.1) (s.0, s.1, s.2, s.3, in_time_pushed s.1 s.2 s.4))
-      ];
-    }
+  -- or it has one more
+  pub pushed_late : (0 < slice_index late u → slice_index place u < begin) → AreLate task first begin (slice_set late u x) (slice_set place u (length entries)) (entries ++ record { node = u; before = x } ∷ [])
+  pushed_late below =
+      noted_late (slice_set place u (length entries)) (entries ++ f ∷ []) (length entries) (length-set place u (length entries) ∙ was.flags) (omega (arith, was.begins, length-append entries (f ∷ []))) was.begins
+      (push_new entries f) (get_or-set_same place u (length entries) 0 (omega (arith, was.flags))) (λ v differs. get_or-set_other place u v (length entries) 0 differs) (λ p e old why. push_old entries f p e old)
+      (λ p e new. elim (push_cases entries f p e new) [ inl old ↦ inl ((λ same. omega (arith, same, slice_get_within entries p e old)), old) | inr last ↦ inr (last.0, sym last.1) ])
+      (λ p e from old node.
+      let entry = was.each p e (omega (arith, from, was.later)) old in
+      absurd (omega (arith, was.once p e from old, ap (slice_index place) node, below (omega (arith, entry.some, was.by p e old, ap (slice_index late) node)))))
 
 -- if a link can be left later than before, each second sooner than that has a step in time
 pub sound_back : (task : SearchTask) → IsTask task → (u to latest last before first begin : ℕ) (entries : List Deadline) →
