@@ -1,6 +1,6 @@
 -- What a plan's rules say of a contact of a number, of its hop and its arrival, and of the table of nodes; and how many
 -- contacts are looked at.
-use Rattle.std.proofs.Common.{◌≡◌, ℕ, ◌+◌, ◌<◌, ◌≤◌, max, true, false, cond, ltb, refl, arith, ◌≢◌, ◌⊎◌, inl, inr, ◌==◌, List, [], ◌∷◌, length, Bool, slice_index_or, slice_set, eq-eqb, ne_eqb, zero, suc, eqb, take, slice_get, sym, ap, ◌∙◌, ⊎_elim, add-one, ◌*◌, ◌&&◌}
+use Rattle.std.proofs.Common.{◌≡◌, ℕ, ◌+◌, ◌<◌, ◌≤◌, max, true, false, cond, ltb, refl, arith, inl, inr, ◌==◌, List, [], ◌∷◌, length, Bool, slice_index_or, slice_set, eq-eqb, ne_eqb, zero, suc, eqb, take, slice_get, sym, ap, ◌∙◌, ⊎_elim, add-one, ◌*◌}
 use Rattle.std.proofs.lemmas.List.{length-map}
 use Rattle.std.proofs.lemmas.Bool.{ltb-true, both_ways, eqb-true, or_cases, cases_Bool, cases_eq, false_from_ne_true, cond-true, lt-ltb}
 use Rattle.std.specs.Option.{option_map}

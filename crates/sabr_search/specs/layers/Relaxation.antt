@@ -1,6 +1,6 @@
 -- For each node, a second from which on it is too late there: from the goal backward over the whole graph, by relaxing
 -- links.
-use Rattle.std.specs.Prelude.{◌≡◌, ◌≢◌, ℕ, ◌+◌, ◌-◌, ◌^◌, ◌≤◌, ◌<◌, List, [], ◌∷◌, false, true, length, replicate, slice_set, Contains, All, slice_get, slice_index, slice_index_or}
+use Rattle.std.specs.Prelude.{◌≡◌, ◌≢◌, ℕ, ◌+◌, ◌-◌, ◌≤◌, ◌<◌, List, [], ◌∷◌, false, true, length, replicate, slice_set, Contains, All, slice_get, slice_index, slice_index_or}
 use Rattle.std.specs.List.Sorted.{IsPermutation}
 use Rattle.std.specs.declared.option.Option.TheVariants.{Some}
 use Rattle.sabr_index.specs.Links.{SentLink}

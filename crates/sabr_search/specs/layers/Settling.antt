@@ -1,5 +1,5 @@
 -- What a search by arrival keeps: the settled nodes, the waiting events, and the first delivery so far.
-use Rattle.std.specs.Prelude.{ℕ, ◌/◌, ◌%◌, ◌^◌, ◌≡◌, ◌≢◌, ◌+◌, ◌-◌, ◌≤◌, ◌<◌, min, List, length, Bool, true, false, All, Contains, slice_get, slice_index, slice_index_or}
+use Rattle.std.specs.Prelude.{ℕ, ◌≡◌, ◌≢◌, ◌+◌, ◌-◌, ◌≤◌, ◌<◌, min, List, length, Bool, true, false, All, Contains, slice_get, slice_index, slice_index_or}
 use Rattle.sabr_search.specs.declared.visit.Visit.{Visit}
 use Rattle.std.specs.List.{count_by}
 use Rattle.std.specs.declared.option.Option.{Option}

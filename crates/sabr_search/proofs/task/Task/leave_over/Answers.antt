@@ -1,4 +1,4 @@
-use Rattle.std.proofs.Common.{◌≡◌, ◌-◌, inl, inr, arith, ◌∙◌}
+use Rattle.std.proofs.Common.{◌-◌, inl, inr, arith}
 use Rattle.std.proofs.lemmas.Bool.{cases_lt, cases_eq}
 use Rattle.sabr_search.proofs.LinkLemmas.PlanFacts.{hop_at_window}
 use Rattle.sabr_search.proofs.ForwardLemmas.Forward.{step_of_hop}
