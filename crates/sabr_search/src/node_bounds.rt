@@ -43,16 +43,16 @@ fn soonest_of<A: Allocator + Copy>(
     alloc: A,
     task: &Task<'_, A>,
     looks: &mut Looks,
-    late: &[u64],
+    deadline: &[u64],
 ) -> Result<Vec<u64, A>, Stopped>
     requires whole { IsWholeGraph task.now }
     requires source { IsBehind task.now [] }
-    requires late { AreLateFor (tabled_of task.now) task.now.request never late.now }
+    requires deadline { AreLateFor (tabled_of task.now) task.now.request never deadline.now }
     ensures soon { IfOk result (λ v. AreSoonFor (tabled_of task.now) task.now.request v.items) }
 {
     let forward = Forward {
         task,
-        late,
+        deadline,
         costs: &[],
         hops: &[],
         until: UNDELIVERED,
@@ -72,12 +72,12 @@ fn soonest_of<A: Allocator + Copy>(
 #[derive(Drop)]
 pub struct NodeBounds<A: Allocator + Copy> {
     /// For each node, a second from which on no way leads to the destination; none is known after the list's end.
-    late: Vec<u64, A>,
-    /// The second for which last seconds were last looked for: at first the one after every arrival, for which `late`
+    deadline: Vec<u64, A>,
+    /// The second for which last seconds were last looked for: at first the one after every arrival, for which `deadline`
     /// has them. None before the lists were looked for.
     until: Option<u64>,
-    /// For each node, a second from which on no way delivers before `until`, if `late` isn't all that is known.
-    late_until: Option<Vec<u64, A>>,
+    /// For each node, a second from which on no way delivers before `until`, if `deadline` isn't all that is known.
+    deadline_until: Option<Vec<u64, A>>,
     /// For each node, a number of seconds that each way to the destination takes at least; 0 after the list's end.
     pub costs: Vec<u64, A>,
     /// For each node, the hops of such a way, as far as the list goes.
@@ -96,9 +96,9 @@ impl<A: Allocator + Copy> NodeBounds<A> {
         ensures { (p : TabledPlan) (r : RouteRequest) → AreNodeBounds p r result }
     {
         NodeBounds {
-            late: Vec::new(alloc),
+            deadline: Vec::new(alloc),
             until: None,
-            late_until: None,
+            deadline_until: None,
             costs: Vec::new(alloc),
             hops: Vec::new(alloc),
             soon: Vec::new(alloc),
@@ -108,16 +108,16 @@ impl<A: Allocator + Copy> NodeBounds<A> {
     }
 
     /// For each node, a second from which on no way delivers before `until`; none is known after the list's end.
-    pub fn late_for(&self, until: u64) -> &[u64]
+    pub fn deadlines_for(&self, until: u64) -> &[u64]
         ensures { (p : TabledPlan) (r : RouteRequest) → AreNodeBounds p r self.now → AreLateFor p r until result.now }
     {
         if let Some(last) = self.until
             && until <= last
-            && let Some(late) = &self.late_until
+            && let Some(deadline) = &self.deadline_until
         {
-            return late;
+            return deadline;
         }
-        &self.late
+        &self.deadline
     }
 
     /// Counts a question for ways that deliver before `until`. Returns true if [`find`](NodeBounds::find) is to be
@@ -151,19 +151,19 @@ impl<A: Allocator + Copy> NodeBounds<A> {
         ensures { AreNodeBounds (tabled_of task.now) task.now.request self.new }
     {
         if let Some(_) = self.until {
-            self.late_until = latest_by(alloc, task, looks, until).ok();
+            self.deadline_until = latest_by(alloc, task, looks, until).ok();
             self.until = Some(until);
             return;
         }
-        let late = latest_by(alloc, task, looks, NEVER).unwrap_or(Vec::new(alloc));
-        let soon = soonest_of(alloc, task, looks, &late).unwrap_or(Vec::new(alloc));
-        self.late = late;
+        let deadline = latest_by(alloc, task, looks, NEVER).unwrap_or(Vec::new(alloc));
+        let soon = soonest_of(alloc, task, looks, &deadline).unwrap_or(Vec::new(alloc));
+        self.deadline = deadline;
         let none = (Vec::new(alloc), Vec::new(alloc));
         let (costs, hops) = costs_of(alloc, task, looks).unwrap_or(none);
         self.costs = costs;
         self.hops = hops;
         self.soon = soon;
         self.until = Some(UNDELIVERED);
-        self.late_until = None;
+        self.deadline_until = None;
     }
 }

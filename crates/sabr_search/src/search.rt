@@ -108,7 +108,7 @@ impl<A: Allocator + Copy> Search<A> {
         let until = bound.until();
         let forward = Forward {
             task,
-            late: node_bounds.late_for(until),
+            deadline: node_bounds.deadlines_for(until),
             costs: &node_bounds.costs,
             hops: &node_bounds.hops,
             until,

@@ -105,8 +105,8 @@ goes_of task over n u t w b s = record {
 }
 
 -- what is known of the ways over the whole graph is so of a question's ways
-pub bounds_of_nodes : (task : SearchTask) → HasNodes task.plan task.table → IsOfRequest task → (until : ℕ) (late costs : List ℕ) → AreLateFor (tabled_of task) task.request until late → AreCostsFor (tabled_of task) task.request costs → IsBound task until late costs
-bounds_of_nodes task nodes over until late costs are_late are_costs = record {
+pub bounds_of_nodes : (task : SearchTask) → HasNodes task.plan task.table → IsOfRequest task → (until : ℕ) (deadline costs : List ℕ) → AreLateFor (tabled_of task) task.request until deadline → AreCostsFor (tabled_of task) task.request costs → IsBound task until deadline costs
+bounds_of_nodes task nodes over until deadline costs are_late are_costs = record {
   goal = are_late.goal task.goal over.goal_is;
   steps = λ n u t w b s open' other. are_late.steps n u t w b (goes_of task over n u t w b s) (between n u t w b s open' other);
   there = omega (arith, are_costs.goal task.goal over.goal_is);

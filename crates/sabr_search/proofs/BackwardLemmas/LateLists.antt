@@ -33,23 +33,23 @@ set_cases xs k y p e less at = elim (cases_eq p k) [
   | inr other ↦ inl (other, sym (get_set_other xs k p y other) ∙ at)
 ]
 
-module _ (task : SearchTask) (first begin : ℕ) (late place : List ℕ) (entries : List Deadline) (was : AreLate task first begin late place entries)
-    (u x : ℕ) (inside : u < length task.table) (permitted : slice_index_or task.forbidden u false ≡ false) (other : u ≢ task.goal) (later : slice_index late u < x)
+module _ (task : SearchTask) (first begin : ℕ) (deadline place : List ℕ) (entries : List Deadline) (was : AreLate task first begin deadline place entries)
+    (u x : ℕ) (inside : u < length task.table) (permitted : slice_index_or task.forbidden u false ≡ false) (other : u ≢ task.goal) (later : slice_index deadline u < x)
     (sound : (t : ℕ) → t < x → (n : ℕ) × (w : ℕ) × (b : ℕ) × Takes task n u t w b × InTimeFor entries first begin w b) where
   abbrev f : Deadline
   f = record { node = u; before = x }
 
-  now_late : slice_index (slice_set late u x) u ≡ x
-  now_late = get_or-set_same late u x 0 (omega (arith, was.many))
+  now_late : slice_index (slice_set deadline u x) u ≡ x
+  now_late = get_or-set_same deadline u x 0 (omega (arith, was.many))
 
   new_entry : (e : Deadline) → e ≡ record { node = u; before = x } → IsLateEntry task e
   new_entry e is = rw is (record { inside = inside; permitted = permitted; other = other; some = omega (arith, later) })
 
   -- an entry of before or the new one is too late no later than its node
-  old_by : (p : ℕ) (e : Deadline) → slice_get entries p ≡ Some e → e.before ≤ slice_index (slice_set late u x) e.node
-  old_by p e at = omega (arith, was.by p e at, late_rises late u x (omega (arith, was.many)) later e.node)
+  old_by : (p : ℕ) (e : Deadline) → slice_get entries p ≡ Some e → e.before ≤ slice_index (slice_set deadline u x) e.node
+  old_by p e at = omega (arith, was.by p e at, late_rises deadline u x (omega (arith, was.many)) later e.node)
 
-  new_by : (e : Deadline) → e ≡ record { node = u; before = x } → e.before ≤ slice_index (slice_set late u x) e.node
+  new_by : (e : Deadline) → e ≡ record { node = u; before = x } → e.before ≤ slice_index (slice_set deadline u x) e.node
   new_by e is = rw is (omega (arith, now_late))
 
   -- u has the new entry at a place of the layer, and other entries stay
@@ -61,16 +61,16 @@ module _ (task : SearchTask) (first begin : ℕ) (late place : List ℕ) (entrie
     in_time : (w b : ℕ) → InTimeFor entries first begin w b → InTimeFor entries' first begin w b
     in_time w b t = (t.0, t.1, t.2, t.3, stays t.0 t.1 t.4 (inl t.3), t.5, t.6)
 
-    noted_late : AreLate task first begin (slice_set late u x) place' entries'
+    noted_late : AreLate task first begin (slice_set deadline u x) place' entries'
     noted_late = record {
       flags = flags;
-      many = length-set late u x ∙ was.many;
+      many = length-set deadline u x ∙ was.many;
       later = was.later;
       begins = begins;
       top = λ v less some. elim (cases_eq v u) [
         | inl same ↦ rw (same, now_late, placed) here
         | inr differs ↦
-            (let keeps : slice_index (slice_set late u x) v ≡ slice_index late v = get_or-set_other late u v x 0 differs in
+            (let keeps : slice_index (slice_set deadline u x) v ≡ slice_index deadline v = get_or-set_other deadline u v x 0 differs in
             rw (keeps, others v differs) (stays (slice_index place v) _ (was.top v less (omega (arith, some, keeps))) (inr differs)))
       ];
       goal = λ e there. elim (cases 0 e there) [ inl old ↦ was.goal e old.1 | inr new ↦ absurd (omega (arith, new.0, above, was.later)) ];
@@ -81,7 +81,7 @@ module _ (task : SearchTask) (first begin : ℕ) (late place : List ℕ) (entrie
           | inl old_q ↦ was.rising p q e g some less old_p.1 old_q.1 same
           | inr new ↦
               (let node : e.node ≡ u = same ∙ ap (λ (y : Deadline). y.node) new.1 in
-              omega (arith, was.by p e old_p.1, ap (slice_index late) node, later, ap (λ (y : Deadline). y.before) new.1))
+              omega (arith, was.by p e old_p.1, ap (slice_index deadline) node, later, ap (λ (y : Deadline). y.before) new.1))
         ]
         | inr new ↦ elim (cases q g at_q) [
           | inl old_q ↦
@@ -103,10 +103,10 @@ module _ (task : SearchTask) (first begin : ℕ) (late place : List ℕ) (entrie
     }
 
   -- its entry in the layer is changed
-  pub changed_late : 0 < slice_index late u → begin ≤ slice_index place u → AreLate task first begin (slice_set late u x) place (slice_set entries (slice_index place u) (record { node = u; before = x }))
+  pub changed_late : 0 < slice_index deadline u → begin ≤ slice_index place u → AreLate task first begin (slice_set deadline u x) place (slice_set entries (slice_index place u) (record { node = u; before = x }))
   changed_late some above =
       let at : ℕ = slice_index place u in
-      let there : slice_get entries at ≡ Some (record { node = u; before = slice_index late u }) = was.top u inside some in
+      let there : slice_get entries at ≡ Some (record { node = u; before = slice_index deadline u }) = was.top u inside some in
       let within : at < length entries = slice_get_within entries at _ there in
       noted_late place (slice_set entries at f) at was.flags (omega (arith, was.begins, length-set entries at f)) above (get_set_here entries at f within) refl (λ v differs. refl)
       (λ p e old why.
@@ -119,14 +119,14 @@ module _ (task : SearchTask) (first begin : ℕ) (late place : List ℕ) (entrie
       (λ p e new. set_cases entries at f p e within new) (λ p e from old node. sym (was.once p e from old) ∙ ap (slice_index place) node)
 
   -- or it has one more
-  pub pushed_late : (0 < slice_index late u → slice_index place u < begin) → AreLate task first begin (slice_set late u x) (slice_set place u (length entries)) (entries ++ record { node = u; before = x } ∷ [])
+  pub pushed_late : (0 < slice_index deadline u → slice_index place u < begin) → AreLate task first begin (slice_set deadline u x) (slice_set place u (length entries)) (entries ++ record { node = u; before = x } ∷ [])
   pushed_late below =
       noted_late (slice_set place u (length entries)) (entries ++ f ∷ []) (length entries) (length-set place u (length entries) ∙ was.flags) (omega (arith, was.begins, length-append entries (f ∷ []))) was.begins
       (push_new entries f) (get_or-set_same place u (length entries) 0 (omega (arith, was.flags))) (λ v differs. get_or-set_other place u v (length entries) 0 differs) (λ p e old why. push_old entries f p e old)
       (λ p e new. elim (push_cases entries f p e new) [ inl old ↦ inl ((λ same. omega (arith, same, slice_get_within entries p e old)), old) | inr last ↦ inr (last.0, sym last.1) ])
       (λ p e from old node.
       let entry = was.each p e (omega (arith, from, was.later)) old in
-      absurd (omega (arith, was.once p e from old, ap (slice_index place) node, below (omega (arith, entry.some, was.by p e old, ap (slice_index late) node)))))
+      absurd (omega (arith, was.once p e from old, ap (slice_index place) node, below (omega (arith, entry.some, was.by p e old, ap (slice_index deadline) node)))))
 
 -- if a link can be left later than before, each second sooner than that has a step in time
 pub sound_back : (task : SearchTask) → IsTask task → (u to latest last before first begin : ℕ) (entries : List Deadline) →
@@ -143,5 +143,5 @@ pub in_time_kept : (first begin : ℕ) (entries reached0 : List Deadline) → ta
 in_time_kept first begin entries reached0 kept w b t = (t.0, t.1, t.2, t.3, same_below begin reached0 entries (sym kept) t.0 t.1 t.3 t.4, t.5, t.6)
 
 -- what the layers say of a step stays true
-pub left_rises : (task : SearchTask) (since late late1 : List ℕ) (u t : ℕ) → ((k : ℕ) → slice_index late k ≤ slice_index late1 k) → IsLeftInTime task since late u t → IsLeftInTime task since late1 u t
-left_rises task since late late1 u t rises in_time = λ permitted other soon. omega (arith, in_time permitted other soon, rises u)
+pub left_rises : (task : SearchTask) (since deadline late1 : List ℕ) (u t : ℕ) → ((k : ℕ) → slice_index deadline k ≤ slice_index late1 k) → IsLeftInTime task since deadline u t → IsLeftInTime task since late1 u t
+left_rises task since deadline late1 u t rises in_time = λ permitted other soon. omega (arith, in_time permitted other soon, rises u)

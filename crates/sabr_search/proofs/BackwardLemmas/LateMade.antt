@@ -12,8 +12,8 @@ use Rattle.sabr_search.proofs.WayLemmas.RoutesAndWays.{same_some}
 use Rattle.sabr_search.proofs.ForwardLemmas.MadeLayers.{layer_of}
 
 -- the layers up to `left` hops from the goal
-pub record AreBackLayers (task : SearchTask) (since : List ℕ) (d left : ℕ) (ends late place : List ℕ) (entries : List Deadline) : Type 0 where
-  pub lists : AreLate task (slice_index ends left) (slice_index ends (left + 1)) late place entries
+pub record AreBackLayers (task : SearchTask) (since : List ℕ) (d left : ℕ) (ends deadline place : List ℕ) (entries : List Deadline) : Type 0 where
+  pub lists : AreLate task (slice_index ends left) (slice_index ends (left + 1)) deadline place entries
   pub bounds_are : AreBounds left ends entries
   pub goal_first : slice_get entries 0 ≡ Some (record { node = task.goal; before = d + 1 })
   pub apart : (h : ℕ) → h ≤ left → IsApart ends entries h
@@ -21,8 +21,8 @@ pub record AreBackLayers (task : SearchTask) (since : List ℕ) (d left : ℕ) (
   pub taken : (j w x n u t b : ℕ) → j < left → HasDeadline ends entries j w x → b < x → Takes task n u t w b → IsLeftInTimeBy task since (HasDeadline ends entries) j u t
 
 -- so they are, and the start is in time for no entry of an earlier one than the last
-pub record AreLateLayers (task : SearchTask) (since : List ℕ) (d left : ℕ) (ends late place : List ℕ) (entries : List Deadline) : Type 0 where
-  pub layers : AreBackLayers task since d left ends late place entries
+pub record AreLateLayers (task : SearchTask) (since : List ℕ) (d left : ℕ) (ends deadline place : List ℕ) (entries : List Deadline) : Type 0 where
+  pub layers : AreBackLayers task since d left ends deadline place entries
   pub unmet : (j w x n b : ℕ) → j < left → HasDeadline ends entries j w x → b < x → Takes task n task.start task.at w b → ⊥
 
 -- the start is in time for an entry of the last layer
@@ -36,16 +36,16 @@ pub record IsMet (task : SearchTask) (left : ℕ) (ends : List ℕ) (entries : L
   pub in_time : b < x
 
 -- an entry is the goal's, or one of another open node
-pub open_entry : (task : SearchTask) → IsTask task → (first begin : ℕ) (late place : List ℕ) (entries : List Deadline) → AreLate task first begin late place entries → (p : ℕ) (e : Deadline) → slice_get entries p ≡ Some e →
+pub open_entry : (task : SearchTask) → IsTask task → (first begin : ℕ) (deadline place : List ℕ) (entries : List Deadline) → AreLate task first begin deadline place entries → (p : ℕ) (e : Deadline) → slice_get entries p ≡ Some e →
     (e.node < length task.table) × (slice_index_or task.forbidden e.node false ≡ false)
-open_entry task is first begin late place entries was zero e at =
+open_entry task is first begin deadline place entries was zero e at =
     let same : e.node ≡ task.goal = (was.goal e at).0 in
     (omega (arith, is.goal_in), ap (λ k. slice_index_or task.forbidden k false) same ∙ is.goal_open)
-open_entry task is first begin late place entries was (suc p) e at = let one = was.each (suc p) e (omega arith) at in (one.inside, one.permitted)
+open_entry task is first begin deadline place entries was (suc p) e at = let one = was.each (suc p) e (omega arith) at in (one.inside, one.permitted)
 
 -- there is nothing after the end of a list
-pub nothing_past : (task : SearchTask) (first begin first' begin' : ℕ) (late place : List ℕ) (entries : List Deadline) → AreLate task first begin late place entries → begin' ≡ length entries → AreLate task first' begin' late place entries
-nothing_past task first begin first' begin' late place entries was all = record {
+pub nothing_past : (task : SearchTask) (first begin first' begin' : ℕ) (deadline place : List ℕ) (entries : List Deadline) → AreLate task first begin deadline place entries → begin' ≡ length entries → AreLate task first' begin' deadline place entries
+nothing_past task first begin first' begin' deadline place entries was all = record {
   flags = was.flags;
   many = was.many;
   later = omega (arith, was.later, was.begins);
@@ -59,11 +59,11 @@ nothing_past task first begin first' begin' late place entries was all = record 
   sound = λ p e t from at less. absurd (omega (arith, slice_get_within entries p e at));
 }
 
-module _ (task : SearchTask) (is : IsTask task) (since : List ℕ) (d left : ℕ) (ends late place : List ℕ) (entries : List Deadline) (made : AreBackLayers task since d left ends late place entries)
-    (ends' late' place' : List ℕ) (entries' : List Deadline)
-    (after : AreLate task (slice_index ends left) (slice_index ends (left + 1)) late' place' entries')
+module _ (task : SearchTask) (is : IsTask task) (since : List ℕ) (d left : ℕ) (ends deadline place : List ℕ) (entries : List Deadline) (made : AreBackLayers task since d left ends deadline place entries)
+    (ends' deadline' place' : List ℕ) (entries' : List Deadline)
+    (after : AreLate task (slice_index ends left) (slice_index ends (left + 1)) deadline' place' entries')
     (kept_all : take (slice_index ends (left + 1)) entries' ≡ take (slice_index ends (left + 1)) entries)
-    (in_time : AreLeftInTimeFrom task since entries (slice_index ends left) (slice_index ends (left + 1)) late')
+    (in_time : AreLeftInTimeFrom task since entries (slice_index ends left) (slice_index ends (left + 1)) deadline')
     (ends_is : ends' ≡ ends ++ length entries' ∷ []) where
   next : AreBounds (left + 1) ends' entries'
   next = bounds_next left ends entries made.bounds_are ends' entries' kept_all after.begins ends_is
@@ -103,13 +103,13 @@ module _ (task : SearchTask) (is : IsTask task) (since : List ℕ) (d left : ℕ
   ]
 
   -- the newest entry of a node that isn't too late yet
-  newest : (v t : ℕ) → v < length task.table → t < slice_index late' v → (i : ℕ) × (x : ℕ) × (i ≤ left + 1) × HasDeadline ends' entries' i v x × (t < x)
+  newest : (v t : ℕ) → v < length task.table → t < slice_index deadline' v → (i : ℕ) × (x : ℕ) × (i ≤ left + 1) × HasDeadline ends' entries' i v x × (t < x)
   newest v t inside by =
       let on = after.top v inside (omega arith) in
       let p : ℕ = slice_index place' v in
-      let within : p < length entries' = slice_get_within entries' p (record { node = v; before = slice_index late' v }) on in
+      let within : p < length entries' = slice_get_within entries' p (record { node = v; before = slice_index deadline' v }) on in
       let layer = layer_of ends' p (left + 1 + 1) next.first (omega (arith, next.last)) in
-      (layer.0, slice_index late' v, omega (arith, layer.1), (p, layer.2, layer.3, on), by)
+      (layer.0, slice_index deadline' v, omega (arith, layer.1), (p, layer.2, layer.3, on), by)
 
   taken' : (j w x n u t b : ℕ) → j < left + 1 → HasDeadline ends' entries' j w x → b < x → Takes task n u t w b → IsLeftInTimeBy task since (HasDeadline ends' entries') j u t
   taken' j w x n u t b less e by step = elim (last_or_before j left less) [
@@ -124,9 +124,9 @@ module _ (task : SearchTask) (is : IsTask task) (since : List ℕ) (d left : ℕ
   ]
 
   -- the layers with the new one
-  pub back_next : AreBackLayers task since d (left + 1) ends' late' place' entries'
+  pub back_next : AreBackLayers task since d (left + 1) ends' deadline' place' entries'
   back_next = record {
-    lists = nothing_past task (slice_index ends left) (slice_index ends (left + 1)) _ _ late' place' entries' after next.last;
+    lists = nothing_past task (slice_index ends left) (slice_index ends (left + 1)) _ _ deadline' place' entries' after next.last;
     bounds_are = next;
     goal_first = still left ends entries made.bounds_are ends' entries' kept_all after.begins ends_is 0 (record { node = task.goal; before = d + 1 }) made.goal_first;
     apart = apart_next left ends entries made.bounds_are ends' entries' kept_all after.begins ends_is (λ (e : Deadline). e.node) made.apart (λ p q e f above_p above_q at_p at_q same. sym (after.once p e above_p at_p) ∙ ap (slice_index place') same ∙ after.once q f above_q at_q);
@@ -143,25 +143,25 @@ module _ (task : SearchTask) (is : IsTask task) (since : List ℕ) (d left : ℕ
       | inr same ↦ unmet w x n b (entry_was left w x (omega arith) (rw same at e)) by step
     ]
 
-    pub late_next : AreLateLayers task since d (left + 1) ends' late' place' entries'
+    pub late_next : AreLateLayers task since d (left + 1) ends' deadline' place' entries'
     late_next = record { layers = back_next; unmet = unmet' }
 
 -- the layers so far, and a step from the start
-module _ (task : SearchTask) (since : List ℕ) (d left : ℕ) (ends late place : List ℕ) (entries : List Deadline) (made : AreLateLayers task since d left ends late place entries) (n w b : ℕ) (step : Takes task n task.start task.at w b) where
+module _ (task : SearchTask) (since : List ℕ) (d left : ℕ) (ends deadline place : List ℕ) (entries : List Deadline) (made : AreLateLayers task since d left ends deadline place entries) (n w b : ℕ) (step : Takes task n task.start task.at w b) where
   -- if it is in time for its node, the start is in time for an entry of the last layer
-  pub met_by : b < slice_index late w → IsMet task left ends entries
+  pub met_by : b < slice_index deadline w → IsMet task left ends entries
   met_by by =
       let on = made.layers.lists.top w (slice_get_within task.table w step.contact.to step.receiver) (omega arith) in
-      let within : slice_index place w < length entries = slice_get_within entries (slice_index place w) (record { node = w; before = slice_index late w }) on in
+      let within : slice_index place w < length entries = slice_get_within entries (slice_index place w) (record { node = w; before = slice_index deadline w }) on in
       let layer = layer_of ends (slice_index place w) (left + 1) made.layers.bounds_are.first (omega (arith, made.layers.bounds_are.last)) in
-      let entry : HasDeadline ends entries layer.0 w (slice_index late w) = (slice_index place w, layer.2, layer.3, on) in
+      let entry : HasDeadline ends entries layer.0 w (slice_index deadline w) = (slice_index place w, layer.2, layer.3, on) in
       elim (last_or_before layer.0 left (omega (arith, layer.1))) [
-        | inl before ↦ absurd (made.unmet layer.0 w (slice_index late w) n b before entry by step)
-        | inr same ↦ record { n = n; w = w; b = b; x = slice_index late w; step = step; entry = rw same at entry; in_time = by }
+        | inl before ↦ absurd (made.unmet layer.0 w (slice_index deadline w) n b before entry by step)
+        | inr same ↦ record { n = n; w = w; b = b; x = slice_index deadline w; step = step; entry = rw same at entry; in_time = by }
       ]
 
   -- if it comes too late for its node, it does so for each entry
-  pub unmet_by : (j x : ℕ) → HasDeadline ends entries j w x → slice_index late w ≤ b → b < x → ⊥
+  pub unmet_by : (j x : ℕ) → HasDeadline ends entries j w x → slice_index deadline w ≤ b → b < x → ⊥
   unmet_by j x e late_is by = omega (arith, made.layers.lists.by e.0 (record { node = w; before = x }) e.3)
 
 -- zeros stand in a list of them
@@ -175,9 +175,9 @@ linked_first e = record {
 }
 
 -- the goal alone
-pub back_first : (task : SearchTask) → IsTask task → (since : List ℕ) (d : ℕ) (ends late place : List ℕ) (entries : List Deadline) → ends ≡ 0 ∷ 1 ∷ [] → entries ≡ record { node = task.goal; before = d + 1 } ∷ [] →
-    length place ≡ length task.forbidden → slice_index place task.goal ≡ 0 → length late ≡ length task.forbidden → slice_index late task.goal ≡ d + 1 → ((k : ℕ) → k ≢ task.goal → slice_index late k ≡ 0) → AreBackLayers task since d 0 ends late place entries
-back_first task is since d ends late place entries ends_is entries_is places place_is many late_is none =
+pub back_first : (task : SearchTask) → IsTask task → (since : List ℕ) (d : ℕ) (ends deadline place : List ℕ) (entries : List Deadline) → ends ≡ 0 ∷ 1 ∷ [] → entries ≡ record { node = task.goal; before = d + 1 } ∷ [] →
+    length place ≡ length task.forbidden → slice_index place task.goal ≡ 0 → length deadline ≡ length task.forbidden → slice_index deadline task.goal ≡ d + 1 → ((k : ℕ) → k ≢ task.goal → slice_index deadline k ≡ 0) → AreBackLayers task since d 0 ends deadline place entries
+back_first task is since d ends deadline place entries ends_is entries_is places place_is many late_is none =
     rw (ends_is, entries_is) (record {
       lists = record {
         flags = omega (arith, places, is.as_many);

@@ -48,10 +48,10 @@ first_relaxing backward is s until begun =
     }
 
 -- one second more is later than it was
-pub late_rises : (late : List ℕ) (u last : ℕ) → u < length late → slice_index late u < last → (k : ℕ) → slice_index late k ≤ slice_index (slice_set late u last) k
-late_rises late u last inside less k = elim (cases_eq k u) [
-  | inl same ↦ omega (arith, ap (slice_index late) same, less, ap (slice_index (slice_set late u last)) same, get_or-set_same late u last 0 inside)
-  | inr differ ↦ omega (arith, get_or-set_other late u k last 0 differ)
+pub late_rises : (deadline : List ℕ) (u last : ℕ) → u < length deadline → slice_index deadline u < last → (k : ℕ) → slice_index deadline k ≤ slice_index (slice_set deadline u last) k
+late_rises deadline u last inside less k = elim (cases_eq k u) [
+  | inl same ↦ omega (arith, ap (slice_index deadline) same, less, ap (slice_index (slice_set deadline u last)) same, get_or-set_same deadline u last 0 inside)
+  | inr differ ↦ omega (arith, get_or-set_other deadline u k last 0 differ)
 ]
 
 -- what a step is left by stays so when the second of its sender rises
@@ -242,20 +242,20 @@ goal_begun task is until s begun =
     ap (λ xs. slice_index xs task.goal) begun.seconds_are ∙ get_or-set_same zeros task.goal until 0 (omega (arith, length-replicate {A = ℕ} (length task.forbidden) 0, is.as_many, is.goal_in))
 
 -- so these are seconds from which on no way delivers before that one
-pub late_for : (task : SearchTask) → IsWholeGraph task → (until : ℕ) (late : List ℕ) → until ≤ slice_index late task.goal → AreAllRelaxed Passes task late → AreLateFor (tabled_of task) task.request until late
-late_for task whole until late goal are = record {
+pub deadlines_for : (task : SearchTask) → IsWholeGraph task → (until : ℕ) (deadline : List ℕ) → until ≤ slice_index deadline task.goal → AreAllRelaxed Passes task deadline → AreLateFor (tabled_of task) task.request until deadline
+deadlines_for task whole until deadline goal are = record {
   goal = λ g at.
       (let same : g ≡ task.goal = whole.is.nodes.apart g task.goal task.request.destination at whole.goal_is in
-      omega (arith, ap (slice_index late) same, goal, read_or late g (omega (arith, are.many, slice_get_within task.table g task.request.destination at))));
+      omega (arith, ap (slice_index deadline) same, goal, read_or deadline g (omega (arith, are.many, slice_get_within task.table g task.request.destination at))));
   steps = λ n u t w b g between late_there.
       (let w_in : w < length task.table = slice_get_within task.table w g.contact.to g.receiver in
       let u_in : u < length task.table = slice_get_within task.table u g.contact.from g.sender in
       let other : u ≢ task.goal = other_node task whole u between in
       let step : Takes task n u t w b = whole_step task whole n u t w b g in
-      elim (cases_lt b (slice_index late w)) [
-        | inr le ↦ omega (arith, le, read_or late w (omega (arith, are.many, w_in)))
+      elim (cases_lt b (slice_index deadline w)) [
+        | inr le ↦ omega (arith, le, read_or deadline w (omega (arith, are.many, w_in)))
         | inl less ↦
-            absurd (omega (arith, late_there, read_or late u (omega (arith, are.many, u_in)), are.over w w_in (omega (arith, less)) n u t b step (whole.forbids u between.node between.stands ∙ between.permitted) other less))
+            absurd (omega (arith, late_there, read_or deadline u (omega (arith, are.many, u_in)), are.over w w_in (omega (arith, less)) n u t b step (whole.forbids u between.node between.stands ∙ between.permitted) other less))
       ]);
 }
 
@@ -282,15 +282,15 @@ costs_for task whole seconds costs until goal are turned = record {
 pub no_costs : (p : TabledPlan) (r : RouteRequest) (costs : List ℕ) → costs ≡ [] → AreCostsFor p r costs
 no_costs p r costs empty = rw empty (record { goal = λ g at. refl; steps = λ n u t w b g between since. omega (arith, arrives_later p.plan r t g.contact b g.arrives) })
 
-pub none_late : (p : TabledPlan) (r : RouteRequest) (until : ℕ) (late : List ℕ) → until ≤ never → late ≡ [] → AreLateFor p r until late
-none_late p r until late fits empty = rw empty (record {
+pub none_late : (p : TabledPlan) (r : RouteRequest) (until : ℕ) (deadline : List ℕ) → until ≤ never → deadline ≡ [] → AreLateFor p r until deadline
+none_late p r until deadline fits empty = rw empty (record {
   goal = λ g at. omega (arith, fits);
   steps = λ n u t w b g between late_there. omega (arith, late_there, arrives_later p.plan r t g.contact b g.arrives);
 })
 
 -- what is too late for a second is so for each before it
-pub late_before : (p : TabledPlan) (r : RouteRequest) (until by : ℕ) (late : List ℕ) → by ≤ until → AreLateFor p r until late → AreLateFor p r by late
-late_before p r until by late before are = record { goal = λ g at. omega (arith, before, are.goal g at); steps = are.steps }
+pub late_before : (p : TabledPlan) (r : RouteRequest) (until by : ℕ) (deadline : List ℕ) → by ≤ until → AreLateFor p r until deadline → AreLateFor p r by deadline
+late_before p r until by deadline before are = record { goal = λ g at. omega (arith, before, are.goal g at); steps = are.steps }
 
 -- the whole graph, as the question of the empty prefix
 pub whole_task : (task : SearchTask) → IsTask task → IsBehind task [] → task.excluded ≡ [] → IsWholeGraph task

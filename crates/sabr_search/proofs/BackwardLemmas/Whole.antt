@@ -16,7 +16,7 @@ use Rattle.sabr_search.proofs.WayLemmas.RoutesAndWays.{same_some}
 use Rattle.sabr_search.proofs.ForwardLemmas.FirstWays.{goal_other}
 use Rattle.sabr_search.proofs.WholeLemmas.Leaves.{dead_at, leaves_out_none}
 
-module _ {A : Type 0} (task : SearchTask) (is : IsTask task) (since : List ℕ) (d left : ℕ) (s : Deadlines A) (made : AreBackLayers task since d left s.ends.items s.late.items s.place.items s.entries.items) where
+module _ {A : Type 0} (task : SearchTask) (is : IsTask task) (since : List ℕ) (d left : ℕ) (s : Deadlines A) (made : AreBackLayers task since d left s.ends.items s.deadline.items s.place.items s.entries.items) where
   -- no entry is after the last layer
   pub up_to_last : (j v x : ℕ) → HasDeadline s.ends.items s.entries.items j v x → j < left + 1
   up_to_last j v x e = elim (cases_lt left j) [
@@ -41,7 +41,7 @@ module _ {A : Type 0} (task : SearchTask) (is : IsTask task) (since : List ℕ) 
     chained = record {
       many = made.lists.many ∙ sym made.lists.flags;
       linked = linked;
-      last = λ v inside. last_of task _ _ s.late.items s.place.items s.entries.items made.lists v (omega (arith, inside, made.lists.flags));
+      last = λ v inside. last_of task _ _ s.deadline.items s.place.items s.entries.items made.lists v (omega (arith, inside, made.lists.flags));
       later = later;
       by = made.lists.by;
     };
@@ -49,14 +49,14 @@ module _ {A : Type 0} (task : SearchTask) (is : IsTask task) (since : List ℕ) 
     second_end = made.bounds_are.second;
     rising = λ j less. made.bounds_are.rising j (omega (arith, less, made.bounds_are.many));
     goal_first = made.goal_first;
-    permitted = λ p v here. (open_entry task is _ _ s.late.items s.place.items s.entries.items made.lists p _ here.1).1;
+    permitted = λ p v here. (open_entry task is _ _ s.deadline.items s.place.items s.entries.items made.lists p _ here.1).1;
     taken = λ j w x n u t b less e by step. made.taken j w x n u t b (within j w x less e) e by step;
   }
 
 -- What a question's own layers say: a way on for each entry in time, and none of fewer hops that delivers in time.
 
 module _ {A : Type 0} (task : SearchTask) (is : IsTask task) (since : List ℕ) (arrivals : AreArrivals task since) (d left : ℕ) (s : Deadlines A)
-    (made : AreLateLayers task since d left s.ends.items s.late.items s.place.items s.entries.items) (linked : AreLinked s.entries.items s.fewer.items) where
+    (made : AreLateLayers task since d left s.ends.items s.deadline.items s.place.items s.entries.items) (linked : AreLinked s.entries.items s.fewer.items) where
   -- layer 0 is the goal
   base : (v x : ℕ) → HasDeadline s.ends.items s.entries.items 0 v x → (v ≡ task.goal) × (x ≡ d + 1)
   base v x e =

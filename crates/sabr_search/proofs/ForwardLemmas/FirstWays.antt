@@ -29,11 +29,11 @@ pub goal_other : (task : SearchTask) → IsTask task → task.goal ≢ task.star
 goal_other task is same = both_ways (slice_index_or task.forbidden task.start false) (sym (ap (λ k. slice_index_or task.forbidden k false) same) ∙ is.goal_open) is.start_forbidden
 
 -- a node is settled and its contacts are taken
-module _ (task : SearchTask) (until : ℕ) (late costs : List ℕ) (settled : List Bool) (u t : ℕ) (arrival0 : List ℕ) (best0 : Best) (arrival hops : List ℕ) (queue : List Visit) (best : Best)
-    (state : AreSettling task until late costs (slice_set settled u true) u t arrival hops queue best) (fallen : IsFallen (slice_set settled u true) arrival0 best0 arrival best) (taken : AreSettledTaken task costs (slice_set settled u true) arrival best.delivery)
+module _ (task : SearchTask) (until : ℕ) (deadline costs : List ℕ) (settled : List Bool) (u t : ℕ) (arrival0 : List ℕ) (best0 : Best) (arrival hops : List ℕ) (queue : List Visit) (best : Best)
+    (state : AreSettling task until deadline costs (slice_set settled u true) u t arrival hops queue best) (fallen : IsFallen (slice_set settled u true) arrival0 best0 arrival best) (taken : AreSettledTaken task costs (slice_set settled u true) arrival best.delivery)
     (other : task.goal ≢ u) where
   pub settled_next : slice_index_or (slice_set settled u true) task.start false ≡ true → slice_index arrival0 task.start ≡ task.at → slice_index_or settled task.goal false ≡ false →
-      AreClosed task.forbidden arrival0 task.at → AreSettled task until late costs (slice_set settled u true) arrival hops queue best
+      AreClosed task.forbidden arrival0 task.at → AreSettled task until deadline costs (slice_set settled u true) arrival hops queue best
   settled_next start reached goal closed = record {
     flags = state.flags;
     many = state.many;
@@ -65,11 +65,11 @@ pub sent_grows : (task : SearchTask) (settled : List Bool) (u : ℕ) → u < len
 sent_grows task settled u within unsettled = settled_more settled u (senders task) within unsettled
 
 -- a way on from an open node costs at least what the goal costs less from its end
-pub costs_fall : (task : SearchTask) → IsTask task → (until : ℕ) (late costs : List ℕ) → IsBound task until late costs → (ns : List ℕ) (w b v t : ℕ) → slice_index_or task.forbidden w false ≡ false → task.request.at ≤ b → Leads (Takes task) w b ns v t → b + slice_index costs w ≤ t + slice_index costs v
-costs_fall task is until late costs bound [] w b v t open' since way = omega (arith, way.1, ap (slice_index costs) way.0)
-costs_fall task is until late costs bound (n ∷ ns) w b v t open' since way =
+pub costs_fall : (task : SearchTask) → IsTask task → (until : ℕ) (deadline costs : List ℕ) → IsBound task until deadline costs → (ns : List ℕ) (w b v t : ℕ) → slice_index_or task.forbidden w false ≡ false → task.request.at ≤ b → Leads (Takes task) w b ns v t → b + slice_index costs w ≤ t + slice_index costs v
+costs_fall task is until deadline costs bound [] w b v t open' since way = omega (arith, way.1, ap (slice_index costs) way.0)
+costs_fall task is until deadline costs bound (n ∷ ns) w b v t open' since way =
     let later = (takes_timely task is.nodes).later n w b way.0 way.1 way.2 in
-    omega (arith, bound.lowers n w b way.0 way.1 way.2 open' since, costs_fall task is until late costs bound ns way.0 way.1 v t way.2.permitted (omega (arith, later, since)) way.3)
+    omega (arith, bound.lowers n w b way.0 way.1 way.2 open' since, costs_fall task is until deadline costs bound ns way.0 way.1 v t way.2.permitted (omega (arith, later, since)) way.3)
 
 -- the search stops when no event comes before the delivery
 module _ (task : SearchTask) (is : IsTask task) (until : ℕ) (bounds costs : List ℕ) (bound : IsBound task until bounds costs) (settled : List Bool) (arrival hops : List ℕ) (queue : List Visit) (best : Best) (was : AreSettled task until bounds costs settled arrival hops queue best) where
@@ -86,17 +86,17 @@ module _ (task : SearchTask) (is : IsTask task) (until : ℕ) (bounds costs : Li
   goal_known : (a : ℕ) → IsKnownAt task.goal a → best.delivery ≤ a
   goal_known a known = elim known [
     | inl s ↦ absurd (both_ways (slice_index_or settled task.goal false) was.goal_unsettled s.0)
-    | inr late ↦ omega (arith, late.1, bound.goal, by_until)
+    | inr deadline ↦ omega (arith, deadline.1, bound.goal, by_until)
   ]
 
   steps_taken : (v a n w b : ℕ) → IsKnownAt v a → Takes task n v a w b → (best.delivery ≤ b + slice_index costs w) ⊎ (((c : ℕ) × (c ≤ b) × IsKnownAt w c) ⊎ ((c : ℕ) × (c ≤ b) × IsWaiting queue w (c + slice_index costs w)))
   steps_taken v a n w b known step = elim known [
-    | inr late ↦ elim (cases_eq v task.goal) [
+    | inr deadline ↦ elim (cases_eq v task.goal) [
       | inl same ↦
-          (let there : IsKnownAt v a = inr late in
+          (let there : IsKnownAt v a = inr deadline in
           let at_goal : IsKnownAt task.goal a = rw same at there in
           inl (omega (arith, goal_known a at_goal, (takes_timely task is.nodes).later n v a w b step)))
-      | inr other ↦ inr (inl (b, omega arith, inr (step.permitted, bound.steps n v a w b step late.0 other late.1)))
+      | inr other ↦ inr (inl (b, omega arith, inr (step.permitted, bound.steps n v a w b step deadline.0 other deadline.1)))
     ]
     | inl s ↦ elim (was.taken v n w b s.0 (rw s.1 step)) [
       | inl over ↦ inl (omega (arith, over))
@@ -121,7 +121,7 @@ module _ (task : SearchTask) (is : IsTask task) (until : ℕ) (bounds costs : Li
       let first = (takes_timely task is.nodes).earlier n u s way.0 way.1 a way.2 by in
       let after : way.1 + slice_index costs way.0 ≤ t + slice_index costs v = costs_fall task is until bounds costs bound ns way.0 way.1 v t way.2.permitted later way.3 in
       elim (steps_taken u a n way.0 first.0 known first.2) [
-        | inl late ↦ inl (omega (arith, late, first.1, after))
+        | inl deadline ↦ inl (omega (arith, deadline, first.1, after))
         | inr found ↦ elim found [
           | inl on ↦ reached_by stop ns way.0 on.0 way.1 v t on.2 (omega (arith, on.1, first.1)) later way.3
           | inr waits ↦ inl (omega (arith, stop waits.2.0 waits.2.1, waits.2.3, waits.1, first.1, after))
@@ -131,19 +131,19 @@ module _ (task : SearchTask) (is : IsTask task) (until : ℕ) (bounds costs : Li
   first_least : ((f : Visit) → Contains queue f → best.delivery ≤ f.at) → IsNoneBefore task best.delivery
   first_least stop ns e way =
       elim (reached_by stop ns task.start task.at task.at task.goal e (inl (was.start_settled, was.start_reached)) (omega arith) bound.since way) [
-        | inl late ↦ omega (arith, late, bound.there)
+        | inl deadline ↦ omega (arith, deadline, bound.there)
         | inr by ↦ omega (arith, by.1, goal_known by.0 by.2)
       ]
 
   known_arrival : (v c : ℕ) → IsKnownAt v c → slice_index arrival v ≤ c
   known_arrival v c known = elim known [
     | inl s ↦ omega (arith, s.1)
-    | inr late ↦ omega (arith, was.lowered v late.0, late.1)
+    | inr deadline ↦ omega (arith, was.lowered v deadline.0, deadline.1)
   ]
 
   arrivals_found : ((f : Visit) → Contains queue f → best.delivery ≤ f.at) → AreArrivalsBy task costs arrival best.delivery
   arrivals_found stop ns v t some way = elim (reached_by stop ns task.start task.at task.at v t (inl (was.start_settled, was.start_reached)) (omega arith) bound.since way) [
-    | inl late ↦ omega (arith, late)
+    | inl deadline ↦ omega (arith, deadline)
     | inr by ↦ omega (arith, by.1, known_arrival v by.0 by.2)
   ]
 
@@ -168,9 +168,9 @@ module _ (task : SearchTask) (is : IsTask task) (until : ℕ) (bounds costs : Li
   ]
 
 -- an event of a settled node goes
-pub settled_stale : (task : SearchTask) (until : ℕ) (late costs : List ℕ) (settled : List Bool) (arrival hops : List ℕ) (queue queue' : List Visit) (best : Best) → AreSettled task until late costs settled arrival hops queue best → IsQueue task late costs settled arrival queue' →
-    AreSettled task until late costs settled arrival hops queue' best
-settled_stale task until late costs settled arrival hops queue queue' best was rest = record {
+pub settled_stale : (task : SearchTask) (until : ℕ) (deadline costs : List ℕ) (settled : List Bool) (arrival hops : List ℕ) (queue queue' : List Visit) (best : Best) → AreSettled task until deadline costs settled arrival hops queue best → IsQueue task deadline costs settled arrival queue' →
+    AreSettled task until deadline costs settled arrival hops queue' best
+settled_stale task until deadline costs settled arrival hops queue queue' best was rest = record {
   flags = was.flags;
   many = was.many;
   start_settled = was.start_settled;
@@ -220,14 +220,14 @@ module _ (task : SearchTask) (is : IsTask task) (off settled : List Bool) (u : �
   pub start_sent : sent_by_settled task settled ≡ degree task task.start
   start_sent = omega (arith, ap (sent_by_settled task) settled_is, sent_grows task off u off_within (off_at u), count_none (senders task), ap (degree task) u_is)
 
-  module _ (until : ℕ) (late costs : List ℕ) (arrival : List ℕ) (opened : AreOpened task late arrival) where
-    opened_by : AreBy task late arrival
+  module _ (until : ℕ) (deadline costs : List ℕ) (arrival : List ℕ) (opened : AreOpened task deadline arrival) where
+    opened_by : AreBy task deadline arrival
     opened_by k open' = elim (cases_lt k (length arrival)) [
       | inl within ↦ omega (arith, opened.unreached k within open')
       | inr past ↦ omega (arith, get_or_past arrival k 0 past)
     ]
 
-    pub start_state : IsBound task until late costs → (hops : List ℕ) (queue : List Visit) (best : Best) → length hops ≡ length task.forbidden → queue ≡ [] → best.hops ≡ 0 → best.delivery ≡ until → until ≤ latest_arrival + 1 → AreSettling task until late costs settled u task.at arrival (slice_set hops u 0) queue best
+    pub start_state : IsBound task until deadline costs → (hops : List ℕ) (queue : List Visit) (best : Best) → length hops ≡ length task.forbidden → queue ≡ [] → best.hops ≡ 0 → best.delivery ≡ until → until ≤ latest_arrival + 1 → AreSettling task until deadline costs settled u task.at arrival (slice_set hops u 0) queue best
     start_state bound hops queue best hops_many empty none delivery early = rw empty (record {
       on = ap (λ k. slice_index_or settled k false) u_is ∙ start_on;
       real = ([], sym no_hops, (sym u_is, refl));
@@ -239,7 +239,7 @@ module _ (task : SearchTask) (is : IsTask task) (off settled : List Bool) (u : �
       lowered = opened_by;
       queue_is = record {
         waits = λ k within open' off' less. absurd (omega (arith, opened.unreached k within open', less));
-        late = λ i d lt. absurd (omega (arith, lt));
+        deadline = λ i d lt. absurd (omega (arith, lt));
         before = λ i d lt. absurd (omega (arith, lt));
         order = λ i d lt. absurd (omega (arith, lt));
         inside = λ i d lt. absurd (omega (arith, lt));
@@ -256,8 +256,8 @@ module _ (task : SearchTask) (is : IsTask task) (off settled : List Bool) (u : �
         no_hops = get_or-set_same hops u 0 0 (omega (arith, hops_many, u_is, is.start_in, is.as_many))
 
     -- and once all of them are taken
-    pub start_settled : (t : ℕ) (arrival' hops : List ℕ) (queue : List Visit) (best0 best : Best) → AreSettling task until late costs settled u t arrival' hops queue best → IsFallen settled arrival best0 arrival' best →
-        ((n w x : ℕ) → Takes task n task.start task.at w x → IsKnown task.goal arrival' (best.delivery - slice_index costs w) w x) → AreSettled task until late costs settled arrival' hops queue best
+    pub start_settled : (t : ℕ) (arrival' hops : List ℕ) (queue : List Visit) (best0 best : Best) → AreSettling task until deadline costs settled u t arrival' hops queue best → IsFallen settled arrival best0 arrival' best →
+        ((n w x : ℕ) → Takes task n task.start task.at w x → IsKnown task.goal arrival' (best.delivery - slice_index costs w) w x) → AreSettled task until deadline costs settled arrival' hops queue best
     start_settled t arrival' hops queue best0 best state fallen known =
         let start_at : slice_index arrival' task.start ≡ task.at = fallen.kept task.start start_on ∙ opened.start in
         record {
@@ -281,10 +281,10 @@ module _ (task : SearchTask) (is : IsTask task) (off settled : List Bool) (u : �
         }
 
 -- what holds after the node of the earliest event is settled
-module _ (task : SearchTask) (is : IsTask task) (until : ℕ) (late costs : List ℕ) (settled : List Bool) (arrival0 hops0 : List ℕ) (queue0 queue : List Visit) (best0 : Best) (e : Visit) (was : AreSettled task until late costs settled arrival0 hops0 queue0 best0)
+module _ (task : SearchTask) (is : IsTask task) (until : ℕ) (deadline costs : List ℕ) (settled : List Bool) (arrival0 hops0 : List ℕ) (queue0 queue : List Visit) (best0 : Best) (e : Visit) (was : AreSettled task until deadline costs settled arrival0 hops0 queue0 best0)
     (moved : IsPermutation queue0 (e ∷ queue)) (first : All (λ (f : Visit). e.at ≤ f.at) queue) (unsettled : slice_index_or settled e.node false ≡ false) where
   pub next_within : e.node < length settled
-  next_within = omega (arith, was.many, was.flags, head_inside task late costs settled arrival0 queue0 queue e was.queue_is moved first)
+  next_within = omega (arith, was.many, was.flags, head_inside task deadline costs settled arrival0 queue0 queue e was.queue_is moved first)
 
   pub next_sent : sent_by_settled task settled + degree task e.node ≡ sent_by_settled task (slice_set settled e.node true)
   next_sent = sym (sent_grows task settled e.node next_within unsettled)
@@ -294,23 +294,23 @@ module _ (task : SearchTask) (is : IsTask task) (until : ℕ) (late costs : List
 
   next_way : IsWayTo task e.node (slice_index hops0 e.node) (slice_index arrival0 e.node)
   next_way =
-      (was.hops_are.ways e.node (head_inside task late costs settled arrival0 queue0 queue e was.queue_is moved first) (head_open task late costs settled arrival0 queue0 queue e was.queue_is moved first)
-      (head_soon task late costs settled arrival0 queue0 queue e was.queue_is moved first)).1
+      (was.hops_are.ways e.node (head_inside task deadline costs settled arrival0 queue0 queue e was.queue_is moved first) (head_open task deadline costs settled arrival0 queue0 queue e was.queue_is moved first)
+      (head_soon task deadline costs settled arrival0 queue0 queue e was.queue_is moved first)).1
 
-  pub next_state : IsBound task until late costs → AreSettling task until late costs (slice_set settled e.node true) e.node (slice_index arrival0 e.node) arrival0 hops0 queue best0
+  pub next_state : IsBound task until deadline costs → AreSettling task until deadline costs (slice_set settled e.node true) e.node (slice_index arrival0 e.node) arrival0 hops0 queue best0
   next_state bound =
       let since : task.at ≤ slice_index arrival0 e.node = Leads-later (Takes task) (takes_timely task is.nodes) next_way.0 task.start task.at e.node (slice_index arrival0 e.node) next_way.2 in
-      settles task late costs settled arrival0 queue0 queue e was.queue_is moved first next_within unsettled until hops0 best0 bound was.flags was.many was.closed since was.lowered was.sooner was.goal_late was.found was.hops_are
+      settles task deadline costs settled arrival0 queue0 queue e was.queue_is moved first next_within unsettled until hops0 best0 bound was.flags was.many was.closed since was.lowered was.sooner was.goal_late was.found was.hops_are
 
   pub next_counted : (settled' : List Bool) (old new : ℕ) → settled' ≡ slice_set settled e.node true → old ≤ new + sent_by_settled task settled + degree task e.node → old ≤ new + sent_by_settled task settled'
   next_counted settled' old new settled_is le = omega (arith, ap (sent_by_settled task) settled_is, next_sent)
 
   pub next_settled : (settled' : List Bool) (arrival hops : List ℕ) (queue' : List Visit) (best : Best) → settled' ≡ slice_set settled e.node true →
-      AreSettling task until late costs (slice_set settled e.node true) e.node (slice_index arrival0 e.node) arrival hops queue' best → IsFallen (slice_set settled e.node true) arrival0 best0 arrival best → AreSettledTaken task costs (slice_set settled e.node true) arrival best.delivery →
-      AreSettled task until late costs settled' arrival hops queue' best
+      AreSettling task until deadline costs (slice_set settled e.node true) e.node (slice_index arrival0 e.node) arrival hops queue' best → IsFallen (slice_set settled e.node true) arrival0 best0 arrival best → AreSettledTaken task costs (slice_set settled e.node true) arrival best.delivery →
+      AreSettled task until deadline costs settled' arrival hops queue' best
   next_settled settled' arrival hops queue' best settled_is state fallen taken =
-      let other : task.goal ≢ e.node = λ same. head_other task late costs settled arrival0 queue0 queue e was.queue_is moved first (sym same) in
-      rw settled_is (settled_next task until late costs settled e.node (slice_index arrival0 e.node) arrival0 best0 arrival hops queue' best state fallen taken other
+      let other : task.goal ≢ e.node = λ same. head_other task deadline costs settled arrival0 queue0 queue e was.queue_is moved first (sym same) in
+      rw settled_is (settled_next task until deadline costs settled e.node (slice_index arrival0 e.node) arrival0 best0 arrival hops queue' best state fallen taken other
       (flag_stays settled e.node task.start next_within was.start_settled) was.start_reached was.goal_unsettled was.closed)
 
 -- what a `Vec` of flags has at an index, at the usual default

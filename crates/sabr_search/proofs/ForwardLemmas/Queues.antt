@@ -61,9 +61,9 @@ way_same : (task : SearchTask) (v h i t x : ℕ) → i ≡ h → x ≡ t → IsW
 way_same task v h i t x hops at way = rw (hops, at) way
 
 -- the delivery is better, by one step more
-pub found_better : (task : SearchTask) → IsTask task → (until : ℕ) (late costs : List ℕ) (settled : List Bool) (u t n w h : ℕ) (arrival hops : List ℕ) (queue : List Visit) (best : Best) (delivery : ℕ) → AreSettling task until late costs settled u t arrival hops queue best →
-    h ≡ slice_index hops u → delivery < best.delivery → w ≡ task.goal → Takes task n u t w delivery → AreSettling task until late costs settled u t arrival hops queue (record { delivery = delivery; hops = h + 1 })
-found_better task is until late costs settled u t n w h arrival hops queue best delivery so_far h_is less at step = record {
+pub found_better : (task : SearchTask) → IsTask task → (until : ℕ) (deadline costs : List ℕ) (settled : List Bool) (u t n w h : ℕ) (arrival hops : List ℕ) (queue : List Visit) (best : Best) (delivery : ℕ) → AreSettling task until deadline costs settled u t arrival hops queue best →
+    h ≡ slice_index hops u → delivery < best.delivery → w ≡ task.goal → Takes task n u t w delivery → AreSettling task until deadline costs settled u t arrival hops queue (record { delivery = delivery; hops = h + 1 })
+found_better task is until deadline costs settled u t n w h arrival hops queue best delivery so_far h_is less at step = record {
   on = so_far.on;
   real = so_far.real;
   few = so_far.few;
@@ -86,12 +86,12 @@ found_better task is until late costs settled u t n w h arrival hops queue best 
     ]
 
 -- what is reached sooner is open
-pub open_sooner : (task : SearchTask) (until : ℕ) (late costs : List ℕ) (settled : List Bool) (u t w b : ℕ) (arrival hops : List ℕ) (queue : List Visit) (best : Best) → AreSettling task until late costs settled u t arrival hops queue best →
+pub open_sooner : (task : SearchTask) (until : ℕ) (deadline costs : List ℕ) (settled : List Bool) (u t w b : ℕ) (arrival hops : List ℕ) (queue : List Visit) (best : Best) → AreSettling task until deadline costs settled u t arrival hops queue best →
     t ≤ b → b < slice_index arrival w → slice_index_or task.forbidden w false ≡ false
-open_sooner task until late costs settled u t w b arrival hops queue best so_far later less = false_from_ne_true (slice_index_or task.forbidden w false) (λ on. omega (arith, so_far.closed w on))
+open_sooner task until deadline costs settled u t w b arrival hops queue best so_far later less = false_from_ne_true (slice_index_or task.forbidden w false) (λ on. omega (arith, so_far.closed w on))
 
 -- an open node is reached sooner, and an event waits for it
-module _ (task : SearchTask) (is : IsTask task) (until : ℕ) (late costs : List ℕ) (settled : List Bool) (u t n b h : ℕ) (event : Visit) (arrival hops : List ℕ) (queue queue' : List Visit) (best : Best) (so_far : AreSettling task until late costs settled u t arrival hops queue best)
+module _ (task : SearchTask) (is : IsTask task) (until : ℕ) (deadline costs : List ℕ) (settled : List Bool) (u t n b h : ℕ) (event : Visit) (arrival hops : List ℕ) (queue queue' : List Visit) (best : Best) (so_far : AreSettling task until deadline costs settled u t arrival hops queue best)
     (later : t ≤ b) (within : event.node < length arrival) (less : b < slice_index arrival event.node) (other : event.node ≢ task.goal) (step : Takes task n u t event.node b) (h_is : h ≡ slice_index hops u)
     (at_is : event.at ≡ b + slice_index costs event.node) (moved : IsPermutation (event ∷ queue) queue') where
   abbrev w : ℕ
@@ -115,7 +115,7 @@ module _ (task : SearchTask) (is : IsTask task) (until : ℕ) (late costs : List
   all_more : (P : Visit → Type 0) → P event → All P queue → All P queue'
   all_more P here rest = All-permutation P (event ∷ queue) queue' moved (All-cons P event queue here rest)
 
-  queue_more : IsQueue task late costs settled (slice_set arrival w b) queue'
+  queue_more : IsQueue task deadline costs settled (slice_set arrival w b) queue'
   queue_more =
       let was = so_far.queue_is in
       let arrival' = slice_set arrival w b in
@@ -129,15 +129,15 @@ module _ (task : SearchTask) (is : IsTask task) (until : ℕ) (late costs : List
               let waits = was.waits k (omega (arith, many)) open' off (omega (arith, same)) in
               (waits.0, Contains-permutation (event ∷ queue) queue' waits.0 moved (Contains-append_right (event ∷ []) queue waits.0 waits.1), waits.2, omega (arith, waits.3, same))
         ];
-        late = all_more (λ (e : Visit). slice_index arrival' e.node + slice_index costs e.node ≤ e.at) (omega (arith, here, at_is)) (All-weaker (λ (e : Visit). slice_index arrival e.node + slice_index costs e.node ≤ e.at) (λ (e : Visit). slice_index arrival' e.node + slice_index costs e.node ≤ e.at) (λ e le. omega (arith, falls e.node)) queue was.late);
-        before = all_more (λ (e : Visit). e.at < slice_index_or late e.node never + slice_index costs e.node) (omega (arith, less, at_is, so_far.lowered w step.permitted)) was.before;
+        deadline = all_more (λ (e : Visit). slice_index arrival' e.node + slice_index costs e.node ≤ e.at) (omega (arith, here, at_is)) (All-weaker (λ (e : Visit). slice_index arrival e.node + slice_index costs e.node ≤ e.at) (λ (e : Visit). slice_index arrival' e.node + slice_index costs e.node ≤ e.at) (λ e le. omega (arith, falls e.node)) queue was.deadline);
+        before = all_more (λ (e : Visit). e.at < slice_index_or deadline e.node never + slice_index costs e.node) (omega (arith, less, at_is, so_far.lowered w step.permitted)) was.before;
         order = all_more (λ (e : Visit). AreSettledBy task costs settled arrival' e.at) (λ k on open'. omega (arith, kept k on, at_is, early k on open')) (All-weaker (λ (e : Visit). AreSettledBy task costs settled arrival e.at) (λ (e : Visit). AreSettledBy task costs settled arrival' e.at) (λ e by k on open'. omega (arith, kept k on, by k on open')) queue was.order);
         inside = all_more (λ (e : Visit). e.node < length arrival') (omega (arith, many)) (All-weaker (λ (e : Visit). e.node < length arrival) (λ (e : Visit). e.node < length arrival') (λ e lt. omega (arith, many)) queue was.inside);
         permitted = all_more (λ (e : Visit). slice_index_or task.forbidden e.node false ≡ false) step.permitted was.permitted;
         other = all_more (λ (e : Visit). e.node ≢ task.goal) other was.other;
       }
 
-  hops_more : AreHops task late settled (slice_set arrival w b) (slice_set hops w (h + 1))
+  hops_more : AreHops task deadline settled (slice_set arrival w b) (slice_set hops w (h + 1))
   hops_more =
       let was = so_far.hops_are in
       let arrives : slice_index (slice_set arrival w b) w ≡ b = get_or-set_same arrival w b 0 within in
@@ -155,7 +155,7 @@ module _ (task : SearchTask) (is : IsTask task) (until : ℕ) (late costs : List
         ];
       }
 
-  pub pushed : AreSettling task until late costs settled u t (slice_set arrival w b) (slice_set hops w (h + 1)) queue' best
+  pub pushed : AreSettling task until deadline costs settled u t (slice_set arrival w b) (slice_set hops w (h + 1)) queue' best
   pushed = record {
     on = so_far.on;
     real = way_same task u _ _ t t (get_or-set_other hops w u (h + 1) 0 apart) refl so_far.real;
@@ -215,7 +215,7 @@ module _ (task : SearchTask) (bounds costs : List ℕ) (settled : List Bool) (ar
   tail P all = All-tail P e queue' (All-permutation P queue (e ∷ queue') moved all)
 
   head_late : slice_index arrival e.node + slice_index costs e.node ≤ e.at
-  head_late = head (λ (f : Visit). slice_index arrival f.node + slice_index costs f.node ≤ f.at) was.late
+  head_late = head (λ (f : Visit). slice_index arrival f.node + slice_index costs f.node ≤ f.at) was.deadline
 
   head_order : AreSettledBy task costs settled arrival e.at
   head_order = head (λ (f : Visit). AreSettledBy task costs settled arrival f.at) was.order
@@ -261,7 +261,7 @@ module _ (task : SearchTask) (bounds costs : List ℕ) (settled : List Bool) (ar
   queue_rest : (settled' : List Bool) → ((k : ℕ) → slice_index_or settled' k false ≡ false → (k ≢ e.node) × (slice_index_or settled k false ≡ false)) → All (λ (f : Visit). AreSettledBy task costs settled' arrival f.at) queue' → IsQueue task bounds costs settled' arrival queue'
   queue_rest settled' apart order = record {
     waits = λ k inside open' off reached. rest_waits k _ (apart k off).0 (was.waits k inside open' (apart k off).1 reached);
-    late = tail (λ (f : Visit). slice_index arrival f.node + slice_index costs f.node ≤ f.at) was.late;
+    deadline = tail (λ (f : Visit). slice_index arrival f.node + slice_index costs f.node ≤ f.at) was.deadline;
     before = tail (λ (f : Visit). f.at < slice_index_or bounds f.node never + slice_index costs f.node) was.before;
     order = order;
     inside = tail (λ (f : Visit). f.node < length arrival) was.inside;

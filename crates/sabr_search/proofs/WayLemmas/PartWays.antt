@@ -78,19 +78,19 @@ module _ (task : SearchTask) (prefix : List ℕ) (behind : IsBehind task prefix)
   pub way_differs : (r d : ℕ) → ((ns : List ℕ) (e : ℕ) → length ns < r → Leads (Takes task) task.start task.at ns task.goal e → d < e)
       → (xs s : List ℕ) (u t e : ℕ) → Leads (Takes task) task.start task.at xs u t → Leads (Takes task) u t s task.goal e → e ≤ d → length xs + length s ≡ r
       → are_different (receivers task.plan s) ≡ true
-  way_differs r d fewest xs [] u t e to way late sum = refl
-  way_differs r d fewest xs (n ∷ s) u t e to way late sum =
+  way_differs r d fewest xs [] u t e to way deadline sum = refl
+  way_differs r d fewest xs (n ∷ s) u t e to way deadline sum =
       let timely = takes_timely task behind.nodes in
       let step : Takes task n u t way.0 way.1 = way.2 in
       let next : Leads (Takes task) task.start task.at (xs ++ n ∷ []) way.0 way.1 =
       Leads-append (Takes task) timely xs (n ∷ []) task.start task.at u t way.0 way.1 to (way.0, way.1, way.2, (refl, refl)) in
       let longer : length (xs ++ n ∷ []) ≡ suc (length xs) = omega (arith, length-append xs (n ∷ [])) in
-      let others = way_differs r d fewest (xs ++ n ∷ []) s way.0 way.1 e next way.3 late (omega arith) in
+      let others = way_differs r d fewest (xs ++ n ∷ []) s way.0 way.1 e next way.3 deadline (omega arith) in
       let fresh : has step.contact.to (receivers task.plan s) ≡ false = false_from_ne_true (has step.contact.to (receivers task.plan s))
       (λ h.
       let v = visited s way.0 way.1 e way.0 step.contact.to way.3 step.receiver h in
       let sizes : length s ≡ length v.0 + length v.1 = ap length v.3 ∙ length-append v.0 v.1 in
-      no_return (Takes task) timely task.start task.at task.goal r d fewest (xs ++ n ∷ []) v.0 v.1 way.0 way.1 v.2 e next v.5 v.6 late (omega (arith, sizes, longer)) v.4) in
+      no_return (Takes task) timely task.start task.at task.goal r d fewest (xs ++ n ∷ []) v.0 v.1 way.0 way.1 v.2 e next v.5 v.6 deadline (omega (arith, sizes, longer)) v.4) in
       ap are_different (receivers-cons task.plan n s step.contact step.named)
       ∙ and_from (not (has step.contact.to (receivers task.plan s))) (are_different (receivers task.plan s)) (not_from_false (has step.contact.to (receivers task.plan s)) fresh) others
 

@@ -69,11 +69,11 @@ module _ (entries : List Deadline) (f : Deadline) where
   }
 
 -- where a node has no entry, and where it has one
-pub head_none : (late place : List ℕ) (v : ℕ) → slice_index late v ≡ 0 → head_of late place v ≡ 0
-head_none late place v none = grind (arith, nat_tests, none)
+pub head_none : (deadline place : List ℕ) (v : ℕ) → slice_index deadline v ≡ 0 → head_of deadline place v ≡ 0
+head_none deadline place v none = grind (arith, nat_tests, none)
 
-pub head_some : (late place : List ℕ) (v : ℕ) → 0 < slice_index late v → head_of late place v ≡ slice_index place v + 1
-head_some late place v some = grind (arith, nat_tests, some)
+pub head_some : (deadline place : List ℕ) (v : ℕ) → 0 < slice_index deadline v → head_of deadline place v ≡ slice_index place v + 1
+head_some deadline place v some = grind (arith, nat_tests, some)
 
 -- a walk down the entries of a node came to the one before `place`, and none is after that and before `end`
 pub record IsLastTo (entries : List Deadline) (v end place : ℕ) : Type 0 where
@@ -111,9 +111,9 @@ latest_here entries later v end place x some there was = λ p e less at same. el
 -- A node that is noted to be too late later than before: the chains of the entries with it.
 
 -- a node's last entry is where it says
-pub last_of : (task : SearchTask) (first begin : ℕ) (late place : List ℕ) (entries : List Deadline) → AreLate task first begin late place entries → (v : ℕ) → v < length task.table → IsLastBelow entries v (length entries) (head_of late place v)
-last_of task first begin late place entries was v inside = elim (cases_eq (slice_index late v) 0) [
-  | inl none ↦ rw (head_none late place v none) (record {
+pub last_of : (task : SearchTask) (first begin : ℕ) (deadline place : List ℕ) (entries : List Deadline) → AreLate task first begin deadline place entries → (v : ℕ) → v < length task.table → IsLastBelow entries v (length entries) (head_of deadline place v)
+last_of task first begin deadline place entries was v inside = elim (cases_eq (slice_index deadline v) 0) [
+  | inl none ↦ rw (head_none deadline place v none) (record {
     within = omega arith;
     entry = λ some. absurd (omega (arith, some));
     none = λ p low high here. elim (cases_eq p 0) [
@@ -122,11 +122,11 @@ last_of task first begin late place entries was v inside = elim (cases_eq (slice
     ];
   })
   | inr other ↦
-      (let some : 0 < slice_index late v = omega (arith, other) in
+      (let some : 0 < slice_index deadline v = omega (arith, other) in
       let top = was.top v inside some in
-      rw (head_some late place v some) (record {
+      rw (head_some deadline place v some) (record {
         within = omega (arith, slice_get_within entries (slice_index place v) _ top);
-        entry = λ here. (slice_index late v, ap (slice_get entries) (omega arith) ∙ top);
+        entry = λ here. (slice_index deadline v, ap (slice_get entries) (omega arith) ∙ top);
         none = λ p low high here. elim (cases_eq (slice_index place v) 0) [
           | inl first ↦ (was.each p _ (omega (arith, low)) here.1).other ((was.goal _ (ap (slice_get entries) (sym first) ∙ top)).0)
           | inr later ↦ omega (arith, was.by p _ here.1, was.rising (slice_index place v) p _ _ (omega (arith, later)) (omega (arith, low)) top here.1 refl)
@@ -135,8 +135,8 @@ last_of task first begin late place entries was v inside = elim (cases_eq (slice
 ]
 
 -- each head is within the entries
-pub head_within : (task : SearchTask) (first begin : ℕ) (late place : List ℕ) (entries : List Deadline) → AreLate task first begin late place entries → (v : ℕ) → v < length task.table → head_of late place v ≤ length entries
-head_within task first begin late place entries was v inside = (last_of task first begin late place entries was v inside).within
+pub head_within : (task : SearchTask) (first begin : ℕ) (deadline place : List ℕ) (entries : List Deadline) → AreLate task first begin deadline place entries → (v : ℕ) → v < length task.table → head_of deadline place v ≤ length entries
+head_within task first begin deadline place entries was v inside = (last_of task first begin deadline place entries was v inside).within
 
 -- layers that have grown no more, or once more
 pub grown_none : {A : Type 0} (aim : Aim A) (left : ℕ) (s : Deadlines A) → AreGrowing aim left s → AreGrown aim left s s
@@ -152,30 +152,30 @@ grown_more aim left s t u first second = record {
 
 -- the lists with one node noted, and what stood before the layer
 pub record AreNoted {A : Type 0} (task : SearchTask) (first begin u x : ℕ) (s t : Deadlines A) : Type 0 where
-  pub lists : AreLate task first begin (slice_set s.late.items u x) t.place.items t.entries.items
+  pub lists : AreLate task first begin (slice_set s.deadline.items u x) t.place.items t.entries.items
   pub linked : AreLinked t.entries.items t.fewer.items
   pub kept : take begin t.entries.items ≡ take begin s.entries.items
 
-pub late_noted : {A : Type 0} (task : SearchTask) (first begin : ℕ) (s t : Deadlines A) → AreLate task first begin s.late.items s.place.items s.entries.items → AreLinked s.entries.items s.fewer.items →
-    (u x : ℕ) → u < length task.table → slice_index_or task.forbidden u false ≡ false → u ≢ task.goal → slice_index s.late.items u < x →
+pub late_noted : {A : Type 0} (task : SearchTask) (first begin : ℕ) (s t : Deadlines A) → AreLate task first begin s.deadline.items s.place.items s.entries.items → AreLinked s.entries.items s.fewer.items →
+    (u x : ℕ) → u < length task.table → slice_index_or task.forbidden u false ≡ false → u ≢ task.goal → slice_index s.deadline.items u < x →
     ((t : ℕ) → t < x → (n : ℕ) × (w : ℕ) × (b : ℕ) × Takes task n u t w b × InTimeFor s.entries.items first begin w b) →
-    IsNotedLate (head_of s.late.items s.place.items u) begin u x s t → AreNoted task first begin u x s t
-late_noted task first begin s t was linked u x inside permitted other later sound (inl here) = elim (cases_eq (slice_index s.late.items u) 0) [
-  | inl none ↦ absurd (omega (arith, here.0, head_none s.late.items s.place.items u none))
+    IsNotedLate (head_of s.deadline.items s.place.items u) begin u x s t → AreNoted task first begin u x s t
+late_noted task first begin s t was linked u x inside permitted other later sound (inl here) = elim (cases_eq (slice_index s.deadline.items u) 0) [
+  | inl none ↦ absurd (omega (arith, here.0, head_none s.deadline.items s.place.items u none))
   | inr yes' ↦
-      (let some : 0 < slice_index s.late.items u = omega (arith, yes') in
-      let head = head_some s.late.items s.place.items u some in
+      (let some : 0 < slice_index s.deadline.items u = omega (arith, yes') in
+      let head = head_some s.deadline.items s.place.items u some in
       let above : begin ≤ slice_index s.place.items u = omega (arith, here.0, head) in
-      let place : head_of s.late.items s.place.items u - 1 ≡ slice_index s.place.items u = omega (arith, head) in
+      let place : head_of s.deadline.items s.place.items u - 1 ≡ slice_index s.place.items u = omega (arith, head) in
       let is : t.entries.items ≡ slice_set s.entries.items (slice_index s.place.items u) (record { node = u; before = x }) = here.2 ∙ ap (λ k. slice_set s.entries.items k (record { node = u; before = x })) place in
       record {
-        lists = rw (here.1, is) (changed_late task first begin s.late.items s.place.items s.entries.items was u x inside permitted other later sound some above);
-        linked = rw (is, here.3) (linked_set s.entries.items (slice_index s.place.items u) u x (slice_index s.late.items u) (was.top u inside some) s.fewer.items linked);
+        lists = rw (here.1, is) (changed_late task first begin s.deadline.items s.place.items s.entries.items was u x inside permitted other later sound some above);
+        linked = rw (is, here.3) (linked_set s.entries.items (slice_index s.place.items u) u x (slice_index s.deadline.items u) (was.top u inside some) s.fewer.items linked);
         kept = rw is (take-set-le begin s.entries.items (slice_index s.place.items u) (record { node = u; before = x }) above);
       })
 ]
 late_noted task first begin s t was linked u x inside permitted other later sound (inr new) = record {
-  lists = rw (new.1, new.2) (pushed_late task first begin s.late.items s.place.items s.entries.items was u x inside permitted other later sound (λ some. omega (arith, new.0, head_some s.late.items s.place.items u some)));
-  linked = rw (new.2, new.3) (linked_push s.entries.items (record { node = u; before = x }) s.fewer.items _ linked (last_of task first begin s.late.items s.place.items s.entries.items was u inside));
+  lists = rw (new.1, new.2) (pushed_late task first begin s.deadline.items s.place.items s.entries.items was u x inside permitted other later sound (λ some. omega (arith, new.0, head_some s.deadline.items s.place.items u some)));
+  linked = rw (new.2, new.3) (linked_push s.entries.items (record { node = u; before = x }) s.fewer.items _ linked (last_of task first begin s.deadline.items s.place.items s.entries.items was u inside));
   kept = rw new.2 (take-append-le begin s.entries.items ((record { node = u; before = x }) ∷ []) was.begins);
 }

@@ -183,18 +183,18 @@ module _ {A : Type 0} (task : SearchTask) (is : IsTask task) (d hops : ℕ) (s :
   -- whoever a way of the question leads to a node after a second that none of its entries of so many hops exceeds is at a dead
   -- end
   pub dead_too_late : (ms : List ℕ) (u t before : ℕ) → 0 < length ms → Leads (Takes task) task.start task.at ms u t → IsLatestWithin s.entries.items u (end_within s.ends.items hops) before → before ≤ t → IsDeadEnd task d u t hops
-  dead_too_late ms u t before some there latest late = dead_at task is.nodes d u t hops (λ ns e within way. elim (cases_lt d e) [
+  dead_too_late ms u t before some there latest deadline = dead_at task is.nodes d u t hops (λ ns e within way. elim (cases_lt d e) [
     | inl yes' ↦ yes'
     | inr by ↦
         (let entry = leaves_out_none task is d hops s over ms ns u t e some within there way by in
-        absurd (omega (arith, late, latest_later u t before latest (entry.0, entry.1, omega (arith, entry.2, within), entry.3, entry.4))))
+        absurd (omega (arith, deadline, latest_later u t before latest (entry.0, entry.1, omega (arith, entry.2, within), entry.3, entry.4))))
   ])
 
   -- the start is at one if it has an entry and is too late for those of so many hops
   pub start_late : (place before : ℕ) → 0 < place → IsLastBelow s.entries.items task.start (length s.entries.items) place → IsLatestWithin s.entries.items task.start (end_within s.ends.items hops) before → before ≤ task.at → IsDeadEnd task d task.start task.at hops
-  start_late place before some last latest late = dead_at task is.nodes d task.start task.at hops (λ ns e within way. elim (cases_lt d e) [
+  start_late place before some last latest deadline = dead_at task is.nodes d task.start task.at hops (λ ns e within way. elim (cases_lt d e) [
     | inl yes' ↦ yes'
     | inr by ↦
         (let entry = in_time_at_start task is d hops s over (over.layers.permitted (place - 1) task.start (last.entry some)) ns e within way by in
-        absurd (omega (arith, late, latest_later task.start task.at before latest (entry.0, entry.1, omega (arith, entry.2, within), entry.3, entry.4))))
+        absurd (omega (arith, deadline, latest_later task.start task.at before latest (entry.0, entry.1, omega (arith, entry.2, within), entry.3, entry.4))))
   ])

@@ -38,15 +38,15 @@ pub record AreLinked (entries : List Deadline) (fewer : List ℕ) : Type 0 where
 
 -- the place after the last entry of node v; 0 if it has none
 abbrev pub head_of : List ℕ → List ℕ → ℕ → ℕ
-head_of late place v = if slice_index late v == 0 then 0 else slice_index place v + 1
+head_of deadline place v = if slice_index deadline v == 0 then 0 else slice_index place v + 1
 
 -- by node its last entry, and by entry the one of its node before it, which is too late sooner
 pub record AreChained {A : Type 0} (s : Deadlines A) : Type 0 where
-  pub many : length s.late.items ≡ length s.place.items
+  pub many : length s.deadline.items ≡ length s.place.items
   pub linked : AreLinked s.entries.items s.fewer.items
-  pub last : (v : ℕ) → v < length s.place.items → IsLastBelow s.entries.items v (length s.entries.items) (head_of s.late.items s.place.items v)
+  pub last : (v : ℕ) → v < length s.place.items → IsLastBelow s.entries.items v (length s.entries.items) (head_of s.deadline.items s.place.items v)
   pub later : (p q : ℕ) (e f : Deadline) → p < q → slice_get s.entries.items p ≡ Some e → slice_get s.entries.items q ≡ Some f → e.node ≡ f.node → e.before < f.before
-  pub by : (p : ℕ) (e : Deadline) → slice_get s.entries.items p ≡ Some e → e.before ≤ slice_index s.late.items e.node
+  pub by : (p : ℕ) (e : Deadline) → slice_get s.entries.items p ≡ Some e → e.before ≤ slice_index s.deadline.items e.node
 
 -- no entry of node v before `end` may be left at this second or later
 abbrev pub IsLatestWithin : List Deadline → ℕ → ℕ → ℕ → Type 0

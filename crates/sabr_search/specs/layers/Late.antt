@@ -37,15 +37,15 @@ pub record IsLateEntry (task : SearchTask) (e : Deadline) : Type 0 where
   pub some : 0 < e.before
 
 -- the lists while the layer that begins at `begin` is made from the entries from `first` on
-pub record AreLate (task : SearchTask) (first begin : ℕ) (late place : List ℕ) (entries : List Deadline) : Type 0 where
+pub record AreLate (task : SearchTask) (first begin : ℕ) (deadline place : List ℕ) (entries : List Deadline) : Type 0 where
   pub flags : length place ≡ length task.table
-  pub many : length late ≡ length task.table
+  pub many : length deadline ≡ length task.table
   pub later : 0 < begin
   pub begins : begin ≤ length entries
-  pub top : (v : ℕ) → v < length task.table → 0 < slice_index late v → slice_get entries (slice_index place v) ≡ Some (record { node = v; before = slice_index late v })
+  pub top : (v : ℕ) → v < length task.table → 0 < slice_index deadline v → slice_get entries (slice_index place v) ≡ Some (record { node = v; before = slice_index deadline v })
   pub goal : (e : Deadline) → slice_get entries 0 ≡ Some e → (e.node ≡ task.goal) × (0 < e.before)
   pub each : (p : ℕ) (e : Deadline) → 0 < p → slice_get entries p ≡ Some e → IsLateEntry task e
-  pub by : (p : ℕ) (e : Deadline) → slice_get entries p ≡ Some e → e.before ≤ slice_index late e.node
+  pub by : (p : ℕ) (e : Deadline) → slice_get entries p ≡ Some e → e.before ≤ slice_index deadline e.node
   pub rising : (p q : ℕ) (e f : Deadline) → 0 < p → p < q → slice_get entries p ≡ Some e → slice_get entries q ≡ Some f → e.node ≡ f.node → e.before < f.before
   pub once : (p : ℕ) (e : Deadline) → begin ≤ p → slice_get entries p ≡ Some e → slice_index place e.node ≡ p
   pub sound : (p : ℕ) (e : Deadline) (t : ℕ) → begin ≤ p → slice_get entries p ≡ Some e → t < e.before → (n : ℕ) × (w : ℕ) × (b : ℕ) × Takes task n e.node t w b × InTimeFor entries first begin w b
@@ -55,14 +55,14 @@ pub record AreGrowing {A : Type 0} (aim : Aim A) (left : ℕ) (s : Deadlines A) 
   pub task : IsTask aim.task.now
   pub arrivals : length aim.since.now ≡ length aim.task.now.table
   pub bounded : left + 1 < length s.ends.items
-  pub lists : AreLate aim.task.now (slice_index s.ends.items left) (slice_index s.ends.items (left + 1)) s.late.items s.place.items s.entries.items
+  pub lists : AreLate aim.task.now (slice_index s.ends.items left) (slice_index s.ends.items (left + 1)) s.deadline.items s.place.items s.entries.items
   pub linked : AreLinked s.entries.items s.fewer.items
 
 -- the layer after layer `left` has grown: the ends of layers stay, and so do the entries before it; no node is too late
 -- sooner than before
 pub record AreGrown {A : Type 0} (aim : Aim A) (left : ℕ) (s t : Deadlines A) : Type 0 where
   pub growing : AreGrowing aim left t
-  pub rises : (k : ℕ) → slice_index s.late.items k ≤ slice_index t.late.items k
+  pub rises : (k : ℕ) → slice_index s.deadline.items k ≤ slice_index t.deadline.items k
   pub ends : t.ends ≡ s.ends
   pub before : take (slice_index s.ends.items (left + 1)) t.entries.items ≡ take (slice_index s.ends.items (left + 1)) s.entries.items
 
@@ -75,24 +75,24 @@ IsNotedLate head begin u x s t =
 
 -- what a step from node u at t leaves, if it leads to where there still is time: u is not too late
 abbrev pub IsLeftInTime : SearchTask → List ℕ → List ℕ → ℕ → ℕ → Type 0
-IsLeftInTime task since late u t = slice_index_or task.forbidden u false ≡ false → u ≢ task.goal → slice_index since u ≤ t → t < slice_index late u
+IsLeftInTime task since deadline u t = slice_index_or task.forbidden u false ≡ false → u ≢ task.goal → slice_index since u ≤ t → t < slice_index deadline u
 
 -- so it is for each step over these passes from node u that arrives before a second
 abbrev pub AreLeftInTimeOver : SearchTask → List ℕ → List ℕ → ℕ → List Pass → ℕ → Type 0
-AreLeftInTimeOver task since late u passes before = (n t w b : ℕ) → HasNumber passes n → Takes task n u t w b → b < before → IsLeftInTime task since late u t
+AreLeftInTimeOver task since deadline u passes before = (n t w b : ℕ) → HasNumber passes n → Takes task n u t w b → b < before → IsLeftInTime task since deadline u t
 
 -- so it is for each step over a link with this head that arrives before a second
 abbrev pub AreLeftInTimeByHead : SearchTask → List ℕ → List ℕ → SenderHead → ℕ → Type 0
-AreLeftInTimeByHead task since late head before =
-    (to : ℕ) (passes : List Pass) → IsLinkWithin task head.node to passes head.bounds → AreLeftInTimeOver task since late head.node passes before
+AreLeftInTimeByHead task since deadline head before =
+    (to : ℕ) (passes : List Pass) → IsLinkWithin task head.node to passes head.bounds → AreLeftInTimeOver task since deadline head.node passes before
 
 -- so it is for each step that comes to a node before its deadline
 abbrev pub AreLeftInTimeTo : SearchTask → List ℕ → List ℕ → Deadline → Type 0
-AreLeftInTimeTo task since late to = (n u t b : ℕ) → Takes task n u t to.node b → b < to.before → IsLeftInTime task since late u t
+AreLeftInTimeTo task since deadline to = (n u t b : ℕ) → Takes task n u t to.node b → b < to.before → IsLeftInTime task since deadline u t
 
 -- that holds for each step to an entry at the places from `first` to before `begin`
 abbrev pub AreLeftInTimeFrom : SearchTask → List ℕ → List Deadline → ℕ → ℕ → List ℕ → Type 0
-AreLeftInTimeFrom task since entries first begin late = (p : ℕ) (e : Deadline) (n u t b : ℕ) → first ≤ p → p < begin → slice_get entries p ≡ Some e → Takes task n u t e.node b → b < e.before → IsLeftInTime task since late u t
+AreLeftInTimeFrom task since entries first begin deadline = (p : ℕ) (e : Deadline) (n u t b : ℕ) → first ≤ p → p < begin → slice_get entries p ≡ Some e → Takes task n u t e.node b → b < e.before → IsLeftInTime task since deadline u t
 
 -- the same by the layers up to the one after j
 abbrev pub IsLeftInTimeBy : SearchTask → List ℕ → Entries → ℕ → ℕ → ℕ → Type 0

@@ -99,11 +99,11 @@ IsBroughtTo task arrival b = (u : ℕ) × (n : ℕ) × (slice_index_or task.forb
 -- Hop layers while they are made: the layers as entries, and what holds once some are made.
 
 -- nothing is reached but the start; an open node is as if it were reached when it is too late there
-pub record AreOpened (task : SearchTask) (late arrival : List ℕ) : Type 0 where
+pub record AreOpened (task : SearchTask) (deadline arrival : List ℕ) : Type 0 where
   pub flags : length arrival ≡ length task.forbidden
   pub closed : AreClosed task.forbidden arrival task.at
   pub start : slice_index arrival task.start ≡ task.at
-  pub unreached : (k : ℕ) → k < length arrival → slice_index_or task.forbidden k false ≡ false → slice_index arrival k ≡ slice_index_or late k never
+  pub unreached : (k : ℕ) → k < length arrival → slice_index_or task.forbidden k false ≡ false → slice_index arrival k ≡ slice_index_or deadline k never
 
 -- what a search that ends with this best found: this, unless it has no hops
 abbrev pub IsFoundBest : Best → Option Best → Type 0

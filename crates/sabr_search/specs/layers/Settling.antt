@@ -20,9 +20,9 @@ AreArrivalsBy task costs arrival d = (ns : List ℕ) (v t : ℕ) → 0 < length 
 
 -- by node a second from which on no way is at the goal before second `until`, as far as the list goes; and what a way
 -- from there to the goal costs at the least, which no step lowers by more than its seconds
-pub record IsBound (task : SearchTask) (until : ℕ) (late costs : List ℕ) : Type 0 where
-  pub goal : until ≤ slice_index_or late task.goal never
-  pub steps : (n u t w b : ℕ) → Takes task n u t w b → slice_index_or task.forbidden u false ≡ false → u ≢ task.goal → slice_index_or late u never ≤ t → slice_index_or late w never ≤ b
+pub record IsBound (task : SearchTask) (until : ℕ) (deadline costs : List ℕ) : Type 0 where
+  pub goal : until ≤ slice_index_or deadline task.goal never
+  pub steps : (n u t w b : ℕ) → Takes task n u t w b → slice_index_or task.forbidden u false ≡ false → u ≢ task.goal → slice_index_or deadline u never ≤ t → slice_index_or deadline w never ≤ b
   pub there : slice_index costs task.goal ≡ 0
   pub since : task.request.at ≤ task.at
   pub lowers : (n u t w b : ℕ) → Takes task n u t w b → slice_index_or task.forbidden u false ≡ false → task.request.at ≤ t → t + slice_index costs u ≤ b + slice_index costs w
@@ -49,7 +49,7 @@ pub record IsQueue (task : SearchTask) (bounds costs : List ℕ) (settled : List
   -- an open node that is reached before it is too late there, and not settled, waits with its arrival
   pub waits : (k : ℕ) → k < length arrival → slice_index_or task.forbidden k false ≡ false → slice_index_or settled k false ≡ false → slice_index arrival k < slice_index_or bounds k never → IsWaiting queue k (slice_index arrival k + slice_index costs k)
   -- no event is earlier than the arrival at its node
-  pub late : All (λ (e : Visit). slice_index arrival e.node + slice_index costs e.node ≤ e.at) queue
+  pub deadline : All (λ (e : Visit). slice_index arrival e.node + slice_index costs e.node ≤ e.at) queue
   -- no event comes when it is too late at its node
   pub before : All (λ (e : Visit). e.at < slice_index_or bounds e.node never + slice_index costs e.node) queue
   -- no event is earlier than a settled node
@@ -61,16 +61,16 @@ pub record IsQueue (task : SearchTask) (bounds costs : List ℕ) (settled : List
 
 -- by node the hops of a way with its arrival, no more than there are settled nodes, if it is an open node that is
 -- reached before it is too late there
-pub record AreHops (task : SearchTask) (late : List ℕ) (settled : List Bool) (arrival hops : List ℕ) : Type 0 where
+pub record AreHops (task : SearchTask) (deadline : List ℕ) (settled : List Bool) (arrival hops : List ℕ) : Type 0 where
   pub many : length hops ≡ length task.forbidden
-  pub ways : (k : ℕ) → k < length arrival → slice_index_or task.forbidden k false ≡ false → slice_index arrival k < slice_index_or late k never → (slice_index hops k ≤ settled_count settled) × IsWayTo task k (slice_index hops k) (slice_index arrival k)
+  pub ways : (k : ℕ) → k < length arrival → slice_index_or task.forbidden k false ≡ false → slice_index arrival k < slice_index_or deadline k never → (slice_index hops k ≤ settled_count settled) × IsWayTo task k (slice_index hops k) (slice_index arrival k)
 
 -- no open node's arrival is later than what is too late there
 abbrev pub AreBy : SearchTask → List ℕ → List ℕ → Type 0
-AreBy task late arrival = (k : ℕ) → slice_index_or task.forbidden k false ≡ false → slice_index arrival k ≤ slice_index_or late k never
+AreBy task deadline arrival = (k : ℕ) → slice_index_or task.forbidden k false ≡ false → slice_index arrival k ≤ slice_index_or deadline k never
 
 -- what holds while the contacts of node u are taken, which is settled and reached at t
-pub record AreSettling (task : SearchTask) (until : ℕ) (late costs : List ℕ) (settled : List Bool) (u t : ℕ) (arrival hops : List ℕ) (queue : List Visit) (best : Best) : Type 0 where
+pub record AreSettling (task : SearchTask) (until : ℕ) (deadline costs : List ℕ) (settled : List Bool) (u t : ℕ) (arrival hops : List ℕ) (queue : List Visit) (best : Best) : Type 0 where
   pub on : slice_index_or settled u false ≡ true
   pub real : IsWayTo task u (slice_index hops u) t
   pub few : slice_index hops u < settled_count settled
@@ -78,16 +78,16 @@ pub record AreSettling (task : SearchTask) (until : ℕ) (late costs : List ℕ)
   pub many : length settled ≡ length task.forbidden
   pub closed : AreClosed task.forbidden arrival t
   pub early : (n w b : ℕ) → Takes task n u t w b → AreSettledBy task costs settled arrival (b + slice_index costs w)
-  pub lowered : AreBy task late arrival
-  pub queue_is : IsQueue task late costs settled arrival queue
-  pub hops_are : AreHops task late settled arrival hops
+  pub lowered : AreBy task deadline arrival
+  pub queue_is : IsQueue task deadline costs settled arrival queue
+  pub hops_are : AreHops task deadline settled arrival hops
   pub found : IsFound task until (settled_count settled) best
   pub sooner : best.delivery ≤ latest_arrival + 1
   pub goal_late : best.delivery ≤ slice_index arrival task.goal
 
 -- so it is with what a search keeps, while the contacts of an event's node are taken
 abbrev pub StaySettling : {A : Type 0} → Forward A → List Bool → Visit → Settling A → Best → Type 0
-StaySettling forward settled event s best = AreSettling forward.task.now forward.until forward.late.now forward.costs.now settled event.node event.at s.arrival.items s.hops.items s.queue best
+StaySettling forward settled event s best = AreSettling forward.task.now forward.until forward.deadline.now forward.costs.now settled event.node event.at s.arrival.items s.hops.items s.queue best
 
 -- what these passes bring from node u at t is known
 abbrev pub IsKnownOver : SearchTask → List Pass → ℕ → ℕ → (costs arrival : List ℕ) → ℕ → Type 0
@@ -105,16 +105,16 @@ AreSettledTaken task costs settled arrival best =
     (v n w b : ℕ) → slice_index_or settled v false ≡ true → Takes task n v (slice_index arrival v) w b → IsKnown task.goal arrival (best - slice_index costs w) w b
 
 -- what holds between two events
-pub record AreSettled (task : SearchTask) (until : ℕ) (late costs : List ℕ) (settled : List Bool) (arrival hops : List ℕ) (queue : List Visit) (best : Best) : Type 0 where
+pub record AreSettled (task : SearchTask) (until : ℕ) (deadline costs : List ℕ) (settled : List Bool) (arrival hops : List ℕ) (queue : List Visit) (best : Best) : Type 0 where
   pub flags : length arrival ≡ length task.forbidden
   pub many : length settled ≡ length task.forbidden
   pub start_settled : slice_index_or settled task.start false ≡ true
   pub start_reached : slice_index arrival task.start ≡ task.at
   pub goal_unsettled : slice_index_or settled task.goal false ≡ false
   pub closed : AreClosed task.forbidden arrival task.at
-  pub lowered : AreBy task late arrival
-  pub queue_is : IsQueue task late costs settled arrival queue
-  pub hops_are : AreHops task late settled arrival hops
+  pub lowered : AreBy task deadline arrival
+  pub queue_is : IsQueue task deadline costs settled arrival queue
+  pub hops_are : AreHops task deadline settled arrival hops
   pub found : IsFound task until (settled_count settled) best
   pub sooner : best.delivery ≤ latest_arrival + 1
   pub goal_late : best.delivery ≤ slice_index arrival task.goal
@@ -122,7 +122,7 @@ pub record AreSettled (task : SearchTask) (until : ℕ) (late costs : List ℕ) 
 
 -- so it is with what a search keeps
 abbrev pub StaySettled : {A : Type 0} → Forward A → Settling A → Best → Type 0
-StaySettled forward s best = AreSettled forward.task.now forward.until forward.late.now forward.costs.now s.settled.items s.arrival.items s.hops.items s.queue best
+StaySettled forward s best = AreSettled forward.task.now forward.until forward.deadline.now forward.costs.now s.settled.items s.arrival.items s.hops.items s.queue best
 
 -- what a search before second `until` found: no way to the goal comes before the delivery, and some way comes then with
 -- that number of hops, fewer than there are nodes

@@ -21,7 +21,7 @@ pub struct Deadlines<A: Allocator + Copy> {
     /// The allocator of the buffers.
     pub alloc: A,
     /// For each node, the first second that is too late so far.
-    pub late: Vec<u64, A>,
+    pub deadline: Vec<u64, A>,
     /// For each node, the place of its last entry; any place if it has none.
     pub place: Vec<usize, A>,
     /// The entries, layer by layer; the first is the goal's.
@@ -37,7 +37,7 @@ impl<A: Allocator + Copy> Deadlines<A> {
     pub fn new(alloc: A) -> Deadlines<A> {
         Deadlines {
             alloc,
-            late: Vec::new(alloc),
+            deadline: Vec::new(alloc),
             place: Vec::new(alloc),
             entries: Vec::new(alloc),
             fewer: Vec::new(alloc),
@@ -48,13 +48,13 @@ impl<A: Allocator + Copy> Deadlines<A> {
     /// Returns the place after a node's last entry; 0 if it has none.
     #[inline(always)]
     pub fn head(&self, node: usize) -> usize
-        requires late { node < length self.now.late.items }
+        requires deadline { node < length self.now.deadline.items }
         requires place { node < length self.now.place.items }
-        requires within { head_of self.now.late.items self.now.place.items node ≤ length self.now.entries.items }
-        ensures { result ≡ head_of self.now.late.items self.now.place.items node }
+        requires within { head_of self.now.deadline.items self.now.place.items node ≤ length self.now.entries.items }
+        ensures { result ≡ head_of self.now.deadline.items self.now.place.items node }
     {
-        let late = self.late[node];
-        if late == 0 {
+        let deadline = self.deadline[node];
+        if deadline == 0 {
             return 0;
         }
         let last = self.place[node];

@@ -39,11 +39,11 @@ impl<A: Allocator + Copy> Deadlines<A> {
     /// Notes the first second that is too late at a node, in the layer that begins at `begin`, once for each node.
     fn note_late(&mut self, entry: Deadline, begin: usize) -> Result<(), NoMemory>
         requires place { entry.node < length self.old.place.items }
-        requires late { entry.node < length self.old.late.items }
-        requires placed { head_of self.old.late.items self.old.place.items entry.node ≤ length self.old.entries.items }
+        requires deadline { entry.node < length self.old.deadline.items }
+        requires placed { head_of self.old.deadline.items self.old.place.items entry.node ≤ length self.old.entries.items }
         ensures ends { self.new.ends ≡ self.old.ends }
-        ensures late { OnOk result (self.new.late.items ≡ slice_set self.old.late.items entry.node entry.before) }
-        ensures noted { OnOk result (IsNotedLate (head_of self.old.late.items self.old.place.items entry.node) begin entry.node entry.before self.old self.new) }
+        ensures deadline { OnOk result (self.new.deadline.items ≡ slice_set self.old.deadline.items entry.node entry.before) }
+        ensures noted { OnOk result (IsNotedLate (head_of self.old.deadline.items self.old.place.items entry.node) begin entry.node entry.before self.old self.new) }
     {
         let head = self.head(entry.node);
         if head > begin {
@@ -54,7 +54,7 @@ impl<A: Allocator + Copy> Deadlines<A> {
             self.fewer.push(head)?;
             self.place[entry.node] = end;
         }
-        self.late[entry.node] = entry.before;
+        self.deadline[entry.node] = entry.before;
         Ok(())
     }
 
@@ -64,16 +64,16 @@ impl<A: Allocator + Copy> Deadlines<A> {
     #[inline(always)]
     fn brings_nothing(&self, aim: &Aim<'_, '_, '_, A>, head: SenderHead, before: u64) -> bool
         requires task { IsTask aim.now.task.now }
-        requires many { length self.now.late.items ≡ length aim.now.task.now.table }
+        requires many { length self.now.deadline.items ≡ length aim.now.task.now.table }
         requires arrivals { length aim.now.since.now ≡ length aim.now.task.now.table }
         requires node { head.node < length aim.now.task.now.table }
-        ensures in_time { IsTrue result → AreLeftInTimeByHead aim.now.task.now aim.now.since.now self.now.late.items head before }
+        ensures in_time { IsTrue result → AreLeftInTimeByHead aim.now.task.now aim.now.since.now self.now.deadline.items head before }
         ensures permitted { result ≡ false → slice_index_or aim.now.task.now.forbidden head.node false ≡ false }
         ensures other { result ≡ false → head.node ≢ aim.now.task.now.goal }
     {
         let node = head.node;
-        let late = self.late[node];
-        if rules_out(head.bounds, late, before) {
+        let deadline = self.deadline[node];
+        if rules_out(head.bounds, deadline, before) {
             return true;
         }
         let since = aim.since.at(node);
@@ -106,9 +106,9 @@ impl<A: Allocator + Copy> Deadlines<A> {
         requires few { length from.passes.now ≤ looks.old.left }
         ensures looks { looks.old.left ≤ looks.new.left + length from.entry.passes.now }
         ensures grown { OnOk result (AreGrown aim.now left self.old self.new) }
-        ensures in_time { OnOk result (AreLeftInTimeOver aim.now.task.now aim.now.since.now self.new.late.items from.entry.node from.entry.passes.now to.before) }
+        ensures in_time { OnOk result (AreLeftInTimeOver aim.now.task.now aim.now.since.now self.new.deadline.items from.entry.node from.entry.passes.now to.before) }
     {
-        let latest = self.late[from.node];
+        let latest = self.deadline[from.node];
         let link = WalkedLink {
             from: from.node,
             to: to.node,
@@ -145,7 +145,7 @@ impl<A: Allocator + Copy> Deadlines<A> {
         ensures counted { looks.old.left ≤ looks.new.left + received aim.now.task.now to.node }
         ensures stops { StopsOnlyIf result (looks.old.left < received aim.now.task.now to.node) }
         ensures grown { OnOk result (AreGrown aim.now left self.old self.new) }
-        ensures in_time { OnOk result (AreLeftInTimeTo aim.now.task.now aim.now.since.now self.new.late.items to) }
+        ensures in_time { OnOk result (AreLeftInTimeTo aim.now.task.now aim.now.since.now self.new.deadline.items to) }
     {
         let senders = aim.task.senders(to.node);
         for place in 0..senders.len() {
@@ -174,7 +174,7 @@ impl<A: Allocator + Copy> Deadlines<A> {
         ensures counted { looks.old.left ≤ looks.new.left + length aim.now.task.now.plan.contacts }
         ensures stops { StopsOnlyIf result (looks.old.left < length aim.now.task.now.plan.contacts) }
         ensures grown { OnOk result (AreGrown aim.now left self.old self.new) }
-        ensures in_time { OnOk result (AreLeftInTimeFrom aim.now.task.now aim.now.since.now self.old.entries.items (slice_index self.old.ends.items left) (slice_index self.old.ends.items (left + 1)) self.new.late.items) }
+        ensures in_time { OnOk result (AreLeftInTimeFrom aim.now.task.now aim.now.since.now self.old.entries.items (slice_index self.old.ends.items left) (slice_index self.old.ends.items (left + 1)) self.new.deadline.items) }
     {
         let first = self.ends[left];
         let begin = self.ends[left + 1];
@@ -198,15 +198,15 @@ impl<A: Allocator + Copy> Deadlines<A> {
         // What is known of each node.
         ensures flags { OnOk result (length self.new.place.items ≡ length task.now.forbidden) }
         ensures place { OnOk result (slice_index self.new.place.items task.now.goal ≡ 0) }
-        ensures many { OnOk result (length self.new.late.items ≡ length task.now.forbidden) }
-        ensures late { OnOk result (slice_index self.new.late.items task.now.goal ≡ delivery + 1) }
-        ensures none { OnOk result ((k : ℕ) → k ≢ task.now.goal → slice_index self.new.late.items k ≡ 0) }
+        ensures many { OnOk result (length self.new.deadline.items ≡ length task.now.forbidden) }
+        ensures deadline { OnOk result (slice_index self.new.deadline.items task.now.goal ≡ delivery + 1) }
+        ensures none { OnOk result ((k : ℕ) → k ≢ task.now.goal → slice_index self.new.deadline.items k ≡ 0) }
     {
         self.place.resize(task.forbidden().len(), 0)?;
         self.place[task.goal()] = 0;
-        self.late.clear();
-        self.late.resize(task.forbidden().len(), 0)?;
-        self.late[task.goal()] = delivery + 1;
+        self.deadline.clear();
+        self.deadline.resize(task.forbidden().len(), 0)?;
+        self.deadline[task.goal()] = delivery + 1;
         self.entries.clear();
         self.entries.push(Deadline {
             node: task.goal(),
@@ -222,13 +222,13 @@ impl<A: Allocator + Copy> Deadlines<A> {
 
     /// Returns true if some first step comes in time to a node of the layers so far.
     fn is_met(&self, first: &[Visit]) -> bool
-        requires { (k : ℕ) (s : Visit) → slice_get first.now k ≡ Some s → s.node < length self.now.late.items }
-        ensures met { IsTrue result → (k : ℕ) × (s : Visit) × (slice_get first.now k ≡ Some s) × (s.at < slice_index self.now.late.items s.node) }
-        ensures unmet { result ≡ false → (k : ℕ) (s : Visit) → slice_get first.now k ≡ Some s → slice_index self.now.late.items s.node ≤ s.at }
+        requires { (k : ℕ) (s : Visit) → slice_get first.now k ≡ Some s → s.node < length self.now.deadline.items }
+        ensures met { IsTrue result → (k : ℕ) × (s : Visit) × (slice_get first.now k ≡ Some s) × (s.at < slice_index self.now.deadline.items s.node) }
+        ensures unmet { result ≡ false → (k : ℕ) (s : Visit) → slice_get first.now k ≡ Some s → slice_index self.now.deadline.items s.node ≤ s.at }
     {
         for place in 0..first.len() {
             let step = first[place];
-            if step.at < self.late[step.node] {
+            if step.at < self.deadline[step.node] {
                 return true;
             }
         }

@@ -245,7 +245,7 @@ pub fn latest_by<A: Allocator + Copy>(
     until: u64,
 ) -> Result<Vec<u64, A>, Stopped>
     requires whole { IsWholeGraph task.now }
-    ensures late { IfOk result (λ v. AreLateFor (tabled_of task.now) task.now.request until v.items) }
+    ensures deadline { IfOk result (λ v. AreLateFor (tabled_of task.now) task.now.request until v.items) }
 {
     let backward = Backward {
         task,

@@ -157,7 +157,7 @@ impl<A: Allocator + Copy> Walk<A> {
         for place in 0..links.links.len() {
             let link = task.link(links, from.node, place);
             // Too late for any number of hops.
-            if layers.late[link.to] <= from.at {
+            if layers.deadline[link.to] <= from.at {
                 continue;
             }
             if task.forbidden()[link.to] {

@@ -16,17 +16,17 @@ use sabr_index::Looks;
 use sabr_model::NoMemory;
 use std::alloc::Allocator;
 
-/// Makes a list with the first second that is too late at each node, as far as the list `late` goes.
+/// Makes a list with the first second that is too late at each node, as far as the list `deadline` goes.
 fn too_late<A: Allocator + Copy>(
     arrival: &mut Vec<u64, A>,
     count: usize,
-    late: &[u64],
+    deadline: &[u64],
 ) -> Result<(), NoMemory>
     ensures many { OnOk result (length arrival.new.items ≡ count) }
-    ensures filled { OnOk result ((k : ℕ) → k < count → slice_index arrival.new.items k ≡ slice_index_or late.now k never) }
+    ensures filled { OnOk result ((k : ℕ) → k < count → slice_index arrival.new.items k ≡ slice_index_or deadline.now k never) }
 {
     arrival.clear();
-    arrival.extend_from_slice(late)?;
+    arrival.extend_from_slice(deadline)?;
     arrival.resize(count, NEVER)?;
     Ok(())
 }
@@ -49,13 +49,13 @@ fn close_arrival<A: Allocator + Copy>(arrival: &mut Vec<u64, A>, forbidden: &[bo
 pub fn initial_arrivals<A: Allocator + Copy>(
     arrival: &mut Vec<u64, A>,
     task: &Task<'_, A>,
-    late: &[u64],
+    deadline: &[u64],
 ) -> Result<(), NoMemory>
     requires { IsTask task.now }
-    ensures { OnOk result (AreOpened task.now late.now arrival.new.items) }
+    ensures { OnOk result (AreOpened task.now deadline.now arrival.new.items) }
 {
     let forbidden = task.forbidden();
-    too_late(arrival, forbidden.len(), late)?;
+    too_late(arrival, forbidden.len(), deadline)?;
     let nodes = task.forbidden_nodes();
     for place in 0..nodes.len() {
         close_arrival(arrival, forbidden, nodes[place] as usize);

@@ -25,7 +25,7 @@ pub struct Forward<'t, 'a, 'b, A: Allocator + Copy> {
     /// The search.
     pub task: &'t Task<'a, A>,
     /// For each node, a second from which on no way is at the goal before `until`; none is known after the list's end.
-    pub late: &'b [u64],
+    pub deadline: &'b [u64],
     /// For each node, a number of seconds that each way to the goal takes at least; 0 after the list's end.
     pub costs: &'b [u64],
     /// For each node, the hops of such a way, as far as the list goes.
@@ -74,13 +74,13 @@ impl<A: Allocator + Copy> Settling<A> {
     /// Starts with no node settled, no event waiting, and nothing reached but the start.
     fn first_events(&mut self, forward: &Forward<'_, '_, '_, A>) -> Result<(), NoMemory>
         requires { IsTask forward.now.task.now }
-        ensures arrivals { OnOk result (AreOpened forward.now.task.now forward.now.late.now self.new.arrival.items) }
+        ensures arrivals { OnOk result (AreOpened forward.now.task.now forward.now.deadline.now self.new.arrival.items) }
         ensures hops { OnOk result (length self.new.hops.items ≡ length forward.now.task.now.forbidden) }
         ensures settled { OnOk result (self.new.settled.items ≡ replicate (length forward.now.task.now.forbidden) false) }
         ensures queue { OnOk result (self.new.queue ≡ []) }
     {
         let nodes = forward.task.forbidden().len();
-        initial_arrivals(&mut self.arrival, forward.task, forward.late)?;
+        initial_arrivals(&mut self.arrival, forward.task, forward.deadline)?;
         self.hops.resize(nodes, 0)?;
         self.settled.clear();
         self.settled.resize(nodes, false)?;
@@ -233,14 +233,14 @@ impl<A: Allocator + Copy> Settling<A> {
 
         // What bounds the search.
         requires until { forward.now.until ≤ latest_arrival + 1 }
-        requires bound { IsBound forward.now.task.now forward.now.until forward.now.late.now forward.now.costs.now }
+        requires bound { IsBound forward.now.task.now forward.now.until forward.now.deadline.now forward.now.costs.now }
 
         // All first steps.
         requires steps { AreFirstSteps forward.now.task.now first.now }
         requires real { AreReal forward.now.task.now first.now }
 
         // Nothing is reached yet.
-        requires arrivals { AreOpened forward.now.task.now forward.now.late.now self.old.arrival.items }
+        requires arrivals { AreOpened forward.now.task.now forward.now.deadline.now self.old.arrival.items }
         requires hops { length self.old.hops.items ≡ length forward.now.task.now.forbidden }
         requires settled { self.old.settled.items ≡ replicate (length forward.now.task.now.forbidden) false }
         requires queue { self.old.queue ≡ [] }
@@ -275,7 +275,7 @@ impl<A: Allocator + Copy> Settling<A> {
     ) -> Result<Option<Best>, Stopped>
         requires task { IsTask forward.now.task.now }
         requires until { forward.now.until ≤ latest_arrival + 1 }
-        requires bound { IsBound forward.now.task.now forward.now.until forward.now.late.now forward.now.costs.now }
+        requires bound { IsBound forward.now.task.now forward.now.until forward.now.deadline.now forward.now.costs.now }
         ensures counted { looks.old.left ≤ looks.new.left + length forward.now.task.now.plan.contacts }
         ensures reached { IfOk result (IsReached forward.now.task.now forward.now.until forward.now.costs.now self.new.arrival.items) }
         ensures stops { StopsOnlyIf result (looks.old.left < length forward.now.task.now.plan.contacts) }

@@ -8,7 +8,7 @@ use Rattle.sabr_search.proofs.node_bounds.soonest_of.Goals as goal
 pub run-requires-clause-bound : goal.run-requires-clause-bound
 run-requires-clause-bound g c =
     let task = c.args.task.now in
-    bounds_of_nodes task c.requires.whole.is.nodes (of_request task [] c.requires.source) _ _ [] (late_before _ _ _ _ _ (omega arith) c.requires.late) (no_costs _ _ [] refl)
+    bounds_of_nodes task c.requires.whole.is.nodes (of_request task [] c.requires.source) _ _ [] (late_before _ _ _ _ _ (omega arith) c.requires.deadline) (no_costs _ _ [] refl)
 
 pub returns : goal.returns
 returns g c =

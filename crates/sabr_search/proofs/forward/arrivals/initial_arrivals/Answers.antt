@@ -10,11 +10,11 @@ use Rattle.sabr_search.proofs.ForwardLemmas.Forward.{last_or_before}
 use Rattle.sabr_search.proofs.forward.arrivals.initial_arrivals.Goals as goal
 
 -- what the list of the late seconds is once nothing improves a forbidden node and the start is reached
-opened_but_forbidden : (task : SearchTask) → IsTask task → (late xs nodes : List ℕ) → length xs ≡ length task.forbidden →
-    ((k : ℕ) → k < length xs → slice_index_or task.forbidden k false ≡ false → slice_index xs k ≡ slice_index_or late k never) →
+opened_but_forbidden : (task : SearchTask) → IsTask task → (deadline xs nodes : List ℕ) → length xs ≡ length task.forbidden →
+    ((k : ℕ) → k < length xs → slice_index_or task.forbidden k false ≡ false → slice_index xs k ≡ slice_index_or deadline k never) →
     ((j k : ℕ) → slice_get nodes j ≡ Some k → slice_index_or task.forbidden k false ≡ true → slice_index xs k ≡ 0) →
-    AreListed task.forbidden nodes → AreOpened task late (slice_set xs task.start task.at)
-opened_but_forbidden task is late xs nodes many opened zero listed =
+    AreListed task.forbidden nodes → AreOpened task deadline (slice_set xs task.start task.at)
+opened_but_forbidden task is deadline xs nodes many opened zero listed =
     let within : task.start < length xs = omega (arith, is.start_in, is.as_many, many) in
     record {
       flags = grind (arith, common_steps, many);
@@ -50,5 +50,5 @@ loop-place-preserved g c =
 pub returns : goal.returns
 returns g c =
     let so_far = c.loop-place.invariant in
-    rw (c.start.ensures, c.at.ensures) (opened_but_forbidden c.args.task.now c.requires c.args.late.now c.loop-place.arrival.items c.forbidden_nodes-nodes.result.now so_far.many so_far.opened
+    rw (c.start.ensures, c.at.ensures) (opened_but_forbidden c.args.task.now c.requires c.args.deadline.now c.loop-place.arrival.items c.forbidden_nodes-nodes.result.now so_far.many so_far.opened
     (λ j k at on. so_far.zero j k (omega (arith, slice_get_within _ j k at, c.loop-place-test.false)) at on) c.forbidden_nodes-nodes.ensures)

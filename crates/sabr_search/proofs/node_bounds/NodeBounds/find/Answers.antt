@@ -33,18 +33,18 @@ pub soonest_of-requires : goal.soonest_of-requires
 soonest_of-requires g c = record {
   whole = whole_task _ c.requires.asked.task_is c.requires.asked.behind c.requires.none;
   source = c.requires.asked.behind;
-  late = rw (c.deref.ensures.value, c.unwrap_or-late.ensures) (known_is c.latest_by-2.result (λ v. AreLateFor (tabled_of c.args.task.now) c.args.task.now.request never v.items) _ c.latest_by-2.ensures.late (none_late (tabled_of c.args.task.now) c.args.task.now.request never _ (omega arith) c.new.ensures.items));
+  deadline = rw (c.deref.ensures.value, c.unwrap_or-deadline.ensures) (known_is c.latest_by-2.result (λ v. AreLateFor (tabled_of c.args.task.now) c.args.task.now.request never v.items) _ c.latest_by-2.ensures.deadline (none_late (tabled_of c.args.task.now) c.args.task.now.request never _ (omega arith) c.new.ensures.items));
 }
 
 pub returns-in-Some : goal.returns-in-Some
 returns-in-Some g c =
     let was = c.requires.node_bounds in
-    record { late = was.late; late_until = rw c.ok.ensures.value (ok_is c.latest_by.result _ c.latest_by.ensures.late); costs = was.costs; soon = was.soon }
+    record { deadline = was.deadline; deadline_until = rw c.ok.ensures.value (ok_is c.latest_by.result _ c.latest_by.ensures.deadline); costs = was.costs; soon = was.soon }
 
 pub returns : goal.returns
 returns g c = record {
-  late = rw c.unwrap_or-late.ensures (known_is c.latest_by-2.result (λ v. AreLateFor (tabled_of c.args.task.now) c.args.task.now.request never v.items) _ c.latest_by-2.ensures.late (none_late (tabled_of c.args.task.now) c.args.task.now.request never _ (omega arith) c.new.ensures.items));
-  late_until = tt;
+  deadline = rw c.unwrap_or-deadline.ensures (known_is c.latest_by-2.result (λ v. AreLateFor (tabled_of c.args.task.now) c.args.task.now.request never v.items) _ c.latest_by-2.ensures.deadline (none_late (tabled_of c.args.task.now) c.args.task.now.request never _ (omega arith) c.new.ensures.items));
+  deadline_until = tt;
   costs = rw c.unwrap_or-costs.ensures (known_is c.costs_of.result (λ v. AreCostsFor (tabled_of c.args.task.now) c.args.task.now.request v.0.items) _ c.costs_of.ensures.costs (no_costs (tabled_of c.args.task.now) c.args.task.now.request _ c.new-3.ensures.items));
   soon = rw c.unwrap_or-soon.ensures (known_is c.soonest_of.result (λ v. AreSoonFor (tabled_of c.args.task.now) c.args.task.now.request v.items) _ c.soonest_of.ensures.soon (none_soon (tabled_of c.args.task.now) c.args.task.now.request _ c.new-2.ensures.items));
 }

@@ -11,8 +11,8 @@ use Rattle.sabr_search.proofs.search.Search.run.Goals as goal
 
 pub run-requires-clause-bound : goal.run-requires-clause-bound
 run-requires-clause-bound g c =
-    let late = c.late_for.ensures _ _ c.requires.node_bounds in
-    rw c.deref.ensures.value (bounds_of_nodes c.args.asked.now.task.now c.requires.task.nodes c.requires.request _ _ _ late c.requires.node_bounds.costs)
+    let deadline = c.deadlines_for.ensures _ _ c.requires.node_bounds in
+    rw c.deref.ensures.value (bounds_of_nodes c.args.asked.now.task.now c.requires.task.nodes c.requires.request _ _ _ deadline c.requires.node_bounds.costs)
 
 pub returns-in_default-clause-found : goal.returns-in_default-clause-found
 returns-in_default-clause-found g c =

@@ -28,9 +28,9 @@ returns-then-comes_late-clause-full g c = λ n w b has s early.
     rw (← has.3) (elim (cases_lt has.0 c.loop-place.place) [
       | inl before ↦ c.loop-place.invariant.full has.0 has.1 w b before has.2 step early
       | inr behind ↦
-          (let late = late_over task c.requires.task c.args.link.from c.args.link.to c.args.link.passes.now c.requires.link.0 c.args.at c.args.before c.loop-place.place c.look-pass.result here
+          (let deadline = late_over task c.requires.task c.args.link.from c.args.link.to c.args.link.passes.now c.requires.link.0 c.args.at c.args.before c.loop-place.place c.look-pass.result here
           (c.comes_late.ensures c.if-comes_late.true) has.0 has.1 w b behind has.2 step in
-          absurd (omega (arith, late, early)))
+          absurd (omega (arith, deadline, early)))
     ])
 
 pub returns-then-is_at_most-clause-full : goal.returns-then-is_at_most-clause-full

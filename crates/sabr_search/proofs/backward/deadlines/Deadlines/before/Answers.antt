@@ -8,8 +8,8 @@ use Rattle.sabr_search.proofs.backward.deadlines.Deadlines.before.Given.{Over}
 use Rattle.sabr_search.proofs.backward.deadlines.Deadlines.before.Goals.{After-index}
 use Rattle.sabr_search.proofs.backward.deadlines.Deadlines.before.Goals as goal
 
-pub head-place-requires-clause-late : goal.head-place-requires-clause-late
-head-place-requires-clause-late g c = omega (arith, c.requires.node, c.requires.chained.many)
+pub head-place-requires-clause-deadline : goal.head-place-requires-clause-deadline
+head-place-requires-clause-deadline g c = omega (arith, c.requires.node, c.requires.chained.many)
 
 pub head-place-requires-clause-within : goal.head-place-requires-clause-within
 head-place-requires-clause-within g c = (c.requires.chained.last c.args.node c.requires.node).within

@@ -6,11 +6,11 @@ use Rattle.sabr_search.proofs.backward.deadlines.Deadlines.brings_nothing.Goals 
 
 pub returns-then-rules_out-clause-in_time : goal.returns-then-rules_out-clause-in_time
 returns-then-rules_out-clause-in_time g c = λ in_time to passes link n t w b has s less permitted other soon.
-    let late = read_at c.args.self.now.late.items c.args.head.node c.index-late.result.now (omega (arith, c.requires.many, c.requires.node)) c.index-late.ensures in
-    elim (cases_lt t (slice_index c.args.self.now.late.items c.args.head.node)) [
+    let deadline = read_at c.args.self.now.deadline.items c.args.head.node c.index-deadline.result.now (omega (arith, c.requires.many, c.requires.node)) c.index-deadline.ensures in
+    elim (cases_lt t (slice_index c.args.self.now.deadline.items c.args.head.node)) [
       | inl before ↦ before
       | inr behind ↦
-          absurd (omega (arith, less, ruled_out c.args.aim.now.task.now c.requires.task c.args.head.node to passes link.0 c.args.head.bounds link.1 c.index-late.result.now c.args.before (c.rules_out.ensures.late c.if-rules_out.true) n t w b has (omega (arith, behind, late)) s))
+          absurd (omega (arith, less, ruled_out c.args.aim.now.task.now c.requires.task c.args.head.node to passes link.0 c.args.head.bounds link.1 c.index-deadline.result.now c.args.before (c.rules_out.ensures.late c.if-rules_out.true) n t w b has (omega (arith, behind, deadline)) s))
     ]
 
 pub returns-then-rules_out-2-clause-in_time : goal.returns-then-rules_out-2-clause-in_time

@@ -6,16 +6,16 @@ use Rattle.sabr_search.proofs.backward.deadlines.Deadlines.head.Goals as goal
 pub overflow_add-result : goal.overflow_add-result
 overflow_add-result g c =
     let own = c.args.self.now in
-    let some : 0 < slice_index own.late.items c.args.node = omega (arith, read_at own.late.items c.args.node c.index-late.result.now c.requires.late c.index-late.ensures, c.if-late-eq0.false) in
-    omega (arith, read_at own.place.items c.args.node c.index-last.result.now c.requires.place c.index-last.ensures, head_some own.late.items own.place.items c.args.node some, c.requires.within, own.entries.ok.0, own.entries.ok.1, own.entries.small)
+    let some : 0 < slice_index own.deadline.items c.args.node = omega (arith, read_at own.deadline.items c.args.node c.index-deadline.result.now c.requires.deadline c.index-deadline.ensures, c.if-deadline-eq0.false) in
+    omega (arith, read_at own.place.items c.args.node c.index-last.result.now c.requires.place c.index-last.ensures, head_some own.deadline.items own.place.items c.args.node some, c.requires.within, own.entries.ok.0, own.entries.ok.1, own.entries.small)
 
-pub returns-then-late-eq0 : goal.returns-then-late-eq0
-returns-then-late-eq0 g c =
+pub returns-then-deadline-eq0 : goal.returns-then-deadline-eq0
+returns-then-deadline-eq0 g c =
     let own = c.args.self.now in
-    sym (head_none own.late.items own.place.items c.args.node (omega (arith, read_at own.late.items c.args.node c.index-late.result.now c.requires.late c.index-late.ensures, c.if-late-eq0.true)))
+    sym (head_none own.deadline.items own.place.items c.args.node (omega (arith, read_at own.deadline.items c.args.node c.index-deadline.result.now c.requires.deadline c.index-deadline.ensures, c.if-deadline-eq0.true)))
 
 pub returns : goal.returns
 returns g c =
     let own = c.args.self.now in
-    let some : 0 < slice_index own.late.items c.args.node = omega (arith, read_at own.late.items c.args.node c.index-late.result.now c.requires.late c.index-late.ensures, c.if-late-eq0.false) in
-    omega (arith, read_at own.place.items c.args.node c.index-last.result.now c.requires.place c.index-last.ensures, head_some own.late.items own.place.items c.args.node some)
+    let some : 0 < slice_index own.deadline.items c.args.node = omega (arith, read_at own.deadline.items c.args.node c.index-deadline.result.now c.requires.deadline c.index-deadline.ensures, c.if-deadline-eq0.false) in
+    omega (arith, read_at own.place.items c.args.node c.index-last.result.now c.requires.place c.index-last.ensures, head_some own.deadline.items own.place.items c.args.node some)

@@ -4,5 +4,5 @@ use Rattle.sabr_search.proofs.backward.deadlines.Deadlines.is_met.Given as goal
 
 abbrev pub invariant-loop-place : goal.invariant-loop-place
 invariant-loop-place g l = record {
-  late : (k : ℕ) (s : Visit) → k < l.place → slice_get l.first k ≡ Some s → slice_index l.self.late.items s.node ≤ s.at;
+  deadline : (k : ℕ) (s : Visit) → k < l.place → slice_get l.first k ≡ Some s → slice_index l.self.deadline.items s.node ≤ s.at;
 }

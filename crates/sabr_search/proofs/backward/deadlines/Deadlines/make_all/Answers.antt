@@ -8,7 +8,7 @@ pub loop-left-init : goal.loop-left-init
 loop-left-init g c =
     let first = c.in_ok-first_back.ensures in
     record {
-      made = back_first c.args.aim.now.task.now c.requires.task c.args.aim.now.since.now c.args.aim.now.delivery _ _ _ _ first.ends first.entries first.flags first.place first.many first.late first.none;
+      made = back_first c.args.aim.now.task.now c.requires.task c.args.aim.now.since.now c.args.aim.now.delivery _ _ _ _ first.ends first.entries first.flags first.place first.many first.deadline first.none;
       linked = rw (first.entries, first.linked) (linked_first _);
     }
 
@@ -29,8 +29,8 @@ loop-left-preserved g c =
     let same_ends : next.ends.items ≡ old.ends.items = ap (λ v. v.items) one.grown.ends in
     let many : c.len-end.result ≡ length next.entries.items = omega (arith, c.len-end.ensures, next.entries.ok.0) in
     record {
-      made = back_next c.args.aim.now.task.now c.requires.task c.args.aim.now.since.now c.args.aim.now.delivery left old.ends.items old.late.items old.place.items old.entries.items c.loop-left.invariant.made
-          c.push.new.self.items next.late.items next.place.items next.entries.items (rw one.grown.ends at one.grown.growing.lists) one.grown.before one.in_time
+      made = back_next c.args.aim.now.task.now c.requires.task c.args.aim.now.since.now c.args.aim.now.delivery left old.ends.items old.deadline.items old.place.items old.entries.items c.loop-left.invariant.made
+          c.push.new.self.items next.deadline.items next.place.items next.entries.items (rw one.grown.ends at one.grown.growing.lists) one.grown.before one.in_time
           (c.in_ok-push.ensures.items ∙ ap (λ xs. xs ++ c.len-end.result ∷ []) same_ends ∙ ap (λ k. old.ends.items ++ k ∷ []) many);
       linked = one.grown.growing.linked;
     }

@@ -14,7 +14,7 @@ loop-left-init g c =
     record {
       counted = omega arith;
       made = record {
-        layers = back_first c.args.aim.now.task.now c.requires.task c.args.aim.now.since.now c.args.aim.now.delivery _ _ _ _ first.ends first.entries first.flags first.place first.many first.late first.none;
+        layers = back_first c.args.aim.now.task.now c.requires.task c.args.aim.now.since.now c.args.aim.now.delivery _ _ _ _ first.ends first.entries first.flags first.place first.many first.deadline first.none;
         unmet = λ j w x n b less e by step. absurd (omega arith);
       };
       linked = rw (first.entries, first.linked) (linked_first _);
@@ -41,7 +41,7 @@ returns-then-is_met-clause-made g c =
     let by = c.is_met.ensures.met c.if-is_met.true in
     let s : Visit = by.1 in
     let step = c.requires.real by.0 s by.2 in
-    (c.loop-left-test.true, spent_fewer _ _ _ _ _ (omega arith) c.loop-left.invariant.counted, are_met task c.requires.task _ c.requires.arrivals _ c.loop-left.left own made c.loop-left.invariant.linked (met_by task _ _ c.loop-left.left own.ends.items own.late.items own.place.items own.entries.items made step.0 s.node s.at step.1 by.3))
+    (c.loop-left-test.true, spent_fewer _ _ _ _ _ (omega arith) c.loop-left.invariant.counted, are_met task c.requires.task _ c.requires.arrivals _ c.loop-left.left own made c.loop-left.invariant.linked (met_by task _ _ c.loop-left.left own.ends.items own.deadline.items own.place.items own.entries.items made step.0 s.node s.at step.1 by.3))
 
 pub loop-left-preserved : goal.loop-left-preserved
 loop-left-preserved g c =
@@ -55,14 +55,14 @@ loop-left-preserved g c =
     let many : c.len-end.result ≡ length next.entries.items = omega (arith, c.len-end.ensures, next.entries.ok.0) in
     record {
       counted = omega (arith, c.next_back.ensures.counted, c.loop-left.invariant.counted);
-      made = late_next task c.requires.task c.args.aim.now.since.now c.args.aim.now.delivery left old.ends.items old.late.items old.place.items old.entries.items made.layers
-          c.push.new.self.items next.late.items next.place.items next.entries.items (rw one.grown.ends at one.grown.growing.lists) one.grown.before one.in_time
+      made = late_next task c.requires.task c.args.aim.now.since.now c.args.aim.now.delivery left old.ends.items old.deadline.items old.place.items old.entries.items made.layers
+          c.push.new.self.items next.deadline.items next.place.items next.entries.items (rw one.grown.ends at one.grown.growing.lists) one.grown.before one.in_time
           (c.in_ok-push.ensures.items ∙ ap (λ xs. xs ++ c.len-end.result ∷ []) same_ends ∙ ap (λ k. old.ends.items ++ k ∷ []) many)
           made.unmet
           (λ w x n b entry by step.
           let s = c.requires.steps n w b step in
           let node : s.1.node ≡ w = s.3 in
-          unmet_by task _ _ left old.ends.items old.late.items old.place.items old.entries.items made n w b step left x entry (omega (arith, c.is_met.ensures.unmet c.if-is_met.false s.0 s.1 s.2, s.4, ap (slice_index old.late.items) node)) by);
+          unmet_by task _ _ left old.ends.items old.deadline.items old.place.items old.entries.items made n w b step left x entry (omega (arith, c.is_met.ensures.unmet c.if-is_met.false s.0 s.1 s.2, s.4, ap (slice_index old.deadline.items) node)) by);
       linked = one.grown.growing.linked;
     }
 

@@ -49,7 +49,7 @@ loop-place-preserved-then-brings_nothing g c =
     record {
       grown = so_far.grown;
       counted = omega (arith, so_far.counted, (passes_within c.args.aim.now.task.now c.args.to.node c.senders-senders.result c.senders-senders.ensures c.loop-place.place _ here.1).0);
-      in_time = each_until (λ (s : SentLink). AreLeftInTimeOver c.args.aim.now.task.now c.args.aim.now.since.now c.loop-place.self.late.items s.sender s.passes c.args.to.before) c.senders-senders.result c.loop-place.place _ here.1 so_far.in_time
+      in_time = each_until (λ (s : SentLink). AreLeftInTimeOver c.args.aim.now.task.now c.args.aim.now.since.now c.loop-place.self.deadline.items s.sender s.passes c.args.to.before) c.senders-senders.result c.loop-place.place _ here.1 so_far.in_time
           (c.brings_nothing.ensures.in_time c.if-brings_nothing.true c.args.to.node here.0 (link, here.2));
     }
 
@@ -61,7 +61,7 @@ loop-place-preserved g c =
     record {
       grown = grown_more _ _ _ _ _ so_far.grown one.grown;
       counted = omega (arith, so_far.counted, c.take_sender.ensures.looks, (passes_within task c.args.to.node c.senders-senders.result c.senders-senders.ensures c.loop-place.place _ c.at-from.ensures.link).0);
-      in_time = each_until (λ (s : SentLink). AreLeftInTimeOver task c.args.aim.now.since.now c.take_sender.new.self.late.items s.sender s.passes c.args.to.before) c.senders-senders.result c.loop-place.place _ c.at-from.ensures.link
+      in_time = each_until (λ (s : SentLink). AreLeftInTimeOver task c.args.aim.now.since.now c.take_sender.new.self.deadline.items s.sender s.passes c.args.to.before) c.senders-senders.result c.loop-place.place _ c.at-from.ensures.link
           (λ j s less at n t w b has step by. left_rises task c.args.aim.now.since.now _ _ s.sender t one.grown.rises (so_far.in_time j s less at n t w b has step by))
           one.in_time;
     }

@@ -10,8 +10,8 @@ use Rattle.sabr_search.proofs.backward.walk.Walk.is_late.Goals as goal
 within : (g : Over) (c : After-start-start g) → c.start-start.result < length c.args.layers.now.place.items
 within g c = omega (arith, c.start-start.ensures, level_nodes c.args.task.now c.requires.task c.args.self.now.delivery c.args.hops c.args.layers.now c.requires.whole_deadlines, c.requires.task.start_in)
 
-pub head-requires-clause-late : goal.head-requires-clause-late
-head-requires-clause-late g c = omega (arith, within g (goal.at.head-requires-clause-late g c).After-start-start, c.requires.whole_deadlines.layers.chained.many)
+pub head-requires-clause-deadline : goal.head-requires-clause-deadline
+head-requires-clause-deadline g c = omega (arith, within g (goal.at.head-requires-clause-deadline g c).After-start-start, c.requires.whole_deadlines.layers.chained.many)
 
 pub head-requires-clause-place : goal.head-requires-clause-place
 head-requires-clause-place g c = within g (goal.at.head-requires-clause-place g c).After-start-start
@@ -29,9 +29,9 @@ pub before-requires-clause-node : goal.before-requires-clause-node
 before-requires-clause-node g c = within g (goal.at.before-requires-clause-node g c).After-start-start
 
 pub returns : goal.returns
-returns g c = λ late.
+returns g c = λ deadline.
     let task = c.args.task.now in
     let layers = c.args.layers.now in
     let last = c.requires.whole_deadlines.layers.chained.last c.start-start.result (within g (goal.at.returns g c).After-start-start) in
     start_late task c.requires.task c.args.self.now.delivery c.args.hops layers c.requires.whole_deadlines c.head.result c.before-2.result (omega (arith, c.if-head-eq0.false)) (rw (c.head.ensures, ← c.start-start.ensures) last)
-    (rw (c.start-start.ensures, c.end_of-end.ensures) at c.before-2.ensures.latest) (omega (arith, leb-true c.before-2.result c.at.result late, c.at.ensures))
+    (rw (c.start-start.ensures, c.end_of-end.ensures) at c.before-2.ensures.latest) (omega (arith, leb-true c.before-2.result c.at.result deadline, c.at.ensures))

@@ -36,8 +36,8 @@ loop-place-preserved-then-index-from g c =
     let so_far = c.loop-place.invariant in
     let here = c.link-link.ensures.here in
     let link = in_place _ _ _ _ so_far.links _ _ _ here in
-    let node : c.link-link.result.to < length layers.late.items = omega (arith, chained.many, level_nodes task c.requires.task d c.args.hops layers c.requires.whole_deadlines, c.link-link.ensures.receiver) in
-    let known = read_at layers.late.items c.link-link.result.to c.index.result.now node c.index.ensures in
+    let node : c.link-link.result.to < length layers.deadline.items = omega (arith, chained.many, level_nodes task c.requires.task d c.args.hops layers c.requires.whole_deadlines, c.link-link.ensures.receiver) in
+    let known = read_at layers.deadline.items c.link-link.result.to c.index.result.now node c.index.ensures in
     record {
       links = so_far.links;
       counted = so_far.counted;
@@ -48,10 +48,10 @@ loop-place-preserved-then-index-from g c =
         | inl before ↦ so_far.least j x n w b before at has s
         | inr same ↦
             (let to = link.leads c.requires.task n from.at w b (link.own j x n at same has) s in
-            let late : slice_index layers.late.items c.link-link.result.to ≤ b = omega (arith, (takes_timely task c.requires.task.nodes).later n from.node from.at w b s, known, c.if-index-from.true) in
+            let deadline : slice_index layers.deadline.items c.link-link.result.to ≤ b = omega (arith, (takes_timely task c.requires.task.nodes).later n from.node from.at w b s, known, c.if-index-from.true) in
             inl (subst (λ k. IsDeadEnd task d k b c.args.hops) (sym to)
-            (step_late task c.requires.task d c.args.hops layers c.requires.whole_deadlines c.requires.here.0 from c.requires.here.1 n c.link-link.result.to b (slice_index layers.late.items c.link-link.result.to) (subst (λ k. Takes task n from.node from.at k b) to s)
-            (λ p e less at same. omega (arith, chained.by p e at, ap (slice_index layers.late.items) same)) late)))
+            (step_late task c.requires.task d c.args.hops layers c.requires.whole_deadlines c.requires.here.0 from c.requires.here.1 n c.link-link.result.to b (slice_index layers.deadline.items c.link-link.result.to) (subst (λ k. Takes task n from.node from.at k b) to s)
+            (λ p e less at same. omega (arith, chained.by p e at, ap (slice_index layers.deadline.items) same)) deadline)))
       ];
     }
 
@@ -94,9 +94,9 @@ loop-place-preserved-then-deadline-from g c =
         | inl before ↦ so_far.least j x n w b before at has s
         | inr same ↦
             (let to = link.leads c.requires.task n from.at w b (link.own j x n at same has) s in
-            let late : c.before-deadline.result ≤ b = omega (arith, (takes_timely task c.requires.task.nodes).later n from.node from.at w b s, c.if-deadline-from.true) in
+            let deadline : c.before-deadline.result ≤ b = omega (arith, (takes_timely task c.requires.task.nodes).later n from.node from.at w b s, c.if-deadline-from.true) in
             inl (subst (λ k. IsDeadEnd task d k b c.args.hops) (sym to)
-            (step_late task c.requires.task d c.args.hops layers c.requires.whole_deadlines c.requires.here.0 from c.requires.here.1 n c.link-link.result.to b c.before-deadline.result (subst (λ k. Takes task n from.node from.at k b) to s) (rw c.end_of-end.ensures at c.before-deadline.ensures.latest) late)))
+            (step_late task c.requires.task d c.args.hops layers c.requires.whole_deadlines c.requires.here.0 from c.requires.here.1 n c.link-link.result.to b c.before-deadline.result (subst (λ k. Takes task n from.node from.at k b) to s) (rw c.end_of-end.ensures at c.before-deadline.ensures.latest) deadline)))
       ];
     }
 
@@ -132,9 +132,9 @@ loop-place-preserved g c =
             let to = link.leads c.requires.task n from.at w b has' s in
             elim (cases_lt b before) [
               | inl early ↦ inr ((rw c.link-link.ensures.from at over.full) n w b has' s early)
-              | inr late ↦ inl (subst (λ k. IsDeadEnd task d k b c.args.hops) (sym to)
+              | inr deadline ↦ inl (subst (λ k. IsDeadEnd task d k b c.args.hops) (sym to)
                   (step_ended task c.requires.task d c.args.hops layers c.requires.whole_deadlines c.requires.here.0 from c.requires.here.1 c.args.self.now.ends.items c.requires.ends n c.link-link.result.to b c.before-deadline.result before
-                  (subst (λ k. Takes task n from.node from.at k b) to s) (rw c.end_of-end.ensures at c.before-deadline.ensures.latest) c.before_end-before.ensures.end late))
+                  (subst (λ k. Takes task n from.node from.at k b) to s) (rw c.end_of-end.ensures at c.before-deadline.ensures.latest) c.before_end-before.ensures.end deadline))
             ])
       ];
     }

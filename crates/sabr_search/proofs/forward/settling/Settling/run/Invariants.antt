@@ -6,7 +6,7 @@ use Rattle.sabr_search.proofs.forward.settling.Settling.run.Given as goal
 abbrev pub invariant-loop-event : goal.invariant-loop-event
 invariant-loop-event g l = record {
   counted : l.fn.looks.left ≤ l.looks.left + sent_by_settled l.forward.task.now l.self.settled.items;
-  settled : AreSettled l.forward.task.now l.forward.until l.forward.late.now l.forward.costs.now l.self.settled.items l.self.arrival.items l.self.hops.items l.self.queue l.best;
+  settled : AreSettled l.forward.task.now l.forward.until l.forward.deadline.now l.forward.costs.now l.self.settled.items l.self.arrival.items l.self.hops.items l.self.queue l.best;
 }
 
 abbrev pub decreases-loop-event : goal.decreases-loop-event

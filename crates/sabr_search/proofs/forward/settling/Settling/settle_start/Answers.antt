@@ -82,7 +82,7 @@ returns-clause-state g c =
     let forward = c.args.forward.now in
     let task = forward.task.now in
     let so_far = c.loop-place.invariant in
-    start_settled task c.requires.task c.args.self.now.settled.items c.loop-place.self.settled.items c.beginning-event.result.node c.requires.settled (ap (λ (v : Visit). v.node) c.beginning-event.ensures) so_far.settled forward.until forward.late.now forward.costs.now c.args.self.now.arrival.items c.requires.arrivals
+    start_settled task c.requires.task c.args.self.now.settled.items c.loop-place.self.settled.items c.beginning-event.result.node c.requires.settled (ap (λ (v : Visit). v.node) c.beginning-event.ensures) so_far.settled forward.until forward.deadline.now forward.costs.now c.args.self.now.arrival.items c.requires.arrivals
     c.beginning-event.result.at c.loop-place.self.arrival.items c.loop-place.self.hops.items c.loop-place.self.queue (record { delivery = forward.until; hops = 0 }) c.loop-place.best (rw so_far.settled so_far.state) (rw so_far.settled (rw c.none-best.ensures at so_far.fallen))
     (λ n w x s.
     (let on = c.requires.steps n w x s in
