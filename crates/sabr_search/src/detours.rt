@@ -8,7 +8,7 @@ ghost use Rattle.sabr_search.specs.questions.Linked.{IsLinkWithin, IsPassAt};
 ghost use Rattle.sabr_search.specs.questions.Task.{IsTask, Takes};
 
 use crate::links::finger::Finger;
-use crate::links::over_link::WalkedLink;
+use crate::links::walked_link::WalkedLink;
 use crate::part::Excluded;
 use crate::search_cache::SearchCache;
 use crate::task::Task;
@@ -258,7 +258,7 @@ impl<A: Allocator + Copy> SearchCache<A> {
         let Some((last, front)) = route.split_last() else {
             return Ok(false);
         };
-        self.open_path(plan, request)?;
+        self.prepare_path(plan, request)?;
         let Some(prefix_path) = self.prefix_path.as_mut() else {
             return Ok(false);
         };

@@ -62,7 +62,7 @@ impl<A: Allocator + Copy> LayerSearch<A> {
     {
         let task = asked.task;
         task.first_steps(looks, first)?;
-        let since = Since::soonest(task.forbidden().len(), soon);
+        let since = Since::soonest(task.node_count(), soon);
         self.best_within(asked, &since, first.as_slice(), 0, looks)
     }
 

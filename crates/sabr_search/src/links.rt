@@ -4,3 +4,4 @@ pub mod finger;
 mod least_link;
 mod leave_link;
 pub mod over_link;
+pub mod walked_link;

@@ -1,7 +1,7 @@
 //! Where a prefix leads, stop by stop, so that the next one goes on from what both have in common.
 
-pub mod closed;
 pub mod forbidden_nodes;
+pub mod source_and_avoided;
 
 ghost use Rattle.std.specs.Prelude.{◌≡◌, ℕ, List, ◌+◌, ◌^◌, ◌≤◌, IfOk, IfSome, IfNone, OnOk, IsTrue, length, take};
 ghost use Rattle.sabr_model.specs.plan.Plan.{IsPlan};
@@ -9,8 +9,8 @@ ghost use Rattle.sabr_model.specs.routes.Route.{is_route, is_prefix};
 ghost use Rattle.sabr_model.specs.routes.Telling.{summary_of};
 ghost use Rattle.sabr_search.specs.questions.PrefixPath.{IsPrefixPath, IsEntered};
 
-use crate::prefix_path::closed::forbid_closed;
 use crate::prefix_path::forbidden_nodes::ForbiddenNodes;
+use crate::prefix_path::source_and_avoided::forbid_source_and_avoided;
 use sabr_index::{CountedPlan, Looks};
 use sabr_model::{NoMemory, Request, RouteSummary};
 use std::alloc::{Allocator, Global};
@@ -72,7 +72,7 @@ impl<A: Allocator + Copy> PrefixPath<A> {
         };
         let mut forbidden = ForbiddenNodes::new(alloc);
         forbidden.reset(nodes)?;
-        forbid_closed(&mut forbidden, plan, request)?;
+        forbid_source_and_avoided(&mut forbidden, plan, request)?;
         let mut stops = Vec::new(alloc);
         stops.push(Stop {
             node: source,

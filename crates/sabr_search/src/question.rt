@@ -95,7 +95,7 @@ impl<'t, 'a, 'p, A: Allocator + Copy> Question<'t, 'a, 'p, A> {
         requires { IsTask self.now.task.now }
         ensures { result ≡ hops_left self.now }
     {
-        let others = self.task.forbidden().len() - 1;
+        let others = self.task.node_count() - 1;
         let max_hops = self.task.request().max_hops();
         if max_hops == MAX_HOPS {
             return others;

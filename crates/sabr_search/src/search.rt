@@ -98,8 +98,8 @@ impl<A: Allocator + Copy> Search<A> {
     {
         let task = asked.task;
         let (hops, bound) = (asked.hops_left(), asked.bound_left());
-        // There is a flag for each node, and a way enters none twice: N - 1 hops are no limit for N nodes.
-        let is_limited = hops + 1 < task.forbidden().len();
+        // A way enters no node twice: N - 1 hops are no limit for N nodes.
+        let is_limited = hops + 1 < task.node_count();
         if is_limited && !self.settles.allows() {
             return self
                 .layers
@@ -119,7 +119,7 @@ impl<A: Allocator + Copy> Search<A> {
             return Ok(Found::Beyond(bound.at_any_hops()));
         };
         let since = Since {
-            nodes: task.forbidden().len(),
+            nodes: task.node_count(),
             arrival: &self.settling.arrival,
             costs: &node_bounds.costs,
             soon: &node_bounds.soon,

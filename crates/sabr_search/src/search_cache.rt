@@ -36,7 +36,7 @@ impl<A: Allocator + Copy> SearchCache<A> {
 
     /// Makes the prefix path if there is none. There is none afterwards unless the plan has both the source and the
     /// destination.
-    pub fn open_path(
+    pub fn prepare_path(
         &mut self,
         plan: &CountedPlan<'_, A>,
         request: &Request,

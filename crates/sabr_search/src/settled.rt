@@ -86,7 +86,7 @@ impl<A: Allocator + Copy> Settled<A> {
         ensures cache { IsSearchCache index.now request.now cache.new }
         ensures cut { IfOk result (IsCutUpTo index.now.plan request.now.max_hops part.entry.bound part.entry.prefix.now (looks_taken self.new.looks)) }
     {
-        cache.open_path(index, request)?;
+        cache.prepare_path(index, request)?;
         let Some(prefix_path) = cache.prefix_path.as_mut() else {
             return Ok(Sought::None);
         };

@@ -151,6 +151,13 @@ impl<'a, A: Allocator + Copy> Task<'a, A> {
         self.goal
     }
 
+    /// The number of nodes.
+    pub fn node_count(&self) -> usize
+        ensures { result ≡ length self.now.forbidden }
+    {
+        self.forbidden.flags().len()
+    }
+
     /// For each node, whether it is forbidden.
     pub fn forbidden(&self) -> &[bool]
         ensures { result.now ≡ self.now.forbidden }

@@ -134,7 +134,7 @@ impl<'p, B: BestOf<A>, A: Allocator + Copy> Searcher<'p, B, A> {
         bound: Option<Bound>,
     ) -> Result<Option<Route<A>>, NoMemory>
         requires fits { IsTrue (is_prefix self.old.asked.plan.plan self.old.asked.request prefix.now) }
-        requires rising { IsStrictlyIncreasing excluded.now }
+        requires increasing { IsStrictlyIncreasing excluded.now }
         requires floor { IsFloor self.old.asked.plan.plan self.old.asked.request prefix.now excluded.now floor }
         ensures best { IfOk result (λ found. found ≡ best_for self.old.asked bound prefix.now excluded.now) }
         ensures called { self.new.calls.count ≡ self.old.calls.count + 1 }
@@ -143,7 +143,7 @@ impl<'p, B: BestOf<A>, A: Allocator + Copy> Searcher<'p, B, A> {
         self.index.plan().rules_hold();
         let excluded = Excluded {
             numbers: excluded,
-            rising: true,
+            in_order: true,
         };
         let part = BoundedPart {
             prefix,

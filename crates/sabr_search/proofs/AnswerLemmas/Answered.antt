@@ -8,7 +8,7 @@ use Rattle.sabr_model.specs.routes.Arrival.{RouteRequest, arrival_after}
 use Rattle.sabr_model.specs.routes.Route.{chain_end, receivers, is_route}
 use Rattle.sabr_model.specs.routes.Telling.{summary_of}
 use Rattle.sabr_model.proofs.ListLemmas.Begins.{receivers-append, chain_end-append, different_apart}
-use Rattle.sabr_search.specs.questions.Task.{SearchTask, IsBehind, IsOfRequest, is_closed, HasNodes, Takes, IsAsked, IsTask, left_of}
+use Rattle.sabr_search.specs.questions.Task.{SearchTask, IsBehind, IsOfRequest, is_forbidden, HasNodes, Takes, IsAsked, IsTask, left_of}
 use Rattle.sabr_search.specs.questions.PrefixPath.{IsStop}
 use Rattle.sabr_search.specs.questions.FirstSteps.{tabled_of, Leads}
 use Rattle.sabr_search.specs.layers.Late.{AreSince, IsNoneSooner}
@@ -55,7 +55,7 @@ pub stop_of : (task : SearchTask) (prefix : List ℕ) → IsBehind task prefix �
 stop_of task prefix behind = record { last_node = behind.last_node; chained = behind.chained; stands = behind.stands; arrives = behind.arrives; tells = refl }
 
 -- the request closes no receiver of a prefix
-pub receivers_open : (task : SearchTask) (prefix : List ℕ) → IsPrefix task.plan task.request prefix → (x : ℕ) → has x (receivers task.plan prefix) ≡ true → is_closed task.plan task.request [] x ≡ false
+pub receivers_open : (task : SearchTask) (prefix : List ℕ) → IsPrefix task.plan task.request prefix → (x : ℕ) → has x (receivers task.plan prefix) ≡ true → is_forbidden task.plan task.request [] x ≡ false
 receivers_open task prefix facts x one =
     let r = task.request in
     or_from (has x (r.source ∷ [])) (has x r.avoided)
@@ -73,7 +73,7 @@ soon_after task prefix over facts stop soon are = λ ns v t some way.
     (chain_end-append p r.source prefix ns ∙ ap (option_and_then (λ b. chain_end p b ns)) stop.chained ∙ chain.chain)
     (arrival_after-append p r r.at prefix ns ∙ ap (option_and_then (λ b. arrival_after p r b ns)) stop.arrives ∙ chain.after)
     (λ x h.
-    has_either x (receivers p prefix) (receivers p ns) (sym (ap (has x) (receivers-append p prefix ns)) ∙ h) (is_closed p r [] x ≡ false)
+    has_either x (receivers p prefix) (receivers p ns) (sym (ap (has x) (receivers-append p prefix ns)) ∙ h) (is_forbidden p r [] x ≡ false)
     (λ one. receivers_open task prefix facts x one)
     (λ other. chain.open_nodes x other))
 
@@ -89,7 +89,7 @@ of_request task prefix behind = record {
   goal_is = behind.goal_is;
   since = after_later task.plan task.request prefix task.request.at task.at behind.arrives;
   closes = λ k x at open'.
-      let closed : is_closed task.plan task.request prefix x ≡ false = sym (behind.forbids k x at) ∙ open' in
+      let closed : is_forbidden task.plan task.request prefix x ≡ false = sym (behind.forbids k x at) ∙ open' in
       fewer (eqb x task.request.source) (has x (receivers task.plan prefix)) (has x task.request.avoided) closed;
 }
 

@@ -12,7 +12,7 @@ use Rattle.sabr_model.specs.routes.Parts.{goes_on}
 use Rattle.sabr_model.proofs.ListLemmas.Begins.{receivers-cons, receivers-append, chain_end-append, different_apart}
 use Rattle.sabr_model.proofs.RouteLemmas.Routes.{route_facts, route_from_facts}
 use Rattle.sabr_search.specs.questions.FirstSteps.{Leads}
-use Rattle.sabr_search.specs.questions.Task.{SearchTask, Takes, IsBehind, is_closed}
+use Rattle.sabr_search.specs.questions.Task.{SearchTask, Takes, IsBehind, is_forbidden}
 use Rattle.sabr_search.proofs.WayLemmas.Ways.{Leads-append, no_return}
 use Rattle.sabr_search.proofs.WayLemmas.Chains.{arrival_after-append, all_of, all_from, has_right, has_either}
 use Rattle.sabr_search.proofs.WayLemmas.Prefixes.{IsPrefix, goes_on-append, goes_on_parts}
@@ -44,7 +44,7 @@ module _ (task : SearchTask) (prefix : List ℕ) (behind : IsBehind task prefix)
       sym (chain_end-append p r.source prefix rest ∙ ap (option_and_then (λ b. chain_end p b rest)) behind.chained) ∙ facts.reaches in
       let apart : are_different ((r.source ∷ receivers p prefix) ++ receivers p rest) ≡ true =
       ap (λ w. are_different (r.source ∷ w)) (sym (receivers-append p prefix rest)) ∙ facts.different in
-      let stays : (x : ℕ) → has x (receivers p rest) ≡ true → is_closed p r prefix x ≡ false =
+      let stays : (x : ℕ) → has x (receivers p rest) ≡ true → is_forbidden p r prefix x ≡ false =
       λ x h. or_from (has x (r.source ∷ receivers p prefix)) (has x r.avoided)
       (false_from_ne_true (has x (r.source ∷ receivers p prefix)) (λ g. different_apart (r.source ∷ receivers p prefix) (receivers p rest) x apart g h))
       (not-true (has x r.avoided) (all_of (λ n. not (has n r.avoided)) (receivers p (prefix ++ rest)) facts.allowed x

@@ -17,7 +17,7 @@ use Rattle.sabr_model.proofs.RouteLemmas.Routes.{route_facts}
 use Rattle.sabr_model.proofs.ListLemmas.Begins.{first_hop, end_is_received}
 use Rattle.sabr_model.specs.routes.Hops.{hop_arrival}
 use Rattle.sabr_search.specs.declared.prefix_path.Stop.{Stop}
-use Rattle.sabr_search.specs.questions.Task.{SearchTask, HasNodes, IsTask, IsBehind, is_closed, task_of, most_nodes, latest_arrival}
+use Rattle.sabr_search.specs.questions.Task.{SearchTask, HasNodes, IsTask, IsBehind, is_forbidden, task_of, most_nodes, latest_arrival}
 use Rattle.sabr_search.specs.questions.PrefixPath.{AreForbidden, IsStop, AreStops}
 use Rattle.sabr_search.proofs.LinkLemmas.PlanFacts.{arrival_parts, arrives_later, hop_arrival_is, contact_window, light_small, cost_small}
 use Rattle.sabr_search.proofs.WayLemmas.RoutesAndWays.{start_is_forbidden}
@@ -82,7 +82,7 @@ or_middle false false false true = refl
 or_middle false false false false = refl
 
 -- the receiver of one contact more is closed
-pub closed_more : (p : ContactPlan) (r : RouteRequest) (prefix : List ℕ) (i n : ℕ) (c : Contact) → slice_get prefix i ≡ Some n → contact_named p n ≡ Some c → (x : ℕ) → is_closed p r (take (i + 1) prefix) x ≡ (is_closed p r (take i prefix) x || eqb x c.to)
+pub closed_more : (p : ContactPlan) (r : RouteRequest) (prefix : List ℕ) (i n : ℕ) (c : Contact) → slice_get prefix i ≡ Some n → contact_named p n ≡ Some c → (x : ℕ) → is_forbidden p r (take (i + 1) prefix) x ≡ (is_forbidden p r (take i prefix) x || eqb x c.to)
 closed_more p r prefix i n c at named x =
     let all : receivers p (take (i + 1) prefix) ≡ receivers p (take i prefix) ++ c.to ∷ [] =
     ap (receivers p) (one_more prefix i n at) ∙ receivers_push p (take i prefix) n c named in
@@ -90,7 +90,7 @@ closed_more p r prefix i n c at named x =
     ∙ ap (λ b. (eqb x r.source || b) || has x r.avoided) (has_append x (receivers p (take i prefix)) (c.to ∷ []))
     ∙ or_middle (eqb x r.source) (has x (receivers p (take i prefix))) (eqb x c.to) (has x r.avoided)
 
-pub closed_none : (p : ContactPlan) (r : RouteRequest) (x : ℕ) → is_closed p r [] x ≡ (has x r.avoided || eqb x r.source)
+pub closed_none : (p : ContactPlan) (r : RouteRequest) (x : ℕ) → is_forbidden p r [] x ≡ (has x r.avoided || eqb x r.source)
 closed_none p r x = swap (eqb x r.source) (has x r.avoided)
   where
     swap : (a b : Bool) → ((a || false) || b) ≡ (b || a)
@@ -108,7 +108,7 @@ hop_at p r prefix fits i n at =
     hop_facts p r (take i prefix) n (beginning_is_path p r (take i prefix ++ n ∷ []) (drop (i + 1) prefix) (subst (λ s. IsTrue (is_path p r s)) whole (prefix_is_path p r prefix fits)))
 
 -- its receiver is open before it
-pub open_before : (p : ContactPlan) (r : RouteRequest) (q : List ℕ) (n : ℕ) → (hop : IsHop p r q n) → is_closed p r q hop.contact.to ≡ false
+pub open_before : (p : ContactPlan) (r : RouteRequest) (q : List ℕ) (n : ℕ) → (hop : IsHop p r q n) → is_forbidden p r q hop.contact.to ≡ false
 open_before p r q n hop = or_from (has hop.contact.to (r.source ∷ receivers p q)) (has hop.contact.to r.avoided) hop.fresh hop.allowed
 
 -- the stop after it
@@ -139,12 +139,12 @@ stop_node p r prefix i n at hop stop here =
 
 -- the last of some numbers is taken back, and its node is opened
 pub taken_back : (p : TabledPlan) (r : RouteRequest) → HasNodes p.plan p.table → (numbers : List ℕ) → IsTrue (is_prefix p.plan r numbers) → (forbidden : List Bool) (i : ℕ) (stop : Stop) → i < length numbers
-    → IsStop p r (take (i + 1) numbers) stop → AreForbidden p.table forbidden (is_closed p.plan r (take (i + 1) numbers)) → AreForbidden p.table (slice_set forbidden stop.node false) (is_closed p.plan r (take i numbers))
+    → IsStop p r (take (i + 1) numbers) stop → AreForbidden p.table forbidden (is_forbidden p.plan r (take (i + 1) numbers)) → AreForbidden p.table (slice_set forbidden stop.node false) (is_forbidden p.plan r (take i numbers))
 taken_back p r nodes numbers fits forbidden i stop within here are =
     let at = slice_get-get_or numbers i 0 within in
     let n = slice_index numbers i in
     let hop = hop_at p.plan r numbers fits i n at in
-    forbidden_less p.plan p.table nodes forbidden (is_closed p.plan r (take i numbers)) (is_closed p.plan r (take (i + 1) numbers)) stop.node hop.contact.to are (stop_node p r numbers i n at hop stop here) (closed_more p.plan r numbers i n hop.contact at hop.named) (open_before p.plan r (take i numbers) n hop)
+    forbidden_less p.plan p.table nodes forbidden (is_forbidden p.plan r (take i numbers)) (is_forbidden p.plan r (take (i + 1) numbers)) stop.node hop.contact.to are (stop_node p r numbers i n at hop stop here) (closed_more p.plan r numbers i n hop.contact at hop.named) (open_before p.plan r (take i numbers) n hop)
 
 -- a path that is opened has one stop, the source
 pub first_stop : (p : TabledPlan) (r : RouteRequest) (stop : Stop) → slice_get p.table stop.node ≡ Some r.source → stop.at ≡ r.at → stop.summary ≡ summary_of p.plan [] → AreStops p r [] (stop ∷ [])
@@ -207,7 +207,7 @@ after_later p r (n ∷ s) t e after =
           omega (arith, arrives_later p r t c next.0 next.1, after_later p r s next.0 e next.2)
     ]) refl
 
-pub behind_passed : (p : TabledPlan) (r : RouteRequest) (prefix : List ℕ) (forbidden : List Bool) (stop : Stop) → IsStop p r prefix stop → AreForbidden p.table forbidden (is_closed p.plan r prefix) → HasNodes p.plan p.table → (goal : ℕ) → slice_get p.table goal ≡ Some r.destination → (excluded : List ℕ) →
+pub behind_passed : (p : TabledPlan) (r : RouteRequest) (prefix : List ℕ) (forbidden : List Bool) (stop : Stop) → IsStop p r prefix stop → AreForbidden p.table forbidden (is_forbidden p.plan r prefix) → HasNodes p.plan p.table → (goal : ℕ) → slice_get p.table goal ≡ Some r.destination → (excluded : List ℕ) →
     IsBehind (task_of p r forbidden excluded stop.node stop.at goal) prefix
 behind_passed p r prefix forbidden stop here forbids nodes goal goal_is excluded = record {
   nodes = nodes;
@@ -219,14 +219,14 @@ behind_passed p r prefix forbidden stop here forbids nodes goal goal_is excluded
   forbids = forbids.flag;
 }
 
-pub task_passed : (p : TabledPlan) (r : RouteRequest) (prefix : List ℕ) (forbidden : List Bool) (stop : Stop) → IsStop p r prefix stop → AreForbidden p.table forbidden (is_closed p.plan r prefix) → HasNodes p.plan p.table → (goal : ℕ) → slice_get p.table goal ≡ Some r.destination → (excluded : List ℕ) →
+pub task_passed : (p : TabledPlan) (r : RouteRequest) (prefix : List ℕ) (forbidden : List Bool) (stop : Stop) → IsStop p r prefix stop → AreForbidden p.table forbidden (is_forbidden p.plan r prefix) → HasNodes p.plan p.table → (goal : ℕ) → slice_get p.table goal ≡ Some r.destination → (excluded : List ℕ) →
     IsPlan p.plan → length p.table ≤ most_nodes → IsRequest r → IsPrefix p.plan r prefix → IsTask (task_of p r forbidden excluded stop.node stop.at goal)
 task_passed p r prefix forbidden stop here forbids nodes goal goal_is excluded good few asked facts =
     let task : SearchTask = task_of p r forbidden excluded stop.node stop.at goal in
     let behind = behind_passed p r prefix forbidden stop here forbids nodes goal goal_is excluded in
     let avoids = and_parts _ (not (has r.destination r.avoided)) asked.avoids in
     let away : eqb r.destination r.source ≡ false = ne_eqb r.destination r.source (λ same. asked.apart (sym same)) in
-    let closed : is_closed p.plan r prefix r.destination ≡ false =
+    let closed : is_forbidden p.plan r prefix r.destination ≡ false =
     or_from (has r.destination (r.source ∷ receivers p.plan prefix)) (has r.destination r.avoided)
     (or_from (eqb r.destination r.source) (has r.destination (receivers p.plan prefix)) away facts.goes_on) (not-true (has r.destination r.avoided) avoids.1) in
     record {

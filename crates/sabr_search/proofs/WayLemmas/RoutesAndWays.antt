@@ -9,7 +9,7 @@ use Rattle.sabr_model.specs.routes.Route.{chain_end, receivers}
 use Rattle.sabr_model.proofs.ListLemmas.Begins.{FirstHop, first_hop, receivers-cons, end_is_received}
 use Rattle.sabr_model.proofs.RouteLemmas.Waiting.{arrival_is_monotone}
 use Rattle.sabr_search.specs.questions.FirstSteps.{Leads}
-use Rattle.sabr_search.specs.questions.Task.{SearchTask, Takes, HasNodes, IsBehind, is_closed}
+use Rattle.sabr_search.specs.questions.Task.{SearchTask, Takes, HasNodes, IsBehind, is_forbidden}
 use Rattle.sabr_search.proofs.WayLemmas.Chains.{first_arrival, chain_end-cons, arrival_after-cons}
 use Rattle.sabr_search.proofs.LinkLemmas.PlanFacts.{arrives_later}
 use Rattle.sabr_search.proofs.WayLemmas.Ways.{IsTimely}
@@ -38,7 +38,7 @@ pub record IsChain (task : SearchTask) (prefix s : List ℕ) (v e t x : ℕ) : T
   pub stands : slice_get task.table v ≡ Some last
   pub chain : chain_end task.plan x s ≡ Some last
   pub after : arrival_after task.plan task.request t s ≡ Some e
-  pub open_nodes : (z : ℕ) → has z (receivers task.plan s) ≡ true → is_closed task.plan task.request prefix z ≡ false
+  pub open_nodes : (z : ℕ) → has z (receivers task.plan s) ≡ true → is_forbidden task.plan task.request prefix z ≡ false
 
 module _ (task : SearchTask) (prefix : List ℕ) (behind : IsBehind task prefix) where
   -- the start is forbidden: it is the source or a receiver of the prefix
@@ -55,7 +55,7 @@ module _ (task : SearchTask) (prefix : List ℕ) (behind : IsBehind task prefix)
 
   -- a chain over open nodes, in time, is a way; only its first contact leaves the start
   pub way_from_chain : (s : List ℕ) (u v t z last e : ℕ) → slice_get task.table u ≡ Some v → chain_end task.plan v s ≡ Some last → slice_get task.table z ≡ Some last → arrival_after task.plan task.request t s ≡ Some e
-      → ((x : ℕ) → has x (receivers task.plan s) ≡ true → is_closed task.plan task.request prefix x ≡ false)
+      → ((x : ℕ) → has x (receivers task.plan s) ≡ true → is_forbidden task.plan task.request prefix x ≡ false)
       → ((n : ℕ) (more : List ℕ) → s ≡ n ∷ more → u ≡ task.start → has n task.excluded ≡ false)
       → Leads (Takes task) u t s z e
   way_from_chain [] u v t z last e at chain to after stays first = (behind.nodes.apart u z last (at ∙ chain) to, same_some after)
@@ -64,7 +64,7 @@ module _ (task : SearchTask) (prefix : List ℕ) (behind : IsBehind task prefix)
       let h : FirstHop p v n s last = first_hop p v n s last chain in
       let next = first_arrival p task.request t n s e h.contact h.named after in
       let place = behind.nodes.receivers n h.contact h.named in
-      let closed : is_closed p task.request prefix h.contact.to ≡ false =
+      let closed : is_forbidden p task.request prefix h.contact.to ≡ false =
       stays h.contact.to (ap (has h.contact.to) (receivers-cons p n s h.contact h.named) ∙ or_left (eqb h.contact.to h.contact.to) (has h.contact.to (receivers p s)) (eq-eqb h.contact.to h.contact.to refl)) in
       let permitted : slice_index_or task.forbidden place.0 false ≡ false = behind.forbids place.0 h.contact.to place.1 ∙ closed in
       let step : Takes task n u t place.0 next.0 = record {
@@ -84,7 +84,7 @@ module _ (task : SearchTask) (prefix : List ℕ) (behind : IsBehind task prefix)
 
 -- no node is open that is closed after the prefix
 abbrev pub Opens : SearchTask → List ℕ → Type 0
-Opens task prefix = (k x : ℕ) → slice_get task.table k ≡ Some x → slice_index_or task.forbidden k false ≡ false → is_closed task.plan task.request prefix x ≡ false
+Opens task prefix = (k x : ℕ) → slice_get task.table k ≡ Some x → slice_index_or task.forbidden k false ≡ false → is_forbidden task.plan task.request prefix x ≡ false
 
 pub opens_of : (task : SearchTask) (prefix : List ℕ) → IsBehind task prefix → Opens task prefix
 opens_of task prefix behind k x at open' = sym (behind.forbids k x at) ∙ open'
@@ -104,7 +104,7 @@ module _ (task : SearchTask) (prefix : List ℕ) (opens : Opens task prefix) whe
         after = arrival_after-cons p task.request t n way.1 s step.contact step.named step.arrives ∙ rest.after;
         open_nodes = λ z h.
             ⊎_elim
-            (λ e. ap (is_closed p task.request prefix) (eqb-true z step.contact.to e) ∙ opens way.0 step.contact.to step.receiver step.permitted)
+            (λ e. ap (is_forbidden p task.request prefix) (eqb-true z step.contact.to e) ∙ opens way.0 step.contact.to step.receiver step.permitted)
             (λ k. rest.open_nodes z k)
             (or_cases (eqb z step.contact.to) (has z (receivers p s)) (sym (ap (has z) (receivers-cons p n s step.contact step.named)) ∙ h));
       }

@@ -9,7 +9,7 @@ use Rattle.sabr_model.specs.plan.Plan.{TabledPlan, contact_named, has}
 use Rattle.sabr_model.specs.routes.Arrival.{RouteRequest, arrival}
 use Rattle.sabr_search.specs.declared.backward.deadlines.Deadlines.{Deadlines}
 use Rattle.sabr_search.specs.questions.FirstSteps.{Leads, tabled_of}
-use Rattle.sabr_search.specs.questions.Task.{SearchTask, IsTask, IsAsked, Takes, is_closed, HasNodes}
+use Rattle.sabr_search.specs.questions.Task.{SearchTask, IsTask, IsAsked, Takes, is_forbidden, HasNodes}
 use Rattle.sabr_search.specs.layers.Deadlines.{HasDeadline, IsInTimeWithin, IsLastBelow, IsLatestWithin, end_within}
 use Rattle.sabr_search.specs.layers.NodeBounds.{AreSoonFor}
 use Rattle.sabr_search.specs.layers.WholeDeadlines.{AreOfEach, AreWhole, AreWholeDeadlinesOf, IsDeadEnd}
@@ -26,15 +26,15 @@ way_ends task Open each (n ∷ []) u t v e way some = rw (← way.3.0) (each n u
 way_ends task Open each (n ∷ m ∷ ns) u t v e way some = way_ends task Open each (m ∷ ns) way.0 way.1 v e way.3 (omega arith)
 
 -- no way over the whole graph comes to where a question starts any sooner, unless it starts at the source
-start_soon : (task : SearchTask) (prefix : List ℕ) → IsAsked task prefix → (soon : List ℕ) → AreSoonFor (tabled_of task) task.request soon → is_closed task.plan task.request [] task.request.source ≡ true →
-    ((x : ℕ) → slice_get task.table task.start ≡ Some x → is_closed task.plan task.request [] x ≡ false) → slice_index soon task.start ≤ task.at
-start_soon task [] asked soon are source open' = absurd (both_ways (is_closed task.plan task.request [] task.request.source) (open' task.request.source (asked.behind.stands ∙ sym asked.behind.chained)) source)
+start_soon : (task : SearchTask) (prefix : List ℕ) → IsAsked task prefix → (soon : List ℕ) → AreSoonFor (tabled_of task) task.request soon → is_forbidden task.plan task.request [] task.request.source ≡ true →
+    ((x : ℕ) → slice_get task.table task.start ≡ Some x → is_forbidden task.plan task.request [] x ≡ false) → slice_index soon task.start ≤ task.at
+start_soon task [] asked soon are source open' = absurd (both_ways (is_forbidden task.plan task.request [] task.request.source) (open' task.request.source (asked.behind.stands ∙ sym asked.behind.chained)) source)
 start_soon task (n ∷ prefix) asked soon are source open' =
     let behind = asked.behind in
     are (n ∷ prefix) task.start behind.last_node task.at (omega arith) behind.stands behind.chained behind.arrives (receivers_open task (n ∷ prefix) (prefix_facts task.plan task.request (n ∷ prefix) asked.fits))
 
 -- the source is closed
-source_closed : (task : SearchTask) → is_closed task.plan task.request [] task.request.source ≡ true
+source_closed : (task : SearchTask) → is_forbidden task.plan task.request [] task.request.source ≡ true
 source_closed task = grind (arith, nat_tests)
 
 -- a question after no contact that excludes nothing, and one after a prefix, of the same plan and request
@@ -43,8 +43,8 @@ module _ (whole task : SearchTask) (prefix : List ℕ) (first : IsAsked whole []
   table_is = ap (λ (p : TabledPlan). p.table) plan
 
   -- where the whole graph is forbidden
-  forbidden_there : (k x : ℕ) → slice_get task.table k ≡ Some x → slice_index_or whole.forbidden k false ≡ is_closed task.plan task.request [] x
-  forbidden_there k x at = first.behind.forbids k x (ap (λ t. slice_get t k) table_is ∙ at) ∙ ap (λ (p : TabledPlan). is_closed p.plan whole.request [] x) plan ∙ ap (λ r. is_closed task.plan r [] x) request
+  forbidden_there : (k x : ℕ) → slice_get task.table k ≡ Some x → slice_index_or whole.forbidden k false ≡ is_forbidden task.plan task.request [] x
+  forbidden_there k x at = first.behind.forbids k x (ap (λ t. slice_get t k) table_is ∙ at) ∙ ap (λ (p : TabledPlan). is_forbidden p.plan whole.request [] x) plan ∙ ap (λ r. is_forbidden task.plan r [] x) request
 
   opens_there : (k : ℕ) → slice_index_or task.forbidden k false ≡ false → slice_index_or whole.forbidden k false ≡ false
   opens_there k open' = elim (cases_lt k (length task.table)) [

@@ -6,7 +6,7 @@ use Rattle.sabr_model.specs.plan.Plan.{TabledPlan, contact_named, has}
 use Rattle.sabr_model.specs.routes.Arrival.{RouteRequest, arrival, arrival_after}
 use Rattle.sabr_model.specs.routes.Route.{chain_end, receivers}
 use Rattle.sabr_search.specs.declared.node_bounds.NodeBounds.{NodeBounds}
-use Rattle.sabr_search.specs.questions.Task.{is_closed, never}
+use Rattle.sabr_search.specs.questions.Task.{is_forbidden, never}
 
 -- contact n takes what is there at second t from the node at place u to the node at place w at second b, which is neither
 -- the source nor avoided
@@ -15,14 +15,14 @@ pub record Goes (p : TabledPlan) (r : RouteRequest) (n u t w b : ℕ) : Type 0 w
   pub named : contact_named p.plan n ≡ Some contact
   pub sender : slice_get p.table u ≡ Some contact.from
   pub receiver : slice_get p.table w ≡ Some contact.to
-  pub permitted : is_closed p.plan r [] contact.to ≡ false
+  pub permitted : is_forbidden p.plan r [] contact.to ≡ false
   pub arrives : arrival p.plan r t contact ≡ Some b
 
 -- the node at the place is neither the source nor avoided nor the destination
 pub record IsBetween (p : TabledPlan) (r : RouteRequest) (v : ℕ) : Type 0 where
   pub node : ℕ
   pub stands : slice_get p.table v ≡ Some node
-  pub permitted : is_closed p.plan r [] node ≡ false
+  pub permitted : is_forbidden p.plan r [] node ≡ false
   pub other : node ≢ r.destination
 
 -- by node a second from which on no way over the whole graph delivers before second `until`, as far as the list goes: no
@@ -41,7 +41,7 @@ pub record AreCostsFor (p : TabledPlan) (r : RouteRequest) (costs : List ℕ) : 
 abbrev pub AreSoonFor : TabledPlan → RouteRequest → List ℕ → Type 0
 AreSoonFor p r soon =
     (ns : List ℕ) (v node t : ℕ) → 0 < length ns → slice_get p.table v ≡ Some node → chain_end p.plan r.source ns ≡ Some node → arrival_after p.plan r r.at ns ≡ Some t
-    → ((x : ℕ) → has x (receivers p.plan ns) ≡ true → is_closed p.plan r [] x ≡ false) → slice_index soon v ≤ t
+    → ((x : ℕ) → has x (receivers p.plan ns) ≡ true → is_forbidden p.plan r [] x ≡ false) → slice_index soon v ≤ t
 
 -- what is known of the ways of every question of the request is true
 pub record AreNodeBounds {A : Type 0} (p : TabledPlan) (r : RouteRequest) (node_bounds : NodeBounds A) : Type 0 where

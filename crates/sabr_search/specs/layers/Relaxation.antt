@@ -12,13 +12,13 @@ use Rattle.sabr_search.specs.declared.backward.relaxation.Rule.{Rule}
 use Rattle.sabr_search.specs.declared.backward.relaxation.Rule.TheVariants.{Passes, Bounds}
 use Rattle.sabr_search.specs.declared.visit.Visit.{Visit}
 use Rattle.sabr_search.specs.questions.Linked.{HasNumber}
-use Rattle.sabr_search.specs.questions.Task.{SearchTask, IsTask, Takes, is_closed}
+use Rattle.sabr_search.specs.questions.Task.{SearchTask, IsTask, Takes, is_forbidden}
 
 -- the whole graph: no node is forbidden but the source and those to avoid, and no number is excluded
 pub record IsWholeGraph (task : SearchTask) : Type 0 where
   pub is : IsTask task
   pub goal_is : slice_get task.table task.goal ≡ Some task.request.destination
-  pub forbids : (k x : ℕ) → slice_get task.table k ≡ Some x → slice_index_or task.forbidden k false ≡ is_closed task.plan task.request [] x
+  pub forbids : (k x : ℕ) → slice_get task.table k ≡ Some x → slice_index_or task.forbidden k false ≡ is_forbidden task.plan task.request [] x
   pub free : task.excluded ≡ []
 
 -- the last second of an event

@@ -10,7 +10,7 @@ use Rattle.sabr_model.specs.routes.Route.{chain_end, is_prefix}
 use Rattle.sabr_model.specs.routes.Telling.{summary_of}
 use Rattle.sabr_search.specs.declared.prefix_path.PrefixPath.{PrefixPath}
 use Rattle.sabr_search.specs.declared.prefix_path.Stop.{Stop}
-use Rattle.sabr_search.specs.questions.Task.{IsTask, IsBehind, task_of, is_closed}
+use Rattle.sabr_search.specs.questions.Task.{IsTask, IsBehind, task_of, is_forbidden}
 
 -- the nodes that pass the test are forbidden, and no other
 pub record AreForbidden (table : List ℕ) (forbidden : List Bool) (test : ℕ → Bool) : Type 0 where
@@ -39,7 +39,7 @@ pub record IsPrefixPath {A : Type 0} (p : TabledPlan) (r : RouteRequest) (prefix
   pub fits : IsTrue (is_prefix p.plan r prefix_path.numbers.items)
   pub many : length prefix_path.stops.items ≡ length prefix_path.numbers.items + 1
   pub stops : AreStops p r prefix_path.numbers.items prefix_path.stops.items
-  pub forbids : AreForbidden p.table prefix_path.forbidden (is_closed p.plan r prefix_path.numbers.items)
+  pub forbids : AreForbidden p.table prefix_path.forbidden (is_forbidden p.plan r prefix_path.numbers.items)
   pub goal_is : slice_get p.table prefix_path.goal ≡ Some r.destination
 
 -- the search that starts and goes there keeps the rules and starts where the prefix ends, with any excluded numbers

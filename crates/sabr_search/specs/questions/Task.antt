@@ -66,8 +66,8 @@ pub record Takes (task : SearchTask) (n u t w b : ℕ) : Type 0 where
   pub arrives : arrival task.plan task.request t contact ≡ Some b
 
 -- no route goes on to the node after the prefix: it is the source, a receiver of the prefix, or avoided
-abbrev pub is_closed : ContactPlan → RouteRequest → List ℕ → ℕ → Bool
-is_closed p r prefix x = has x (r.source ∷ receivers p prefix) || has x r.avoided
+abbrev pub is_forbidden : ContactPlan → RouteRequest → List ℕ → ℕ → Bool
+is_forbidden p r prefix x = has x (r.source ∷ receivers p prefix) || has x r.avoided
 
 -- the search starts where the prefix ends, when it arrives there, and all nodes that no route goes on to are forbidden
 pub record IsBehind (task : SearchTask) (prefix : List ℕ) : Type 0 where
@@ -77,14 +77,14 @@ pub record IsBehind (task : SearchTask) (prefix : List ℕ) : Type 0 where
   pub stands : slice_get task.table task.start ≡ Some last_node
   pub arrives : arrival_after task.plan task.request task.request.at prefix ≡ Some task.at
   pub goal_is : slice_get task.table task.goal ≡ Some task.request.destination
-  pub forbids : (k x : ℕ) → slice_get task.table k ≡ Some x → slice_index_or task.forbidden k false ≡ is_closed task.plan task.request prefix x
+  pub forbids : (k x : ℕ) → slice_get task.table k ≡ Some x → slice_index_or task.forbidden k false ≡ is_forbidden task.plan task.request prefix x
 
 -- the goal is the destination, the search starts no earlier than the request begins, and no node is open that the
 -- request closes: the source, and those to avoid
 pub record IsOfRequest (task : SearchTask) : Type 0 where
   pub goal_is : slice_get task.table task.goal ≡ Some task.request.destination
   pub since : task.request.at ≤ task.at
-  pub closes : (k x : ℕ) → slice_get task.table k ≡ Some x → slice_index_or task.forbidden k false ≡ false → is_closed task.plan task.request [] x ≡ false
+  pub closes : (k x : ℕ) → slice_get task.table k ≡ Some x → slice_index_or task.forbidden k false ≡ false → is_forbidden task.plan task.request [] x ≡ false
 
 -- a question after a prefix: the search starts where the prefix ends
 pub record IsAsked (task : SearchTask) (prefix : List ℕ) : Type 0 where

@@ -13,7 +13,7 @@ ghost use Rattle.sabr_search.specs.layers.WholeDeadlines.{AreWhole, IsMadeBack};
 
 use crate::backward::deadlines::{Deadline, Deadlines};
 use crate::backward::since::Since;
-use crate::links::over_link::{WalkedLink, rules_out};
+use crate::links::walked_link::{WalkedLink, rules_out};
 use crate::stopped::Stopped;
 use crate::task::Task;
 use crate::visit::Visit;
@@ -202,10 +202,10 @@ impl<A: Allocator + Copy> Deadlines<A> {
         ensures deadline { OnOk result (slice_index self.new.deadline.items task.now.goal ≡ delivery + 1) }
         ensures none { OnOk result ((k : ℕ) → k ≢ task.now.goal → slice_index self.new.deadline.items k ≡ 0) }
     {
-        self.place.resize(task.forbidden().len(), 0)?;
+        self.place.resize(task.node_count(), 0)?;
         self.place[task.goal()] = 0;
         self.deadline.clear();
-        self.deadline.resize(task.forbidden().len(), 0)?;
+        self.deadline.resize(task.node_count(), 0)?;
         self.deadline[task.goal()] = delivery + 1;
         self.entries.clear();
         self.entries.push(Deadline {
@@ -244,7 +244,7 @@ impl<A: Allocator + Copy> Deadlines<A> {
         ensures whole { OnOk result ((most : ℕ) → AreWhole aim.now.task.now aim.now.since.now aim.now.delivery most self.new) }
     {
         self.first_back(aim.task, aim.delivery)?;
-        for left in 0..aim.task.forbidden().len() {
+        for left in 0..aim.task.node_count() {
             if self.ends[left] == self.ends[left + 1] {
                 return Ok(());
             }

@@ -10,7 +10,7 @@ ghost use Rattle.sabr_search.specs.layers.NodeBounds.{AreCostsFor, AreLateFor};
 ghost use Rattle.sabr_search.specs.layers.Relaxation.{AreAllRelaxed, AreRelaxing, IsBegun, IsRaised, IsReachedBy, IsRelaxed, IsWholeGraph, last_at};
 
 use crate::backward::deadlines::Deadline;
-use crate::links::over_link::{WalkedLink, rules_out};
+use crate::links::walked_link::{WalkedLink, rules_out};
 use crate::queue::{LAST_AT, Queue};
 use crate::stopped::Stopped;
 use crate::task::Task;
@@ -133,7 +133,7 @@ impl<A: Allocator + Copy> Relaxation<A> {
         requires task { IsTask task.now }
         ensures { IfOk result (IsBegun task.now until) }
     {
-        let nodes = task.forbidden().len();
+        let nodes = task.node_count();
         let mut seconds = Vec::new(alloc);
         seconds.resize(nodes, 0)?;
         seconds[task.goal()] = until;

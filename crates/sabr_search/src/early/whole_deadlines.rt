@@ -80,7 +80,7 @@ impl<A: Allocator + Copy> WholeDeadlines<A> {
         if delivery == NEVER || soon.is_empty() {
             return Ok(());
         }
-        let since = Since::soonest(task.forbidden().len(), soon);
+        let since = Since::soonest(task.node_count(), soon);
         let aim = Aim {
             task,
             since: &since,

@@ -5,7 +5,7 @@ ghost use Rattle.sabr_search.specs.questions.Task.{IsTask, IsOfRequest};
 ghost use Rattle.sabr_search.specs.answers.Answers.{narrowed, ForbidsFewer};
 
 use crate::early::answers::NearMiss;
-use crate::prefix_path::closed::forbid_closed;
+use crate::prefix_path::source_and_avoided::forbid_source_and_avoided;
 use crate::prefix_path::forbidden_nodes::ForbiddenNodes;
 use crate::question::Question;
 use crate::task::Task;
@@ -54,8 +54,8 @@ fn forbid_few<A: Allocator + Copy>(
     ensures fewer { OnOk result (ForbidsFewer task.now forbidden.new) }
     ensures request { OnOk result (IsOfRequest (narrowed task.now forbidden.new task.now.at)) }
 {
-    forbidden.reset(task.forbidden().len())?;
-    forbid_closed(forbidden, task.plan(), task.request())?;
+    forbidden.reset(task.node_count())?;
+    forbid_source_and_avoided(forbidden, task.plan(), task.request())?;
     forbidden.put(task.start())?;
     Ok(())
 }

@@ -9,7 +9,7 @@ ghost use Rattle.sabr_search.specs.questions.FirstSteps.{IsNoneBefore};
 
 use crate::forward::arrivals::{initial_arrivals, news_before};
 use crate::found::Best;
-use crate::links::over_link::{WalkedLink, rules_out};
+use crate::links::walked_link::{WalkedLink, rules_out};
 use crate::stopped::Stopped;
 use crate::task::Task;
 use crate::visit::Visit;
@@ -232,7 +232,7 @@ impl<A: Allocator + Copy> Layers<A> {
     {
         initial_arrivals(&mut self.arrival, task, &[])?;
         self.place.clear();
-        self.place.resize(task.forbidden().len(), 0)?;
+        self.place.resize(task.node_count(), 0)?;
         self.reached.clear();
         self.reached.push(task.beginning())?;
         Ok(())

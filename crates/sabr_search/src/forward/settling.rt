@@ -10,7 +10,7 @@ ghost use Rattle.sabr_search.specs.layers.Settling.{IsBound, AreReal, IsReached,
 
 use crate::forward::arrivals::{initial_arrivals, news_before};
 use crate::found::Best;
-use crate::links::over_link::{WalkedLink, rules_out};
+use crate::links::walked_link::{WalkedLink, rules_out};
 use crate::queue::Queue;
 use crate::stopped::Stopped;
 use crate::task::Task;
@@ -79,7 +79,7 @@ impl<A: Allocator + Copy> Settling<A> {
         ensures settled { OnOk result (self.new.settled.items ≡ replicate (length forward.now.task.now.forbidden) false) }
         ensures queue { OnOk result (self.new.queue ≡ []) }
     {
-        let nodes = forward.task.forbidden().len();
+        let nodes = forward.task.node_count();
         initial_arrivals(&mut self.arrival, forward.task, forward.deadline)?;
         self.hops.resize(nodes, 0)?;
         self.settled.clear();

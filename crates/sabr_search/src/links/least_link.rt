@@ -6,7 +6,8 @@ ghost use Rattle.sabr_search.specs.layers.Picks.{IsAtMost, IsStepOver};
 ghost use Rattle.sabr_search.specs.questions.Linked.{IsLinkWithin, HasNumber};
 
 use crate::links::finger::Finger;
-use crate::links::over_link::{WalkedLink, comes_late, first_unended, rules_out};
+use crate::links::over_link::{comes_late, first_unended};
+use crate::links::walked_link::{WalkedLink, rules_out};
 use crate::task::Task;
 use crate::visit::Step;
 use sabr_index::Looks;

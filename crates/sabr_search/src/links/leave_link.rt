@@ -6,7 +6,7 @@ ghost use Rattle.sabr_search.specs.questions.Task.{IsTask, Takes};
 ghost use Rattle.sabr_index.specs.Links.{AreInOrder};
 ghost use Rattle.sabr_search.specs.questions.Linked.{IsLinkWithin, IsLeftBefore, HasNumber};
 
-use crate::links::over_link::WalkedLink;
+use crate::links::walked_link::WalkedLink;
 use crate::task::Task;
 use sabr_index::{Looks, Pass};
 use std::alloc::Allocator;

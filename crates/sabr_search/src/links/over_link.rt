@@ -1,47 +1,18 @@
 //! The arrival over a whole link: a binary search and a few looks instead of one look for each of its contacts.
 
-ghost use Rattle.std.specs.Prelude.{◌≡◌, ◌⊎◌, ℕ, ◌+◌, ◌^◌, ◌≤◌, ◌<◌, max, IsTrue, false, Some, length, slice_get, slice_index_or};
+ghost use Rattle.std.specs.Prelude.{◌≡◌, ℕ, ◌+◌, ◌^◌, ◌≤◌, ◌<◌, max, IsTrue, false, Some, length, slice_get, slice_index_or};
 ghost use Rattle.sabr_index.specs.declared.link.Pass.{Pass};
 ghost use Rattle.sabr_model.specs.routes.Hops.{IsSmall};
 ghost use Rattle.sabr_search.specs.questions.Task.{IsTask, Takes};
-ghost use Rattle.sabr_search.specs.questions.Linked.{IsHopAt, IsPassAt, IsLinkWithin, IsLinkHere, AreLinksAt, HasNumber, IsRuledOut};
+ghost use Rattle.sabr_search.specs.questions.Linked.{IsHopAt, IsPassAt, IsLinkWithin, IsLinkHere, AreLinksAt, HasNumber};
 ghost use Rattle.sabr_index.specs.Links.{AreInOrder};
 
 use crate::links::finger::Finger;
+use crate::links::walked_link::{WalkedLink, arrives_no_sooner, rules_out};
 use crate::task::Task;
-use sabr_index::{LinkBounds, Links, Looked, Looks, Pass};
+use sabr_index::{Links, Looked, Looks, Pass};
 use sabr_model::Hop;
 use std::alloc::Allocator;
-
-/// A link that is walked: the indexes of its sender and its receiver in the table of nodes, its passes by start, and
-/// bounds for all of them.
-#[derive(Clone, Copy)]
-pub struct WalkedLink<'a> {
-    pub from: usize,
-    pub to: usize,
-    pub passes: &'a [Pass],
-    pub bounds: LinkBounds,
-}
-
-/// Returns true if two bounds of a whole link, `soonest` and `least_light`, show that nothing that is at its sender at
-/// second `at` or later arrives sooner than `before`.
-#[inline(always)]
-pub fn arrives_no_sooner(soonest: u64, least_light: u32, at: u64, before: u64) -> bool
-    ensures late { IsTrue result → (before ≤ soonest) ⊎ (before ≤ at + least_light) }
-    ensures early { result ≡ false → at < before }
-{
-    before <= soonest.max(at.saturating_add(least_light as u64))
-}
-
-/// Returns true if, by the bounds of the whole link, nothing that is at its sender at second `at` or later arrives
-/// sooner than `before`. Whether the link has ended is seen first.
-#[inline(always)]
-pub fn rules_out(bounds: LinkBounds, at: u64, before: u64) -> bool
-    ensures late { IsTrue result → IsRuledOut bounds at before }
-    ensures early { result ≡ false → at < before }
-{
-    bounds.latest_end <= at || arrives_no_sooner(bounds.soonest, bounds.least_light, at, before)
-}
 
 /// Returns the number of passes at the front of a link that have ended by `at`. Those after them, or the only one, may
 /// have ended as well. A binary search: it compares the bounds that stand beside the passes.

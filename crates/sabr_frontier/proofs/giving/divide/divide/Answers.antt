@@ -78,8 +78,8 @@ fresh_nodes-requires-clause-within g c = let more = longer_then _ c.requires.nex
 pub find_best-requires-clause-fits : goal.find_best-requires-clause-fits
 find_best-requires-clause-fits g c = beginning_fits _ _ c.args.route.now _ c.requires.route (longer_then _ c.requires.next (omega arith) c.in_ok-exclude_next.ensures.ok c.index-part.ensures)
 
-pub find_best-requires-clause-rising : goal.find_best-requires-clause-rising
-find_best-requires-clause-rising g c = subst IsStrictlyIncreasing (sym c.as_slice.ensures) (rises_then _ c.requires.next (omega arith) c.in_ok-exclude_next.ensures.ok c.index-part.ensures)
+pub find_best-requires-clause-increasing : goal.find_best-requires-clause-increasing
+find_best-requires-clause-increasing g c = subst IsStrictlyIncreasing (sym c.as_slice.ensures) (rises_then _ c.requires.next (omega arith) c.in_ok-exclude_next.ensures.ok c.index-part.ensures)
 
 pub find_best-requires-clause-floor : goal.find_best-requires-clause-floor
 find_best-requires-clause-floor g c =

@@ -44,8 +44,8 @@ longer_go_on-requires-clause-floor g c =
     let floor = floor_in c.goes_otherwise.ensures.same (take n.length s) n.excluded c.args.floor c.requires.floor in
     floor_on c.find_best.ensures.same s (n.length + 1) (n.length + 1) c.args.floor (omega arith) (omega (arith, c.requires.next.longer)) (floor_after a.plan.plan a.request c.args.floor s n.length n.excluded c.requires.next.longer c.requires.next.absent floor)
 
-pub find_best-requires-clause-rising : goal.find_best-requires-clause-rising
-find_best-requires-clause-rising g c =
+pub find_best-requires-clause-increasing : goal.find_best-requires-clause-increasing
+find_best-requires-clause-increasing g c =
     let n = c.args.part.now in
     let s = c.args.route.now in
     subst IsStrictlyIncreasing (sym (c.as_slice-2.ensures ∙ c.in_ok-excluded.ensures)) (increasing (wide_of n s) (Rises-put_in nat_cmp_total (slice_index s n.length) n.excluded c.requires.next.rises))

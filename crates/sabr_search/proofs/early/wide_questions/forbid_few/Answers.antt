@@ -2,12 +2,12 @@ use Rattle.std.proofs.Common.{◌≢◌, Bool, true, false, List, [], length, sl
 use Rattle.std.proofs.lemmas.List.{get_or_past, get_or-set_other, get_or-set_same, length-set}
 use Rattle.std.proofs.lemmas.Bool.{cases_lt, both_ways}
 use Rattle.std.proofs.lemmas.Option.{slice_get-get_or}
-use Rattle.sabr_search.specs.questions.Task.{SearchTask, IsTask, IsOfRequest, is_closed}
+use Rattle.sabr_search.specs.questions.Task.{SearchTask, IsTask, IsOfRequest, is_forbidden}
 use Rattle.sabr_search.specs.questions.PrefixPath.{AreForbidden}
 use Rattle.sabr_search.specs.answers.Answers.{narrowed, ForbidsFewer}
 use Rattle.sabr_search.proofs.early.wide_questions.forbid_few.Goals as goal
 
-module _ (task : SearchTask) (is : IsTask task) (request : IsOfRequest task) (forbidden : List Bool) (are : AreForbidden task.table forbidden (is_closed task.plan task.request [])) where
+module _ (task : SearchTask) (is : IsTask task) (request : IsOfRequest task) (forbidden : List Bool) (are : AreForbidden task.table forbidden (is_forbidden task.plan task.request [])) where
   abbrev here : List Bool
   here = slice_set forbidden task.start true
 
@@ -35,10 +35,10 @@ module _ (task : SearchTask) (is : IsTask task) (request : IsOfRequest task) (fo
   }
 
 pub reset-requires : goal.reset-requires
-reset-requires g c = omega (arith, ap length c.forbidden.ensures, c.requires.task.as_many, c.requires.task.few)
+reset-requires g c = omega (arith, c.node_count.ensures, c.requires.task.as_many, c.requires.task.few)
 
 pub returns-clause-fewer : goal.returns-clause-fewer
-returns-clause-fewer g c = rw (c.in_ok-put.ensures, c.start.ensures) (fewer_forbidden c.args.task.now c.requires.task c.requires.request _ (rw (c.plan.ensures, c.request.ensures) at c.in_ok-forbid_closed.ensures))
+returns-clause-fewer g c = rw (c.in_ok-put.ensures, c.start.ensures) (fewer_forbidden c.args.task.now c.requires.task c.requires.request _ (rw (c.plan.ensures, c.request.ensures) at c.in_ok-forbid_source_and_avoided.ensures))
 
 pub returns-clause-request : goal.returns-clause-request
-returns-clause-request g c = rw (c.in_ok-put.ensures, c.start.ensures) (of_request_still c.args.task.now c.requires.task c.requires.request _ (rw (c.plan.ensures, c.request.ensures) at c.in_ok-forbid_closed.ensures))
+returns-clause-request g c = rw (c.in_ok-put.ensures, c.start.ensures) (of_request_still c.args.task.now c.requires.task c.requires.request _ (rw (c.plan.ensures, c.request.ensures) at c.in_ok-forbid_source_and_avoided.ensures))

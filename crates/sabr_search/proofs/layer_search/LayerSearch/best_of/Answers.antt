@@ -5,7 +5,7 @@ use Rattle.sabr_search.proofs.layer_search.LayerSearch.best_of.Goals as goal
 
 pub best_within-requires-clause-arrivals : goal.best_within-requires-clause-arrivals
 best_within-requires-clause-arrivals g c = record {
-  flags = omega (arith, c.soonest-since.ensures.many, ap length c.forbidden.ensures, c.requires.task.as_many);
+  flags = omega (arith, c.soonest-since.ensures.many, c.node_count.ensures, c.requires.task.as_many);
   least = λ ns v t some way. omega (arith, c.soonest-since.ensures.each v, c.requires.soon ns v t some way);
 }
 

@@ -19,8 +19,8 @@ returns-in_default-node_index-clause-none g c =
 pub reset-requires : goal.reset-requires
 reset-requires g c = omega (arith, c.nodes-nodes.ensures.table, nodes_few c.args.plan.now c.rules_hold.ensures c.nodes-nodes.ensures.tabled)
 
-pub forbid_closed-requires-clause-nodes : goal.forbid_closed-requires-clause-nodes
-forbid_closed-requires-clause-nodes g c = has_nodes c.args.plan.now c.nodes-nodes.ensures.tabled
+pub forbid_source_and_avoided-requires-clause-nodes : goal.forbid_source_and_avoided-requires-clause-nodes
+forbid_source_and_avoided-requires-clause-nodes g c = has_nodes c.args.plan.now c.nodes-nodes.ensures.tabled
 
 pub returns-clause-some : goal.returns-clause-some
 returns-clause-some g c =
@@ -37,6 +37,6 @@ returns-clause-some g c =
       fits = rw none (empty_is_prefix p.plan r);
       many = ap length one ∙ ap (λ xs. length xs + 1) (sym none);
       stops = rw none (subst (AreStops p r []) (sym one) (first_stop p r stop (c.in-Some.ensures ∙ ap Some c.from.ensures.value) c.at.ensures.value c.summary_of_none.ensures));
-      forbids = rw none c.in_ok-forbid_closed.ensures;
+      forbids = rw none c.in_ok-forbid_source_and_avoided.ensures;
       goal_is = c.in-Some-node_index.ensures ∙ ap Some c.to.ensures.value;
     }

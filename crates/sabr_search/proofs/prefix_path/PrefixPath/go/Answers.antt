@@ -5,7 +5,7 @@ use Rattle.sabr_model.specs.declared.contact.Contact.{Contact}
 use Rattle.sabr_model.proofs.ListLemmas.Different.{part_at}
 use Rattle.sabr_model.proofs.RouteLemmas.Paths.{IsHop}
 use Rattle.sabr_search.specs.declared.prefix_path.Stop.{Stop}
-use Rattle.sabr_search.specs.questions.Task.{is_closed}
+use Rattle.sabr_search.specs.questions.Task.{is_forbidden}
 use Rattle.sabr_search.specs.questions.PrefixPath.{AreForbidden, IsStop, AreStops}
 use Rattle.sabr_search.proofs.LinkLemmas.PlanFacts.{has_nodes, hop_small}
 use Rattle.sabr_search.proofs.WayLemmas.Prefixes.{prefix_facts}
@@ -44,7 +44,7 @@ loop-self-preserved g c =
       stops = λ j s old. so_far.stops j s (ap (slice_get stops) (start j) ∙ (part_at stops 0 _ j s (ap (λ xs. slice_get xs j) (sym c.pop.ensures.rest) ∙ old)).1);
       forbids = rw c.allow.ensures
           (taken_back p r (has_nodes p c.requires.prefix_path.tabled) numbers c.requires.prefix_path.fits forbidden i stop (omega (arith, fewer, long, so_far.many))
-          (subst (λ m. IsStop p r (take m numbers) stop) k_is (so_far.stops k stop at)) (subst (λ m. AreForbidden p.table forbidden (is_closed p.plan r (take m numbers))) last so_far.forbids));
+          (subst (λ m. IsStop p r (take m numbers) stop) k_is (so_far.stops k stop at)) (subst (λ m. AreForbidden p.table forbidden (is_forbidden p.plan r (take m numbers))) last so_far.forbids));
       numbers = so_far.numbers;
       goal_is = so_far.goal_is;
     }
@@ -68,7 +68,7 @@ loop-place-init g c =
       many = many;
       stops = all;
       here = all front c.index-here.result.now at;
-      forbids = subst (λ q. AreForbidden p.table c.loop-self.self.forbidden (is_closed p.plan r q)) (ap (λ k. take k numbers) last ∙ same) so_far.forbids;
+      forbids = subst (λ q. AreForbidden p.table c.loop-self.self.forbidden (is_forbidden p.plan r q)) (ap (λ k. take k numbers) last ∙ same) so_far.forbids;
       goal_is = so_far.goal_is;
     }
 
@@ -117,7 +117,7 @@ loop-place-preserved g c =
       many = ap length c.in_ok-push.ensures.items ∙ (stops_more p r prefix i c.loop-place.self.stops.items next so_far.many so_far.stops here).0;
       stops = subst (AreStops p r prefix) (sym c.in_ok-push.ensures.items) (stops_more p r prefix i c.loop-place.self.stops.items next so_far.many so_far.stops here).1;
       here = here;
-      forbids = rw c.in_ok-put.ensures (forbidden_more p.plan p.table (has_nodes p c.requires.prefix_path.tabled) c.loop-place.self.forbidden (is_closed p.plan r (take i prefix)) (is_closed p.plan r (take (i + 1) prefix)) c.in-Some-hop.hop.receiver step.contact.to so_far.forbids to (closed_more p.plan r prefix i n step.contact at step.named));
+      forbids = rw c.in_ok-put.ensures (forbidden_more p.plan p.table (has_nodes p c.requires.prefix_path.tabled) c.loop-place.self.forbidden (is_forbidden p.plan r (take i prefix)) (is_forbidden p.plan r (take (i + 1) prefix)) c.in-Some-hop.hop.receiver step.contact.to so_far.forbids to (closed_more p.plan r prefix i n step.contact at step.named));
       goal_is = so_far.goal_is;
     }
 
@@ -139,7 +139,7 @@ returns-clause-prefix_path g c =
       fits = rw numbers c.requires.fits;
       many = so_far.many ∙ ap (λ k. k + 1) (all ∙ ap length (sym numbers));
       stops = subst (λ q. AreStops p r q c.loop-place.self.stops.items) (sym numbers) so_far.stops;
-      forbids = subst (λ q. AreForbidden p.table c.loop-place.self.forbidden (is_closed p.plan r q)) whole so_far.forbids;
+      forbids = subst (λ q. AreForbidden p.table c.loop-place.self.forbidden (is_forbidden p.plan r q)) whole so_far.forbids;
       goal_is = ap (slice_get p.table) so_far.goal_is ∙ prefix_path.goal_is;
     }
 
@@ -153,7 +153,7 @@ returns-clause-entered g c = λ excluded.
     let nodes = has_nodes p prefix_path.tabled in
     let whole : take c.loop-place.place prefix ≡ prefix = take_all c.loop-place.place prefix (omega (arith, c.loop-place-test.false)) in
     let here : IsStop p r prefix c.loop-place.here = rw whole at so_far.here in
-    let forbids : AreForbidden p.table c.loop-place.self.forbidden (is_closed p.plan r prefix) = rw whole at so_far.forbids in
+    let forbids : AreForbidden p.table c.loop-place.self.forbidden (is_forbidden p.plan r prefix) = rw whole at so_far.forbids in
     let goal_is = ap (slice_get p.table) so_far.goal_is ∙ prefix_path.goal_is in (
       task_passed p r prefix c.loop-place.self.forbidden c.loop-place.here here forbids nodes c.loop-place.self.goal goal_is excluded prefix_path.plan (nodes_few p prefix_path.plan prefix_path.tabled) prefix_path.asked (prefix_facts p.plan r prefix c.requires.fits),
       behind_passed p r prefix c.loop-place.self.forbidden c.loop-place.here here forbids nodes c.loop-place.self.goal goal_is excluded,

@@ -28,13 +28,13 @@ returns-in_default-clause-enough g c =
 pub best_within-requires-clause-arrivals : goal.best_within-requires-clause-arrivals
 best_within-requires-clause-arrivals g c =
     let by = (rw c.in-Some.is at c.in_ok-reached.ensures.reached).1 in
-    arrivals_lowered c.args.asked.now.task.now (length c.forbidden-2.result.now) c.deref-3.result.now c.deref-4.result.now c.deref-5.result.now c.in-Some.best.delivery (omega (arith, ap length c.forbidden-2.ensures, c.requires.task.as_many)) (rw c.deref-5.ensures.value c.requires.soon)
+    arrivals_lowered c.args.asked.now.task.now c.node_count-2.result c.deref-3.result.now c.deref-4.result.now c.deref-5.result.now c.in-Some.best.delivery (omega (arith, c.node_count-2.ensures, c.requires.task.as_many)) (rw c.deref-5.ensures.value c.requires.soon)
     (rw (c.deref-3.ensures.value, c.deref-4.ensures.value) (rw c.deref.ensures.value at by))
 
 pub best_at-requires-clause-arrivals : goal.best_at-requires-clause-arrivals
 best_at-requires-clause-arrivals g c =
     let by = (rw c.in-Some.is at c.in_ok-reached.ensures.reached).1 in
-    arrivals_lowered c.args.asked.now.task.now (length c.forbidden-2.result.now) c.deref-3.result.now c.deref-4.result.now c.deref-5.result.now c.in-Some.best.delivery (omega (arith, ap length c.forbidden-2.ensures, c.requires.task.as_many)) (rw c.deref-5.ensures.value c.requires.soon)
+    arrivals_lowered c.args.asked.now.task.now c.node_count-2.result c.deref-3.result.now c.deref-4.result.now c.deref-5.result.now c.in-Some.best.delivery (omega (arith, c.node_count-2.ensures, c.requires.task.as_many)) (rw c.deref-5.ensures.value c.requires.soon)
     (rw (c.deref-3.ensures.value, c.deref-4.ensures.value) (rw c.deref.ensures.value at by))
 
 pub best_within-requires-clause-steps : goal.best_within-requires-clause-steps

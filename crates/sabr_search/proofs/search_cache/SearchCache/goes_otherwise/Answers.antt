@@ -20,7 +20,7 @@ go-requires-clause-few g c =
     let r = c.args.request.now in
     let s = c.in-Some.front.now in
     let front = front_of_route p r c.args.route.now s c.in-Some.last.now (c.in-Some.ensures {u = tt}).cases.0 c.requires.route in
-    omega (arith, c.many.ensures, contacts_few p (rw c.counted-plan.ensures at c.open_path.ensures.plan), prefix_few p r s (prefix_facts p r s front.0))
+    omega (arith, c.many.ensures, contacts_few p (rw c.counted-plan.ensures at c.prepare_path.ensures.plan), prefix_few p r s (prefix_facts p r s front.0))
 
 pub ends_otherwise-requires-clause-end : goal.ends_otherwise-requires-clause-end
 ends_otherwise-requires-clause-end g c =

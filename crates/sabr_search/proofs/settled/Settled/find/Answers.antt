@@ -15,18 +15,18 @@ pub returns-in_default-clause-sought : goal.returns-in_default-clause-sought
 returns-in_default-clause-sought g c =
     let p = c.args.index.now.plan in
     let r = c.args.request.now in
-    let none = rw (sym c.as_mut.ensures.value, c.in_default.is) at c.in_ok-open_path.ensures.none in
-    sym (ap (option_map (record_of p r)) (none_is p r c.args.part.prefix.now c.args.part.excluded.numbers.now c.open_path.ensures.plan (λ m route on. none m route)))
+    let none = rw (sym c.as_mut.ensures.value, c.in_default.is) at c.in_ok-prepare_path.ensures.none in
+    sym (ap (option_map (record_of p r)) (none_is p r c.args.part.prefix.now c.args.part.excluded.numbers.now c.prepare_path.ensures.plan (λ m route on. none m route)))
 
 pub go-requires-clause-few : goal.go-requires-clause-few
 go-requires-clause-few g c =
     let p = c.args.index.now.plan in
     let facts = prefix_facts p c.args.request.now c.args.part.prefix.now c.requires.fits in
-    omega (arith, c.requires.few, contacts_few p c.open_path.ensures.plan, prefix_few p c.args.request.now c.args.part.prefix.now facts)
+    omega (arith, c.requires.few, contacts_few p c.prepare_path.ensures.plan, prefix_few p c.args.request.now c.args.part.prefix.now facts)
 
 pub returns-in_default-go-clause-bound : goal.returns-in_default-go-clause-bound
 returns-in_default-go-clause-bound g c =
-    let prefix_path = rw (sym c.as_mut.ensures.value, c.in-Some.is) at c.open_path.ensures.cache.0 in
+    let prefix_path = rw (sym c.as_mut.ensures.value, c.in-Some.is) at c.prepare_path.ensures.cache.0 in
     entered_looks c.args.index.now c.args.request.now c.args.part.prefix.now prefix_path.tabled (prefix_facts c.args.index.now.plan c.args.request.now c.args.part.prefix.now c.requires.fits) (node_count c.args.index.now.plan.contacts) (looks_taken c.go.new.looks) prefix_path.nodes (omega (arith, c.go.ensures.looks, c.requires.few))
 
 pub find_route-requires-clause-asked : goal.find_route-requires-clause-asked
@@ -56,7 +56,7 @@ find_route-requires-clause-few g c =
     rw (c.of-asked.ensures.task, c.new-task.ensures) (omega (arith, c.go.ensures.looks, c.requires.few, prefix_few c.args.index.now.plan c.args.request.now c.args.part.prefix.now facts))
 
 pub find_route-requires-clause-memory : goal.find_route-requires-clause-memory
-find_route-requires-clause-memory g c = rw (c.of-asked.ensures.task, c.new-task.ensures) c.open_path.ensures.cache.1
+find_route-requires-clause-memory g c = rw (c.of-asked.ensures.task, c.new-task.ensures) c.prepare_path.ensures.cache.1
 
 pub returns-clause-cache : goal.returns-clause-cache
 returns-clause-cache g c = (c.in-Ok.ensures.prefix_path, rw (c.of-asked.ensures.task, c.new-task.ensures) at c.find_route.ensures.memory)

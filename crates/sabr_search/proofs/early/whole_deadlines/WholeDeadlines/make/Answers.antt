@@ -9,7 +9,7 @@ make_all-made-requires-clause-arrivals g c =
     let task = c.args.task.now in
     let asked = c.requires.asked in
     record {
-      flags = omega (arith, c.soonest-since.ensures.many, ap length c.forbidden.ensures, asked.task_is.as_many);
+      flags = omega (arith, c.soonest-since.ensures.many, c.node_count.ensures, asked.task_is.as_many);
       least = λ ns v t some way.
           omega (arith, c.soonest-since.ensures.each v, soon_after task [] (of_request task [] asked.behind) (prefix_facts task.plan task.request [] asked.fits) (stop_of task [] asked.behind) c.args.soon.now c.requires.soon ns v t some way);
     }

@@ -6,13 +6,13 @@ use Rattle.sabr_search.proofs.LinkLemmas.Rising.{never_falls}
 use Rattle.sabr_search.proofs.links.finger.Finger.counts.Goals as goal
 
 pub finds-requires : goal.finds-requires
-finds-requires c = λ rising. never_falls c.args.excluded.numbers.now (c.args.excluded.known rising)
+finds-requires c = λ increases. never_falls c.args.excluded.numbers.now (c.args.excluded.known increases)
 
 pub returns-then-not-finds-clause-none : goal.returns-then-not-finds-clause-none
 returns-then-not-finds-clause-none c = λ zero. sym (has_from_iff c.finds.result c.args.excluded.numbers.now c.args.number c.finds.ensures) ∙ c.if-not-finds.true
 
-pub returns-then-not-rising-clause-some : goal.returns-then-not-rising-clause-some
-returns-then-not-rising-clause-some c = λ j less.
+pub returns-then-not-in_order-clause-some : goal.returns-then-not-in_order-clause-some
+returns-then-not-in_order-clause-some c = λ j less.
     let here : c.args.number + j ≡ c.args.number = omega (arith, less) in
     ap (λ n. has n c.args.excluded.numbers.now) here ∙ sym (has_from_iff c.finds.result c.args.excluded.numbers.now c.args.number c.finds.ensures) ∙ c.if-not-finds.false
 

@@ -1,7 +1,7 @@
 use Rattle.std.proofs.Common.{◌≡◌, ◌<◌, length, sym, arith}
 use Rattle.std.proofs.lemmas.Bool.Decides.{nat_tests}
 use Rattle.sabr_search.proofs.WayLemmas.Prefixes.{empty_fits, route_is_no_prefix, wrong_end_tells, fault_is_no_prefix}
-use Rattle.sabr_search.proofs.fitting.fits.Goals as goal
+use Rattle.sabr_search.proofs.part.fits.Goals as goal
 
 pub returns-then-is_empty : goal.returns-then-is_empty
 returns-then-is_empty g c =

@@ -3,8 +3,8 @@ use Rattle.std.proofs.lemmas.List.{take_all}
 use Rattle.std.proofs.lemmas.Option.{slice_get-get_or}
 use Rattle.sabr_model.specs.plan.Plan.{has}
 use Rattle.sabr_search.proofs.WayLemmas.PrefixPaths.{forbidden_more, forbidden_same, has_more, has_other}
-use Rattle.sabr_search.proofs.prefix_path.closed.forbid_avoided.Goals as goal
-use Rattle.sabr_search.proofs.prefix_path.closed.forbid_avoided.Goals.{in-Some+in_ok-put, in_default}
+use Rattle.sabr_search.proofs.prefix_path.source_and_avoided.forbid_avoided.Goals as goal
+use Rattle.sabr_search.proofs.prefix_path.source_and_avoided.forbid_avoided.Goals.{in-Some+in_ok-put, in_default}
 
 pub loop-node-preserved : goal.loop-node-preserved
 loop-node-preserved g c =

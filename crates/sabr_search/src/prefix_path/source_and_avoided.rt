@@ -2,7 +2,7 @@
 
 ghost use Rattle.std.specs.Prelude.{◌≡◌, ℕ, [], OnOk, false, length, slice_index_or};
 ghost use Rattle.sabr_model.specs.plan.Plan.{has};
-ghost use Rattle.sabr_search.specs.questions.Task.{HasNodes, is_closed};
+ghost use Rattle.sabr_search.specs.questions.Task.{HasNodes, is_forbidden};
 ghost use Rattle.sabr_search.specs.questions.PrefixPath.{AreForbidden};
 
 use crate::prefix_path::forbidden_nodes::ForbiddenNodes;
@@ -30,7 +30,7 @@ fn forbid_avoided<A: Allocator + Copy>(
 }
 
 /// Forbids the source and the nodes to avoid. All are open before.
-pub fn forbid_closed<A: Allocator + Copy>(
+pub fn forbid_source_and_avoided<A: Allocator + Copy>(
     forbidden: &mut ForbiddenNodes<A>,
     plan: &CountedPlan<'_, A>,
     request: &Request,
@@ -38,7 +38,7 @@ pub fn forbid_closed<A: Allocator + Copy>(
     requires nodes { HasNodes plan.now.plan plan.now.table }
     requires many { length forbidden.old ≡ length plan.now.table }
     requires none { (k : ℕ) → slice_index_or forbidden.old k false ≡ false }
-    ensures { OnOk result (AreForbidden plan.now.table forbidden.new (is_closed plan.now.plan request.now [])) }
+    ensures { OnOk result (AreForbidden plan.now.table forbidden.new (is_forbidden plan.now.plan request.now [])) }
 {
     forbid_avoided(forbidden, plan, request)?;
     let Some(source) = plan.node_index(request.from()) else {
