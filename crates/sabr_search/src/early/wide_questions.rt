@@ -5,8 +5,8 @@ ghost use Rattle.sabr_search.specs.questions.Task.{IsTask, IsOfRequest};
 ghost use Rattle.sabr_search.specs.answers.Answers.{narrowed, ForbidsFewer};
 
 use crate::early::answers::NearMiss;
-use crate::prefix_path::source_and_avoided::forbid_source_and_avoided;
 use crate::prefix_path::forbidden_nodes::ForbiddenNodes;
+use crate::prefix_path::source_and_avoided::forbid_source_and_avoided;
 use crate::question::Question;
 use crate::task::Task;
 use crate::throttle::Throttle;
