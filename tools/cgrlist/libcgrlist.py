@@ -238,6 +238,7 @@ class _Opened:
     """What the library opened, and closes at the end of a `with` or when nothing holds it any more."""
 
     _close = ""
+    _place = None
 
     def __init__(self, library, place):
         self._library, self._place, self._buffers = library, place, _Buffers()
@@ -254,7 +255,8 @@ class _Opened:
     def close(self):
         """Closes it. All calls are refused then."""
         place, self._place = self._place, None
-        self._library.close(self._close, place)
+        if place is not None:
+            self._library.close(self._close, place)
 
     def _call(self, name, *given, line=None):
         return self._library.call(name, self._place, *given, line=line)

@@ -19,6 +19,6 @@ CallsOver true (Some o) status (Some n) P = P (standing o) (standing n) × IsPla
 CallsOver true (Some o) status None P = ⊥
 CallsOver true None status new P = ⊥
 
--- a handle stays open or closed, and whole, and this holds of what stands behind it before and after
+-- a handle stays open or closed, and valid, and this holds of what stands behind it before and after
 abbrev pub Calls : PlanHandle → PlanHandle → ℕ → (OpenPlan → OpenPlan → Type 0) → Type 0
 Calls old new status P = (new.is_open ≡ old.is_open) × IsValidHandle new × CallsOver old.is_open old.place.held status new.place.held P

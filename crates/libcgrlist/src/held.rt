@@ -1,4 +1,4 @@
-//! What stands behind an open handle: a plan, and the ranges that calls add to it. Ranges are inserted lazily.
+//! What stands behind an open handle: a plan, and the ranges that calls added and that aren't in the plan yet.
 
 ghost use Rattle.std.specs.Prelude.{◌≡◌, ◌<◌, ◌≤◌, None, Some, Err, OnOk, OnErr, IsFalse, IsOkUnless, is_some};
 ghost use Rattle.sabr_model.specs.plan.Plan.{last_time, most_light};
