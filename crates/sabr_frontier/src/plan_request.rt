@@ -13,10 +13,3 @@ pub struct PlanRequest<'p, A: Allocator + Copy = Global> {
     /// The request.
     pub request: Request,
 }
-
-impl<'p, A: Allocator + Copy> PlanRequest<'p, A> {
-    /// The allocator.
-    pub fn alloc(&self) -> A {
-        self.alloc
-    }
-}
