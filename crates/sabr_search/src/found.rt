@@ -16,7 +16,7 @@ pub struct Best {
 }
 
 impl Best {
-    /// No way is found yet, and only deliveries before this second are sought. It has 0 hops, as no way has.
+    /// No way is found yet, and only deliveries before this second are sought.
     pub fn none(before: u64) -> Best
         ensures { result ≡ record { delivery = before; hops = 0 } }
     {
@@ -26,11 +26,15 @@ impl Best {
         }
     }
 
-    /// This, if a way was found.
-    pub fn found(self) -> Option<Best>
-        ensures { IsFoundBest self result }
+    /// This, if it is before `until`, as the delivery of a way is that was found.
+    pub fn found(self, until: u64) -> Option<Best>
+        ensures { IsFoundBest until self result }
     {
-        if self.hops == 0 { None } else { Some(self) }
+        if self.delivery < until {
+            Some(self)
+        } else {
+            None
+        }
     }
 }
 

@@ -79,7 +79,7 @@ module _ (task : SearchTask) (is : IsTask task) (until : ℕ) (bounds costs : Li
 
   by_until : best.delivery ≤ until
   by_until = elim was.found [
-    | inl none ↦ omega (arith, none.1)
+    | inl none ↦ omega (arith, none)
     | inr found ↦ omega (arith, found.2)
   ]
 
@@ -147,24 +147,24 @@ module _ (task : SearchTask) (is : IsTask task) (until : ℕ) (bounds costs : Li
     | inr by ↦ omega (arith, by.1, known_arrival v by.0 by.2)
   ]
 
-  first_way : ((f : Visit) → Contains queue f → best.delivery ≤ f.at) → 0 < best.hops → IsFirstWay task until best
-  first_way stop some = elim was.found [
-    | inl none ↦ absurd (omega (arith, none.0, some))
+  first_way : ((f : Visit) → Contains queue f → best.delivery ≤ f.at) → best.delivery < until → IsFirstWay task until best
+  first_way stop early = elim was.found [
+    | inl none ↦ absurd (omega (arith, none, early))
     | inr found ↦ record {
       least = first_least stop;
-      positive = some;
-      sooner = found.2;
+      positive = found.0;
+      sooner = early;
       some = found.3;
       early = way_early task is found.3.0 task.start task.at task.goal best.delivery is.time found.3.2;
       few = omega (arith, found.1, count_short settled task.goal (omega (arith, was.many, is.as_many, is.goal_in)) was.goal_unsettled, was.many, is.as_many);
     }
   ]
 
-  pub reached_found : ((f : Visit) → Contains queue f → best.delivery ≤ f.at) → (result : Option Best) → IsFoundBest best result → IsReached task until costs arrival result
+  pub reached_found : ((f : Visit) → Contains queue f → best.delivery ≤ f.at) → (result : Option Best) → IsFoundBest until best result → IsReached task until costs arrival result
   reached_found stop (Some way) same = rw same.0 (first_way stop same.1, arrivals_found stop)
-  reached_found stop None zero_hops = elim was.found [
-    | inl none ↦ (let least = first_least stop in let arrivals = arrivals_found stop in (rw none.1 at least, rw none.1 at arrivals))
-    | inr found ↦ absurd (omega (arith, found.0, zero_hops))
+  reached_found stop None late = elim was.found [
+    | inl none ↦ (let least = first_least stop in let arrivals = arrivals_found stop in (rw none at least, rw none at arrivals))
+    | inr found ↦ absurd (omega (arith, found.2, late))
   ]
 
 -- an event of a settled node goes
@@ -227,8 +227,8 @@ module _ (task : SearchTask) (is : IsTask task) (off settled : List Bool) (u : �
       | inr past ↦ omega (arith, get_or_past arrival k 0 past)
     ]
 
-    pub start_state : IsBound task until deadline costs → (hops : List ℕ) (queue : List Visit) (best : Best) → length hops ≡ length task.forbidden → queue ≡ [] → best.hops ≡ 0 → best.delivery ≡ until → until ≤ latest_arrival + 1 → AreSettling task until deadline costs settled u task.at arrival (slice_set hops u 0) queue best
-    start_state bound hops queue best hops_many empty none delivery early = rw empty (record {
+    pub start_state : IsBound task until deadline costs → (hops : List ℕ) (queue : List Visit) (best : Best) → length hops ≡ length task.forbidden → queue ≡ [] → best.delivery ≡ until → until ≤ latest_arrival + 1 → AreSettling task until deadline costs settled u task.at arrival (slice_set hops u 0) queue best
+    start_state bound hops queue best hops_many empty delivery early = rw empty (record {
       on = ap (λ k. slice_index_or settled k false) u_is ∙ start_on;
       real = ([], sym no_hops, (sym u_is, refl));
       few = omega (arith, no_hops, one_settled);
@@ -247,7 +247,7 @@ module _ (task : SearchTask) (is : IsTask task) (off settled : List Bool) (u : �
         other = λ i d lt. absurd (omega (arith, lt));
       };
       hops_are = record { many = length-set hops u 0 ∙ hops_many; ways = λ k within open' less. absurd (omega (arith, opened.unreached k within open', less)) };
-      found = inl (none, delivery);
+      found = inl delivery;
       sooner = omega (arith, delivery, early);
       goal_late = omega (arith, delivery, bound.goal, opened.unreached task.goal (omega (arith, opened.flags, is.as_many, is.goal_in)) is.goal_open);
     })

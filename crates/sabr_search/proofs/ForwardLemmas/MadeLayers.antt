@@ -65,7 +65,7 @@ entry_of {forbidden} {goal} {t} {begin} {hop} {bounds} {arrival} {place} {reache
 
 -- what is found is not later
 pub below_until : (task : SearchTask) (until hop : ℕ) (bounds arrival place : List ℕ) (reached : List Visit) (best : Best) → AreLayers task until hop bounds arrival place reached best → best.delivery ≤ until
-below_until task until hop bounds arrival place reached best made = elim made.found [ inl none ↦ omega (arith, none.1) | inr found ↦ omega (arith, found.2) ]
+below_until task until hop bounds arrival place reached best made = elim made.found [ inl none ↦ omega (arith, none) | inr found ↦ omega (arith, found.2) ]
 
 -- layers with one bound more
 module _ (task : SearchTask) (is : IsTask task) (until hop : ℕ) (bounds arrival place : List ℕ) (reached : List Visit) (best : Best) (made : AreLayers task until hop bounds arrival place reached best)
@@ -318,20 +318,20 @@ layers_first task until bounds arrival place reached bounds_is reached_is lists 
         | inr other ↦ absurd (omega (arith, get_or_past {X = ℕ} (0 ∷ 1 ∷ []) (h + 1) 0 (omega arith), e.2))
       ];
       taken = λ j v a n w b less e s. absurd (omega arith);
-      found = inl (refl, refl);
+      found = inl refl;
     })
   where
     one : List Visit
     one = record { node = task.start; at = task.at } ∷ []
 
 -- what is found within that many hops is what layers find, if nothing is sooner there
-made_within : (task : SearchTask) (until hops : ℕ) (best : Best) → IsNoneSooner task hops best.delivery → IsFound task until hops best → (result : Option Best) → IsFoundBest best result → IsMade task until hops result
-made_within task until hops best least found (Some way) same = rw same.0 (elim found [ inl none ↦ absurd (omega (arith, none.0, same.1)) | inr within ↦ record { least = least; found = within } ])
-made_within task until hops best least found None zero_hops = elim found [ inl none ↦ rw none.1 at least | inr within ↦ absurd (omega (arith, within.0, zero_hops)) ]
+made_within : (task : SearchTask) (until hops : ℕ) (best : Best) → IsNoneSooner task hops best.delivery → IsFound task until hops best → (result : Option Best) → IsFoundBest until best result → IsMade task until hops result
+made_within task until hops best least found (Some way) same = rw same.0 (elim found [ inl none ↦ absurd (omega (arith, none, same.1)) | inr within ↦ record { least = least; found = within } ])
+made_within task until hops best least found None late = elim found [ inl none ↦ rw none at least | inr within ↦ absurd (omega (arith, within.2, late)) ]
 
 -- so it is with what is found within fewer hops
 pub best_within : (task : SearchTask) (until hop : ℕ) (bounds arrival place : List ℕ) (reached : List Visit) (best : Best) → AreLayers task until hop bounds arrival place reached best →
-    (hops : ℕ) → hop ≤ hops → IsNoneSooner task hops best.delivery → (result : Option Best) → IsFoundBest best result → IsMade task until hops result
+    (hops : ℕ) → hop ≤ hops → IsNoneSooner task hops best.delivery → (result : Option Best) → IsFoundBest until best result → IsMade task until hops result
 best_within task until hop bounds arrival place reached best made hops within least =
     made_within task until hops best least (elim made.found [ inl none ↦ inl none | inr found ↦ inr (found.0, omega (arith, found.1), found.2, found.3) ])
 
@@ -365,7 +365,7 @@ made_all task is until hop first arrival place reached best made none ns e way =
 -- with the links to the goal as one layer more, what is found is the best
 pub made_last : (task : SearchTask) → IsTask task → (until hop first : ℕ) (arrival place : List ℕ) (reached : List Visit) (best : Best) → AreMade task until hop first arrival place reached best → 0 < hop → (hops : ℕ) → hop + 1 ≡ hops → (delivery : ℕ) → delivery ≤ best.delivery →
     ((n u b : ℕ) → Takes task n u (slice_index arrival u) task.goal b → slice_index_or task.forbidden u false ≡ false → delivery ≤ b) → (delivery ≡ best.delivery) ⊎ IsBroughtTo task arrival delivery →
-    (best' : Best) → ((delivery < best.delivery) × (best' ≡ record { delivery = delivery; hops = hops })) ⊎ ((best.delivery ≤ delivery) × (best' ≡ best)) → (result : Option Best) → IsFoundBest best' result → IsMade task until hops result
+    (best' : Best) → ((delivery < best.delivery) × (best' ≡ record { delivery = delivery; hops = hops })) ⊎ ((best.delivery ≤ delivery) × (best' ≡ best)) → (result : Option Best) → IsFoundBest until best' result → IsMade task until hops result
 made_last task is until hop first arrival place reached best made more hops next delivery lower known found best' (inl better) = rw better.1 (made_within task until hops (record { delivery = delivery; hops = hops })
     (λ ns e le way. least_with_last task is until hop made.0 arrival place reached best made.2 delivery lower known more ns e (omega (arith, le, next)) way)
     (elim found [

@@ -81,7 +81,7 @@ found_better task is until deadline costs settled u t n w h arrival hops queue b
   where
     by : delivery < until
     by = elim so_far.found [
-      | inl none ↦ omega (arith, none.1, less)
+      | inl none ↦ omega (arith, none, less)
       | inr found ↦ omega (arith, found.2, less)
     ]
 

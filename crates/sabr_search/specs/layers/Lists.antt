@@ -105,10 +105,10 @@ pub record AreOpened (task : SearchTask) (deadline arrival : List ℕ) : Type 0 
   pub start : slice_index arrival task.start ≡ task.at
   pub unreached : (k : ℕ) → k < length arrival → slice_index_or task.forbidden k false ≡ false → slice_index arrival k ≡ slice_index_or deadline k never
 
--- what a search that ends with this best found: this, unless it has no hops
-abbrev pub IsFoundBest : Best → Option Best → Type 0
-IsFoundBest best (Some found) = (found ≡ best) × (0 < best.hops)
-IsFoundBest best None = best.hops ≡ 0
+-- what a search for a delivery before second `until` found if it ends with this best: this, if it is before that
+abbrev pub IsFoundBest : (until : ℕ) → Best → Option Best → Type 0
+IsFoundBest until best (Some found) = (found ≡ best) × (best.delivery < until)
+IsFoundBest until best None = until ≤ best.delivery
 
 -- some way of h hops leads from the start to node v at second t
 abbrev pub IsWayTo : SearchTask → ℕ → ℕ → ℕ → Type 0
@@ -120,7 +120,7 @@ IsFoundWithin task until hop best = (0 < best.hops) × (best.hops ≤ hop) × (b
 
 -- no delivery is found before second `until`, or one within that many hops
 abbrev pub IsFound : SearchTask → ℕ → ℕ → Best → Type 0
-IsFound task until hop best = ((best.hops ≡ 0) × (best.delivery ≡ until)) ⊎ IsFoundWithin task until hop best
+IsFound task until hop best = (best.delivery ≡ until) ⊎ IsFoundWithin task until hop best
 
 -- the earliest delivery within that many hops, and the hops of a way with it
 pub record IsBestWithin (task : SearchTask) (until hops : ℕ) (best : Best) : Type 0 where

@@ -267,7 +267,7 @@ impl<A: Allocator + Copy> Layers<A> {
                 if delivery < best.delivery {
                     best = Best { delivery, hops };
                 }
-                return Ok(best.found());
+                return Ok(best.found(until));
             }
             let begin = self.reached.len();
             let delivery = self.next_layer(task, looks, first, begin, best.delivery)?;
@@ -279,13 +279,13 @@ impl<A: Allocator + Copy> Layers<A> {
             }
             let end = self.reached.len();
             if best.delivery <= lower {
-                return Ok(best.found());
+                return Ok(best.found(until));
             }
             if end == begin {
-                return Ok(best.found());
+                return Ok(best.found(until));
             }
             first = begin;
         }
-        Ok(best.found())
+        Ok(best.found(until))
     }
 }

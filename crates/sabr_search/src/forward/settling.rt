@@ -287,7 +287,7 @@ impl<A: Allocator + Copy> Settling<A> {
         let mut best = self.settle_start(forward, first)?;
         while let Some(event) = self.queue.pop() {
             if event.at >= best.delivery {
-                return Ok(best.found());
+                return Ok(best.found(forward.until));
             }
             if !self.settled[event.node] {
                 let links = forward.task.links(event.node);
@@ -301,6 +301,6 @@ impl<A: Allocator + Copy> Settling<A> {
                 best = self.settle(forward, looks, reached, links, best)?;
             }
         }
-        Ok(best.found())
+        Ok(best.found(forward.until))
     }
 }

@@ -13,7 +13,7 @@ loop-place-init g c =
     let task = c.args.forward.now.task.now in
     record {
       settled = refl;
-      state = rw (c.beginning-event.ensures, c.none-best.ensures) (start_state task c.requires.task c.args.self.now.settled.items _ task.start c.requires.settled refl refl _ _ _ _ c.requires.arrivals c.requires.bound _ _ _ c.requires.hops c.requires.queue refl refl c.requires.until);
+      state = rw (c.beginning-event.ensures, c.none-best.ensures) (start_state task c.requires.task c.args.self.now.settled.items _ task.start c.requires.settled refl refl _ _ _ _ c.requires.arrivals c.requires.bound _ _ _ c.requires.hops c.requires.queue refl c.requires.until);
       fallen = record { lower = omega arith; lowered = λ k. omega arith; kept = λ k on. refl };
       known = λ k s less. absurd (omega (arith, less));
     }
