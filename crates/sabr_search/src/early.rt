@@ -74,7 +74,7 @@ impl<A: Allocator + Copy> Memory<A> {
         let until = asked.bound.until();
         let are_bounds_due = self.node_bounds.is_due(until);
         let are_deadlines_due = self.whole_deadlines.is_due(asked.floor);
-        if !are_bounds_due && (!are_deadlines_due || self.node_bounds.soon.is_empty()) {
+        if !are_bounds_due && !are_deadlines_due {
             return Ok(());
         }
         let (plan, request) = (asked.task.plan(), asked.task.request());

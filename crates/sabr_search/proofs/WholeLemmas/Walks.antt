@@ -207,9 +207,9 @@ module _ {A : Type 0} (task : SearchTask) (is : IsTask task) (d hops : ℕ) (lay
     -- and so does one that isn't before a known dead end
     pub step_ended : (ends : List DeadEnd) → AreDeadEnds task d ends → (n w b deadline before : ℕ) → Takes task n from.node from.at w b → IsLatestWithin layers.entries.items w (end_within layers.ends.items hops) deadline →
         (before ≡ deadline) ⊎ ((k : ℕ) × (x : DeadEnd) × (slice_get ends k ≡ Some x) × (x.node ≡ w) × (hops ≤ x.hops) × (x.at ≡ before)) → before ≤ b → IsDeadEnd task d w b hops
-    step_ended ends are n w b deadline before step latest why deadline = elim why [
-      | inl same ↦ step_late n w b deadline step latest (omega (arith, same, deadline))
-      | inr known ↦ dead_known task d ends are known.0 known.1 known.2 w b hops known.3 known.4 (omega (arith, known.5, deadline))
+    step_ended ends are n w b deadline before step latest why late = elim why [
+      | inl same ↦ step_late n w b deadline step latest (omega (arith, same, late))
+      | inr known ↦ dead_known task d ends are known.0 known.1 known.2 w b hops known.3 known.4 (omega (arith, known.5, late))
     ]
 
 -- ---- a pick by layers in which each entry in time leads on

@@ -77,7 +77,7 @@ impl<A: Allocator + Copy> WholeDeadlines<A> {
         ensures { AreWholeDeadlines (tabled_of task.now) task.now.request self.new }
     {
         self.delivery = None;
-        if delivery == NEVER || soon.is_empty() {
+        if delivery == NEVER {
             return Ok(());
         }
         let since = Since::soonest(task.node_count(), soon);

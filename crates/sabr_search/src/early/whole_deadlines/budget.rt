@@ -31,7 +31,7 @@ pub struct WholeBudget {
     floor: u64,
     /// The looks of the searches with it.
     spent: u64,
-    /// Whether layers for this floor were made, or begun and given up.
+    /// Whether layers for this floor were made, or begun and stopped.
     made: bool,
     /// The looks that the last layers took.
     price: u64,

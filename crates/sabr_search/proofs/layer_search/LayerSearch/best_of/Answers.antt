@@ -1,4 +1,4 @@
-use Rattle.std.proofs.Common.{length, ap, arith}
+use Rattle.std.proofs.Common.{arith}
 use Rattle.sabr_search.proofs.AnswerLemmas.BoundedWays.{stops_weaker, stops_by}
 use Rattle.sabr_search.proofs.WholeLemmas.Walks.{degree_at_most}
 use Rattle.sabr_search.proofs.layer_search.LayerSearch.best_of.Goals as goal

@@ -1,4 +1,4 @@
-use Rattle.std.proofs.Common.{[], length, ap, arith}
+use Rattle.std.proofs.Common.{[], arith}
 use Rattle.sabr_search.proofs.WayLemmas.Prefixes.{prefix_facts}
 use Rattle.sabr_search.proofs.AnswerLemmas.Answered.{of_request, stop_of, soon_after}
 use Rattle.sabr_search.proofs.WholeLemmas.Leaves.{of_each}
