@@ -3,7 +3,7 @@
 ghost use Rattle.std.specs.Prelude.{◌≡◌, ℕ, ◌+◌, ◌*◌, ◌≤◌, IfOk, IsTrue, length};
 ghost use Rattle.sabr_search.specs.questions.Calls.{Calls, with_call};
 ghost use Rattle.sabr_search.specs.questions.Part.{IsBestOf};
-ghost use Rattle.sabr_search.specs.questions.Bounded.{IsSought, IsFloor, IsWhole, sought_hops};
+ghost use Rattle.sabr_search.specs.questions.Bounded.{IsSought, IsFloor, IsDecided, sought_hops};
 ghost use Rattle.sabr_search.specs.answers.SearchCache.{IsSearchCache};
 ghost use Rattle.sabr_model.specs.routes.Route.{is_prefix};
 ghost use Rattle.sabr_model.specs.plan.Table.{node_count};
@@ -95,7 +95,7 @@ pub trait BestOf<A: Allocator + Copy>: Drop {
 
         // The answer.
         ensures sought { IfOk result (IsSought index.now.plan request.now part.entry.prefix.now part.entry.excluded.numbers.now part.entry.bound) }
-        ensures whole { IfOk result (IsWhole part.entry.bound) }
+        ensures decided { IfOk result (IsDecided part.entry.bound) }
 
         // The looks, and the cache.
         ensures bound { looks_of self.new ≤ (3 * node_count index.now.plan.contacts + 1) * length index.now.plan.contacts }

@@ -78,6 +78,8 @@ impl<A: Allocator + Copy> Layered<A> {
         requires summary { summary ≡ summary_of task.now.plan prefix.now }
         requires few { looks_taken self.old.looks ≤ 2 * length task.now.plan.contacts }
         requires arrivals { AreArrivals task.now self.old.since.items }
+
+        // The route, and the looks.
         ensures least { IfOk result (IsBestOf task.now.plan task.now.request prefix.now task.now.excluded) }
         ensures bound { looks_taken self.new.looks ≤ (3 * length task.now.table + 1) * length task.now.plan.contacts }
         ensures counted { IfOk result (λ answer. answer_hops answer ≤ looks_taken self.new.looks) }

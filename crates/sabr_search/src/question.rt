@@ -6,7 +6,7 @@ ghost use Rattle.sabr_search.specs.questions.Task.{IsAsked, IsTask};
 ghost use Rattle.sabr_search.specs.layers.Picks.{IsBestWay};
 ghost use Rattle.sabr_search.specs.answers.Answers.{IsWayBeyond, IsEnough, IsFound, found_hops, hops_above};
 ghost use Rattle.sabr_search.specs.answers.Asked.{bound_left, hops_left, IsCutBefore, IsCutAfter};
-ghost use Rattle.sabr_search.specs.questions.Bounded.{IsSought, IsWhole, sought_hops, is_up_to};
+ghost use Rattle.sabr_search.specs.questions.Bounded.{IsSought, IsDecided, sought_hops, is_up_to};
 ghost use Rattle.sabr_index.specs.Looks.{looks_taken};
 
 use crate::bound::{Bound, BoundedPart, Sought};
@@ -128,7 +128,7 @@ impl<'t, 'a, 'p, A: Allocator + Copy> Question<'t, 'a, 'p, A> {
 
         // The answer.
         ensures sought { IfOk result (IsSought self.now.task.now.plan self.now.task.now.request self.now.prefix.now self.now.task.now.excluded self.now.bound) }
-        ensures whole { IfOk result (IsWhole self.now.bound) }
+        ensures decided { IfOk result (IsDecided self.now.bound) }
 
         // The looks.
         ensures bound { looks_taken looks.new ≤ (3 * length self.now.task.now.table + 1) * length self.now.task.now.plan.contacts }
@@ -147,7 +147,7 @@ impl<'t, 'a, 'p, A: Allocator + Copy> Question<'t, 'a, 'p, A> {
         requires beyond { IsWayBeyond self.now.task.now (hops_left self.now) bound }
         requires enough { IsTrue (is_up_to bound self.now.bound.delivery (self.now.bound.hops - length self.now.prefix.now)) }
         ensures sought { IsSought self.now.task.now.plan self.now.task.now.request self.now.prefix.now self.now.task.now.excluded self.now.bound result }
-        ensures whole { IsWhole self.now.bound result }
+        ensures decided { IsDecided self.now.bound result }
         ensures none { sought_hops result ≡ 0 }
         ensures cut { (looks : ℕ) → IsCutBefore self.now (hops_above (bound_left self.now) bound) looks → IsCutAfter self.now looks result }
     {
@@ -173,7 +173,7 @@ impl<'t, 'a, 'p, A: Allocator + Copy> Question<'t, 'a, 'p, A> {
 
         // The answer.
         ensures sought { IfOk result (IsSought self.now.task.now.plan self.now.task.now.request self.now.prefix.now self.now.task.now.excluded self.now.bound) }
-        ensures whole { IfOk result (IsWhole self.now.bound) }
+        ensures decided { IfOk result (IsDecided self.now.bound) }
 
         // The looks.
         ensures bound { looks_taken looks.new ≤ (3 * length self.now.task.now.table + 1) * length self.now.task.now.plan.contacts }

@@ -8,7 +8,7 @@ ghost use Rattle.sabr_search.specs.answers.Asked.{AnswersAt, bound_left, hops_le
 ghost use Rattle.sabr_search.specs.answers.SearchCache.{IsMemory};
 ghost use Rattle.sabr_search.specs.layers.Late.{AreSince, IsNoneSooner};
 ghost use Rattle.sabr_search.specs.layers.NodeBounds.{AreNodeBounds};
-ghost use Rattle.sabr_search.specs.questions.Bounded.{IsSought, IsCutUpTo, IsWhole, sought_hops};
+ghost use Rattle.sabr_search.specs.questions.Bounded.{IsSought, IsCutUpTo, IsDecided, sought_hops};
 ghost use Rattle.sabr_search.specs.questions.FirstSteps.{tabled_of};
 ghost use Rattle.sabr_search.specs.questions.Task.{IsAsked, IsOfRequest, IsTask};
 ghost use Rattle.sabr_search.specs.questions.Stops.{StopsOnlyIf};
@@ -246,7 +246,7 @@ impl<A: Allocator + Copy> Search<A> {
         // The answer, and what is remembered.
         ensures memory { IsMemory (tabled_of asked.now.task.now) asked.now.task.now.request memory.new }
         ensures sought { IfOk result (IsSought asked.now.task.now.plan asked.now.task.now.request asked.now.prefix.now asked.now.task.now.excluded asked.now.bound) }
-        ensures whole { IfOk result (IsWhole asked.now.bound) }
+        ensures decided { IfOk result (IsDecided asked.now.bound) }
 
         // The looks.
         ensures bound { looks_taken looks.new ≤ (3 * length asked.now.task.now.table + 1) * length asked.now.task.now.plan.contacts }

@@ -5,7 +5,7 @@ ghost use Rattle.sabr_model.specs.routes.Route.{is_prefix};
 ghost use Rattle.sabr_model.specs.plan.Table.{node_count};
 ghost use Rattle.sabr_search.specs.questions.Part.{IsBestOf};
 ghost use Rattle.sabr_search.specs.questions.Calls.{begun_with, no_calls, with_call};
-ghost use Rattle.sabr_search.specs.questions.Bounded.{IsSought, IsCutUpTo, IsFloor, IsWhole, sought_hops};
+ghost use Rattle.sabr_search.specs.questions.Bounded.{IsSought, IsCutUpTo, IsFloor, IsDecided, sought_hops};
 ghost use Rattle.sabr_index.specs.Looks.{looks_taken};
 ghost use Rattle.sabr_search.specs.answers.Asked.{answer_hops, IsCut};
 ghost use Rattle.sabr_search.specs.answers.SearchCache.{IsSearchCache};
@@ -77,7 +77,7 @@ impl<A: Allocator + Copy> Settled<A> {
 
         // The answer.
         ensures sought { IfOk result (IsSought index.now.plan request.now part.entry.prefix.now part.entry.excluded.numbers.now part.entry.bound) }
-        ensures whole { IfOk result (IsWhole part.entry.bound) }
+        ensures decided { IfOk result (IsDecided part.entry.bound) }
 
         // The looks, the calls and the cache.
         ensures bound { looks_taken self.new.looks ≤ (3 * node_count index.now.plan.contacts + 1) * length index.now.plan.contacts }
@@ -174,6 +174,8 @@ impl<A: Allocator + Copy> BestOf<A> for Settled<A> {
     ) -> Result<Option<Route<A>>, NoMemory>
         requires fits { IsTrue (is_prefix index.now.plan request.now prefix.now) }
         requires cache { IsSearchCache index.now request.now cache.old }
+
+        // The route, the looks, and what is remembered.
         ensures least { IfOk result (IsBestOf index.now.plan request.now prefix.now excluded.entry.numbers.now) }
         ensures bound { looks_taken self.new.looks ≤ (3 * node_count index.now.plan.contacts + 1) * length index.now.plan.contacts }
         ensures counted { IfOk result (λ answer. answer_hops answer ≤ looks_taken self.new.looks) }
@@ -198,7 +200,7 @@ impl<A: Allocator + Copy> BestOf<A> for Settled<A> {
 
         // The answer.
         ensures sought { IfOk result (IsSought index.now.plan request.now part.entry.prefix.now part.entry.excluded.numbers.now part.entry.bound) }
-        ensures whole { IfOk result (IsWhole part.entry.bound) }
+        ensures decided { IfOk result (IsDecided part.entry.bound) }
 
         // The looks, the calls and the cache.
         ensures bound { looks_taken self.new.looks ≤ (3 * node_count index.now.plan.contacts + 1) * length index.now.plan.contacts }

@@ -14,7 +14,7 @@ use Rattle.sabr_model.specs.routes.Parts.{goes_on, least_in}
 use Rattle.sabr_model.specs.routes.Record.{RouteRecord, record_of}
 use Rattle.sabr_model.specs.routes.Route.{delivery_of, is_route}
 use Rattle.sabr_model.proofs.RouteLemmas.Least.{least_some}
-use Rattle.sabr_search.specs.questions.Bounded.{IsFloor, IsSought, IsWhole, no_bound}
+use Rattle.sabr_search.specs.questions.Bounded.{IsFloor, IsSought, IsDecided, no_bound}
 use Rattle.sabr_search.proofs.WayLemmas.Prefixes.{goes_on-append, goes_on_parts}
 use Rattle.sabr_frontier.specs.listing.Rising.{has}
 use Rattle.sabr_frontier.specs.tree.Searching.{Asked}
@@ -187,7 +187,7 @@ found_best p r good b q X Beyond h = elim (least_in p r q X) as (λ o. least_in 
 ] refl
 
 -- so it is without a bound
-pub found_by_best : {A : Type 0} (p : ContactPlan) (r : RouteRequest) → IsPlan p → (o : Option Bound) (q X : List ℕ) (sought : Sought A) → IsSought p r q X (unwrap_or o no_bound) sought → IsWhole (unwrap_or o no_bound) sought → found_by sought o ≡ best_up_to p r o q X
+pub found_by_best : {A : Type 0} (p : ContactPlan) (r : RouteRequest) → IsPlan p → (o : Option Bound) (q X : List ℕ) (sought : Sought A) → IsSought p r q X (unwrap_or o no_bound) sought → IsDecided (unwrap_or o no_bound) sought → found_by sought o ≡ best_up_to p r o q X
 unfolding best_of
 found_by_best p r good (Some b) q X sought h whole = found_best p r good b q X sought h
 found_by_best p r good None q X (Route x) h whole = h

@@ -49,10 +49,10 @@ IsSought p r prefix excluded b NoRoute = IsBestOf p r prefix excluded None
 IsSought p r prefix excluded b Beyond = IsBeyond p r prefix excluded b
 
 -- without a bound the answer isn't that each route is above it
-abbrev pub IsWhole : {A : Type 0} → Bound → Sought A → Type 0
-IsWhole b (Route route) = Unit {0}
-IsWhole b NoRoute = Unit {0}
-IsWhole b Beyond = is_none b ≡ false
+abbrev pub IsDecided : {A : Type 0} → Bound → Sought A → Type 0
+IsDecided b (Route route) = Unit {0}
+IsDecided b NoRoute = Unit {0}
+IsDecided b Beyond = is_none b ≡ false
 
 -- the answer without a bound
 abbrev pub sought_of : {A : Type 0} → Option RouteRecord → Sought A

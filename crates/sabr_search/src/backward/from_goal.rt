@@ -269,6 +269,8 @@ impl<A: Allocator + Copy> Deadlines<A> {
         requires early { aim.now.delivery < never }
         requires steps { AreFirstSteps aim.now.task.now aim.now.first.now }
         requires real { AreReal aim.now.task.now aim.now.first.now }
+
+        // The layers, and the looks.
         ensures counted { looks.old.left ≤ looks.new.left + hops * length aim.now.task.now.plan.contacts }
         ensures made { IfOk result (IsMadeBack aim.now.task.now aim.now.delivery hops looks.old looks.new self.new) }
         ensures stops { StopsOnlyIf result (looks.old.left < hops * length aim.now.task.now.plan.contacts) }

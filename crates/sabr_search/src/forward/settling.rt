@@ -276,11 +276,15 @@ impl<A: Allocator + Copy> Settling<A> {
         requires task { IsTask forward.now.task.now }
         requires until { forward.now.until ≤ latest_arrival + 1 }
         requires bound { IsBound forward.now.task.now forward.now.until forward.now.deadline.now forward.now.costs.now }
-        ensures counted { looks.old.left ≤ looks.new.left + length forward.now.task.now.plan.contacts }
+
+        // The delivery, and the first steps.
         ensures reached { IfOk result (IsReached forward.now.task.now forward.now.until forward.now.costs.now self.new.arrival.items) }
-        ensures stops { StopsOnlyIf result (looks.old.left < length forward.now.task.now.plan.contacts) }
         ensures steps { OnOk result (AreFirstSteps forward.now.task.now first.new.items) }
         ensures real { OnOk result (AreReal forward.now.task.now first.new.items) }
+
+        // The looks.
+        ensures counted { looks.old.left ≤ looks.new.left + length forward.now.task.now.plan.contacts }
+        ensures stops { StopsOnlyIf result (looks.old.left < length forward.now.task.now.plan.contacts) }
     {
         forward.task.first_steps(looks, first)?;
         self.first_events(forward)?;

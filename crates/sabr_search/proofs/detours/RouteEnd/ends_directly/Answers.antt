@@ -3,9 +3,6 @@ use Rattle.std.proofs.lemmas.Bool.{eqb-false, not-true}
 use Rattle.sabr_search.proofs.WayLemmas.Detours.{one_contact}
 use Rattle.sabr_search.proofs.detours.RouteEnd.ends_directly.Goals as goal
 
-pub take_pass-requires-clause-permitted : goal.take_pass-requires-clause-permitted
-take_pass-requires-clause-permitted g c = rw c.goal-goal.ensures c.requires.end.asked.task_is.goal_open
-
 pub returns-clause-yes : goal.returns-clause-yes
 returns-clause-yes g c so =
     let end = c.args.self.now in

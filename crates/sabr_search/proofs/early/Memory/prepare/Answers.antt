@@ -3,9 +3,6 @@ use Rattle.sabr_search.proofs.WayLemmas.Prefixes.{empty_fits}
 use Rattle.sabr_search.proofs.early.Memory.prepare.Goals.{then-are_bounds_due, else-are_bounds_due, then-are_deadlines_due+in_ok-make, else-are_deadlines_due}
 use Rattle.sabr_search.proofs.early.Memory.prepare.Goals as goal
 
-pub go-requires-clause-prefix_path : goal.go-requires-clause-prefix_path
-go-requires-clause-prefix_path g c = rw c.in-Some.is at c.in_ok-prefix_path.ensures.some
-
 pub go-requires-clause-fits : goal.go-requires-clause-fits
 go-requires-clause-fits g c = empty_fits c.plan-plan.result.now.plan c.request-request.result.now _ refl
 

@@ -9,9 +9,6 @@ best_within-requires-clause-arrivals g c = record {
   least = λ ns v t some way. omega (arith, c.soonest-since.ensures.each v, c.requires.soon ns v t some way);
 }
 
-pub best_within-requires-clause-steps : goal.best_within-requires-clause-steps
-best_within-requires-clause-steps g c = rw c.as_slice.ensures.value c.in_ok-first_steps.ensures.all
-
 pub returns-in_err-first_steps-clause-stops : goal.returns-in_err-first_steps-clause-stops
 returns-in_err-first_steps-clause-stops g c =
     let task = c.args.asked.now.task.now in
@@ -26,3 +23,6 @@ pub returns-clause-stops : goal.returns-clause-stops
 returns-clause-stops g c =
     let task = c.args.asked.now.task.now in
     stops_weaker _ _ (λ few. omega (arith, few, c.first_steps.ensures.counted, degree_at_most task task.start)) c.best_within.result c.best_within.ensures.stops
+
+pub best_within-requires-clause-steps : goal.best_within-requires-clause-steps
+best_within-requires-clause-steps g c = rw c.as_slice.ensures.value c.in_ok-first_steps.ensures.all

@@ -10,6 +10,3 @@ returns-in-Err-NoMemory-clause-bound g c = omega (arith, c.best_of.ensures.count
 
 pub answer-requires-clause-few : goal.answer-requires-clause-few
 answer-requires-clause-few g c = omega (arith, c.best_of.ensures.counted, c.requires.few, layers_within c.args.task.now c.args.prefix.now c.requires.asked)
-
-pub best_of-requires-clause-soon : goal.best_of-requires-clause-soon
-best_of-requires-clause-soon g c = rw c.as_slice.ensures.value c.requires.arrivals.least

@@ -11,12 +11,6 @@ use Rattle.sabr_search.proofs.AnswerLemmas.Law.{contacts_few, prefix_few}
 use Rattle.sabr_search.proofs.WayLemmas.Shortness.{entered_looks}
 use Rattle.sabr_search.proofs.layered.Layered.find.Goals as goal
 
-pub go-requires-clause-prefix_path : goal.go-requires-clause-prefix_path
-go-requires-clause-prefix_path g c = rw c.in-Some.is at c.in_ok-prefix_path.ensures.some
-
-pub go-requires-clause-fits : goal.go-requires-clause-fits
-go-requires-clause-fits g c = c.requires.fits
-
 pub returns-in_err-stop-clause-bound : goal.returns-in_err-stop-clause-bound
 returns-in_err-stop-clause-bound g c =
     let prefix_path = rw c.in-Some.is at c.in_ok-prefix_path.ensures.some in

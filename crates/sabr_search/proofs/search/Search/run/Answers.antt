@@ -37,18 +37,6 @@ best_at-requires-clause-arrivals g c =
     arrivals_lowered c.args.asked.now.task.now c.node_count-2.result c.deref-3.result.now c.deref-4.result.now c.deref-5.result.now c.in-Some.best.delivery (omega (arith, c.node_count-2.ensures, c.requires.task.as_many)) (rw c.deref-5.ensures.value c.requires.soon)
     (rw (c.deref-3.ensures.value, c.deref-4.ensures.value) (rw c.deref.ensures.value at by))
 
-pub best_within-requires-clause-steps : goal.best_within-requires-clause-steps
-best_within-requires-clause-steps g c = rw c.deref-then-best-hops.ensures.value c.in_ok-reached.ensures.steps
-
-pub best_within-requires-clause-real : goal.best_within-requires-clause-real
-best_within-requires-clause-real g c = rw c.deref-then-best-hops.ensures.value c.in_ok-reached.ensures.real
-
-pub best_at-requires-clause-steps : goal.best_at-requires-clause-steps
-best_at-requires-clause-steps g c = rw c.deref-6.ensures.value c.in_ok-reached.ensures.steps
-
-pub best_at-requires-clause-real : goal.best_at-requires-clause-real
-best_at-requires-clause-real g c = rw c.deref-6.ensures.value c.in_ok-reached.ensures.real
-
 pub returns-in_err-reached-clause-stops : goal.returns-in_err-reached-clause-stops
 returns-in_err-reached-clause-stops g c = stops_by _ _ (λ is. let few = rw is at c.in_err-reached.ensures.stops in omega (arith, few)) c.from_residual.result c.from_residual.ensures.1
 
@@ -72,5 +60,8 @@ returns-then-best-hops-clause-cut g c =
 pub returns-clause-cut : goal.returns-clause-cut
 returns-clause-cut g c = IfOk-weaker c.best_at.result _ _ (λ found is all. omega (arith, is, c.run.ensures.counted)) c.best_at.ensures.cut
 
-pub best_of-requires-clause-soon : goal.best_of-requires-clause-soon
-best_of-requires-clause-soon g c = rw c.as_slice.ensures.value c.requires.soon
+pub best_within-requires-clause-steps : goal.best_within-requires-clause-steps
+best_within-requires-clause-steps g c = rw c.deref-then-best-hops.ensures.value c.in_ok-reached.ensures.steps
+
+pub best_at-requires-clause-steps : goal.best_at-requires-clause-steps
+best_at-requires-clause-steps g c = rw c.deref-6.ensures.value c.in_ok-reached.ensures.steps

@@ -2,9 +2,6 @@ use Rattle.sabr_search.proofs.WayLemmas.Prefixes.{prefix_facts}
 use Rattle.sabr_search.proofs.AnswerLemmas.Answered.{stop_of, soon_after}
 use Rattle.sabr_search.proofs.search.Search.run_wide.Goals as goal
 
-pub run-requires-clause-request : goal.run-requires-clause-request
-run-requires-clause-request g c = rw c.with_forbidden-task.ensures c.requires.request
-
 pub run-requires-clause-soon : goal.run-requires-clause-soon
 run-requires-clause-soon g c =
     let task = c.args.asked.now.task.now in
@@ -13,6 +10,3 @@ run-requires-clause-soon g c =
 
 pub returns : goal.returns
 returns g c = record { memory = (c.requires.memory.0, c.requires.memory.1, rw c.with_forbidden-task.ensures at c.cache.ensures) }
-
-pub cache-requires-clause-request : goal.cache-requires-clause-request
-cache-requires-clause-request g c = rw c.with_forbidden-task.ensures c.requires.request

@@ -64,9 +64,6 @@ returns-clause-cache g c = (c.in-Ok.ensures.prefix_path, rw (c.of-asked.ensures.
 pub returns-clause-sought : goal.returns-clause-sought
 returns-clause-sought g c = rw (c.of-asked.ensures.task, c.of-asked.ensures.prefix, c.of-asked.ensures.bound, c.new-task.ensures) at c.find_route.ensures.sought
 
-pub returns-clause-whole : goal.returns-clause-whole
-returns-clause-whole g c = rw c.of-asked.ensures.bound at c.find_route.ensures.whole
-
 pub returns-clause-cut : goal.returns-clause-cut
 returns-clause-cut g c = rw (c.of-asked.ensures.task, c.of-asked.ensures.prefix, c.of-asked.ensures.bound, c.new-task.ensures) at c.find_route.ensures.cut
 

@@ -54,9 +54,6 @@ loop-place-preserved g c =
       ];
     }
 
-pub returns-clause-real : goal.returns-clause-real
-returns-clause-real g c = rw c.beginning-from.ensures at c.loop-place.invariant.real
-
 pub returns-clause-all : goal.returns-clause-all
 returns-clause-all g c =
     let all : (n w b : ℕ) → Takes c.args.self.now n c.beginning-from.result.node c.beginning-from.result.at w b → ComesTo c.loop-place.first.items w b = λ n w b s.

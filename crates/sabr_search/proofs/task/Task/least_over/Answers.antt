@@ -137,6 +137,3 @@ returns-then-comes_late-clause-some_looks g c = inr (omega (arith, c.loop-place.
 
 pub returns-then-is_at_most-clause-some_looks : goal.returns-then-is_at_most-clause-some_looks
 returns-then-is_at_most-clause-some_looks g c = inr (omega (arith, c.loop-place.invariant.looked, c.look-pass.ensures.counted))
-
-pub returns-clause-some_looks : goal.returns-clause-some_looks
-returns-clause-some_looks g c = c.loop-place.invariant.some_looks

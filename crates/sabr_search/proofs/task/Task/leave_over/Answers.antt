@@ -75,6 +75,3 @@ returns-clause-full g c = λ n t w b has s less.
 
 pub returns-then-leaves_no_later-clause-some_looks : goal.returns-then-leaves_no_later-clause-some_looks
 returns-then-leaves_no_later-clause-some_looks g c = λ later. omega (arith, c.loop-back.invariant.looked, c.look-pass.ensures.counted)
-
-pub returns-clause-some_looks : goal.returns-clause-some_looks
-returns-clause-some_looks g c = c.loop-back.invariant.some_looks

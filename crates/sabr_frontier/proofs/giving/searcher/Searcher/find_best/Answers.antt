@@ -1,7 +1,7 @@
 use Rattle.std.proofs.Common.{◌≤◌, ap, sym, subst, ◌∙◌}
 use Rattle.std.specs.Prelude.{unwrap_or}
 use Rattle.sabr_model.specs.plan.Plan.{IsPlan, TabledPlan}
-use Rattle.sabr_search.specs.questions.Bounded.{IsSought, IsWhole}
+use Rattle.sabr_search.specs.questions.Bounded.{IsSought, IsDecided}
 use Rattle.sabr_frontier.specs.tree.Searching.{Searching, best_for, call_looks}
 use Rattle.sabr_search.specs.questions.Calls.{Calls, with_call}
 use Rattle.sabr_frontier.proofs.GivingLemmas.Sums.{same_before, sum_on}
@@ -18,7 +18,7 @@ returns-clause-best g c =
     let bound = c.unwrap_or.ensures ∙ ap (unwrap_or c.args.bound) c.none.ensures in
     let good : IsPlan p = subst (λ (t : TabledPlan). IsPlan t.plan) c.plan.ensures c.rules_hold.ensures in
     c.up_to.ensures
-    ∙ found_by_best p r good c.args.bound q X sought (subst (λ b. IsSought p r q X b sought) bound c.in_ok-sought.ensures.sought) (subst (λ b. IsWhole b sought) bound c.in_ok-sought.ensures.whole)
+    ∙ found_by_best p r good c.args.bound q X sought (subst (λ b. IsSought p r q X b sought) bound c.in_ok-sought.ensures.sought) (subst (λ b. IsDecided b sought) bound c.in_ok-sought.ensures.decided)
     ∙ ap (λ (a : Searching). best_for a.asked c.args.bound q X) c.self.view_is
 
 pub invariant_of-self : goal.invariant_of-self

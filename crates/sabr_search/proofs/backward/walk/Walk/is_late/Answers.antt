@@ -22,9 +22,6 @@ head-requires-clause-within g c = (c.requires.whole_deadlines.layers.chained.las
 pub end_of-end-requires : goal.end_of-end-requires
 end_of-end-requires g c = some_end c.args.task.now c.requires.task c.args.self.now.delivery c.args.hops c.args.layers.now c.requires.whole_deadlines
 
-pub before-requires-clause-chained : goal.before-requires-clause-chained
-before-requires-clause-chained g c = c.requires.whole_deadlines.layers.chained
-
 pub before-requires-clause-node : goal.before-requires-clause-node
 before-requires-clause-node g c = within g (goal.at.before-requires-clause-node g c).After-start-start
 

@@ -20,9 +20,6 @@ least_over-best-requires-clause-few g c =
 pub end_of-end-requires : goal.end_of-end-requires
 end_of-end-requires g c = some_end c.args.task.now c.requires.task c.args.self.now.delivery c.args.hops c.args.layers.now c.requires.whole_deadlines
 
-pub before-deadline-requires-clause-chained : goal.before-deadline-requires-clause-chained
-before-deadline-requires-clause-chained g c = c.requires.whole_deadlines.layers.chained
-
 pub before-deadline-requires-clause-node : goal.before-deadline-requires-clause-node
 before-deadline-requires-clause-node g c = omega (arith, level_nodes c.args.task.now c.requires.task c.args.self.now.delivery c.args.hops c.args.layers.now c.requires.whole_deadlines, c.link-link.ensures.receiver)
 

@@ -32,9 +32,6 @@ links-links-requires-clause-node g c =
 pub next-requires-clause-whole_deadlines : goal.next-requires-clause-whole_deadlines
 next-requires-clause-whole_deadlines g c = rw c.loop-self.invariant.delivery (level_fewer c.args.task.now c.requires.task c.args.self.now.delivery (c.args.hops - 1) c.args.layers.now c.requires.whole_deadlines _ (omega arith))
 
-pub next-requires-clause-ends : goal.next-requires-clause-ends
-next-requires-clause-ends g c = rw c.loop-self.invariant.delivery c.loop-self.invariant.ends
-
 pub next-requires-clause-here : goal.next-requires-clause-here
 next-requires-clause-here g c =
     let task = c.args.task.now in

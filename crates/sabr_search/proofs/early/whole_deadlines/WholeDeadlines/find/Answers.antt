@@ -25,26 +25,14 @@ loop-count-preserved-then-is_late g c = record {
   dead = dead_fewer c.args.asked.now.task.now _ _ _ c.loop-count.count _ (omega arith) (rw c.loop-count.invariant.delivery at (c.is_late.ensures c.if-is_late.true));
 }
 
-pub is_late-requires-clause-task : goal.is_late-requires-clause-task
-is_late-requires-clause-task g c = c.requires.asked.task_is
-
 pub is_late-requires-clause-whole_deadlines : goal.is_late-requires-clause-whole_deadlines
 is_late-requires-clause-whole_deadlines g c = rw c.loop-count.invariant.delivery (level_fewer c.args.asked.now.task.now c.requires.asked.task_is _ (hops_left c.args.asked.now) _ c.requires.whole_deadlines c.loop-count.count (omega (arith, c.loop-count-test.true, c.hops_at-most.ensures.most, c.hops_left-hops.ensures)))
-
-pub pick-requires-clause-task : goal.pick-requires-clause-task
-pick-requires-clause-task g c = c.requires.asked.task_is
 
 pub pick-requires-clause-whole_deadlines : goal.pick-requires-clause-whole_deadlines
 pick-requires-clause-whole_deadlines g c = rw c.loop-count.invariant.delivery (level_fewer c.args.asked.now.task.now c.requires.asked.task_is _ (hops_left c.args.asked.now) _ c.requires.whole_deadlines (c.loop-count.count - 1) (omega (arith, c.loop-count-test.true, c.hops_at-most.ensures.most, c.hops_left-hops.ensures)))
 
 pub pick-requires-clause-floor : goal.pick-requires-clause-floor
 pick-requires-clause-floor g c = rw c.loop-count.invariant.delivery (λ ns e few way. c.requires.floor ns e (omega (arith, few, c.loop-count-test.true, c.hops_at-most.ensures.most, c.hops_left-hops.ensures)) way)
-
-pub pick-requires-clause-ends : goal.pick-requires-clause-ends
-pick-requires-clause-ends g c = rw c.loop-count.invariant.delivery c.loop-count.invariant.ends
-
-pub pick-requires-clause-fewer : goal.pick-requires-clause-fewer
-pick-requires-clause-fewer g c = rw c.loop-count.invariant.delivery c.loop-count.invariant.dead
 
 pub returns-in-Some : goal.returns-in-Some
 returns-in-Some g c =

@@ -20,9 +20,6 @@ pub returns-in_err-first_steps-clause-stops : goal.returns-in_err-first_steps-cl
 returns-in_err-first_steps-clause-stops g c =
     stops_by _ _ (λ is. let few = rw is at c.in_err-first_steps.ensures.stops in omega (arith, few, degree_at_most c.args.forward.now.task.now c.args.forward.now.task.now.start)) c.from_residual.result c.from_residual.ensures.1
 
-pub settle_start-requires-clause-steps : goal.settle_start-requires-clause-steps
-settle_start-requires-clause-steps g c = rw c.deref.ensures.value c.in_ok-first_steps.ensures.all
-
 pub index-requires : goal.index-requires
 index-requires g c =
     let was = c.loop-event.invariant.settled in
@@ -110,3 +107,6 @@ pub returns-clause-reached : goal.returns-clause-reached
 returns-clause-reached g c =
     reached_found c.args.forward.now.task.now c.requires.task _ _ _ c.requires.bound _ _ _ _ c.loop-event.best c.loop-event.invariant.settled
     (λ f there. (let none = rw c.in_default.ensures.none at there in absurd (omega (arith, none.1)))) _ c.found-2.ensures
+
+pub settle_start-requires-clause-steps : goal.settle_start-requires-clause-steps
+settle_start-requires-clause-steps g c = rw c.deref.ensures.value c.in_ok-first_steps.ensures.all
