@@ -15,7 +15,7 @@ ghost use Rattle.sabr_frontier.specs.tree.Undo.{IsRoomy};
 
 use crate::giving::searcher::Searcher;
 use crate::tree::Tree;
-use crate::tree::places::{carried, prefix};
+use crate::tree::prefixes::{carried, prefix};
 use sabr_model::{NoMemory, Route};
 use sabr_search::BestOf;
 use std::alloc::Allocator;

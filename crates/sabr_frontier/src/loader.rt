@@ -3,9 +3,9 @@
 mod carrying;
 mod check;
 mod ghost_lists;
-mod leading;
 pub mod load_fault;
 mod partial_tree;
+mod path_end;
 
 ghost use Rattle.std.specs.Prelude.{◌≡◌, [], Some, None, Err, IfOk, IfErr, OnOk, OnErr, IsOkUnless};
 ghost use Rattle.std.specs.Option.{option_copied};
@@ -99,10 +99,10 @@ impl<'p, B: BestOf<A>, A: Allocator + Copy> Loader<'p, B, A> {
         if !self.partial.is_next(prefix, excluded) {
             return Err(LoadFault::BadOrder);
         }
-        let lead = self.partial.expected_lead(&self.question, prefix);
-        let route = carried(&self.question, prefix, excluded, lead, route)?;
+        let end = self.partial.expected_end(&self.question, prefix);
+        let route = carried(&self.question, prefix, excluded, end, route)?;
         self.partial
-            .take_in(&self.question, prefix, excluded, lead, route)?;
+            .take_in(&self.question, prefix, excluded, end, route)?;
         Ok(())
     }
 

@@ -12,8 +12,8 @@ pub mod last_page;
 pub mod paused;
 
 use crate::giving::searcher::{PausedSearcher, Searcher};
+use crate::parts::Parts;
 use crate::tree::Tree;
-use crate::views::Parts;
 use sabr_index::Index;
 use sabr_model::{NoMemory, Plan, Request, Route};
 use sabr_search::BestOf;
@@ -245,7 +245,7 @@ impl<'p, B: BestOf<A>, A: Allocator + Copy> Session<'p, B, A> {
         self.tree.index.len()
     }
 
-    /// The parts, rising by prefix, all borrowed. Those without a route are among them. It takes a step for each, and
+    /// The parts in order of prefix, all borrowed. Those without a route are among them. It takes a step for each, and
     /// allocates nothing.
     pub fn parts(&self) -> Parts<'_, A>
         ensures { seen_left result ≡ map (seen_part self.now.plan.plan self.now.request) self.now.state.parts }

@@ -3,7 +3,7 @@
 pub mod change;
 pub mod excluded_numbers;
 pub mod index;
-pub mod places;
+pub mod prefixes;
 mod root;
 pub mod undo;
 pub mod winners;

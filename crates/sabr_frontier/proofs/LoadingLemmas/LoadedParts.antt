@@ -21,11 +21,11 @@ use Rattle.sabr_model.proofs.RouteLemmas.Prefixes.{empty_is_prefix, prefix_goes_
 use Rattle.sabr_search.specs.questions.Calls.{Calls}
 use Rattle.sabr_frontier.specs.declared.tree.Node.{Node}
 use Rattle.sabr_frontier.specs.declared.loader.check.Checked.{Checked}
-use Rattle.sabr_frontier.specs.declared.loader.leading.ExpectedPrefix.{ExpectedPrefix}
+use Rattle.sabr_frontier.specs.declared.loader.path_end.ExpectedPrefix.{ExpectedPrefix}
 use Rattle.sabr_frontier.specs.listing.Rising.{Below, Rises, has}
 use Rattle.sabr_frontier.specs.listing.State.{PartState, pair_of, Member, leaves_of, InPairs}
 use Rattle.sabr_frontier.specs.listing.Formed.{IsClosed, InOrder, Within}
-use Rattle.sabr_frontier.specs.loading.Partial.{onward, IsGood, Expects, AreExpected, AreSteps, IsLead, expected_prefix, step_of, PartialShape, AreLent, IsAnswered, IsPartial, IsChecked, IsVerdict, answered_by, with_node, is_expected, is_least, is_complete, nothing_yet, expected_in, expected_after, pairs_in, part_for, parts_in, parts_of, partial_shape_of, loaded, AllGoOn}
+use Rattle.sabr_frontier.specs.loading.Partial.{onward, IsGood, Expects, AreExpected, AreSteps, IsPathEnd, expected_prefix, step_of, PartialShape, AreLent, IsAnswered, IsPartial, IsChecked, IsVerdict, answered_by, with_node, is_expected, is_least, is_complete, nothing_yet, expected_in, expected_after, pairs_in, part_for, parts_in, parts_of, partial_shape_of, loaded, AllGoOn}
 use Rattle.sabr_frontier.specs.loading.Loading.{comes_after, may_carry, rise_strictly, IsCarryFault, Loaded, refusal_by}
 use Rattle.sabr_frontier.specs.tree.Shape.{numbers_of}
 use Rattle.sabr_frontier.specs.tree.Undo.{last_item, front}
@@ -45,7 +45,7 @@ use Rattle.sabr_model.specs.declared.following.Reached.{Reached}
 use Rattle.sabr_model.specs.routes.Fault.{first_fault}
 use Rattle.sabr_model.proofs.RouteLemmas.Faults.{fault_is_no_route, path_is_good}
 use Rattle.sabr_model.proofs.RouteLemmas.Follows.{ends_elsewhere, ends_there, some_behind}
-use Rattle.sabr_frontier.specs.declared.loader.leading.Lead.{Lead}
+use Rattle.sabr_frontier.specs.declared.loader.path_end.PathEnd.{PathEnd}
 use Rattle.sabr_frontier.proofs.ListingLemmas.ClosedTrees.{Number_has, has_Number}
 
 -- ---- order
@@ -149,16 +149,16 @@ same_itself q = ap is_eq (Rattle.std.proofs.lemmas.Cmp.tied_itself nat_list_cmp_
 
 -- an expected prefix is the least that is expected, and what is expected after it is smaller
 expected_first : {A : Type 0} (h : PartialShape A) (q : List ℕ) → length h.prefixes ≡ length h.nodes → (parts_in h ≡ [] → expected_in h ≡ []) → is_least h q ≡ true → expected_after (parts_in h) (expected_in h) ≡ q ∷ reverse (front (expected_in h))
-expected_first h q paired first lead = elim (part_cases h.prefixes h.nodes paired) [
+expected_first h q paired first least = elim (part_cases h.prefixes h.nodes paired) [
   | inl none ↦
-      let d : (length h.nodes == 0 && length q == 0) ≡ true = sym (ap (λ (z : List (List ℕ)). option_map_or (same_numbers q) (last_item z) (length h.nodes == 0 && length q == 0)) (first none.1)) ∙ lead in
+      let d : (length h.nodes == 0 && length q == 0) ≡ true = sym (ap (λ (z : List (List ℕ)). option_map_or (same_numbers q) (last_item z) (length h.nodes == 0 && length q == 0)) (first none.1)) ∙ least in
       let empty : q ≡ [] = nil_from_length q (test_zero (length q) (and_parts (length h.nodes == 0) (length q == 0) d).1) in
       ap (λ z. expected_after z (expected_in h)) none.1 ∙ (λ i. sym empty i ∷ reverse (front (sym (first none.1) i)))
   | inr some ↦
       let last : expected_in h ≡ front (expected_in h) ++ q ∷ [] = elim (last_item (expected_in h)) as (λ o. last_item (expected_in h) ≡ o → option_map_or (same_numbers q) o (length h.nodes == 0 && length q == 0) ≡ true → expected_in h ≡ front (expected_in h) ++ q ∷ []) [
         | None ↦ λ _ k. absurd (true≢false (sym (and_parts (length h.nodes == 0) (length q == 0) k).0 ∙ some.0))
         | Some o ↦ λ e k. last_split (expected_in h) o e ∙ ap (λ z. front (expected_in h) ++ z ∷ []) (sym (same_numbers_tell q o k))
-      ] refl lead in
+      ] refl least in
       ap (λ z. expected_after z (expected_in h)) some.3 ∙ ap reverse last ∙ reverse-append (front (expected_in h)) (q ∷ [])
 ]
 
@@ -221,13 +221,13 @@ record Stay (last q : List ℕ) (os : List ExpectedPrefix) : Type 0 where
   within : (o : ExpectedPrefix) → Member o os → o.length ≤ length q
   nested : InPairs (λ a b. a.length ≤ b.length) os
 
-module _ {A : Type 0} (p : ContactPlan) (r : RouteRequest) (h : PartialShape A) (q : List ℕ) (lead : is_least h q ≡ true) (expected : AreExpected p r h.last h.expected) where
+module _ {A : Type 0} (p : ContactPlan) (r : RouteRequest) (h : PartialShape A) (q : List ℕ) (least : is_least h q ≡ true) (expected : AreExpected p r h.last h.expected) where
   -- the others begin with numbers that the least begins with
   stay : Stay h.last q (front h.expected)
   stay = elim (last_item h.expected) as (λ z. last_item h.expected ≡ z → Stay h.last q (front h.expected)) [
     | None ↦ λ e. subst (λ os. Stay h.last q (front os)) (sym (no_last h.expected e)) (record { same = λ o m. absurd m; within = λ o m. absurd m; nested = tt })
     | Some o ↦ λ e.
-        let is : q ≡ take o.length h.last ++ o.number ∷ [] = same_numbers_tell q (expected_prefix h.last o) (sym (least_is h q o e) ∙ lead) in
+        let is : q ≡ take o.length h.last ++ o.number ∷ [] = same_numbers_tell q (expected_prefix h.last o) (sym (least_is h q o e) ∙ least) in
         let all : h.expected ≡ front h.expected ++ o ∷ [] = last_split h.expected o e in
         let w = pairs_of_last (λ (a b : ExpectedPrefix). a.length ≤ b.length) (front h.expected) o (subst (InPairs (λ (a b : ExpectedPrefix). a.length ≤ b.length)) all expected.nested) in
         let most : o.length ≤ length h.last = expected.within o (get_Member h.expected (length h.expected - 1) o e) in
@@ -247,9 +247,9 @@ module _ {A : Type 0} (p : ContactPlan) (r : RouteRequest) (h : PartialShape A) 
   -- and after them come the steps from it
   expected_more : (steps : List ExpectedPrefix) → AreSteps p r q steps → AreExpected p r q (front h.expected ++ reverse steps)
   expected_more steps new = record {
-    leads = λ o m. elim (Member-append_cases o (front h.expected) (reverse steps) m) [
-      | inl k ↦ subst (λ z. IsLead p r z o.lead) (sym (stay.same o k)) (expected.leads o (member_taken (length h.expected - 1) o h.expected k))
-      | inr k ↦ let w = new o (Member-reverse o steps k) in subst (λ z. IsLead p r z o.lead) (sym (step_is o w.0)) w.1
+    ends = λ o m. elim (Member-append_cases o (front h.expected) (reverse steps) m) [
+      | inl k ↦ subst (λ z. IsPathEnd p r z o.end) (sym (stay.same o k)) (expected.ends o (member_taken (length h.expected - 1) o h.expected k))
+      | inr k ↦ let w = new o (Member-reverse o steps k) in subst (λ z. IsPathEnd p r z o.end) (sym (step_is o w.0)) w.1
     ];
     within = λ o m. elim (Member-append_cases o (front h.expected) (reverse steps) m) [
       | inl k ↦ stay.within o k
@@ -293,14 +293,14 @@ module _ (p : ContactPlan) (r : RouteRequest) where
       expected_after_more (u ∷ parts) t expected = refl
 
       answered_more : (j : Checked A) → IsAnswered p r h → is_least h q ≡ true → IsGood route path e → IsChecked p r e j → IsAnswered p r (answered_by (with_node h q X kept) (Some j))
-      answered_more j a lead good checked = record {
+      answered_more j a least good checked = record {
         expects = subst (λ T. Expects route path ([] ∷ []) T (expected_after parts (map (expected_prefix q) expected))) (sym pairs_more)
             (Expects-push route path (pairs_in h) ([] ∷ []) (expected_after (parts_in h) (expected_in h)) (expected_after parts (map (expected_prefix q) expected)) e a.expects
-            (reverse (front (expected_in h)), expected_first h q partial.paired a.first lead, good, sym expected_now));
+            (reverse (front (expected_in h)), expected_first h q partial.paired a.first least, good, sym expected_now));
         leaves = (λ i. a.leaves i ++ checked.leaves_are i) ∙ sym (map-append (record_of p r) (flat_map (leaves_of route) (pairs_in h)) (leaves_of route e))
             ∙ ap (map (record_of p r)) (ap (λ z. flat_map (leaves_of route) (pairs_in h) ++ z) (sym (append-nil (leaves_of route e))) ∙ sym (flat_map-append (leaves_of route) (pairs_in h) (e ∷ [])) ∙ ap (flat_map (leaves_of route)) (sym pairs_more));
         lent = lent_push route 0 h.prefixes h.nodes q n a.lent (let k = ap (length {A = RouteRecord}) a.leaves ∙ length-map (flat_map (leaves_of route) (pairs_in h)) (record_of p r) in omega (arith, k)) refl;
-        expected = expected_more p r h q lead a.expected j.onward.items checked.steps;
+        expected = expected_more p r h q least a.expected j.onward.items checked.steps;
         first = λ k. absurd (omega (arith, ap (length {A = PartState}) (sym more ∙ k), length-append (parts_in h) (part_for q n ∷ [])));
       }
         where
@@ -311,7 +311,7 @@ module _ (p : ContactPlan) (r : RouteRequest) where
           expected = front h.expected ++ reverse j.onward.items
 
           expected_now : expected_after parts (map (expected_prefix q) expected) ≡ onward route path e ++ reverse (front (expected_in h))
-          expected_now = ap (λ z. expected_after z (map (expected_prefix q) expected)) more ∙ expected_after_more (parts_in h) (part_for q n) (map (expected_prefix q) expected) ∙ ap reverse (prefixes_more p r h q lead a.expected j.onward.items checked.steps)
+          expected_now = ap (λ z. expected_after z (map (expected_prefix q) expected)) more ∙ expected_after_more (parts_in h) (part_for q n) (map (expected_prefix q) expected) ∙ ap reverse (prefixes_more p r h q least a.expected j.onward.items checked.steps)
               ∙ reverse-append (front (expected_in h)) (reverse (map (step_of q) j.onward.items))
               ∙ ap (λ z. z ++ reverse (front (expected_in h))) (reverse-reverse (map (step_of q) j.onward.items) ∙ checked.onward_are)
 
@@ -370,12 +370,12 @@ module _ (p : ContactPlan) (r : RouteRequest) where
           carried = carried_then;
           records = records_then;
           last = last_then;
-          answered = λ _. answered_more j (partial.answered lead.0) lead.1 v.1 v.2;
-          broken = λ k. absurd (true≢false (sym lead.0 ∙ k));
+          answered = λ _. answered_more j (partial.answered least.0) least.1 v.1 v.2;
+          broken = λ k. absurd (true≢false (sym least.0 ∙ k));
         }
           where
-            lead : (h.sound ≡ true) × (is_least h q ≡ true)
-            lead = and_parts h.sound (is_least h q) v.0
+            least : (h.sound ≡ true) × (is_least h q ≡ true)
+            least = and_parts h.sound (is_least h q) v.0
         partial_more None v = record {
           paired = counted;
           order = ordered;
@@ -395,7 +395,7 @@ module _ (p : ContactPlan) (r : RouteRequest) where
       carried = λ t s m. absurd m;
       records = λ n x m. absurd m;
       last = refl;
-      answered = λ _. record { expects = refl; leaves = refl; lent = tt; expected = record { leads = λ o m. absurd m; within = λ o m. absurd m; nested = tt }; first = λ _. refl };
+      answered = λ _. record { expects = refl; leaves = refl; lent = tt; expected = record { ends = λ o m. absurd m; within = λ o m. absurd m; nested = tt }; first = λ _. refl };
       broken = λ k. absurd (true≢false k);
     }
 
@@ -478,14 +478,14 @@ module _ {A : Type 0} {plan : TabledPlan} {r : RouteRequest} (partial : PartialT
 module _ (p : ContactPlan) (r : RouteRequest) where
   -- ---- one list of numbers
 
-  module _ (q : List ℕ) (n : ℕ) (lead : Lead) (is : IsLead p r (q ++ n ∷ []) lead) where
+  module _ (q : List ℕ) (n : ℕ) (end : PathEnd) (is : IsPathEnd p r (q ++ n ∷ []) end) where
     -- a path to the destination
-    pub goes_there : lead.here.node ≡ r.destination → is_route p r (q ++ n ∷ []) ≡ true
-    goes_there same = ends_there p r (q ++ n ∷ []) lead.here (some_behind q n) is.path is.reached same
+    pub goes_there : end.here.node ≡ r.destination → is_route p r (q ++ n ∷ []) ≡ true
+    goes_there same = ends_there p r (q ++ n ∷ []) end.here (some_behind q n) is.path is.reached same
 
     -- a path to another node
-    pub goes_elsewhere : (lead.here.node ≡ r.destination → ⊥) → is_route p r (q ++ n ∷ []) ≡ false
-    goes_elsewhere other = fault_is_no_route p r (q ++ n ∷ []) WrongEnd (ends_elsewhere p r (q ++ n ∷ []) lead.here (some_behind q n) is.path is.reached other)
+    pub goes_elsewhere : (end.here.node ≡ r.destination → ⊥) → is_route p r (q ++ n ∷ []) ≡ false
+    goes_elsewhere other = fault_is_no_route p r (q ++ n ∷ []) WrongEnd (ends_elsewhere p r (q ++ n ∷ []) end.here (some_behind q n) is.path is.reached other)
 
   -- a list that has a fault on the way is no path
   pub faulty_front : (o : Result Reached HopFault) (s : List ℕ) → IfErr o (λ f. first_fault p r [] s ≡ Some f) → ((here : Reached) → o ≡ Ok here → ⊥) → is_path p r s ≡ true → ⊥
@@ -533,10 +533,10 @@ some_number (x ∷ X) h = (x, has_itself nat_cmp_total x X)
 pub empty_list : (q : List ℕ) → (length q == 0) ≡ true → q ≡ []
 empty_list q h = nil_from_length q (grind (arith, nat_tests))
 
-module _ {A : Type 0} (p : ContactPlan) (r : RouteRequest) (h : PartialShape A) (e : List ℕ × List ℕ) (lead : is_expected h e.0 ≡ true) (busy : (e.0 ≡ []) ⊎ ((x : ℕ) × (has nat_cmp x e.1 ≡ true))) where
+module _ {A : Type 0} (p : ContactPlan) (r : RouteRequest) (h : PartialShape A) (e : List ℕ × List ℕ) (least : is_expected h e.0 ≡ true) (busy : (e.0 ≡ []) ⊎ ((x : ℕ) × (has nat_cmp x e.1 ≡ true))) where
   verdict_of : (o : Option (Checked A)) → IfSome o (λ j. AllGoOn p r e × IsChecked p r e j) → IfNone o (AllGoOn p r e → ⊥) → IsVerdict p r h e o
   verdict_of None some none = λ _ good. none good.chains
-  verdict_of (Some j) some none = (lead, record { busy = busy; chains = some.0 }, some.1)
+  verdict_of (Some j) some none = (least, record { busy = busy; chains = some.0 }, some.1)
 
   pub verdict_from : {E : Type 0} (res : Result (Option (Checked A)) E) → IfOk res (λ o. IfSome o (λ j. AllGoOn p r e × IsChecked p r e j)) → IfOk res (λ o. IfNone o (AllGoOn p r e → ⊥)) → IfOk res (IsVerdict p r h e)
   verdict_from (Ok o) some none = verdict_of o some none

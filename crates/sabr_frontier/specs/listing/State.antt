@@ -14,7 +14,7 @@ pub record PartState : Type 0 where
 abbrev pub part_with : List ℕ → List ℕ → Option (List ℕ) → PartState
 part_with prefix excluded carried = record { prefix = prefix; excluded = excluded; carried = carried }
 
--- the number of routes that were given, the last of them (empty if there is none), and the parts, rising by prefix
+-- the number of routes that were given, the last of them (empty if there is none), and the parts in order of prefix
 pub record State : Type 0 where
   pub emitted : ℕ
   pub last : List ℕ

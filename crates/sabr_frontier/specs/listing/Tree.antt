@@ -14,7 +14,7 @@ abbrev pub put_number : Option ℕ → List ℕ → List ℕ
 put_number None xs = xs
 put_number (Some x) xs = put_in nat_cmp x xs
 
--- the numbers that members take after p, rising
+-- the numbers that members take after p, in increasing order
 abbrev pub numbers_after : List ℕ → List (List ℕ) → List ℕ
 numbers_after p [] = []
 numbers_after p (s ∷ S) = put_number (number_after p s) (numbers_after p S)
@@ -24,12 +24,12 @@ abbrev pub put_all : List (List ℕ) → List (List ℕ) → List (List ℕ)
 put_all [] ps = ps
 put_all (q ∷ qs) ps = put_in by_numbers q (put_all qs ps)
 
--- the empty list and each proper beginning of a member, rising
+-- the empty list and each proper beginning of a member, in order
 abbrev pub prefixes : List (List ℕ) → List (List ℕ)
 prefixes [] = [] ∷ []
 prefixes (s ∷ S) = put_all (proper_beginnings s) (prefixes S)
 
--- the members, rising and each once
+-- the members in order, each once
 abbrev pub set_of : List (List ℕ) → List (List ℕ)
 set_of S = in_order by_numbers S
 

@@ -5,8 +5,8 @@ use Rattle.sabr_model.specs.routes.Arrival.{RouteRequest}
 use Rattle.sabr_model.specs.routes.Route.{is_path, is_route}
 use Rattle.sabr_model.specs.routes.Following.{IsReachedBy}
 use Rattle.sabr_model.specs.routes.Telling.{summary_of}
-use Rattle.sabr_frontier.specs.declared.loader.leading.Lead.{Lead}
-use Rattle.sabr_frontier.specs.declared.loader.leading.ExpectedPrefix.{ExpectedPrefix}
+use Rattle.sabr_frontier.specs.declared.loader.path_end.PathEnd.{PathEnd}
+use Rattle.sabr_frontier.specs.declared.loader.path_end.ExpectedPrefix.{ExpectedPrefix}
 use Rattle.sabr_frontier.specs.listing.State.{Member, InPairs, PartState, pair_of, leaves_of}
 use Rattle.std.specs.Ordering.{nat_cmp}
 use Rattle.sabr_frontier.specs.listing.Rising.{has}
@@ -28,10 +28,10 @@ use Rattle.sabr_frontier.specs.loading.Loading.{Loaded}
 -- ---- where the prefixes of parts lead
 
 -- the prefix is a path that leads there, and this is its record
-pub record IsLead (p : ContactPlan) (r : RouteRequest) (q : List ℕ) (lead : Lead) : Type 0 where
+pub record IsPathEnd (p : ContactPlan) (r : RouteRequest) (q : List ℕ) (end : PathEnd) : Type 0 where
   pub path : IsTrue (is_path p r q)
-  pub reached : IsReachedBy p r q lead.here
-  pub summary : lead.summary ≡ summary_of p q
+  pub reached : IsReachedBy p r q end.here
+  pub summary : end.summary ≡ summary_of p q
 
 -- what is expected after a part: a beginning of the part's prefix of the length that is kept, and one more number
 abbrev pub expected_prefix : List ℕ → ExpectedPrefix → List ℕ
@@ -39,7 +39,7 @@ expected_prefix last o = take o.length last ++ o.number ∷ []
 
 -- each leads where the list says; none takes more of the prefix than it has, or than those after it do
 pub record AreExpected (p : ContactPlan) (r : RouteRequest) (last : List ℕ) (os : List ExpectedPrefix) : Type 0 where
-  pub leads : (o : ExpectedPrefix) → Member o os → IsLead p r (expected_prefix last o) o.lead
+  pub ends : (o : ExpectedPrefix) → Member o os → IsPathEnd p r (expected_prefix last o) o.end
   pub within : (o : ExpectedPrefix) → Member o os → o.length ≤ length last
   pub nested : InPairs (λ a b. a.length ≤ b.length) os
 
@@ -49,7 +49,7 @@ step_of q o = q ++ o.number ∷ []
 
 -- each takes the whole prefix, and leads where the list says
 abbrev pub AreSteps : ContactPlan → RouteRequest → List ℕ → List ExpectedPrefix → Type 0
-AreSteps p r q os = (o : ExpectedPrefix) → Member o os → (o.length ≡ length q) × IsLead p r (step_of q o) o.lead
+AreSteps p r q os = (o : ExpectedPrefix) → Member o os → (o.length ≡ length q) × IsPathEnd p r (step_of q o) o.end
 
 -- ---- pairs in order that answer, one after another, the prefixes that are expected
 

@@ -4,8 +4,8 @@ use Rattle.std.specs.Option.{option_copied}
 use Rattle.sabr_model.specs.routes.Record.{RouteRecord}
 use Rattle.sabr_frontier.specs.declared.tree.Node.{Node}
 use Rattle.sabr_frontier.specs.declared.tree.NodeId.{NodeId}
-use Rattle.sabr_frontier.specs.declared.views.PartView.{PartView}
-use Rattle.sabr_frontier.specs.declared.views.Parts.{Parts}
+use Rattle.sabr_frontier.specs.declared.parts.PartView.{PartView}
+use Rattle.sabr_frontier.specs.declared.parts.Parts.{Parts}
 use Rattle.sabr_frontier.specs.tree.Shape.{prefix_of}
 use Rattle.sabr_frontier.specs.session.Session.{PartSeen}
 

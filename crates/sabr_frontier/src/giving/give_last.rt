@@ -17,7 +17,7 @@ ghost use Rattle.sabr_search.specs.questions.Bounded.{IsFloor};
 use crate::giving::divide::{find_best_after, numbers};
 use crate::giving::searcher::Searcher;
 use crate::tree::change::carry;
-use crate::tree::places::carried;
+use crate::tree::prefixes::carried;
 use crate::tree::{Node, NodeId, Tree};
 use sabr_index::Looks;
 use sabr_model::NoMemory;

@@ -13,7 +13,7 @@ ghost use Rattle.sabr_frontier.specs.tree.Winners.{CarriesSome};
 use crate::giving::divide::{Given, divide, numbers};
 use crate::giving::searcher::Searcher;
 use crate::tree::change::carry;
-use crate::tree::places::carried;
+use crate::tree::prefixes::carried;
 use crate::tree::undo::give_back;
 use crate::tree::{NodeId, Tree};
 use sabr_model::{NoMemory, Route};

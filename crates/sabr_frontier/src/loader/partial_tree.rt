@@ -6,11 +6,11 @@ ghost use Rattle.sabr_model.specs.Order.{numbers_before};
 ghost use Rattle.sabr_frontier.specs.tree.Shape.{shape_of};
 ghost use Rattle.sabr_frontier.specs.tree.Undo.{IsIndexed, IsRoomy, last_item};
 ghost use Rattle.sabr_frontier.specs.loading.Loading.{comes_after, rise_strictly};
-ghost use Rattle.sabr_frontier.specs.loading.Partial.{AreExpected, IsGiven, IsLastPlace, IsLead, IsTakenIn, IsVerdict, is_complete, is_expected, last_prefix, loaded_tree, nothing_yet, partial_shape_of, parts_in, with_node};
+ghost use Rattle.sabr_frontier.specs.loading.Partial.{AreExpected, IsGiven, IsLastPlace, IsPathEnd, IsTakenIn, IsVerdict, is_complete, is_expected, last_prefix, loaded_tree, nothing_yet, partial_shape_of, parts_in, with_node};
 
 use crate::loader::check::{Checked, check};
 use crate::loader::ghost_lists::GhostLists;
-use crate::loader::leading::{ExpectedPrefix, Lead};
+use crate::loader::path_end::{ExpectedPrefix, PathEnd};
 use crate::plan_request::PlanRequest;
 use crate::tree::excluded_numbers::{ExcludedNumbers, is_increasing};
 use crate::tree::index::push_block;
@@ -25,7 +25,7 @@ use std::mem::replace;
 /// parts. As soon as a part isn't the first that is expected, the parts alone are kept.
 #[derive(Drop)]
 pub struct PartialTree<A: Allocator + Copy = Global> {
-    /// The prefixes of the parts, rising.
+    /// The prefixes of the parts, in order.
     pub prefixes: GhostLists,
     /// The last of them.
     pub last: Vec<u32, A>,
@@ -98,22 +98,22 @@ impl<A: Allocator + Copy> PartialTree<A> {
     }
 
     /// Returns where a prefix leads if it is the first that is expected, or none. That of the first part is empty.
-    pub fn expected_lead(&self, question: &PlanRequest<'_, A>, prefix: &[u32]) -> Option<Lead>
+    pub fn expected_end(&self, question: &PlanRequest<'_, A>, prefix: &[u32]) -> Option<PathEnd>
         requires { IsTrue self.now.sound → AreExpected question.now.plan.now.plan question.now.request self.now.last.items self.now.expected.items }
         ensures expected { is_some result ≡ is_expected (partial_shape_of self.now) prefix.now }
-        ensures lead { IfSome result (IsLead question.now.plan.now.plan question.now.request prefix.now) }
+        ensures end { IfSome result (IsPathEnd question.now.plan.now.plan question.now.request prefix.now) }
     {
         if !self.sound {
             return None;
         }
         let Some(expected) = self.expected.last() else {
             if self.nodes.is_empty() && prefix.is_empty() {
-                return Some(Lead::start(question.plan, &question.request));
+                return Some(PathEnd::at_source(question.plan, &question.request));
             }
             return None;
         };
         if expected.is(self.last.as_slice(), prefix) {
-            return Some(expected.lead);
+            return Some(expected.end);
         }
         None
     }
@@ -125,21 +125,21 @@ impl<A: Allocator + Copy> PartialTree<A> {
         question: &PlanRequest<'_, A>,
         prefix: &[u32],
         excluded: &[u32],
-        lead: Option<Lead>,
+        end: Option<PathEnd>,
     ) -> Result<Option<Checked<A>>, NoMemory>
-        requires expected { is_some lead ≡ is_expected (partial_shape_of self.old) prefix.now }
-        requires lead { IfSome lead (IsLead question.now.plan.now.plan question.now.request prefix.now) }
+        requires expected { is_some end ≡ is_expected (partial_shape_of self.old) prefix.now }
+        requires end { IfSome end (IsPathEnd question.now.plan.now.plan question.now.request prefix.now) }
         ensures verdict { IfOk result (IsVerdict question.now.plan.now.plan question.now.request (partial_shape_of self.old) (prefix.now, excluded.now)) }
         ensures same { partial_shape_of self.new ≡ partial_shape_of self.old }
     {
-        let Some(lead) = lead else {
+        let Some(end) = end else {
             return Ok(None);
         };
         if !prefix.is_empty() && excluded.is_empty() {
             return Ok(None);
         }
         let room = replace(&mut self.room, Checked::none(question.alloc));
-        check(question, prefix, excluded, lead, room)
+        check(question, prefix, excluded, end, room)
     }
 
     /// Adds a part after the others, for which there is room.
@@ -163,22 +163,22 @@ impl<A: Allocator + Copy> PartialTree<A> {
     }
 
     /// Adds a part that comes after the others, with the record of the route that it carries. If its prefix is the
-    /// first that is expected, `lead` is where that leads. If it isn't, or isn't right, the parts alone are kept from
+    /// first that is expected, `end` is where that leads. If it isn't, or isn't right, the parts alone are kept from
     /// now on. What may fail comes before the first change.
     pub fn take_in(
         &mut self,
         question: &PlanRequest<'_, A>,
         prefix: &[u32],
         excluded: &[u32],
-        lead: Option<Lead>,
+        end: Option<PathEnd>,
         route: Option<Route<A>>,
     ) -> Result<(), NoMemory>
-        requires expected { is_some lead ≡ is_expected (partial_shape_of self.old) prefix.now }
-        requires lead { IfSome lead (IsLead question.now.plan.now.plan question.now.request prefix.now) }
+        requires expected { is_some end ≡ is_expected (partial_shape_of self.old) prefix.now }
+        requires end { IfSome end (IsPathEnd question.now.plan.now.plan question.now.request prefix.now) }
         ensures ok { OnOk result (IsTakenIn question.now.plan.now.plan question.now.request (partial_shape_of self.old) prefix.now excluded.now route (partial_shape_of self.new)) }
         ensures err { OnErr result (partial_shape_of self.new ≡ partial_shape_of self.old) }
     {
-        let checked = self.check(question, prefix, excluded, lead)?;
+        let checked = self.check(question, prefix, excluded, end)?;
         let excluded = ExcludedNumbers::of(question.alloc, excluded)?;
         self.last.reserve(prefix.len())?;
         self.nodes.reserve(1)?;

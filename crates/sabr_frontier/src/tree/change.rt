@@ -7,7 +7,7 @@ ghost use Rattle.sabr_frontier.specs.tree.Undo.{IsRoomy, IsSpacious, modify, Has
 ghost use Rattle.sabr_frontier.specs.tree.Winners.{AreOthersWinners, CarriesNone, CarriesSome, IsFirst};
 ghost use Rattle.sabr_frontier.specs.tree.PageTrees.{carrying, given_by};
 
-use crate::tree::places::carried;
+use crate::tree::prefixes::carried;
 use crate::tree::winners::{fill, replay_up};
 use crate::tree::{Entry, Node, NodeId, Tree};
 use sabr_model::{NoMemory, Route};

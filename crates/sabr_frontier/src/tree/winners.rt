@@ -12,7 +12,7 @@ ghost use Rattle.std.specs.Prelude.{◌≡◌, ◌+◌, ◌<◌, ◌≤◌, leng
 ghost use Rattle.sabr_frontier.specs.tree.Shape.{route_at};
 ghost use Rattle.sabr_frontier.specs.tree.Winners.{AreOthersWinners, AreWinners, IsLesser, IsRising, IsWinner, is_lesser};
 
-use crate::tree::places::carried;
+use crate::tree::prefixes::carried;
 use crate::tree::{Node, NodeId};
 use std::alloc::Allocator;
 use std::cmp::Ordering;

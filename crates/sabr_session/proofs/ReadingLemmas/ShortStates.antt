@@ -69,7 +69,7 @@ given_number low top (d ∷ cs) c up all i =
       | inr k ↦ let rest = given_number d.number top cs c parts.1 all.1 k in (omega (arith, first, rest.0), rest.1)
     ]
 
--- rising numbers up to 20000
+-- increasing numbers up to 20000
 rising_few : (x : ℕ) (X : List ℕ) → Rises nat_cmp (x ∷ X) → AreLow (x ∷ X) → length X + x ≤ 20000
 rising_few x [] up low = let h = low.0.1 in omega (arith, h)
 rising_few x (y ∷ X) up low =

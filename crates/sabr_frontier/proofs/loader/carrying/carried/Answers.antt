@@ -6,19 +6,19 @@ use Rattle.sabr_model.specs.routes.Arrival.{RouteRequest}
 use Rattle.sabr_model.specs.routes.Parts.{goes_on, in_part}
 use Rattle.sabr_model.proofs.RouteLemmas.Faults.{fault_is_no_route}
 use Rattle.std.proofs.lemmas.List.{take_at}
-use Rattle.sabr_frontier.specs.declared.loader.leading.Lead.{Lead}
-use Rattle.sabr_frontier.specs.loading.Partial.{IsLead}
+use Rattle.sabr_frontier.specs.declared.loader.path_end.PathEnd.{PathEnd}
+use Rattle.sabr_frontier.specs.loading.Partial.{IsPathEnd}
 use Rattle.sabr_frontier.proofs.ListingLemmas.AllRoutes.{goes_on_within}
 use Rattle.sabr_search.proofs.WayLemmas.Prefixes.{number_after_some}
 use Rattle.sabr_frontier.proofs.loader.carrying.carried.Goals as goal
-use Rattle.sabr_frontier.proofs.loader.carrying.carried.Goals.{in-Some-lead, in-None}
+use Rattle.sabr_frontier.proofs.loader.carrying.carried.Goals.{in-Some-end, in-None}
 
 -- the first numbers of a route lead there, and more come after them
-record IsKnown (p : ContactPlan) (r : RouteRequest) (s : List ℕ) (known : Lead × ℕ) : Type 0 where
+record IsKnown (p : ContactPlan) (r : RouteRequest) (s : List ℕ) (known : PathEnd × ℕ) : Type 0 where
   longer : known.1 < length s
-  lead : IsLead p r (take known.1 s) known.0
+  end : IsPathEnd p r (take known.1 s) known.0
 
-module _ (p : ContactPlan) (r : RouteRequest) (q X s : List ℕ) (goes : goes_on q X s ≡ true) (lead : Lead) where
+module _ (p : ContactPlan) (r : RouteRequest) (q X s : List ℕ) (goes : goes_on q X s ≡ true) (end : PathEnd) where
   split : (x : ℕ) × (rest : List ℕ) × (s ≡ q ++ x ∷ rest)
   split = let w = goes_on_within q X s goes in let v = number_after_some q s w.0 w.1 in (w.0, v.0, v.1)
 
@@ -26,11 +26,11 @@ module _ (p : ContactPlan) (r : RouteRequest) (q X s : List ℕ) (goes : goes_on
   longer_than = omega (arith, length-append q (split.0 ∷ split.1), ap (length {A = ℕ}) split.2)
 
   -- a list that goes on after a prefix begins with it, and with nothing
-  after_prefix : IsLead p r q lead → IsKnown p r s (lead, length q)
-  after_prefix is = record { longer = longer_than; lead = subst (λ q. IsLead p r q lead) (sym (ap (take (length q)) split.2 ∙ take_at q (split.0 ∷ split.1) (length q) refl)) is }
+  after_prefix : IsPathEnd p r q end → IsKnown p r s (end, length q)
+  after_prefix is = record { longer = longer_than; end = subst (λ q. IsPathEnd p r q end) (sym (ap (take (length q)) split.2 ∙ take_at q (split.0 ∷ split.1) (length q) refl)) is }
 
-  after_nothing : IsLead p r [] lead → IsKnown p r s (lead, 0)
-  after_nothing is = record { longer = omega (arith, longer_than); lead = is }
+  after_nothing : IsPathEnd p r [] end → IsKnown p r s (end, 0)
+  after_nothing is = record { longer = omega (arith, longer_than); end = is }
 
 pub follow_after-requires : goal.follow_after-requires
 follow_after-requires g c =
@@ -38,11 +38,11 @@ follow_after-requires g c =
     let r = c.args.question.now.request in
     let s = c.in-Some.route.now in
     let goes = sym c.goes_on.ensures ∙ c.if-not-goes_on.false in
-    let known : IsKnown p r s c.match-lead.first = elim c.match-lead.branch [
-      | in-Some-lead w ↦ subst (IsKnown p r s) (sym w.first-is) (after_prefix p r c.args.prefix.now c.args.excluded.now s goes w.in-Some-lead.lead (subst (λ o. IfSome o (IsLead p r c.args.prefix.now)) w.in-Some-lead.is c.requires))
-      | in-None w ↦ subst (IsKnown p r s) (sym w.first-is) (after_nothing p r c.args.prefix.now c.args.excluded.now s goes w.start.result w.start.ensures)
+    let known : IsKnown p r s c.match-end.first = elim c.match-end.branch [
+      | in-Some-end w ↦ subst (IsKnown p r s) (sym w.first-is) (after_prefix p r c.args.prefix.now c.args.excluded.now s goes w.in-Some-end.end (subst (λ o. IfSome o (IsPathEnd p r c.args.prefix.now)) w.in-Some-end.is c.requires))
+      | in-None w ↦ subst (IsKnown p r s) (sym w.first-is) (after_nothing p r c.args.prefix.now c.args.excluded.now s goes w.at_source.result w.at_source.ensures)
     ] in
-    record { longer = known.longer; path = known.lead.path; reached = known.lead.reached }
+    record { longer = known.longer; path = known.end.path; reached = known.end.reached }
 
 pub summary_of-summary-requires : goal.summary_of-summary-requires
 summary_of-summary-requires g c =
@@ -50,11 +50,11 @@ summary_of-summary-requires g c =
     let r = c.args.question.now.request in
     let s = c.in-Some.route.now in
     let goes = sym c.goes_on.ensures ∙ c.if-not-goes_on.false in
-    let known : IsKnown p r s c.match-lead.first = elim c.match-lead.branch [
-      | in-Some-lead w ↦ subst (IsKnown p r s) (sym w.first-is) (after_prefix p r c.args.prefix.now c.args.excluded.now s goes w.in-Some-lead.lead (subst (λ o. IfSome o (IsLead p r c.args.prefix.now)) w.in-Some-lead.is c.requires))
-      | in-None w ↦ subst (IsKnown p r s) (sym w.first-is) (after_nothing p r c.args.prefix.now c.args.excluded.now s goes w.start.result w.start.ensures)
+    let known : IsKnown p r s c.match-end.first = elim c.match-end.branch [
+      | in-Some-end w ↦ subst (IsKnown p r s) (sym w.first-is) (after_prefix p r c.args.prefix.now c.args.excluded.now s goes w.in-Some-end.end (subst (λ o. IfSome o (IsPathEnd p r c.args.prefix.now)) w.in-Some-end.is c.requires))
+      | in-None w ↦ subst (IsKnown p r s) (sym w.first-is) (after_nothing p r c.args.prefix.now c.args.excluded.now s goes w.at_source.result w.at_source.ensures)
     ] in
-    record { within = omega (arith, known.longer); front = known.lead.summary }
+    record { within = omega (arith, known.longer); front = known.end.summary }
 
 pub returns-in_default-follow_after-clause-err : goal.returns-in_default-follow_after-clause-err
 returns-in_default-follow_after-clause-err g c =

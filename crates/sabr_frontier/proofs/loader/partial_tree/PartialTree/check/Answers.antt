@@ -18,4 +18,4 @@ returns-clause-verdict g c =
     verdict_from c.args.question.now.plan.now.plan c.args.question.now.request (partial_shape_of c.args.self.now) (q, X) (sym c.requires.expected ∙ ap is_some c.in-Some.is) busy c.check.result c.check.ensures.some c.check.ensures.none
 
 pub returns-in_default-clause-verdict : goal.returns-in_default-clause-verdict
-returns-in_default-clause-verdict g c lead good = true≢false (sym lead ∙ sym c.requires.expected ∙ ap is_some c.in_default.is)
+returns-in_default-clause-verdict g c least good = true≢false (sym least ∙ sym c.requires.expected ∙ ap is_some c.in_default.is)

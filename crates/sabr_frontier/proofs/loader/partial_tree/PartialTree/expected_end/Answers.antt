@@ -1,9 +1,9 @@
 use Rattle.std.proofs.Common.{◌≡◌, ◌≤◌, ◌∙◌, Some, ap, sym, subst, length}
-use Rattle.sabr_frontier.specs.loading.Partial.{partial_shape_of, IsLead, expected_prefix}
+use Rattle.sabr_frontier.specs.loading.Partial.{partial_shape_of, IsPathEnd, expected_prefix}
 use Rattle.sabr_frontier.specs.tree.Undo.{last_item}
 use Rattle.sabr_frontier.proofs.LoadingLemmas.LoadedParts.{other_is_not_expected, same_is_expected}
 use Rattle.sabr_frontier.proofs.TreeLemmas.ModifiedPlaces.{get_Member}
-use Rattle.sabr_frontier.proofs.loader.partial_tree.PartialTree.expected_lead.Goals as goal
+use Rattle.sabr_frontier.proofs.loader.partial_tree.PartialTree.expected_end.Goals as goal
 
 pub is-requires : goal.is-requires
 is-requires g c =
@@ -20,7 +20,7 @@ returns-then-is g c =
     let same = c.is.ensures.same c.if-is.true ∙ ap (λ q. expected_prefix q o) c.as_slice.ensures.value in
     record {
       expected = sym (same_is_expected h c.args.prefix.now o last c.if-not-self.false same);
-      lead = subst (λ q. IsLead c.args.question.now.plan.now.plan c.args.question.now.request q o.lead) (sym same) ((c.requires c.if-not-self.false).leads o (get_Member h.expected _ o last));
+      end = subst (λ q. IsPathEnd c.args.question.now.plan.now.plan c.args.question.now.request q o.end) (sym same) ((c.requires c.if-not-self.false).ends o (get_Member h.expected _ o last));
     }
 
 pub returns-clause-expected : goal.returns-clause-expected

@@ -3,7 +3,7 @@
 ghost use Rattle.std.specs.Prelude.{◌≡◌};
 ghost use Rattle.sabr_frontier.specs.session.Views.{seen_at, seen_of};
 
-use crate::tree::places::prefix;
+use crate::tree::prefixes::prefix;
 use crate::tree::{Node, NodeId};
 use sabr_model::Route;
 use std::alloc::{Allocator, Global};
@@ -13,13 +13,13 @@ use std::alloc::{Allocator, Global};
 pub struct PartView<'a, A: Allocator + Copy = Global> {
     /// The contact numbers that each route of the part begins with.
     pub prefix: &'a [u32],
-    /// The contact numbers that no route of the part takes next, rising.
+    /// The contact numbers that no route of the part takes next, in increasing order.
     pub excluded: &'a [u32],
     /// The best route of the part by key, or none if it has no route.
     pub route: Option<&'a Route<A>>,
 }
 
-/// The parts that are left, rising by prefix.
+/// The parts that are left, in order of prefix.
 #[derive(Drop)]
 pub struct Parts<'a, A: Allocator + Copy = Global> {
     pub index: &'a [NodeId],

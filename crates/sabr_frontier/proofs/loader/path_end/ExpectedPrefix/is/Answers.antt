@@ -1,7 +1,7 @@
 use Rattle.std.proofs.Common.{take, sym, ◌∙◌}
 use Rattle.std.specs.Cmp.Lexicographic.{other_text}
 use Rattle.sabr_frontier.proofs.ListingLemmas.ClosedTrees.{last_same}
-use Rattle.sabr_frontier.proofs.loader.leading.ExpectedPrefix.is.Goals as goal
+use Rattle.sabr_frontier.proofs.loader.path_end.ExpectedPrefix.is.Goals as goal
 
 pub returns-then-number-self-clause-other : goal.returns-then-number-self-clause-other
 returns-then-number-self-clause-other c differs same =

@@ -1,6 +1,6 @@
 use Rattle.std.proofs.Common.{Some, ap, sym}
 use Rattle.sabr_model.proofs.RouteLemmas.Prefixes.{empty_is_path}
-use Rattle.sabr_frontier.proofs.loader.leading.Lead.start.Goals as goal
+use Rattle.sabr_frontier.proofs.loader.path_end.PathEnd.at_source.Goals as goal
 
 pub returns : goal.returns
 returns g c = record {

@@ -1,6 +1,6 @@
 use Rattle.std.proofs.Common.{[], ◌∷◌, ◌++◌}
 use Rattle.sabr_frontier.proofs.LoadingLemmas.LoadedParts.{faulty_front}
-use Rattle.sabr_frontier.proofs.loader.leading.Lead.extended.Goals as goal
+use Rattle.sabr_frontier.proofs.loader.path_end.PathEnd.extended.Goals as goal
 
 pub returns-in_default-clause-none : goal.returns-in_default-clause-none
 returns-in_default-clause-none g c =

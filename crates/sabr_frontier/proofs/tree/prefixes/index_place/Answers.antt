@@ -4,7 +4,7 @@ use Rattle.sabr_frontier.specs.tree.Shape.{part_at, IsBefore}
 use Rattle.sabr_frontier.specs.tree.Giving.{stands_before}
 use Rattle.sabr_frontier.proofs.TreeLemmas.ListFronts.{passing_is, partitioned}
 use Rattle.sabr_frontier.proofs.ListingLemmas.ListMembers.{earlier_prefix}
-use Rattle.sabr_frontier.proofs.tree.places.index_place.Goals as goal
+use Rattle.sabr_frontier.proofs.tree.prefixes.index_place.Goals as goal
 
 pub returns-clause-value : goal.returns-clause-value
 returns-clause-value g c =

@@ -1,7 +1,7 @@
 use Rattle.std.proofs.Common.{◌≡◌, ◌+◌, ◌++◌, ◌∷◌, [], take, get_or, ap, ◌∙◌}
 use Rattle.std.proofs.lemmas.List.{take_all, take_more}
 use Rattle.sabr_model.specs.routes.Telling.{summary_of}
-use Rattle.sabr_frontier.proofs.loader.leading.Lead.summary_of.Goals as goal
+use Rattle.sabr_frontier.proofs.loader.path_end.PathEnd.summary_of.Goals as goal
 
 pub loop-place-preserved : goal.loop-place-preserved
 loop-place-preserved g c =

@@ -1,16 +1,16 @@
-//! Where the prefixes of parts lead.
+//! Where the prefixes of parts end.
 
 ghost use Rattle.std.specs.Prelude.{◌≡◌, ◌≤◌, ◌∷◌, ◌++◌, [], length, take, IfSome, IfNone, IsTrue, IsFalse};
 ghost use Rattle.sabr_model.specs.routes.Route.{is_path};
 ghost use Rattle.sabr_model.specs.routes.Telling.{summary_of};
-ghost use Rattle.sabr_frontier.specs.loading.Partial.{IsLead, expected_prefix};
+ghost use Rattle.sabr_frontier.specs.loading.Partial.{IsPathEnd, expected_prefix};
 
 use sabr_model::{Plan, Reached, Request, RouteSummary, follow_hop};
 use std::alloc::Allocator;
 
 /// Where a path leads, and what its record says besides its numbers and its delivery.
 #[derive(Clone, Copy)]
-pub struct Lead {
+pub struct PathEnd {
     pub here: Reached,
     pub summary: RouteSummary,
 }
@@ -23,7 +23,7 @@ pub struct ExpectedPrefix {
     /// The one number after them.
     pub number: u32,
     /// Where it leads.
-    pub lead: Lead,
+    pub end: PathEnd,
 }
 
 impl ExpectedPrefix {
@@ -40,12 +40,12 @@ impl ExpectedPrefix {
     }
 }
 
-impl Lead {
+impl PathEnd {
     /// Starts at the source, with no number.
-    pub fn start<A: Allocator + Copy>(plan: &Plan<A>, request: &Request) -> Lead
-        ensures { IsLead plan.now.plan request.now [] result }
+    pub fn at_source<A: Allocator + Copy>(plan: &Plan<A>, request: &Request) -> PathEnd
+        ensures { IsPathEnd plan.now.plan request.now [] result }
     {
-        Lead {
+        PathEnd {
             here: Reached {
                 node: request.from(),
                 at: request.at(),
@@ -61,15 +61,15 @@ impl Lead {
         request: &Request,
         prefix: &[u32],
         number: u32,
-    ) -> Option<Lead>
-        requires { IsLead plan.now.plan request.now prefix.now self }
-        ensures lead { IfSome result (IsLead plan.now.plan request.now (prefix.now ++ number ∷ [])) }
+    ) -> Option<PathEnd>
+        requires { IsPathEnd plan.now.plan request.now prefix.now self }
+        ensures end { IfSome result (IsPathEnd plan.now.plan request.now (prefix.now ++ number ∷ [])) }
         ensures none { IfNone result (IsTrue (is_path plan.now.plan request.now (prefix.now ++ number ∷ [])) → ⊥) }
     {
         let Ok(here) = follow_hop(plan, request, prefix, self.here, number) else {
             return None;
         };
-        Some(Lead {
+        Some(PathEnd {
             here,
             summary: self.summary.extended(plan, prefix, number),
         })
