@@ -119,7 +119,7 @@ impl<'p, B: BestOf<A>, A: Allocator + Copy> Loader<'p, B, A> {
         ensures formed { OnOk result (IsState self.entry.plan.plan self.entry.request (state_with self.entry.parts emitted last.now)) }
         ensures err { IfErr result (IsRefusedBy self.entry.plan.plan self.entry.request (state_with self.entry.parts emitted last.now)) }
     {
-        let alloc = self.question.alloc;
+        let alloc = self.question.alloc();
         let plan = self.question.plan;
         let paused = self.finish_paused(emitted, last)?;
         let index = Index::new(alloc, plan)?;
@@ -148,7 +148,7 @@ impl<'p, B: BestOf<A>, A: Allocator + Copy> Loader<'p, B, A> {
         let Some(last) = last_place(self.partial.leaves.as_slice(), emitted, last) else {
             return Err(LoadFault::BadCount);
         };
-        let tree = self.partial.into_tree(self.question.alloc, last)?;
+        let tree = self.partial.into_tree(self.question.alloc(), last)?;
         Ok(PausedSession::of_tree(self.question, self.finder, tree))
     }
 }

@@ -13,3 +13,10 @@ pub struct PlanRequest<'p, A: Allocator + Copy = Global> {
     /// The request.
     pub request: Request,
 }
+
+impl<'p, A: Allocator + Copy> PlanRequest<'p, A> {
+    /// The allocator. A question that is taken apart later is asked for it, since the prover doesn't read its field then.
+    pub fn alloc(&self) -> A {
+        self.alloc
+    }
+}

@@ -46,7 +46,7 @@ pub struct Tree<A: Allocator + Copy = Global> {
     /// The ids of the parts in order of prefix. While a page is made, its nodes are left out.
     pub index: Vec<NodeId, A>,
     /// Room for the ids of a page's nodes, until they are put among the others. Else empty.
-    pub late: Vec<NodeId, A>,
+    pub unindexed: Vec<NodeId, A>,
     /// Slot `k` names the node with the best route among node `k` and the winners of slots `2k + 1` and `2k + 2`.
     pub winners: Vec<NodeId, A>,
     /// The routes given, in the order of the parts that they made.

@@ -2,7 +2,7 @@
 use Rattle.std.proofs.Common.{◌≡◌, ℕ, ◌-◌, ◌<◌, zero, suc, List, [], ◌∷◌, ◌++◌, length, take, set, get_or, Some, refl, sym, ap, ◌∙◌, arith, length-append, take_at, ◌+◌, ◌≤◌, drop, subst, ◌⊎◌, inl, inr, None, append_assoc}
 use Rattle.std.specs.Prelude.{slice_get}
 use Rattle.sabr_frontier.specs.tree.Undo.{modify, last_item, front}
-use Rattle.sabr_search.proofs.BackwardLemmas.LateLists.{get_push_here}
+use Rattle.sabr_model.proofs.ListLemmas.Members.{push_new}
 use Rattle.std.proofs.lemmas.Bool.{cases_eq}
 use Rattle.std.proofs.lemmas.Option.{slice_get_within, slice_get-get_or}
 use Rattle.std.proofs.lemmas.List.{take-append-drop}
@@ -142,7 +142,7 @@ less_one : {X : Type 0} (xs : List X) (x : X) → length (xs ++ x ∷ []) - 1 �
 less_one xs x = omega (arith, length-append xs (x ∷ []))
 
 pub last_item_push : {X : Type 0} (ys xs : List X) (x : X) → ys ≡ xs ++ x ∷ [] → last_item ys ≡ Some x
-last_item_push ys xs x e = ap last_item e ∙ (ap (slice_get (xs ++ x ∷ [])) (less_one xs x) ∙ get_push_here xs x)
+last_item_push ys xs x e = ap last_item e ∙ (ap (slice_get (xs ++ x ∷ [])) (less_one xs x) ∙ push_new xs x)
 
 pub front_push : {X : Type 0} (ys xs : List X) (x : X) → ys ≡ xs ++ x ∷ [] → front ys ≡ xs
 front_push ys xs x e = ap front e ∙ (ap (λ n. take n (xs ++ x ∷ [])) (less_one xs x) ∙ take_at xs (x ∷ []) (length xs) refl)

@@ -11,7 +11,7 @@ use Rattle.sabr_model.specs.routes.Record.{RouteRecord, by_record, by_record_tot
 use Rattle.sabr_frontier.specs.declared.tree.NodeId.{NodeId}
 use Rattle.sabr_frontier.specs.declared.tree.Node.{Node}
 use Rattle.sabr_frontier.specs.tree.Shape.{route_at}
-use Rattle.sabr_frontier.specs.tree.Winners.{route_of, winner_at, is_lesser, IsNoGreater, IsBestOf, IsFirst, CarriesNone, IsLesser, IsWinner, IsWon, AreWinners, low, high, IsAbove, AreOthersWinners, IsRising, IsBeside}
+use Rattle.sabr_frontier.specs.tree.Winners.{route_of, winner_at, is_lesser, IsNoGreater, IsBestOf, IsFirst, CarriesNone, IsLesser, IsWinner, IsWon, AreWinners, low, high, IsAbove, AreOthersWinners, IsSiftedUp, IsBeside}
 use Rattle.sabr_frontier.proofs.ListingLemmas.ListMembers.{turned, less_from_test, not_below, not_less_itself}
 
 -- ---- what a node carries
@@ -231,8 +231,8 @@ others_changed nodes old ids i won same k l out =
 
 module _ {A : Type 0} (nodes : List (Node A)) where
   -- one node more
-  pub rising_first : (ids ids' : List NodeId) (n : ℕ) → n ≡ length ids → ids' ≡ ids ++ record { 0 = n } ∷ [] → AreWinners nodes ids → IsRising nodes ids' n (record { 0 = n })
-  rising_first ids ids' n long is won = record {
+  pub sifted_first : (ids ids' : List NodeId) (n : ℕ) → n ≡ length ids → ids' ≡ ids ++ record { 0 = n } ∷ [] → AreWinners nodes ids → IsSiftedUp nodes ids' n (record { 0 = n })
+  sifted_first ids ids' n long is won = record {
     within = omega (arith, more);
     here = last;
     others = λ k l out. elim (cases_eq k n) [
@@ -260,14 +260,14 @@ module _ {A : Type 0} (nodes : List (Node A)) where
       same : (c : ℕ) → c < length ids → winner_at ids' c ≡ winner_at ids c
       same c w = ap (λ z. winner_at z c) is ∙ get_or_append_left ids (record { 0 = n } ∷ []) (record { 0 = 0 }) c w
 
-  module _ (ids : List NodeId) (at : ℕ) (id : NodeId) (is : IsRising nodes ids at id) where
+  module _ (ids : List NodeId) (at : ℕ) (id : NodeId) (is : IsSiftedUp nodes ids at id) where
     -- at the first slot
-    pub rising_ends : at ≤ 0 → AreWinners nodes ids
-    rising_ends none k l = is.others k l (λ x y. omega (arith, none, x))
+    pub sifted_ends : at ≤ 0 → AreWinners nodes ids
+    sifted_ends none k l = is.others k l (λ x y. omega (arith, none, x))
 
     -- the slot over it has a winner that isn't greater
-    pub rising_stops : (p : ℕ) → p * 2 + 1 ≤ at → at ≤ p * 2 + 2 → is_lesser (route_at nodes id) (route_at nodes (winner_at ids p)) ≡ false → AreWinners nodes ids
-    rising_stops p x y e k l = elim (cases_eq k p) [
+    pub sifted_stops : (p : ℕ) → p * 2 + 1 ≤ at → at ≤ p * 2 + 2 → is_lesser (route_at nodes id) (route_at nodes (winner_at ids p)) ≡ false → AreWinners nodes ids
+    sifted_stops p x y e k l = elim (cases_eq k p) [
       | inr d ↦ is.others k l (λ a b. d (omega (arith, a, b, x, y)))
       | inl f ↦ subst (λ k. IsWon nodes ids k) (sym f) (record {
         own = b.own;
@@ -286,8 +286,8 @@ module _ {A : Type 0} (nodes : List (Node A)) where
         b = is.above p x y
 
     -- the slot over it is won
-    pub rising_on : (p : ℕ) → p * 2 + 1 ≤ at → at ≤ p * 2 + 2 → is_lesser (route_at nodes id) (route_at nodes (winner_at ids p)) ≡ true → IsRising nodes (set ids p id) p id
-    rising_on p x y e = record {
+    pub sifted_on : (p : ℕ) → p * 2 + 1 ≤ at → at ≤ p * 2 + 2 → is_lesser (route_at nodes id) (route_at nodes (winner_at ids p)) ≡ true → IsSiftedUp nodes (set ids p id) p id
+    sifted_on p x y e = record {
       within = omega (arith, long, is.within, x);
       here = here;
       others = λ k l out. elim (cases_eq k p) [

@@ -38,13 +38,13 @@ given_by t node x found first =
 
 -- no prefix of the first is one of the second
 abbrev pub AreApart : {A : Type 0} → List RouteRecord → List (Node A) → List NodeId → List NodeId → Type 0
-AreApart leaves nodes ids late = (a b : NodeId) → Member a ids → Member b late → IsBefore leaves nodes a b ⊎ IsBefore leaves nodes b a
+AreApart leaves nodes ids unindexed = (a b : NodeId) → Member a ids → Member b unindexed → IsBefore leaves nodes a b ⊎ IsBefore leaves nodes b a
 
 -- in order, and the nodes of both
-pub record IsMerged {A : Type 0} (leaves : List RouteRecord) (nodes : List (Node A)) (ids late both : List NodeId) : Type 0 where
+pub record IsMerged {A : Type 0} (leaves : List RouteRecord) (nodes : List (Node A)) (ids unindexed both : List NodeId) : Type 0 where
   pub order : InPairs (IsBefore leaves nodes) both
-  pub from : (id : NodeId) → Member id both → Member id ids ⊎ Member id late
-  pub has : (id : NodeId) → Member id ids ⊎ Member id late → Member id both
+  pub from : (id : NodeId) → Member id both → Member id ids ⊎ Member id unindexed
+  pub has : (id : NodeId) → Member id ids ⊎ Member id unindexed → Member id both
 
 -- the first nodes of the index, in its order
 pub record IsPart {A : Type 0} (t : Shape A) (ids : List NodeId) : Type 0 where

@@ -12,7 +12,7 @@ use Rattle.sabr_frontier.specs.tree.Winners.{AreWinners}
 -- the index and the winners have places for every node, and so has the room for those that the index lacks
 pub record IsSpacious {A : Type 0} (t : Tree A) : Type 0 where
   pub index : length t.nodes.items ≤ vec_capacity t.index
-  pub added : length t.nodes.items ≤ vec_len t.index + vec_capacity t.late
+  pub added : length t.nodes.items ≤ vec_len t.index + vec_capacity t.unindexed
   pub places : length t.nodes.items ≤ vec_capacity t.winners
 
 -- the same, and the winners are those of all nodes
@@ -25,7 +25,7 @@ pub record IsRoomy {A : Type 0} (t : Tree A) : Type 0 where
 pub record HasRoom {A : Type 0} (t : Tree A) (m : ℕ) : Type 0 where
   pub nodes : vec_len t.nodes + m ≤ vec_capacity t.nodes
   pub index : vec_len t.nodes + m ≤ vec_capacity t.index
-  pub added : vec_len t.nodes + m ≤ vec_len t.index + vec_capacity t.late
+  pub added : vec_len t.nodes + m ≤ vec_len t.index + vec_capacity t.unindexed
   pub winners : vec_len t.nodes + m ≤ vec_capacity t.winners
   pub leaves : vec_len t.leaves < vec_capacity t.leaves
   pub journal : vec_len t.journal < vec_capacity t.journal

@@ -90,7 +90,7 @@ pub record IsBeside {A : Type 0} (nodes : List (Node A)) (ids : List NodeId) (k 
   pub from : (is_lesser (route_at nodes id) (route_at nodes (winner_at ids k)) ≡ true) ⊎ ((winner_at ids k ≡ record { 0 = k }) ⊎ ((c : ℕ) × (k * 2 + 1 ≤ c) × (c ≤ k * 2 + 2) × (c < length ids) × (c ≢ at) × (winner_at ids k ≡ winner_at ids c)))
 
 -- the slot names the node, and each other slot names a winner, but for the one over it
-pub record IsRising {A : Type 0} (nodes : List (Node A)) (ids : List NodeId) (at : ℕ) (id : NodeId) : Type 0 where
+pub record IsSiftedUp {A : Type 0} (nodes : List (Node A)) (ids : List NodeId) (at : ℕ) (id : NodeId) : Type 0 where
   pub within : at < length ids
   pub here : winner_at ids at ≡ id
   pub others : (k : ℕ) → k < length ids → (k * 2 + 1 ≤ at → at ≤ k * 2 + 2 → ⊥) → IsWon nodes ids k

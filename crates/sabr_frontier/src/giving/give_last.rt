@@ -80,6 +80,8 @@ fn part_goes_on<B: BestOf<A>, A: Allocator + Copy>(
     requires next { CanExclude part.now route.now }
     requires floor { IsFloor searcher.old.asked.plan.plan searcher.old.asked.request (take part.now.length route.now) part.now.excluded floor }
     requires few { detour_looks searcher.old.asked.request.max_hops ≤ looks.old.left }
+
+    // The answer, the searches and the looks.
     ensures ok { IfOk result (λ yes. yes ≡ part_goes_on (best_for searcher.old.asked None) part.now route.now) }
     ensures no_fewer { searcher.old.calls.count ≤ searcher.new.calls.count }
     ensures at_most { searcher.new.calls.count + part.now.length ≤ searcher.old.calls.count + length route.now }
@@ -117,6 +119,8 @@ impl<A: Allocator + Copy> Tree<A> {
         requires next { OfNode self.now.nodes.items node (λ n. CanExclude n route.now) }
         requires floor { OfNode self.now.nodes.items node (λ n. IsFloor searcher.old.asked.plan.plan searcher.old.asked.request (take n.length route.now) n.excluded floor) }
         requires few { detour_looks searcher.old.asked.request.max_hops ≤ looks.old.left }
+
+        // The answer, the searches and the looks.
         ensures ok { IfOk result (λ yes. OfNode self.now.nodes.items node (λ n. yes ≡ (others_carry self.now.nodes.items node || part_goes_on (best_for searcher.old.asked None) n route.now))) }
         ensures no_fewer { searcher.old.calls.count ≤ searcher.new.calls.count }
         ensures at_most { OfNode self.now.nodes.items node (λ n. searcher.new.calls.count + n.length ≤ searcher.old.calls.count + length route.now) }

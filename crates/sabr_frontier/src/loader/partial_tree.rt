@@ -222,7 +222,7 @@ impl<A: Allocator + Copy> PartialTree<A> {
         Ok(Tree {
             nodes: self.nodes,
             index,
-            late: Vec::new(alloc),
+            unindexed: Vec::new(alloc),
             winners,
             leaves: self.leaves,
             last,

@@ -71,7 +71,7 @@ impl<B: BestOf<A>, A: Allocator + Copy> PausedSession<B, A> {
         ensures seen { seen_over B.calls_of question.entry.plan.now result ≡ session_over question.entry.plan.now question.entry.request (shown (shape_of tree)) (B.calls_of finder) }
         ensures paused { IsPausedOver question.entry.plan.now result }
     {
-        let alloc = question.alloc;
+        let alloc = question.alloc();
         PausedSession {
             searcher: PausedSearcher::new(alloc, question.request, finder),
             tree,

@@ -61,9 +61,9 @@ impl<A: Allocator + Copy> Tree<A> {
     {
         self.nodes.reserve(count)?;
         let nodes = self.nodes.len() + count;
-        let late = nodes.saturating_sub(self.index.len());
-        self.index.reserve(late)?;
-        self.late.reserve(late)?;
+        let unindexed = nodes.saturating_sub(self.index.len());
+        self.index.reserve(unindexed)?;
+        self.unindexed.reserve(unindexed)?;
         self.leaves.reserve(1)?;
         self.journal.reserve(1)?;
         let more = nodes.saturating_sub(self.winners.len());

@@ -34,7 +34,7 @@ impl<A: Allocator + Copy> Tree<A> {
         Ok(Tree {
             nodes,
             index,
-            late: Vec::new(alloc),
+            unindexed: Vec::new(alloc),
             winners,
             leaves: Vec::new(alloc),
             last: None,

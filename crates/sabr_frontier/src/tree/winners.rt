@@ -10,7 +10,7 @@
 
 ghost use Rattle.std.specs.Prelude.{◌≡◌, ◌+◌, ◌<◌, ◌≤◌, length, vec_len, vec_capacity};
 ghost use Rattle.sabr_frontier.specs.tree.Shape.{route_at};
-ghost use Rattle.sabr_frontier.specs.tree.Winners.{AreOthersWinners, AreWinners, IsLesser, IsRising, IsWinner, is_lesser};
+ghost use Rattle.sabr_frontier.specs.tree.Winners.{AreOthersWinners, AreWinners, IsLesser, IsSiftedUp, IsWinner, is_lesser};
 
 use crate::tree::prefixes::carried;
 use crate::tree::{Node, NodeId};
@@ -71,7 +71,7 @@ pub fn replay_up<A: Allocator + Copy>(nodes: &[Node<A>], ids: &mut [NodeId], slo
 
 /// Moves a node up from its own slot: it wins each slot above, up to the first whose winner carries no greater route.
 fn sift_up<A: Allocator + Copy>(nodes: &[Node<A>], ids: &mut [NodeId], id: NodeId)
-    requires { IsRising nodes.now ids.old id.0 id }
+    requires { IsSiftedUp nodes.now ids.old id.0 id }
     ensures won { AreWinners nodes.now ids.new }
     ensures len { length ids.new ≡ length ids.old }
 {

@@ -22,7 +22,7 @@ find_best-requires g c =
     let here = subst (λ (xs : List (Node g.row.A.Denot)). slice_get xs c.loop-node.node-index ≡ Some n) c.deref-node-items.ensures.value (get_there c.deref-node-items.result.now c.loop-node.node-index n c.loop-node-test.true c.node-item.is) in
     record {
       fits = subst (λ (a : Asked). IsTrue (is_prefix a.plan.plan a.request c.prefix-front.result.now)) (sym c.loop-node.invariant.same) (ap (is_prefix p r) (c.prefix-front.ensures ∙ ap (λ l. prefix_of l n) c.as_slice.ensures.value) ∙ front_is p r t c.requires.tree c.loop-node.node-index n here);
-      rising = subst IsStrictlyIncreasing (sym c.as_slice-in-loop-node.ensures) (increasing n.excluded (excluded_rise p r t c.requires.tree c.loop-node.node-index n here));
+      increasing = subst IsStrictlyIncreasing (sym c.as_slice-in-loop-node.ensures) (increasing n.excluded (excluded_rise p r t c.requires.tree c.loop-node.node-index n here));
       floor = λ _ _. omega arith;
     }
 

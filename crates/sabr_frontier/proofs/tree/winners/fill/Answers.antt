@@ -1,13 +1,13 @@
 use Rattle.std.proofs.Common.{arith, sym, subst, ◌∙◌}
 use Rattle.std.proofs.lemmas.List.{take_at}
 use Rattle.sabr_frontier.specs.tree.Winners.{AreWinners}
-use Rattle.sabr_frontier.proofs.TreeLemmas.SlotWinners.{rising_first}
+use Rattle.sabr_frontier.proofs.TreeLemmas.SlotWinners.{sifted_first}
 use Rattle.sabr_frontier.proofs.tree.winners.fill.Goals as goal
 
 pub sift_up-requires : goal.sift_up-requires
 sift_up-requires g c =
     let l = c.loop-place in
-    rising_first c.args.nodes.now l.winners.items c.as_mut_slice.result.now l.place (omega (arith, l.invariant.long)) (c.as_mut_slice.ensures.value ∙ c.push_reserved.ensures.items) l.invariant.won
+    sifted_first c.args.nodes.now l.winners.items c.as_mut_slice.result.now l.place (omega (arith, l.invariant.long)) (c.as_mut_slice.ensures.value ∙ c.push_reserved.ensures.items) l.invariant.won
 
 pub loop-place-preserved : goal.loop-place-preserved
 loop-place-preserved g c = record {

@@ -1,10 +1,10 @@
 use Rattle.std.proofs.Common.{◌≡◌, length}
-use Rattle.sabr_frontier.specs.tree.Winners.{IsRising}
+use Rattle.sabr_frontier.specs.tree.Winners.{IsSiftedUp}
 use Rattle.sabr_frontier.proofs.tree.winners.sift_up.Given as goal
 
 abbrev pub invariant-loop-slot : goal.invariant-loop-slot
 invariant-loop-slot g l = record {
-  rising : IsRising l.nodes l.ids l.slot l.id;
+  sifted : IsSiftedUp l.nodes l.ids l.slot l.id;
   long : length l.ids ≡ length l.fn.ids;
 }
 
