@@ -2,7 +2,7 @@
 
 mod carrying;
 mod check;
-mod ghost_lists;
+mod ghost_parts;
 pub mod load_fault;
 mod partial_tree;
 mod path_end;
@@ -17,6 +17,7 @@ ghost use Rattle.sabr_frontier.specs.listing.State.{part_with};
 ghost use Rattle.sabr_frontier.specs.session.Paused.{IsPausedOver, seen_over};
 
 use crate::loader::carrying::carried;
+use crate::loader::ghost_parts::GhostParts;
 use crate::loader::load_fault::LoadFault;
 use crate::loader::partial_tree::{PartialTree, last_place};
 use crate::plan_request::PlanRequest;
@@ -37,6 +38,8 @@ pub struct Loader<'p, B: BestOf<A>, A: Allocator + Copy = Global> {
     /// The finder that the session will ask.
     finder: B,
     /// The parts so far.
+    parts: GhostParts,
+    /// What is kept of them.
     partial: PartialTree<A>,
 }
 
@@ -46,9 +49,9 @@ impl<'p, B: BestOf<A>, A: Allocator + Copy> Model for Loader<'p, B, A> {
 
     ghost Value = { Loaded };
 
-    ghost view = { λ l. loaded l.question.plan.now l.question.request l.partial (B.calls_of l.finder) };
+    ghost view = { λ l. loaded l.question.plan.now l.question.request l.parts.items (B.calls_of l.finder) };
 
-    ghost invariant = { λ l. IsLoader l.question.plan.now l.question.request l.partial };
+    ghost invariant = { λ l. IsLoader l.question.plan.now l.question.request l.parts.items l.partial };
 }
 
 impl<'p, B: BestOf<A>, A: Allocator + Copy> Loader<'p, B, A> {
@@ -66,6 +69,7 @@ impl<'p, B: BestOf<A>, A: Allocator + Copy> Loader<'p, B, A> {
         Loader {
             question,
             finder,
+            parts: GhostParts::new(),
             partial: PartialTree::new(alloc),
         }
     }
@@ -100,9 +104,10 @@ impl<'p, B: BestOf<A>, A: Allocator + Copy> Loader<'p, B, A> {
             return Err(LoadFault::BadOrder);
         }
         let end = self.partial.expected_end(&self.question, prefix);
-        let route = carried(&self.question, prefix, excluded, end, route)?;
+        let record = carried(&self.question, prefix, excluded, end, route)?;
         self.partial
-            .take_in(&self.question, prefix, excluded, end, route)?;
+            .take_in(&self.question, prefix, excluded, end, record)?;
+        self.parts.push(prefix, excluded, route);
         Ok(())
     }
 

@@ -1,6 +1,6 @@
 -- A partial tree stays in order and answered when a part is added after the others. It is complete if and only if the
 -- parts are closed. What a prefix leads to with its excluded numbers, and when a part is refused, and how.
-use Rattle.std.proofs.Common.{◌≡◌, ℕ, zero, suc, ◌+◌, ◌-◌, ◌<◌, Bool, true, false, not, ◌&&◌, nat_lt, List, [], ◌∷◌, ◌++◌, map, flat_map, reverse, if◌then◌else◌, ◌≤◌, length, take, refl, sym, ap, subst, ◌∙◌, ◌⊎◌, inl, inr, arith, true≢false, Option, Some, None, length-append, length-take-le, append-nil, cond, filter, get_or}
+use Rattle.std.proofs.Common.{◌≡◌, ℕ, suc, ◌+◌, ◌-◌, ◌<◌, Bool, true, false, not, ◌&&◌, nat_lt, List, [], ◌∷◌, ◌++◌, map, flat_map, reverse, if◌then◌else◌, ◌≤◌, length, take, refl, sym, ap, subst, ◌∙◌, ◌⊎◌, inl, inr, arith, true≢false, Option, Some, None, length-append, length-take-le, append-nil, cond, filter, get_or}
 use Rattle.std.specs.Prelude.{◌==◌, slice_get, IfOk, IfErr, IfSome, IfNone, Ok, Err, Result}
 use Rattle.std.specs.Option.{option_map, option_map_or}
 use Rattle.std.specs.Ordering.{nat_cmp, is_lt, is_eq}
@@ -23,17 +23,15 @@ use Rattle.sabr_frontier.specs.declared.tree.Node.{Node}
 use Rattle.sabr_frontier.specs.declared.loader.check.Checked.{Checked}
 use Rattle.sabr_frontier.specs.declared.loader.path_end.ExpectedPrefix.{ExpectedPrefix}
 use Rattle.sabr_frontier.specs.listing.Rising.{Below, Rises, has}
-use Rattle.sabr_frontier.specs.listing.State.{PartState, pair_of, Member, leaves_of, InPairs}
+use Rattle.sabr_frontier.specs.listing.State.{PartState, pair_of, part_with, Member, leaves_of, InPairs}
 use Rattle.sabr_frontier.specs.listing.Formed.{IsClosed, InOrder, Within}
-use Rattle.sabr_frontier.specs.loading.Partial.{onward, IsGood, Expects, AreExpected, AreSteps, IsPathEnd, expected_prefix, step_of, PartialShape, AreLent, IsAnswered, IsPartial, IsChecked, IsVerdict, answered_by, with_node, is_expected, is_least, is_complete, nothing_yet, expected_in, expected_after, pairs_in, part_for, parts_in, parts_of, partial_shape_of, loaded, AllGoOn}
+use Rattle.sabr_frontier.specs.loading.Partial.{onward, IsGood, Expects, AreExpected, AreSteps, IsPathEnd, expected_prefix, step_of, PartialShape, IsAnswered, IsLoader, IsPartial, IsChecked, IsVerdict, with_node, is_after_last, is_expected, is_least, is_complete, last_prefix, nothing_yet, nodes_of, expected_in, expected_after, partial_shape_of, loaded, AllGoOn}
 use Rattle.sabr_frontier.specs.loading.Loading.{comes_after, may_carry, rise_strictly, IsCarryFault, Loaded, refusal_by}
-use Rattle.sabr_frontier.specs.tree.Shape.{numbers_of}
 use Rattle.sabr_frontier.specs.tree.Undo.{last_item, front}
 use Rattle.sabr_frontier.proofs.ListingLemmas.ListMembers.{Below-lower, map_same, pairs_two, less_from_test, Member-append_right, Member-append_cases, Below-member, has-append, has_itself}
 use Rattle.sabr_frontier.proofs.ListingLemmas.ExpectedPrefixes.{Expects-push, Expects-front, Expects-one, expects_closed, closed_expects}
 use Rattle.sabr_frontier.proofs.ListingLemmas.AllRoutes.{goes_on_within, prefix_no_route}
-use Rattle.sabr_frontier.proofs.TreeLemmas.ModifiedPlaces.{get_Member, last_split, member_taken, no_last, pair_across, pairs_front, member_at}
-use Rattle.sabr_frontier.proofs.TreeLemmas.CarryingNodes.{numbers_back, told_back}
+use Rattle.sabr_frontier.proofs.TreeLemmas.ModifiedPlaces.{get_Member, last_item_push, last_split, member_taken, no_last, pair_across, pairs_front, member_at}
 use Rattle.sabr_model.proofs.ListLemmas.Apart.{same_numbers_tell}
 use Rattle.sabr_frontier.specs.declared.loader.load_fault.LoadFault.{LoadFault}
 use Rattle.sabr_frontier.specs.declared.loader.load_fault.LoadFault.TheVariants.{BadOrder, BadRoute, NotClosed, BadCount, NoMemory}
@@ -104,40 +102,22 @@ order_more parts t h strictly after = record {
           (rises_more (keys (front parts)) z.prefix t.prefix (subst (Rises by_numbers) same h.by_prefix) (less_from_test (by_numbers z.prefix t.prefix) k))
     ] refl after
 
--- ---- parts by prefix and node
+-- ---- the nodes of parts
 
-pub parts_push : {A : Type 0} (qs : List (List ℕ)) (ns : List (Node A)) (q : List ℕ) (n : Node A) → length qs ≡ length ns → parts_of (qs ++ q ∷ []) (ns ++ n ∷ []) ≡ parts_of qs ns ++ part_for q n ∷ []
-parts_push [] [] q n e = refl
-parts_push [] (m ∷ ns) q n e = absurd (omega (arith, e))
-parts_push (p ∷ qs) [] q n e = absurd (omega (arith, e))
-parts_push (p ∷ qs) (m ∷ ns) q n e = ap (λ z. part_for p m ∷ z) (parts_push qs ns q n (omega (arith, e)))
+module _ {A : Type 0} (p : ContactPlan) (r : RouteRequest) where
+  abbrev node_at : ℕ → PartState → Node A
+  node_at c t = record { leaf = c; length = length t.prefix; excluded = t.excluded; route = option_map (record_of p r) t.carried }
 
-lent_push : {A : Type 0} (route : List ℕ → Bool) (c : ℕ) (qs : List (List ℕ)) (ns : List (Node A)) (q : List ℕ) (n : Node A) → AreLent route c qs ns → n.leaf ≡ c + length (flat_map (leaves_of route) (map pair_of (parts_of qs ns))) → n.length ≡ length q → AreLent route c (qs ++ q ∷ []) (ns ++ n ∷ [])
-lent_push route c [] [] q n h leaf len = (omega (arith, leaf), len, tt)
-lent_push route c [] (m ∷ ns) q n h leaf len = absurd h
-lent_push route c (p ∷ qs) [] q n h leaf len = absurd h
-lent_push route c (p ∷ qs) (m ∷ ns) q n h leaf len = (
-  h.0,
-  h.1,
-  lent_push route (c + length (leaves_of route (p, m.excluded))) qs ns q n h.2
-      (omega (arith, leaf, length-append (leaves_of route (p, m.excluded)) (flat_map (leaves_of route) (map pair_of (parts_of qs ns))))) len,
-)
-
-pub parts_length : {A : Type 0} (qs : List (List ℕ)) (ns : List (Node A)) → length qs ≡ length ns → length (parts_of qs ns) ≡ length ns
-parts_length [] [] e = refl
-parts_length [] (n ∷ ns) e = absurd (omega (arith, e))
-parts_length (x ∷ qs) [] e = absurd (omega (arith, e))
-parts_length (x ∷ qs) (n ∷ ns) e = ap suc (parts_length qs ns (omega (arith, e)))
+  nodes_push : (c : ℕ) (ts : List PartState) (t : PartState) → nodes_of p r c (ts ++ t ∷ []) ≡ nodes_of p r c ts ++ node_at (c + length (flat_map (leaves_of (is_route p r)) (map pair_of ts))) t ∷ []
+  nodes_push c [] t = let same : c ≡ c + 0 = omega arith in ap (λ k. node_at k t ∷ []) same
+  nodes_push c (u ∷ ts) t =
+      let own = leaves_of (is_route p r) (pair_of u) in
+      let others = flat_map (leaves_of (is_route p r)) (map pair_of ts) in
+      let sum : c + length own + length others ≡ c + length (own ++ others) = omega (arith, length-append own others) in
+      ap (λ ns. node_at c u ∷ ns) (nodes_push (c + length own) ts t ∙ ap (λ k. nodes_of p r (c + length own) ts ++ node_at k t ∷ []) sum)
 
 more_test : (n : ℕ) → (suc n == 0) ≡ false
 more_test n = grind (arith, nat_tests)
-
--- there is no part, or a first one
-part_cases : {A : Type 0} (qs : List (List ℕ)) (ns : List (Node A)) → length qs ≡ length ns → ((ns ≡ []) × (parts_of qs ns ≡ [])) ⊎ (((length ns == 0) ≡ false) × (t : PartState) × (ts : List PartState) × (parts_of qs ns ≡ t ∷ ts))
-part_cases [] [] e = inl (refl, refl)
-part_cases [] (n ∷ ns) e = absurd (omega (arith, e))
-part_cases (q ∷ qs) [] e = absurd (omega (arith, e))
-part_cases (q ∷ qs) (n ∷ ns) e = inr (more_test (length ns), part_for q n, parts_of qs ns, refl)
 
 test_zero : (n : ℕ) → (n == 0) ≡ true → n ≡ 0
 test_zero n h = grind (arith, nat_tests)
@@ -145,37 +125,55 @@ test_zero n h = grind (arith, nat_tests)
 same_itself : (q : List ℕ) → same_numbers q q ≡ true
 same_itself q = ap is_eq (Rattle.std.proofs.lemmas.Cmp.tied_itself nat_list_cmp_total q)
 
+-- ---- the last prefix
+
+prefix_there : (q : List ℕ) (o : Option PartState) → option_map_or (λ z. numbers_before z q) (option_map (λ (t : PartState). t.prefix) o) true ≡ option_map_or (λ (t : PartState). numbers_before t.prefix q) o true
+prefix_there q None = refl
+prefix_there q (Some t) = refl
+
+after_last : {A : Type 0} (h : PartialShape A) (q : List ℕ) (parts : List PartState) → option_map (λ (t : PartState). t.prefix) (last_item parts) ≡ last_prefix h → is_after_last h q ≡ comes_after parts q
+after_last h q parts last = ap (λ o. option_map_or (λ z. numbers_before z q) o true) (sym last) ∙ prefix_there q (last_item parts)
+
 -- ---- what is expected
 
--- an expected prefix is the least that is expected, and what is expected after it is smaller
-expected_first : {A : Type 0} (h : PartialShape A) (q : List ℕ) → length h.prefixes ≡ length h.nodes → (parts_in h ≡ [] → expected_in h ≡ []) → is_least h q ≡ true → expected_after (parts_in h) (expected_in h) ≡ q ∷ reverse (front (expected_in h))
-expected_first h q paired first least = elim (part_cases h.prefixes h.nodes paired) [
-  | inl none ↦
-      let d : (length h.nodes == 0 && length q == 0) ≡ true = sym (ap (λ (z : List (List ℕ)). option_map_or (same_numbers q) (last_item z) (length h.nodes == 0 && length q == 0)) (first none.1)) ∙ least in
-      let empty : q ≡ [] = nil_from_length q (test_zero (length q) (and_parts (length h.nodes == 0) (length q == 0) d).1) in
-      ap (λ z. expected_after z (expected_in h)) none.1 ∙ (λ i. sym empty i ∷ reverse (front (sym (first none.1) i)))
-  | inr some ↦
-      let last : expected_in h ≡ front (expected_in h) ++ q ∷ [] = elim (last_item (expected_in h)) as (λ o. last_item (expected_in h) ≡ o → option_map_or (same_numbers q) o (length h.nodes == 0 && length q == 0) ≡ true → expected_in h ≡ front (expected_in h) ++ q ∷ []) [
-        | None ↦ λ _ k. absurd (true≢false (sym (and_parts (length h.nodes == 0) (length q == 0) k).0 ∙ some.0))
-        | Some o ↦ λ e k. last_split (expected_in h) o e ∙ ap (λ z. front (expected_in h) ++ z ∷ []) (sym (same_numbers_tell q o k))
-      ] refl least in
-      ap (λ z. expected_after z (expected_in h)) some.3 ∙ ap reverse last ∙ reverse-append (front (expected_in h)) (q ∷ [])
-]
+module _ {A : Type 0} {p : ContactPlan} {r : RouteRequest} {parts : List PartState} {h : PartialShape A} (a : IsAnswered p r parts h) where
+  -- there is no part, or a first one
+  part_cases : ((h.nodes ≡ []) × (parts ≡ [])) ⊎ (((length h.nodes == 0) ≡ false) × (t : PartState) × (ts : List PartState) × (parts ≡ t ∷ ts))
+  part_cases = elim parts as (λ z. h.nodes ≡ nodes_of p r 0 z → ((h.nodes ≡ []) × (z ≡ [])) ⊎ (((length h.nodes == 0) ≡ false) × (t : PartState) × (ts : List PartState) × (z ≡ t ∷ ts))) [
+    | [] ↦ λ e. inl (e, refl)
+    | t ∷ ts ↦ λ e. inr (ap (λ (ns : List (Node A)). length ns == 0) e ∙ more_test (length (nodes_of {A = A} p r (0 + length (leaves_of (is_route p r) (pair_of t))) ts)), t, ts, refl)
+  ] a.nodes
 
--- and the least that is expected comes next
-first_expected : {A : Type 0} (h : PartialShape A) (q : List ℕ) (rest : List (List ℕ)) → length h.prefixes ≡ length h.nodes → (parts_in h ≡ [] → expected_in h ≡ []) → expected_after (parts_in h) (expected_in h) ≡ q ∷ rest → is_least h q ≡ true
-first_expected h q rest paired first o = elim (part_cases h.prefixes h.nodes paired) [
-  | inl none ↦
-      let is : [] ∷ [] ≡ q ∷ rest = sym (ap (λ z. expected_after z (expected_in h)) none.1) ∙ o in
-      let empty : [] ≡ q = cc in
-      ap (λ (z : List (List ℕ)). option_map_or (same_numbers q) (last_item z) (length h.nodes == 0 && length q == 0)) (first none.1)
-      ∙ (λ i. length (none.0 i) == 0 && length (sym empty i) == 0)
-  | inr some ↦
-      let is : reverse (expected_in h) ≡ q ∷ rest = sym (ap (λ z. expected_after z (expected_in h)) some.3) ∙ o in
-      let back : expected_in h ≡ reverse rest ++ q ∷ [] = sym (reverse-reverse (expected_in h)) ∙ ap reverse is ∙ reverse-append (q ∷ []) rest in
-      let last : last_item (expected_in h) ≡ Some q = Rattle.sabr_frontier.proofs.TreeLemmas.ModifiedPlaces.last_item_push (expected_in h) (reverse rest) q back in
-      ap (λ o. option_map_or (same_numbers q) o (length h.nodes == 0 && length q == 0)) last ∙ same_itself q
-]
+  module _ (q : List ℕ) where
+    -- an expected prefix is the least that is expected, and what is expected after it is smaller
+    expected_first : is_least h q ≡ true → expected_after parts (expected_in h) ≡ q ∷ reverse (front (expected_in h))
+    expected_first least = elim part_cases [
+      | inl none ↦
+          let d : (length h.nodes == 0 && length q == 0) ≡ true = sym (ap (λ (z : List (List ℕ)). option_map_or (same_numbers q) (last_item z) (length h.nodes == 0 && length q == 0)) (a.first none.1)) ∙ least in
+          let empty : q ≡ [] = nil_from_length q (test_zero (length q) (and_parts (length h.nodes == 0) (length q == 0) d).1) in
+          ap (λ z. expected_after z (expected_in h)) none.1 ∙ (λ i. sym empty i ∷ reverse (front (sym (a.first none.1) i)))
+      | inr some ↦
+          let last : expected_in h ≡ front (expected_in h) ++ q ∷ [] = elim (last_item (expected_in h)) as (λ o. last_item (expected_in h) ≡ o → option_map_or (same_numbers q) o (length h.nodes == 0 && length q == 0) ≡ true → expected_in h ≡ front (expected_in h) ++ q ∷ []) [
+            | None ↦ λ _ k. absurd (true≢false (sym (and_parts (length h.nodes == 0) (length q == 0) k).0 ∙ some.0))
+            | Some o ↦ λ e k. last_split (expected_in h) o e ∙ ap (λ z. front (expected_in h) ++ z ∷ []) (sym (same_numbers_tell q o k))
+          ] refl least in
+          ap (λ z. expected_after z (expected_in h)) some.3 ∙ ap reverse last ∙ reverse-append (front (expected_in h)) (q ∷ [])
+    ]
+
+    -- and the least that is expected comes next
+    first_expected : (rest : List (List ℕ)) → expected_after parts (expected_in h) ≡ q ∷ rest → is_least h q ≡ true
+    first_expected rest o = elim part_cases [
+      | inl none ↦
+          let is : [] ∷ [] ≡ q ∷ rest = sym (ap (λ z. expected_after z (expected_in h)) none.1) ∙ o in
+          let empty : [] ≡ q = cc in
+          ap (λ (z : List (List ℕ)). option_map_or (same_numbers q) (last_item z) (length h.nodes == 0 && length q == 0)) (a.first none.1)
+          ∙ (λ i. length (none.0 i) == 0 && length (sym empty i) == 0)
+      | inr some ↦
+          let is : reverse (expected_in h) ≡ q ∷ rest = sym (ap (λ z. expected_after z (expected_in h)) some.3) ∙ o in
+          let back : expected_in h ≡ reverse rest ++ q ∷ [] = sym (reverse-reverse (expected_in h)) ∙ ap reverse is ∙ reverse-append (q ∷ []) rest in
+          let last : last_item (expected_in h) ≡ Some q = last_item_push (expected_in h) (reverse rest) q back in
+          ap (λ o. option_map_or (same_numbers q) o (length h.nodes == 0 && length q == 0)) last ∙ same_itself q
+    ]
 
 -- ---- the prefixes of those that are kept
 
@@ -275,182 +273,152 @@ module _ (p : ContactPlan) (r : RouteRequest) where
   module _ {A : Type 0} where
     -- ---- a part more
 
-    module _ (h : PartialShape A) (partial : IsPartial p r h) (q X : List ℕ) (kept : Option RouteRecord) (carried : Option (List ℕ)) (is : kept ≡ option_map (record_of p r) carried) where
+    module _ (parts : List PartState) (h : PartialShape A) (partial : IsPartial p r parts h) (q X : List ℕ) (kept : Option RouteRecord) (carried : Option (List ℕ)) (is : kept ≡ option_map (record_of p r) carried) where
       abbrev e : List ℕ × List ℕ
       e = (q, X)
+
+      abbrev t : PartState
+      t = part_with q X carried
 
       abbrev n : Node A
       n = record { leaf = length h.leaves; length = length q; excluded = X; route = kept }
 
-      more : parts_of (h.prefixes ++ q ∷ []) (h.nodes ++ n ∷ []) ≡ parts_in h ++ part_for q n ∷ []
-      more = parts_push h.prefixes h.nodes q n partial.paired
-
-      pairs_more : map pair_of (parts_of (h.prefixes ++ q ∷ []) (h.nodes ++ n ∷ [])) ≡ pairs_in h ++ e ∷ []
-      pairs_more = ap (map pair_of) more ∙ map-append pair_of (parts_in h) (part_for q n ∷ [])
+      pairs_more : map pair_of (parts ++ t ∷ []) ≡ map pair_of parts ++ e ∷ []
+      pairs_more = map-append pair_of parts (t ∷ [])
 
       expected_after_more : (parts : List PartState) (t : PartState) (expected : List (List ℕ)) → expected_after (parts ++ t ∷ []) expected ≡ reverse expected
       expected_after_more [] t expected = refl
       expected_after_more (u ∷ parts) t expected = refl
 
-      answered_more : (j : Checked A) → IsAnswered p r h → is_least h q ≡ true → IsGood route path e → IsChecked p r e j → IsAnswered p r (answered_by (with_node h q X kept) (Some j))
+      answered_more : (j : Checked A) → IsAnswered p r parts h → is_least h q ≡ true → IsGood route path e → IsChecked p r e j → IsAnswered p r (parts ++ t ∷ []) (with_node h q X kept (Some j))
       answered_more j a least good checked = record {
-        expects = subst (λ T. Expects route path ([] ∷ []) T (expected_after parts (map (expected_prefix q) expected))) (sym pairs_more)
-            (Expects-push route path (pairs_in h) ([] ∷ []) (expected_after (parts_in h) (expected_in h)) (expected_after parts (map (expected_prefix q) expected)) e a.expects
-            (reverse (front (expected_in h)), expected_first h q partial.paired a.first least, good, sym expected_now));
-        leaves = (λ i. a.leaves i ++ checked.leaves_are i) ∙ sym (map-append (record_of p r) (flat_map (leaves_of route) (pairs_in h)) (leaves_of route e))
-            ∙ ap (map (record_of p r)) (ap (λ z. flat_map (leaves_of route) (pairs_in h) ++ z) (sym (append-nil (leaves_of route e))) ∙ sym (flat_map-append (leaves_of route) (pairs_in h) (e ∷ [])) ∙ ap (flat_map (leaves_of route)) (sym pairs_more));
-        lent = lent_push route 0 h.prefixes h.nodes q n a.lent (let k = ap (length {A = RouteRecord}) a.leaves ∙ length-map (flat_map (leaves_of route) (pairs_in h)) (record_of p r) in omega (arith, k)) refl;
+        expects = subst (λ T. Expects route path ([] ∷ []) T (expected_after (parts ++ t ∷ []) (map (expected_prefix q) expected))) (sym pairs_more)
+            (Expects-push route path (map pair_of parts) ([] ∷ []) (expected_after parts (expected_in h)) (expected_after (parts ++ t ∷ []) (map (expected_prefix q) expected)) e a.expects
+            (reverse (front (expected_in h)), expected_first a q least, good, sym expected_now));
+        leaves = (λ i. a.leaves i ++ checked.leaves_are i) ∙ sym (map-append (record_of p r) (flat_map (leaves_of route) (map pair_of parts)) (leaves_of route e))
+            ∙ ap (map (record_of p r)) (ap (λ z. flat_map (leaves_of route) (map pair_of parts) ++ z) (sym (append-nil (leaves_of route e))) ∙ sym (flat_map-append (leaves_of route) (map pair_of parts) (e ∷ [])) ∙ ap (flat_map (leaves_of route)) (sym pairs_more));
+        nodes = (λ i. a.nodes i ++ record { leaf = count i; length = length q; excluded = X; route = is i } ∷ []) ∙ sym (nodes_push p r 0 parts t);
         expected = expected_more p r h q least a.expected j.onward.items checked.steps;
-        first = λ k. absurd (omega (arith, ap (length {A = PartState}) (sym more ∙ k), length-append (parts_in h) (part_for q n ∷ [])));
+        first = λ k. absurd (omega (arith, ap (length {A = PartState}) k, length-append parts (t ∷ [])));
       }
         where
-          parts : List PartState
-          parts = parts_of (h.prefixes ++ q ∷ []) (h.nodes ++ n ∷ [])
-
           expected : List ExpectedPrefix
           expected = front h.expected ++ reverse j.onward.items
 
-          expected_now : expected_after parts (map (expected_prefix q) expected) ≡ onward route path e ++ reverse (front (expected_in h))
-          expected_now = ap (λ z. expected_after z (map (expected_prefix q) expected)) more ∙ expected_after_more (parts_in h) (part_for q n) (map (expected_prefix q) expected) ∙ ap reverse (prefixes_more p r h q least a.expected j.onward.items checked.steps)
+          count : length h.leaves ≡ 0 + length (flat_map (leaves_of route) (map pair_of parts))
+          count = let k = ap (length {A = RouteRecord}) a.leaves ∙ length-map (flat_map (leaves_of route) (map pair_of parts)) (record_of p r) in omega (arith, k)
+
+          expected_now : expected_after (parts ++ t ∷ []) (map (expected_prefix q) expected) ≡ onward route path e ++ reverse (front (expected_in h))
+          expected_now = expected_after_more parts t (map (expected_prefix q) expected) ∙ ap reverse (prefixes_more p r h q least a.expected j.onward.items checked.steps)
               ∙ reverse-append (front (expected_in h)) (reverse (map (step_of q) j.onward.items))
               ∙ ap (λ z. z ++ reverse (front (expected_in h))) (reverse-reverse (map (step_of q) j.onward.items) ∙ checked.onward_are)
 
-      broken_more : (is_expected h q ≡ true → IsGood route path e → ⊥) → (os : List (List ℕ)) → Expects route path ([] ∷ []) (pairs_in h ++ e ∷ []) os → ⊥
+      broken_more : (is_expected h q ≡ true → IsGood route path e → ⊥) → (os : List (List ℕ)) → Expects route path ([] ∷ []) (map pair_of parts ++ e ∷ []) os → ⊥
       broken_more none os o =
-          let w = Expects-front route path (pairs_in h) ([] ∷ []) os e o in
+          let w = Expects-front route path (map pair_of parts) ([] ∷ []) os e o in
           elim (cases_Bool h.sound) [
             | inl k ↦
                 let a = partial.answered k in
-                none (λ i. k i && first_expected h q w.2.0 partial.paired a.first (Expects-one route path (pairs_in h) ([] ∷ []) (expected_after (parts_in h) (expected_in h)) w.0 a.expects w.1 ∙ w.2.1) i) w.2.2
+                none (λ i. k i && first_expected a q w.2.0 (Expects-one route path (map pair_of parts) ([] ∷ []) (expected_after parts (expected_in h)) w.0 a.expects w.1 ∙ w.2.1) i) w.2.2
             | inr k ↦ partial.broken k w.0 w.1
           ]
 
-      -- the parts then
-      pub parts_then : (j : Option (Checked A)) → parts_in (answered_by (with_node h q X kept) j) ≡ parts_in h ++ record { prefix = q; excluded = X; carried = carried } ∷ []
-      parts_then None = more ∙ ap (λ (o : Option (List ℕ)). parts_in h ++ record { prefix = q; excluded = X; carried = o } ∷ []) (ap (option_map numbers_of) is ∙ numbers_back p r carried)
-      parts_then (Some j) = more ∙ ap (λ (o : Option (List ℕ)). parts_in h ++ record { prefix = q; excluded = X; carried = o } ∷ []) (ap (option_map numbers_of) is ∙ numbers_back p r carried)
-
-      carried_in : may_carry p r (record { prefix = q; excluded = X; carried = carried }) ≡ true → (s : List ℕ) → carried ≡ Some s → (route s ≡ true) × Within q X s
+      carried_in : may_carry p r t ≡ true → (s : List ℕ) → carried ≡ Some s → (route s ≡ true) × Within q X s
       carried_in may s k =
           let w = and_parts (route s) (goes_on q X s) (sym (ap (λ o. option_map_or (Rattle.sabr_model.specs.routes.Parts.in_part p r q X) o true) k) ∙ may) in
           (w.0, goes_on_within q X s w.1)
 
-      module _ (strictly : rise_strictly X ≡ true) (after : comes_after (parts_in h) q ≡ true) (may : may_carry p r (record { prefix = q; excluded = X; carried = carried }) ≡ true) where
-        ordered : InOrder (map pair_of (parts_of (h.prefixes ++ q ∷ []) (h.nodes ++ n ∷ [])))
-        ordered = subst InOrder (sym pairs_more) (order_more (parts_in h) (part_for q n) partial.order strictly after)
+      module _ (strictly : rise_strictly X ≡ true) (after : is_after_last h q ≡ true) (may : may_carry p r t ≡ true) where
+        ordered : InOrder (map pair_of (parts ++ t ∷ []))
+        ordered = subst InOrder (sym pairs_more) (order_more parts t partial.order strictly (sym (after_last h q parts partial.last) ∙ after))
 
-        counted : length (h.prefixes ++ q ∷ []) ≡ length (h.nodes ++ n ∷ [])
-        counted = omega (arith, partial.paired, length-append h.prefixes (q ∷ []), length-append h.nodes (n ∷ []))
-
-        carried_then : (t : PartState) (s : List ℕ) → Member t (parts_of (h.prefixes ++ q ∷ []) (h.nodes ++ n ∷ [])) → t.carried ≡ Some s → (route s ≡ true) × Within t.prefix t.excluded s
-        carried_then t s m k = elim (Member-append_cases t (parts_in h) (part_for q n ∷ []) (subst (Member t) more m)) [
-          | inl a ↦ partial.carried t s a k
+        carried_then : (u : PartState) (s : List ℕ) → Member u (parts ++ t ∷ []) → u.carried ≡ Some s → (route s ≡ true) × Within u.prefix u.excluded s
+        carried_then u s m k = elim (Member-append_cases u parts (t ∷ []) m) [
+          | inl a ↦ partial.carried u s a k
           | inr a ↦ elim a [
-            | inl same ↦
-                let c : carried ≡ Some s = sym (numbers_back p r carried) ∙ ap (option_map numbers_of) (sym is) ∙ sym (ap (λ (z : PartState). z.carried) same) ∙ k in
-                subst (λ (z : PartState). (route s ≡ true) × Within z.prefix z.excluded s) (sym same) (carried_in may s c)
+            | inl same ↦ subst (λ (z : PartState). (route s ≡ true) × Within z.prefix z.excluded s) (sym same) (carried_in may s (sym (ap (λ (z : PartState). z.carried) same) ∙ k))
             | inr z ↦ absurd z
           ]
         ]
 
-        last_then : last_item (h.prefixes ++ q ∷ []) ≡ (if length (h.nodes ++ n ∷ []) == 0 then None else Some q)
-        last_then = Rattle.sabr_frontier.proofs.TreeLemmas.ModifiedPlaces.last_item_push (h.prefixes ++ q ∷ []) h.prefixes q refl
-            ∙ sym (ap (λ b. if b then None else Some q) (elim h.nodes as (λ ns. (length (ns ++ n ∷ []) == 0) ≡ false) [ [] ↦ refl | m ∷ ns ↦ more_test (length (ns ++ n ∷ [])) ]))
+        last_then : option_map (λ (t : PartState). t.prefix) (last_item (parts ++ t ∷ [])) ≡ Some q
+        last_then = ap (option_map (λ (t : PartState). t.prefix)) (last_item_push (parts ++ t ∷ []) parts t refl)
 
-        records_then : (m : Node A) (x : RouteRecord) → Member m (h.nodes ++ n ∷ []) → m.route ≡ Some x → x ≡ record_of p r x.contacts
-        records_then m x k a = elim (Member-append_cases m h.nodes (n ∷ []) k) [
-          | inl b ↦ partial.records m x b a
-          | inr b ↦ elim b [ inl same ↦ told_back p r carried x (sym is ∙ sym (ap (λ (z : Node A). z.route) same) ∙ a) | inr z ↦ absurd z ]
-        ]
-
-        pub partial_more : (j : Option (Checked A)) → IsVerdict p r h e j → IsPartial p r (answered_by (with_node h q X kept) j)
+        pub partial_more : (j : Option (Checked A)) → IsVerdict p r h e j → IsPartial p r (parts ++ t ∷ []) (with_node h q X kept j)
         partial_more (Some j) v = record {
-          paired = counted;
+          last = last_then ∙ sym (ap (λ b. if b then None else Some q) (λ i. least.0 i && some i));
           order = ordered;
           carried = carried_then;
-          records = records_then;
-          last = last_then;
           answered = λ _. answered_more j (partial.answered least.0) least.1 v.1 v.2;
           broken = λ k. absurd (true≢false (sym least.0 ∙ k));
         }
           where
             least : (h.sound ≡ true) × (is_least h q ≡ true)
             least = and_parts h.sound (is_least h q) v.0
+
+            some : (length (h.nodes ++ n ∷ []) == 0) ≡ false
+            some = elim h.nodes as (λ ns. (length (ns ++ n ∷ []) == 0) ≡ false) [ [] ↦ refl | m ∷ ns ↦ more_test (length (ns ++ n ∷ [])) ]
         partial_more None v = record {
-          paired = counted;
+          last = last_then;
           order = ordered;
           carried = carried_then;
-          records = records_then;
-          last = last_then;
           answered = λ k. absurd (true≢false (sym k));
           broken = λ _ os. subst (λ T. Expects route path ([] ∷ []) T os → ⊥) (sym pairs_more) (broken_more v os);
         }
 
     -- ---- before any part
 
-    pub nothing_yet_is : IsPartial p r (nothing_yet {A = A})
+    pub nothing_yet_is : IsPartial p r [] (nothing_yet {A = A})
     nothing_yet_is = record {
-      paired = refl;
+      last = refl;
       order = record { by_prefix = tt; numbers = λ q X m. absurd m };
       carried = λ t s m. absurd m;
-      records = λ n x m. absurd m;
-      last = refl;
-      answered = λ _. record { expects = refl; leaves = refl; lent = tt; expected = record { ends = λ o m. absurd m; within = λ o m. absurd m; nested = tt }; first = λ _. refl };
+      answered = λ _. record { expects = refl; leaves = refl; nodes = refl; expected = record { ends = λ o m. absurd m; within = λ o m. absurd m; nested = tt }; first = λ _. refl };
       broken = λ k. absurd (true≢false k);
     }
 
     -- ---- the end
 
-    module _ (h : PartialShape A) (partial : IsPartial p r h) where
-      pub complete_expects : is_complete h ≡ true → Expects route path ([] ∷ []) (pairs_in h) []
+    module _ (parts : List PartState) (h : PartialShape A) (partial : IsPartial p r parts h) where
+      pub complete_expects : is_complete h ≡ true → Expects route path ([] ∷ []) (map pair_of parts) []
       complete_expects complete =
           let w = and_parts h.sound (not (length h.nodes == 0) && (length h.expected == 0)) complete in
           let v = and_parts (not (length h.nodes == 0)) (length h.expected == 0) w.1 in
-          let some : expected_after (parts_in h) (expected_in h) ≡ reverse (expected_in h) = elim (part_cases h.prefixes h.nodes partial.paired) [
+          let some : expected_after (parts) (expected_in h) ≡ reverse (expected_in h) = elim (part_cases (partial.answered w.0)) [
             | inl none ↦ absurd (true≢false (sym v.0 ∙ ap (λ ns. not (length {A = Node A} ns == 0)) none.0))
             | inr some ↦ ap (λ z. expected_after z (expected_in h)) some.3
           ] in
-          subst (Expects route path ([] ∷ []) (pairs_in h)) (some ∙ ap (λ os. reverse (map (expected_prefix h.last) os)) (nil_from_length h.expected (test_zero (length h.expected) v.1))) (partial.answered w.0).expects
+          subst (Expects route path ([] ∷ []) (map pair_of parts)) (some ∙ ap (λ os. reverse (map (expected_prefix h.last) os)) (nil_from_length h.expected (test_zero (length h.expected) v.1))) (partial.answered w.0).expects
 
-      pub complete_closed : is_complete h ≡ true → IsClosed route path (is_prefix p r) (pairs_in h)
-      complete_closed complete = expects_closed route path (is_prefix p r) (empty_is_prefix p r) (prefix_goes_on p r) (prefix_no_route p r) (pairs_in h) (complete_expects complete)
+      pub complete_closed : is_complete h ≡ true → IsClosed route path (is_prefix p r) (map pair_of parts)
+      complete_closed complete = expects_closed route path (is_prefix p r) (empty_is_prefix p r) (prefix_goes_on p r) (prefix_no_route p r) (map pair_of parts) (complete_expects complete)
 
-      pub incomplete_open : is_complete h ≡ false → IsClosed route path (is_prefix p r) (pairs_in h) → ⊥
+      pub incomplete_open : is_complete h ≡ false → IsClosed route path (is_prefix p r) (map pair_of parts) → ⊥
       incomplete_open incomplete closed =
-          let o = closed_expects route path (is_prefix p r) (empty_is_prefix p r) (prefix_goes_on p r) (prefix_no_route p r) (pairs_in h) partial.order closed in
+          let o = closed_expects route path (is_prefix p r) (empty_is_prefix p r) (prefix_goes_on p r) (prefix_no_route p r) (map pair_of parts) partial.order closed in
           elim (cases_Bool h.sound) [
             | inr k ↦ partial.broken k [] o
-            | inl k ↦ elim (part_cases h.prefixes h.nodes partial.paired) [
+            | inl k ↦ elim (part_cases (partial.answered k)) [
               | inl none ↦
                   let is : [] ∷ [] ≡ [] = subst (λ T. Expects route path ([] ∷ []) T []) (ap (map pair_of) none.1) o in cc
               | inr some ↦
                   let a = partial.answered k in
-                  let complete : reverse (expected_in h) ≡ [] = sym (ap (λ z. expected_after z (expected_in h)) some.3) ∙ Expects-one route path (pairs_in h) ([] ∷ []) (expected_after (parts_in h) (expected_in h)) [] a.expects o in
+                  let complete : reverse (expected_in h) ≡ [] = sym (ap (λ z. expected_after z (expected_in h)) some.3) ∙ Expects-one route path (map pair_of parts) ([] ∷ []) (expected_after (parts) (expected_in h)) [] a.expects o in
                   let empty : length h.expected ≡ 0 = sym (length-map h.expected (expected_prefix h.last)) ∙ sym (length-reverse (expected_in h)) ∙ ap length complete in
                   true≢false (sym ((λ i. k i && (not (some.0 i) && (empty i == 0)))) ∙ incomplete)
             ]
           ]
 
--- ---- the last prefix
-
-module _ {A : Type 0} (q : List ℕ) where
-  part_there : (qs : List (List ℕ)) (ns : List (Node A)) (i : ℕ) → length qs ≡ length ns → option_map_or (λ z. numbers_before z q) (slice_get qs i) true ≡ option_map_or (λ (t : PartState). numbers_before t.prefix q) (slice_get (parts_of qs ns) i) true
-  part_there [] ns i e = refl
-  part_there (x ∷ qs) [] i e = absurd (omega (arith, e))
-  part_there (x ∷ qs) (n ∷ ns) zero e = refl
-  part_there (x ∷ qs) (n ∷ ns) (suc i) e = part_there qs ns i (omega (arith, e))
-
-  pub after_last : (qs : List (List ℕ)) (ns : List (Node A)) → length qs ≡ length ns → option_map_or (λ z. numbers_before z q) (last_item qs) true ≡ comes_after (parts_of qs ns) q
-  after_last qs ns e = part_there qs ns (length qs - 1) e ∙ ap (λ n. option_map_or (λ (t : PartState). numbers_before t.prefix q) (slice_get (parts_of qs ns) (n - 1)) true) (e ∙ sym (parts_length qs ns e))
-
 -- ---- how a part is refused
 
 abbrev is_next : {A : Type 0} → PartialTree A → PartState → Bool
-is_next partial t = rise_strictly t.excluded && comes_after (parts_in (partial_shape_of partial)) t.prefix
+is_next partial t = rise_strictly t.excluded && is_after_last (partial_shape_of partial) t.prefix
 
-module _ {A : Type 0} {plan : TabledPlan} {r : RouteRequest} (partial : PartialTree A) {calls : Calls} {v : Loaded} (is : loaded plan r partial calls ≡ v) (t : PartState) where
+module _ {A : Type 0} {plan : TabledPlan} {r : RouteRequest} {parts : List PartState} {partial : PartialTree A} (is_loader : IsLoader plan r parts partial) {calls : Calls} {v : Loaded} (is : loaded plan r parts calls ≡ v) (t : PartState) where
   refusal_is : {first may : Bool} → is_next partial t ≡ first → may_carry plan.plan r t ≡ may → refusal_by v t ≡ cond (not first) (Some BadOrder) (cond (not may) (Some BadRoute) None)
-  refusal_is h k = ap (λ w. refusal_by w t) (sym is) ∙ (λ i. cond (not (h i)) (Some BadOrder) (cond (not (k i)) (Some BadRoute) None))
+  refusal_is h k =
+      let first = ap (λ b. rise_strictly t.excluded && b) (sym (after_last (partial_shape_of partial) t.prefix parts is_loader.partial.last)) ∙ h in
+      ap (λ w. refusal_by w t) (sym is) ∙ (λ i. cond (not (first i)) (Some BadOrder) (cond (not (k i)) (Some BadRoute) None))
 
   pub order_refused : is_next partial t ≡ false → refusal_by v t ≡ Some BadOrder
   order_refused h = refusal_is h refl

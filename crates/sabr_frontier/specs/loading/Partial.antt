@@ -11,7 +11,7 @@ use Rattle.sabr_frontier.specs.listing.State.{Member, InPairs, PartState, pair_o
 use Rattle.std.specs.Ordering.{nat_cmp}
 use Rattle.sabr_frontier.specs.listing.Rising.{has}
 use Rattle.std.specs.Option.{option_map, option_map_or}
-use Rattle.sabr_model.specs.Order.{same_numbers}
+use Rattle.sabr_model.specs.Order.{numbers_before, same_numbers}
 use Rattle.sabr_model.specs.routes.Asking.{IsRequest}
 use Rattle.sabr_model.specs.routes.Record.{RouteRecord, record_of}
 use Rattle.sabr_search.specs.questions.Calls.{Calls}
@@ -19,7 +19,7 @@ use Rattle.sabr_frontier.specs.declared.tree.Node.{Node}
 use Rattle.sabr_frontier.specs.declared.loader.partial_tree.PartialTree.{PartialTree}
 use Rattle.sabr_frontier.specs.declared.loader.check.Checked.{Checked}
 use Rattle.sabr_frontier.specs.listing.Formed.{InOrder, Within}
-use Rattle.sabr_frontier.specs.tree.Shape.{Shape, given_at, numbers_of}
+use Rattle.sabr_frontier.specs.tree.Shape.{Shape, given_at}
 use Rattle.sabr_frontier.specs.tree.Undo.{last_item, front}
 use Rattle.sabr_frontier.specs.tree.Giving.{ids_from}
 use Rattle.sabr_frontier.specs.tree.Searching.{Asked}
@@ -71,7 +71,6 @@ module _ (route path : List ℕ → Bool) where
 
 -- a partial tree without its capacities; the least of the expected prefixes is the last
 pub record PartialShape (A : Type 0) : Type 0 where
-  pub prefixes : List (List ℕ)
   pub last : List ℕ
   pub nodes : List (Node A)
   pub leaves : List RouteRecord
@@ -79,27 +78,11 @@ pub record PartialShape (A : Type 0) : Type 0 where
   pub sound : Bool
 
 abbrev pub partial_shape_of : {A : Type 0} → PartialTree A → PartialShape A
-partial_shape_of h = record { prefixes = h.prefixes.items; last = h.last.items; nodes = h.nodes.items; leaves = h.leaves.items; expected = h.expected.items; sound = h.sound }
+partial_shape_of h = record { last = h.last.items; nodes = h.nodes.items; leaves = h.leaves.items; expected = h.expected.items; sound = h.sound }
 
 -- nothing yet
 abbrev pub nothing_yet : {A : Type 0} → PartialShape A
-nothing_yet = record { prefixes = []; last = []; nodes = []; leaves = []; expected = []; sound = true }
-
--- the part of a prefix and a node
-abbrev pub part_for : {A : Type 0} → List ℕ → Node A → PartState
-part_for q n = record { prefix = q; excluded = n.excluded; carried = option_map numbers_of n.route }
-
--- the parts: each prefix with its node
-abbrev pub parts_of : {A : Type 0} → List (List ℕ) → List (Node A) → List PartState
-parts_of [] ns = []
-parts_of (q ∷ qs) [] = []
-parts_of (q ∷ qs) (n ∷ ns) = part_for q n ∷ parts_of qs ns
-
-abbrev pub parts_in : {A : Type 0} → PartialShape A → List PartState
-parts_in h = parts_of h.prefixes h.nodes
-
-abbrev pub pairs_in : {A : Type 0} → PartialShape A → List (List ℕ × List ℕ)
-pairs_in h = map pair_of (parts_in h)
+nothing_yet = record { last = []; nodes = []; leaves = []; expected = []; sound = true }
 
 -- the prefixes that are kept, the least last
 abbrev pub expected_in : {A : Type 0} → PartialShape A → List (List ℕ)
@@ -107,7 +90,11 @@ expected_in h = map (expected_prefix h.last) h.expected
 
 -- the last part's prefix, if there is a part
 abbrev pub last_prefix : {A : Type 0} → PartialShape A → Option (List ℕ)
-last_prefix h = if length h.nodes == 0 then None else Some h.last
+last_prefix h = if h.sound && (length h.nodes == 0) then None else Some h.last
+
+-- whether the prefix comes after the last part's
+abbrev pub is_after_last : {A : Type 0} → PartialShape A → List ℕ → Bool
+is_after_last h q = option_map_or (λ z. numbers_before z q) (last_prefix h) true
 
 -- what is expected after these parts, the least first: the empty prefix before any
 abbrev pub expected_after : List PartState → List (List ℕ) → List (List ℕ)
@@ -152,45 +139,44 @@ abbrev pub IsVerdict : {A : Type 0} → ContactPlan → RouteRequest → Partial
 IsVerdict p r h e (Some j) = (is_expected h e.0 ≡ true) × IsGood (is_route p r) (is_path p r) e × IsChecked p r e j
 IsVerdict p r h e None = is_expected h e.0 ≡ true → IsGood (is_route p r) (is_path p r) e → ⊥
 
--- a partial tree with one more prefix and its node, whose leaf is the next one to come
-abbrev pub with_node : {A : Type 0} → PartialShape A → List ℕ → List ℕ → Option RouteRecord → PartialShape A
-with_node h q X route = record h { prefixes = h.prefixes ++ q ∷ []; last = q; nodes = h.nodes ++ record { leaf = length h.leaves; length = length q; excluded = X; route = route } ∷ [] }
-
--- a partial tree with what the part leads to in place of the least that was expected
-abbrev pub answered_by : {A : Type 0} → PartialShape A → Option (Checked A) → PartialShape A
-answered_by h None = record h { sound = false }
-answered_by h (Some j) = record h { leaves = h.leaves ++ j.leaves.items; expected = front h.expected ++ reverse j.onward.items }
+-- a partial tree with one more part: its node, whose leaf is the next one to come, and what it leads to in place of the
+-- least that was expected. Without a verdict, its prefix alone is kept.
+abbrev pub with_node : {A : Type 0} → PartialShape A → List ℕ → List ℕ → Option RouteRecord → Option (Checked A) → PartialShape A
+with_node h q X route None = record { last = q; nodes = []; leaves = []; expected = []; sound = false }
+with_node h q X route (Some j) = record {
+  last = q;
+  nodes = h.nodes ++ record { leaf = length h.leaves; length = length q; excluded = X; route = route } ∷ [];
+  leaves = h.leaves ++ j.leaves.items;
+  expected = front h.expected ++ reverse j.onward.items;
+  sound = h.sound;
+}
 
 -- a partial tree with one more part, for the verdict on it
 abbrev pub IsTakenIn : {A : Type 0} → ContactPlan → RouteRequest → PartialShape A → List ℕ → List ℕ → Option RouteRecord → PartialShape A → Type 0
-IsTakenIn {A} p r h q X route new = (j : Option (Checked A)) × IsVerdict p r h (q, X) j × (new ≡ answered_by (with_node h q X route) j)
+IsTakenIn {A} p r h q X route new = (j : Option (Checked A)) × IsVerdict p r h (q, X) j × (new ≡ with_node h q X route j)
 
 -- ---- what holds of it
 
--- each node has the length of its prefix. Its leaf is the first of its own leaves and those of the nodes after it; the
--- very first leaf is number c
-abbrev pub AreLent : {A : Type 0} → (List ℕ → Bool) → ℕ → List (List ℕ) → List (Node A) → Type 0
-AreLent route c [] [] = Unit {0}
-AreLent route c [] (n ∷ ns) = ⊥
-AreLent route c (q ∷ qs) [] = ⊥
-AreLent route c (q ∷ qs) (n ∷ ns) = (n.leaf ≡ c) × (n.length ≡ length q) × AreLent route (c + length (leaves_of route (q, n.excluded))) qs ns
+-- the nodes of parts: the leaf of each is the first of its own leaves and those of the nodes after it; the very first
+-- leaf is number c
+abbrev pub nodes_of : {A : Type 0} → ContactPlan → RouteRequest → ℕ → List PartState → List (Node A)
+nodes_of p r c [] = []
+nodes_of p r c (t ∷ ts) = record { leaf = c; length = length t.prefix; excluded = t.excluded; route = option_map (record_of p r) t.carried } ∷ nodes_of p r (c + length (leaves_of (is_route p r) (pair_of t))) ts
 
--- the parts answered what was expected: this is expected now, and these are the leaves
-pub record IsAnswered {A : Type 0} (p : ContactPlan) (r : RouteRequest) (h : PartialShape A) : Type 0 where
-  pub expects : Expects (is_route p r) (is_path p r) ([] ∷ []) (pairs_in h) (expected_after (parts_in h) (expected_in h))
-  pub leaves : h.leaves ≡ map (record_of p r) (flat_map (leaves_of (is_route p r)) (pairs_in h))
-  pub lent : AreLent (is_route p r) 0 h.prefixes h.nodes
+-- the parts answered what was expected: this is expected now, and these are the nodes and the leaves
+pub record IsAnswered {A : Type 0} (p : ContactPlan) (r : RouteRequest) (parts : List PartState) (h : PartialShape A) : Type 0 where
+  pub expects : Expects (is_route p r) (is_path p r) ([] ∷ []) (map pair_of parts) (expected_after parts (expected_in h))
+  pub leaves : h.leaves ≡ map (record_of p r) (flat_map (leaves_of (is_route p r)) (map pair_of parts))
+  pub nodes : h.nodes ≡ nodes_of p r 0 parts
   pub expected : AreExpected p r h.last h.expected
-  pub first : parts_in h ≡ [] → expected_in h ≡ []
+  pub first : parts ≡ [] → expected_in h ≡ []
 
-pub record IsPartial {A : Type 0} (p : ContactPlan) (r : RouteRequest) (h : PartialShape A) : Type 0 where
-  pub paired : length h.prefixes ≡ length h.nodes
-  pub last : last_item h.prefixes ≡ last_prefix h
-  pub order : InOrder (pairs_in h)
-  pub carried : (t : PartState) (s : List ℕ) → Member t (parts_in h) → t.carried ≡ Some s → (is_route p r s ≡ true) × Within t.prefix t.excluded s
-  pub records : (n : Node A) (x : RouteRecord) → Member n h.nodes → n.route ≡ Some x → x ≡ record_of p r x.contacts
-  pub answered : h.sound ≡ true → IsAnswered p r h
-  pub broken : h.sound ≡ false → (os : List (List ℕ)) → Expects (is_route p r) (is_path p r) ([] ∷ []) (pairs_in h) os → ⊥
+pub record IsPartial {A : Type 0} (p : ContactPlan) (r : RouteRequest) (parts : List PartState) (h : PartialShape A) : Type 0 where
+  pub last : option_map (λ (t : PartState). t.prefix) (last_item parts) ≡ last_prefix h
+  pub order : InOrder (map pair_of parts)
+  pub carried : (t : PartState) (s : List ℕ) → Member t parts → t.carried ≡ Some s → (is_route p r s ≡ true) × Within t.prefix t.excluded s
+  pub answered : h.sound ≡ true → IsAnswered p r parts h
+  pub broken : h.sound ≡ false → (os : List (List ℕ)) → Expects (is_route p r) (is_path p r) ([] ∷ []) (map pair_of parts) os → ⊥
 
 -- ---- the tree
 
@@ -217,10 +203,10 @@ pub record IsLastPlace (leaves : List RouteRecord) (emitted : ℕ) (last : List 
 
 -- ---- the loader
 
-abbrev pub loaded : {A : Type 0} → TabledPlan → RouteRequest → PartialTree A → Calls → Loaded
-loaded plan request partial calls = record { plan = plan; request = request; parts = parts_in (partial_shape_of partial); calls = calls }
+abbrev pub loaded : TabledPlan → RouteRequest → List PartState → Calls → Loaded
+loaded plan request parts calls = record { plan = plan; request = request; parts = parts; calls = calls }
 
-pub record IsLoader {A : Type 0} (plan : TabledPlan) (request : RouteRequest) (h : PartialTree A) : Type 0 where
+pub record IsLoader {A : Type 0} (plan : TabledPlan) (request : RouteRequest) (parts : List PartState) (h : PartialTree A) : Type 0 where
   pub rules : IsPlan plan.plan
   pub limits : IsRequest request
-  pub partial : IsPartial plan.plan request (partial_shape_of h)
+  pub partial : IsPartial plan.plan request parts (partial_shape_of h)

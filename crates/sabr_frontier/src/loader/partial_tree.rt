@@ -1,15 +1,12 @@
 //! What a loader has gathered, and the tree that it makes.
 
-ghost use Rattle.std.specs.Prelude.{◌≡◌, [], true, ◌&&◌, ◌<◌, ◌≤◌, is_some, length, Some, None, IfOk, IfSome, IfNone, IsTrue, OnOk, OnErr, vec_len, vec_capacity};
-ghost use Rattle.std.specs.Option.{option_map_or};
-ghost use Rattle.sabr_model.specs.Order.{numbers_before};
+ghost use Rattle.std.specs.Prelude.{◌≡◌, ◌&&◌, ◌≤◌, is_some, length, IfOk, IfSome, IfNone, IsTrue, OnOk, OnErr, vec_capacity};
 ghost use Rattle.sabr_frontier.specs.tree.Shape.{shape_of};
-ghost use Rattle.sabr_frontier.specs.tree.Undo.{IsIndexed, IsRoomy, last_item};
-ghost use Rattle.sabr_frontier.specs.loading.Loading.{comes_after, rise_strictly};
-ghost use Rattle.sabr_frontier.specs.loading.Partial.{AreExpected, IsGiven, IsLastPlace, IsPathEnd, IsTakenIn, IsVerdict, is_complete, is_expected, last_prefix, loaded_tree, nothing_yet, partial_shape_of, parts_in, with_node};
+ghost use Rattle.sabr_frontier.specs.tree.Undo.{IsIndexed, IsRoomy};
+ghost use Rattle.sabr_frontier.specs.loading.Loading.{rise_strictly};
+ghost use Rattle.sabr_frontier.specs.loading.Partial.{AreExpected, IsGiven, IsLastPlace, IsPathEnd, IsTakenIn, IsVerdict, is_after_last, is_complete, is_expected, loaded_tree, nothing_yet, partial_shape_of};
 
 use crate::loader::check::{Checked, check};
-use crate::loader::ghost_lists::GhostLists;
 use crate::loader::path_end::{ExpectedPrefix, PathEnd};
 use crate::plan_request::PlanRequest;
 use crate::tree::excluded_numbers::{ExcludedNumbers, is_increasing};
@@ -21,13 +18,11 @@ use std::alloc::{Allocator, Global};
 use std::cmp::Ordering;
 use std::mem::replace;
 
-/// The parts so far, the leaves that they made, and the prefixes that are expected: those that must still come as
-/// parts. As soon as a part isn't the first that is expected, the parts alone are kept.
+/// The nodes of the parts so far, the leaves that they made, and the prefixes that are expected: those that must still
+/// come as parts. As soon as a part isn't the first that is expected, the last prefix alone is kept.
 #[derive(Drop)]
 pub struct PartialTree<A: Allocator + Copy = Global> {
-    /// The prefixes of the parts, in order.
-    pub prefixes: GhostLists,
-    /// The last of them.
+    /// The prefix of the last part.
     pub last: Vec<u32, A>,
     /// The node of each part.
     pub nodes: Vec<Node<A>, A>,
@@ -71,7 +66,6 @@ impl<A: Allocator + Copy> PartialTree<A> {
         ensures { partial_shape_of result ≡ nothing_yet }
     {
         PartialTree {
-            prefixes: GhostLists::new(),
             last: Vec::new(alloc),
             nodes: Vec::new(alloc),
             leaves: Vec::new(alloc),
@@ -83,16 +77,14 @@ impl<A: Allocator + Copy> PartialTree<A> {
 
     /// Returns true if a prefix comes after the last.
     fn comes_after(&self, prefix: &[u32]) -> bool
-        ensures { result ≡ option_map_or (λ q. numbers_before q prefix.now) (last_prefix (partial_shape_of self.now)) true }
+        ensures { result ≡ is_after_last (partial_shape_of self.now) prefix.now }
     {
-        self.nodes.is_empty() || self.last.as_slice().cmp(prefix) == Ordering::Less
+        (self.sound && self.nodes.is_empty()) || self.last.as_slice().cmp(prefix) == Ordering::Less
     }
 
     /// Returns true if a part may come after the others.
     pub fn is_next(&self, prefix: &[u32], excluded: &[u32]) -> bool
-        requires paired { length self.now.prefixes.items ≡ length self.now.nodes.items }
-        requires last { last_item self.now.prefixes.items ≡ last_prefix (partial_shape_of self.now) }
-        ensures { result ≡ (rise_strictly excluded.now && comes_after (parts_in (partial_shape_of self.now)) prefix.now) }
+        ensures { result ≡ (rise_strictly excluded.now && is_after_last (partial_shape_of self.now) prefix.now) }
     {
         is_increasing(excluded) && self.comes_after(prefix)
     }
@@ -142,29 +134,19 @@ impl<A: Allocator + Copy> PartialTree<A> {
         check(question, prefix, excluded, end, room)
     }
 
-    /// Adds a part after the others, for which there is room.
-    fn push(&mut self, prefix: &[u32], excluded: ExcludedNumbers<A>, route: Option<Route<A>>)
-        requires numbers { length prefix.now ≤ vec_capacity self.old.last }
-        requires node { vec_len self.old.nodes < vec_capacity self.old.nodes }
-        ensures partial { partial_shape_of self.new ≡ with_node (partial_shape_of self.old) prefix.now excluded route }
-        ensures leaves { self.new.leaves ≡ self.old.leaves }
-        ensures expected { self.new.expected ≡ self.old.expected }
+    /// Makes a prefix the last one. There is room for it.
+    fn set_last(&mut self, prefix: &[u32])
+        requires { length prefix.now ≤ vec_capacity self.old.last }
+        ensures { partial_shape_of self.new ≡ record (partial_shape_of self.old) { last = prefix.now } }
     {
-        self.nodes.push_reserved(Node {
-            leaf: self.leaves.len(),
-            length: prefix.len(),
-            excluded,
-            route,
-        });
-        self.prefixes.push(prefix);
         self.last.clear();
         let kept = self.last.extend_from_slice(prefix);
         let Ok(()) = kept else { unreachable!() };
     }
 
     /// Adds a part that comes after the others, with the record of the route that it carries. If its prefix is the
-    /// first that is expected, `end` is where that leads. If it isn't, or isn't right, the parts alone are kept from
-    /// now on. What may fail comes before the first change.
+    /// first that is expected, `end` is where that leads. If it isn't, or isn't right, the last prefix alone is kept
+    /// from now on. What may fail comes before the first change.
     pub fn take_in(
         &mut self,
         question: &PlanRequest<'_, A>,
@@ -179,17 +161,26 @@ impl<A: Allocator + Copy> PartialTree<A> {
         ensures err { OnErr result (partial_shape_of self.new ≡ partial_shape_of self.old) }
     {
         let checked = self.check(question, prefix, excluded, end)?;
-        let excluded = ExcludedNumbers::of(question.alloc, excluded)?;
         self.last.reserve(prefix.len())?;
-        self.nodes.reserve(1)?;
         let Some(mut checked) = checked else {
-            self.push(prefix, excluded, route);
+            self.nodes = Vec::new(question.alloc);
+            self.leaves = Vec::new(question.alloc);
+            self.expected = Vec::new(question.alloc);
+            self.room = Checked::none(question.alloc);
             self.sound = false;
+            self.set_last(prefix);
             return Ok(());
         };
+        let excluded = ExcludedNumbers::of(question.alloc, excluded)?;
+        self.nodes.reserve(1)?;
         self.leaves.reserve(checked.leaves.len())?;
         self.expected.reserve(checked.onward.len())?;
-        self.push(prefix, excluded, route);
+        self.nodes.push_reserved(Node {
+            leaf: self.leaves.len(),
+            length: prefix.len(),
+            excluded,
+            route,
+        });
         self.expected.pop();
         checked.onward.reverse();
         let appended = self.expected.append(&mut checked.onward);
@@ -197,6 +188,7 @@ impl<A: Allocator + Copy> PartialTree<A> {
         let appended = self.leaves.append(&mut checked.leaves);
         let Ok(()) = appended else { unreachable!() };
         self.room = checked;
+        self.set_last(prefix);
         Ok(())
     }
 

@@ -1,29 +1,29 @@
-use Rattle.std.proofs.Common.{◌≡◌, ap, sym, subst, ◌∙◌, Some, None, Err}
+use Rattle.std.proofs.Common.{◌≡◌, [], ◌∷◌, ◌++◌, ap, sym, subst, ◌∙◌, Some, None, Err}
 use Rattle.std.proofs.lemmas.Bool.{and_parts}
 use Rattle.std.proofs.lemmas.Result.{err_from_is_err_and}
 use Rattle.std.specs.Option.{option_copied}
 use Rattle.sabr_frontier.specs.declared.loader.load_fault.LoadFault.TheVariants as load
-use Rattle.sabr_frontier.specs.loading.Loading.{Loaded, comes_after, rise_strictly, with_part}
+use Rattle.sabr_frontier.specs.loading.Loading.{Loaded, rise_strictly, with_part}
 use Rattle.sabr_frontier.specs.listing.State.{part_with}
-use Rattle.sabr_frontier.specs.loading.Partial.{IsPartial, partial_shape_of, loaded, parts_in}
-use Rattle.sabr_frontier.proofs.LoadingLemmas.LoadedParts.{partial_more, parts_then, carry_accepted, carry_told, not_refused, order_refused}
+use Rattle.sabr_frontier.specs.loading.Partial.{IsPartial, is_after_last, loaded, partial_shape_of}
+use Rattle.sabr_frontier.proofs.LoadingLemmas.LoadedParts.{partial_more, carry_accepted, carry_told, not_refused, order_refused}
 use Rattle.sabr_frontier.proofs.loader.Loader.add_part.Goals as goal
 
 pub returns-then-not-is_next-clause-refused : goal.returns-then-not-is_next-clause-refused
-returns-then-not-is_next-clause-refused g c f h = let both : Some load.BadOrder ≡ Some f = sym (order_refused c.self.inside.partial c.self.view_is (part_with c.args.prefix.now c.args.excluded.now (option_copied c.args.route)) (sym c.is_next.ensures ∙ c.if-not-is_next.true)) ∙ h in cc
+returns-then-not-is_next-clause-refused g c f h = let both : Some load.BadOrder ≡ Some f = sym (order_refused c.self.invariant c.self.view_is (part_with c.args.prefix.now c.args.excluded.now (option_copied c.args.route)) (sym c.is_next.ensures ∙ c.if-not-is_next.true)) ∙ h in cc
 
 pub returns-then-not-is_next-clause-accepted : goal.returns-then-not-is_next-clause-accepted
-returns-then-not-is_next-clause-accepted g c h = let both : Some load.BadOrder ≡ None = sym (order_refused c.self.inside.partial c.self.view_is (part_with c.args.prefix.now c.args.excluded.now (option_copied c.args.route)) (sym c.is_next.ensures ∙ c.if-not-is_next.true)) ∙ h in cc
+returns-then-not-is_next-clause-accepted g c h = let both : Some load.BadOrder ≡ None = sym (order_refused c.self.invariant c.self.view_is (part_with c.args.prefix.now c.args.excluded.now (option_copied c.args.route)) (sym c.is_next.ensures ∙ c.if-not-is_next.true)) ∙ h in cc
 
-pub returns-in_err-route-clause-refused : goal.returns-in_err-route-clause-refused
-returns-in_err-route-clause-refused g c f h =
+pub returns-in_err-record-clause-refused : goal.returns-in_err-record-clause-refused
+returns-in_err-record-clause-refused g c f h =
     let (failure, is, same) = err_from_is_err_and c.from_residual.result c.from_residual.ensures.1 in
-    is ∙ ap Err (same ∙ carry_told c.self.inside.partial c.self.view_is (part_with c.args.prefix.now c.args.excluded.now (option_copied c.args.route)) (sym c.is_next.ensures ∙ c.if-not-is_next.false) c.in_err-route.field-0.0 f c.in_err-route.ensures.err h)
+    is ∙ ap Err (same ∙ carry_told c.self.invariant c.self.view_is (part_with c.args.prefix.now c.args.excluded.now (option_copied c.args.route)) (sym c.is_next.ensures ∙ c.if-not-is_next.false) c.in_err-record.field-0.0 f c.in_err-record.ensures.err h)
 
-pub returns-in_err-route-clause-accepted : goal.returns-in_err-route-clause-accepted
-returns-in_err-route-clause-accepted g c h =
+pub returns-in_err-record-clause-accepted : goal.returns-in_err-record-clause-accepted
+returns-in_err-record-clause-accepted g c h =
     let (failure, is, same) = err_from_is_err_and c.from_residual.result c.from_residual.ensures.1 in
-    rw (is, same) (carry_accepted c.self.inside.partial c.self.view_is (part_with c.args.prefix.now c.args.excluded.now (option_copied c.args.route)) (sym c.is_next.ensures ∙ c.if-not-is_next.false) c.in_err-route.field-0.0 c.in_err-route.ensures.err h)
+    rw (is, same) (carry_accepted c.self.invariant c.self.view_is (part_with c.args.prefix.now c.args.excluded.now (option_copied c.args.route)) (sym c.is_next.ensures ∙ c.if-not-is_next.false) c.in_err-record.field-0.0 c.in_err-record.ensures.err h)
 
 pub invariant_of-self : goal.invariant_of-self
 invariant_of-self g c =
@@ -31,11 +31,11 @@ invariant_of-self g c =
     record {
       rules = c.self.invariant.rules;
       limits = c.self.invariant.limits;
-      partial = subst (IsPartial s.question.plan.now.plan s.question.request) (sym c.in_err-take_in.ensures.err) c.self.invariant.partial;
+      partial = subst (IsPartial s.question.plan.now.plan s.question.request s.parts.items) (sym c.in_err-take_in.ensures.err) c.self.invariant.partial;
     }
 
 pub returns-in_err-take_in-clause-refused : goal.returns-in_err-take_in-clause-refused
-returns-in_err-take_in-clause-refused g c f h = let both : None ≡ Some f = sym (not_refused c.self.inside.partial c.self.view_is (part_with c.args.prefix.now c.args.excluded.now (option_copied c.args.route)) (sym c.is_next.ensures ∙ c.if-not-is_next.false) c.in_ok-route.ensures.may) ∙ h in cc
+returns-in_err-take_in-clause-refused g c f h = let both : None ≡ Some f = sym (not_refused c.self.invariant c.self.view_is (part_with c.args.prefix.now c.args.excluded.now (option_copied c.args.route)) (sym c.is_next.ensures ∙ c.if-not-is_next.false) c.in_ok-record.ensures.may) ∙ h in cc
 
 pub invariant_of-self-2 : goal.invariant_of-self-2
 invariant_of-self-2 g c =
@@ -45,26 +45,19 @@ invariant_of-self-2 g c =
     let h = partial_shape_of s.partial in
     let q = c.args.prefix.now in
     let X = c.args.excluded.now in
-    let next = and_parts (rise_strictly X) (comes_after (parts_in h) q) (sym c.is_next.ensures ∙ c.if-not-is_next.false) in
+    let next = and_parts (rise_strictly X) (is_after_last h q) (sym c.is_next.ensures ∙ c.if-not-is_next.false) in
     let w = c.in_ok-take_in.ensures.ok in
     record {
       rules = c.self.invariant.rules;
       limits = c.self.invariant.limits;
-      partial = subst (IsPartial p r) (sym w.2) (partial_more p r h c.self.invariant.partial q X c.in_ok-route.route (option_copied c.args.route) c.in_ok-route.ensures.ok next.0 next.1 c.in_ok-route.ensures.may w.0 w.1);
+      partial = subst (λ ts. IsPartial p r ts (partial_shape_of c.take_in.new.self)) (sym c.push.ensures) (subst (IsPartial p r (s.parts.items ++ part_with q X (option_copied c.args.route) ∷ [])) (sym w.2) (partial_more p r s.parts.items h c.self.invariant.partial q X c.in_ok-record.record (option_copied c.args.route) c.in_ok-record.ensures.ok next.0 next.1 c.in_ok-record.ensures.may w.0 w.1));
     }
 
 pub returns-clause-refused : goal.returns-clause-refused
-returns-clause-refused g c f h = let both : None ≡ Some f = sym (not_refused c.self.inside.partial c.self.view_is (part_with c.args.prefix.now c.args.excluded.now (option_copied c.args.route)) (sym c.is_next.ensures ∙ c.if-not-is_next.false) c.in_ok-route.ensures.may) ∙ h in cc
+returns-clause-refused g c f h = let both : None ≡ Some f = sym (not_refused c.self.invariant c.self.view_is (part_with c.args.prefix.now c.args.excluded.now (option_copied c.args.route)) (sym c.is_next.ensures ∙ c.if-not-is_next.false) c.in_ok-record.ensures.may) ∙ h in cc
 
 pub returns-clause-ok : goal.returns-clause-ok
 returns-clause-ok g c =
     let s = c.self.inside in
-    let p = s.question.plan.now.plan in
-    let r = s.question.request in
-    let h = partial_shape_of s.partial in
-    let q = c.args.prefix.now in
-    let X = c.args.excluded.now in
-    let w = c.in_ok-take_in.ensures.ok in
-    let parts = ap parts_in w.2 ∙ parts_then p r h c.self.invariant.partial q X c.in_ok-route.route (option_copied c.args.route) c.in_ok-route.ensures.ok w.0 in
-    subst (λ (v : Loaded). loaded s.question.plan.now r c.take_in.new.self (g.B.BestOf.calls_of s.finder) ≡ with_part v (part_with q X (option_copied c.args.route))) c.self.view_is
-    (λ i. record { plan = s.question.plan.now; request = r; parts = parts i; calls = g.B.BestOf.calls_of s.finder })
+    subst (λ (v : Loaded). loaded s.question.plan.now s.question.request c.push.new.self.items (g.B.BestOf.calls_of s.finder) ≡ with_part v (part_with c.args.prefix.now c.args.excluded.now (option_copied c.args.route))) c.self.view_is
+    (λ i. loaded s.question.plan.now s.question.request (c.push.ensures i) (g.B.BestOf.calls_of s.finder))

@@ -14,7 +14,7 @@ use Rattle.sabr_frontier.specs.loading.Loading.{IsClosedState, IsCounted, IsRefu
 use Rattle.sabr_frontier.specs.session.Session.{session_over}
 use Rattle.sabr_frontier.specs.tree.Shape.{shown, Shape, front_of, numbers_of, part_at, part_of, prefix_of}
 use Rattle.sabr_frontier.specs.tree.Sound.{IsTree, AreGiven, IsLent}
-use Rattle.sabr_frontier.specs.loading.Partial.{IsLastPlace, IsLoader, partial_shape_of, is_complete, loaded, loaded_tree, PartialShape, AreLent, IsAnswered, IsGiven, IsPartial, pairs_in, parts_in, parts_of, onward, Expects}
+use Rattle.sabr_frontier.specs.loading.Partial.{IsLastPlace, IsLoader, partial_shape_of, is_complete, loaded, loaded_tree, PartialShape, IsAnswered, IsGiven, IsPartial, nodes_of, onward, Expects}
 use Rattle.sabr_frontier.proofs.LoadingLemmas.LoadedParts.{complete_closed, incomplete_open, complete_expects}
 use Rattle.sabr_frontier.proofs.TreeLemmas.IndexedNodes.{tree_indexed}
 use Rattle.std.proofs.lemmas.Bool.{cases_Bool}
@@ -30,13 +30,13 @@ use Rattle.sabr_frontier.specs.declared.tree.NodeId.{NodeId}
 use Rattle.sabr_frontier.specs.declared.tree.Node.{Node}
 use Rattle.sabr_frontier.specs.listing.Rising.{has, Rises}
 use Rattle.sabr_frontier.specs.listing.Tree.{set_of}
-use Rattle.sabr_frontier.specs.listing.State.{pair_of, Member, leaves, leaves_of, InPairs}
+use Rattle.sabr_frontier.specs.listing.State.{PartState, pair_of, Member, leaves, leaves_of, InPairs}
 use Rattle.sabr_frontier.specs.listing.Formed.{InOrder}
 use Rattle.sabr_frontier.specs.tree.Giving.{ids_from}
 use Rattle.sabr_frontier.proofs.ListingLemmas.ListMembers.{pairs_two, length-put_in, Member-map, Member-map_cases, Member-filter_cases, Member-flat_map_cases, Below-member, Less-apart}
 use Rattle.sabr_frontier.proofs.ListingLemmas.NumbersAfter.{number_after-snoc, number_after-of_longer}
 use Rattle.sabr_frontier.proofs.ListingLemmas.ClosedTrees.{In_Member, Member_In, set_of_has, has_set_of, last_same, Pairs, not_empty}
-use Rattle.sabr_frontier.proofs.TreeLemmas.CarryingNodes.{front_none}
+use Rattle.sabr_frontier.proofs.TreeLemmas.CarryingNodes.{front_none, numbers_back, told_back}
 use Rattle.sabr_frontier.proofs.TreeLemmas.ModifiedPlaces.{get_at_end, ids_cases, ids_has}
 use Rattle.std.proofs.Math.Seq.{take-append_seam}
 use Rattle.sabr_search.proofs.WayLemmas.Prefixes.{number_after_some}
@@ -106,21 +106,25 @@ module _ (p : ContactPlan) (r : RouteRequest) (L : List RouteRecord) where
   ]
 
   -- all of them
-  all_lent : {A : Type 0} (qs : List (List ℕ)) (ns : List (Node A)) (c : ℕ) (os : List (List ℕ)) (F : List RouteRecord) → AreLent route c qs ns → c ≡ length F → L ≡ F ++ map (record_of p r) (flat_map (leaves_of route) (map pair_of (parts_of qs ns))) → Expects route path os (map pair_of (parts_of qs ns)) [] → (map (λ n. part_of L (Some n)) ns ≡ parts_of qs ns) × ((n : Node A) → Member n ns → IsLent L n)
-  all_lent [] [] c os F h e is w = (refl, λ n m. absurd m)
-  all_lent [] (n ∷ ns) c os F h e is w = absurd h
-  all_lent (q ∷ qs) [] c os F h e is w = absurd h
-  all_lent (q ∷ qs) (n ∷ ns) c os F h e is w =
-      let T : Pairs = map pair_of (parts_of qs ns) in
-      let own : List (List ℕ) = leaves_of route (q, n.excluded) in
-      let one = one_lent q n T os F (h.0 ∙ e) h.1 is w in
+  all_lent : {A : Type 0} (ts : List PartState) (c : ℕ) (os : List (List ℕ)) (F : List RouteRecord) → c ≡ length F → L ≡ F ++ map (record_of p r) (flat_map (leaves_of route) (map pair_of ts)) → Expects route path os (map pair_of ts) [] → (map (λ n. part_of L (Some n)) (nodes_of {A = A} p r c ts) ≡ ts) × ((n : Node A) → Member n (nodes_of p r c ts) → IsLent L n)
+  all_lent [] c os F e is w = (refl, λ n m. absurd m)
+  all_lent {A} (t ∷ ts) c os F e is w =
+      let T : Pairs = map pair_of ts in
+      let own : List (List ℕ) = leaves_of route (pair_of t) in
+      let one = one_lent {A = A} t.prefix (record { leaf = c; length = length t.prefix; excluded = t.excluded; route = option_map (record_of p r) t.carried }) T os F e refl is w in
       let next : L ≡ (F ++ map (record_of p r) own) ++ map (record_of p r) (flat_map (leaves_of route) T) =
       is ∙ ap (λ z. F ++ z) (map-append (record_of p r) own (flat_map (leaves_of route) T)) ∙ sym (append_assoc F (map (record_of p r) own) (map (record_of p r) (flat_map (leaves_of route) T))) in
       let count : c + length own ≡ length (F ++ map (record_of p r) own) = omega (arith, e, length-append F (map (record_of p r) own), length-map own (record_of p r)) in
-      let rest = all_lent qs ns (c + length own) (onward route path (q, n.excluded) ++ w.0) (F ++ map (record_of p r) own) h.2 count next w.3 in (
-        (λ i. record { prefix = one.0 i; excluded = n.excluded; carried = option_map numbers_of n.route } ∷ rest.0 i),
+      let rest = all_lent {A = A} ts (c + length own) (onward route path (pair_of t) ++ w.0) (F ++ map (record_of p r) own) count next w.3 in (
+        (λ i. record { prefix = one.0 i; excluded = t.excluded; carried = numbers_back p r t.carried i } ∷ rest.0 i),
         (λ m k. elim k [ inl same ↦ subst (IsLent L) (sym same) one.1 | inr b ↦ rest.1 m b ]),
       )
+
+  -- each carries the record of its route
+  all_recorded : {A : Type 0} (ts : List PartState) (c : ℕ) (n : Node A) (x : RouteRecord) → Member n (nodes_of p r c ts) → n.route ≡ Some x → x ≡ record_of p r x.contacts
+  all_recorded [] c n x m e = absurd m
+  all_recorded {A} (t ∷ ts) c n x (inl same) e = told_back p r t.carried x (sym (ap (λ (z : Node A). z.route) same) ∙ e)
+  all_recorded (t ∷ ts) c n x (inr m) e = all_recorded ts (c + length (leaves_of route (pair_of t))) n x m e
 
 -- the parts by the numbers of their nodes
 parts_by_ids : {A : Type 0} (L : List RouteRecord) (front ns : List (Node A)) → map (part_at L (front ++ ns)) (ids_from (length front) (length ns)) ≡ map (λ n. part_of L (Some n)) ns
@@ -173,9 +177,9 @@ module _ (route : List ℕ → Bool) where
 
 -- ---- the last is one of them
 
-module _ {A : Type 0} (p : ContactPlan) (r : RouteRequest) (h : PartialShape A) (partial : IsPartial p r h) (complete : is_complete h ≡ true) where
+module _ {A : Type 0} (p : ContactPlan) (r : RouteRequest) (parts : List PartState) (h : PartialShape A) (partial : IsPartial p r parts h) (complete : is_complete h ≡ true) where
   abbrev T : Pairs
-  T = pairs_in h
+  T = map pair_of parts
 
   abbrev S : List (List ℕ)
   S = flat_map (leaves_of (is_route p r)) T
@@ -183,7 +187,7 @@ module _ {A : Type 0} (p : ContactPlan) (r : RouteRequest) (h : PartialShape A) 
   sound : h.sound ≡ true
   sound = (Rattle.std.proofs.lemmas.Bool.and_parts h.sound _ complete).0
 
-  answered : IsAnswered p r h
+  answered : IsAnswered p r parts h
   answered = partial.answered sound
 
   count : length h.leaves ≡ length (leaves (is_route p r) T)
@@ -213,14 +217,14 @@ module _ {A : Type 0} (p : ContactPlan) (r : RouteRequest) (h : PartialShape A) 
   recorded_in s m = subst (Member (record_of p r s)) (sym answered.leaves) (Member-map (record_of p r) s S (Member_In s S (set_of_has s S (In_Member s (leaves (is_route p r) T) m))))
 
   -- a wrong count or last
-  wrong_count : (emitted : ℕ) (last : List ℕ) → (emitted ≡ length h.leaves → IsGiven h.leaves last → ⊥) → IsCounted p r (state_with (parts_in h) emitted last) → ⊥
+  wrong_count : (emitted : ℕ) (last : List ℕ) → (emitted ≡ length h.leaves → IsGiven h.leaves last → ⊥) → IsCounted p r (state_with (parts) emitted last) → ⊥
   wrong_count emitted last wrong c = wrong (c.count ∙ sym count) (right_given last c.right)
 
   module _ (emitted : ℕ) (last : List ℕ) (place : Option ℕ) (at : IsLastPlace h.leaves emitted last place) where
-    formed_then : IsState p r (state_with (parts_in h) emitted last)
+    formed_then : IsState p r (state_with (parts) emitted last)
     formed_then = record {
       order = partial.order;
-      closed = complete_closed p r h partial complete;
+      closed = complete_closed p r parts h partial complete;
       count = at.count ∙ count;
       right = given_right last at.right;
       carried = partial.carried;
@@ -229,11 +233,12 @@ module _ {A : Type 0} (p : ContactPlan) (r : RouteRequest) (h : PartialShape A) 
     abbrev t : Shape A
     t = loaded_tree h place
 
-    lent_all : (map (λ n. part_of h.leaves (Some n)) h.nodes ≡ parts_in h) × ((n : Node A) → Member n h.nodes → IsLent h.leaves n)
-    lent_all = all_lent p r h.leaves h.prefixes h.nodes 0 ([] ∷ []) [] answered.lent refl answered.leaves (complete_expects p r h partial complete)
+    lent_all : (map (λ n. part_of h.leaves (Some n)) h.nodes ≡ parts) × ((n : Node A) → Member n h.nodes → IsLent h.leaves n)
+    lent_all = subst (λ (ns : List (Node A)). (map (λ n. part_of h.leaves (Some n)) ns ≡ parts) × ((n : Node A) → Member n ns → IsLent h.leaves n)) (sym answered.nodes)
+        (all_lent p r h.leaves parts 0 ([] ∷ []) [] refl answered.leaves (complete_expects p r parts h partial complete))
 
-    shown_then : shown t ≡ state_with (parts_in h) emitted last
-    shown_then = let parts = parts_by_ids h.leaves [] h.nodes ∙ lent_all.0 in λ i. record { emitted = sym at.count i; last = at.is i; parts = parts i }
+    shown_then : shown t ≡ state_with (parts) emitted last
+    shown_then = let same = parts_by_ids h.leaves [] h.nodes ∙ lent_all.0 in λ i. record { emitted = sym at.count i; last = at.is i; parts = same i }
 
     -- the leaves are the records of the routes that count as given
     given_then : AreGiven p r t
@@ -256,25 +261,25 @@ module _ {A : Type 0} (p : ContactPlan) (r : RouteRequest) (h : PartialShape A) 
       known = λ id m. let w = ids_cases id 0 (length h.nodes) m in let l = w.1 in omega (arith, l);
       listed = λ id l. ids_has id 0 (length h.nodes) (omega arith) (omega (arith, l));
       lent = lent_all.1;
-      records = partial.records;
+      records = λ n x m. all_recorded p r h.leaves parts 0 n x (subst (Member n) answered.nodes m);
       given = given_then;
       least = λ is. absurd (true≢false (sym is));
     }
 
 -- with nothing expected and the last route in its place, the parts make a tree, and their state is well formed
-module _ {A : Type 0} {plan : TabledPlan} {r : RouteRequest} {partial : PartialTree A} (h : IsLoader plan r partial) (complete : is_complete (partial_shape_of partial) ≡ true)
+module _ {A : Type 0} {plan : TabledPlan} {r : RouteRequest} {parts : List PartState} {partial : PartialTree A} (h : IsLoader plan r parts partial) (complete : is_complete (partial_shape_of partial) ≡ true)
     {emitted : ℕ} {last : List ℕ} {place : Option ℕ} {leaves : List RouteRecord} (are : leaves ≡ partial.leaves.items) (found : IsLastPlace leaves emitted last place) where
   at : IsLastPlace partial.leaves.items emitted last place
   at = subst (λ xs. IsLastPlace xs emitted last place) are found
 
   tree_is : IsTree plan.plan r (loaded_tree (partial_shape_of partial) place)
-  tree_is = loaded_is_tree plan.plan r (partial_shape_of partial) h.partial complete emitted last place at
+  tree_is = loaded_is_tree plan.plan r parts (partial_shape_of partial) h.partial complete emitted last place at
 
-  module _ {calls : Calls} {v : Loaded} (is : loaded plan r partial calls ≡ v) where
+  module _ {calls : Calls} {v : Loaded} (is : loaded plan r parts calls ≡ v) where
     formed : IsState v.plan.plan v.request (state_with v.parts emitted last)
     formed =
         subst (λ (w : Loaded). IsState w.plan.plan w.request (state_with w.parts emitted last)) is
-        (formed_then plan.plan r (partial_shape_of partial) h.partial complete emitted last place at)
+        (formed_then plan.plan r parts (partial_shape_of partial) h.partial complete emitted last place at)
 
     -- only memory can be refused
     refused : {X : Type 0} (answer : Result X LoadFault) → IsErrAnd answer (λ f. f ≡ NoMemory) → IfErr answer (IsRefusedBy v.plan.plan v.request (state_with v.parts emitted last))
@@ -285,7 +290,7 @@ pub returns-then-not-is_complete-clause-err : goal.returns-then-not-is_complete-
 returns-then-not-is_complete-clause-err g c =
     let s = c.self.inside in
     subst (λ (v : Loaded). IsClosedState v.plan.plan v.request (state_with v.parts c.args.emitted c.args.last.now) → ⊥) c.self.view_is
-    (incomplete_open s.question.plan.now.plan s.question.request (partial_shape_of s.partial) c.self.invariant.partial (sym c.is_complete.ensures ∙ c.if-not-is_complete.true))
+    (incomplete_open s.question.plan.now.plan s.question.request s.parts.items (partial_shape_of s.partial) c.self.invariant.partial (sym c.is_complete.ensures ∙ c.if-not-is_complete.true))
 
 pub returns-in_default-clause-err : goal.returns-in_default-clause-err
 returns-in_default-clause-err g c =
@@ -298,7 +303,7 @@ returns-in_default-clause-err g c =
     let complete = sym c.is_complete.ensures ∙ c.if-not-is_complete.false in
     let wrong = subst (λ (xs : List RouteRecord). emitted ≡ length xs → IsGiven xs last → ⊥) c.as_slice.ensures.value c.in_default.ensures.none in
     subst (λ (v : Loaded). IsClosedState v.plan.plan v.request (state_with v.parts emitted last) × (IsCounted v.plan.plan v.request (state_with v.parts emitted last) → ⊥)) c.self.view_is
-    (complete_closed p r h c.self.invariant.partial complete, wrong_count p r h c.self.invariant.partial complete emitted last wrong)
+    (complete_closed p r s.parts.items h c.self.invariant.partial complete, wrong_count p r s.parts.items h c.self.invariant.partial complete emitted last wrong)
 
 pub returns-in_err-tree-clause-err : goal.returns-in_err-tree-clause-err
 returns-in_err-tree-clause-err g c = refused c.self.invariant (sym c.is_complete.ensures ∙ c.if-not-is_complete.false) c.as_slice.ensures.value c.in-Some.ensures.some c.self.view_is c.from_residual.result c.from_residual.ensures.1
@@ -320,7 +325,7 @@ returns-clause-ok g c =
     let s = c.self.inside in
     let complete = sym c.is_complete.ensures ∙ c.if-not-is_complete.false in
     let placed = at c.self.invariant complete c.as_slice.ensures.value c.in-Some.ensures.some in
-    let state = ap shown c.in_ok-tree.ensures.shape ∙ shown_then s.question.plan.now.plan s.question.request (partial_shape_of s.partial) c.self.invariant.partial complete c.args.emitted c.args.last.now c.in-Some.last placed in
+    let state = ap shown c.in_ok-tree.ensures.shape ∙ shown_then s.question.plan.now.plan s.question.request s.parts.items (partial_shape_of s.partial) c.self.invariant.partial complete c.args.emitted c.args.last.now c.in-Some.last placed in
     subst (λ (v : Loaded). seen_over g.B.BestOf.calls_of v.plan c.of_tree.result ≡ session_with v c.args.emitted c.args.last.now) c.self.view_is
     (c.of_tree.ensures.seen ∙ (λ i. session_over s.question.plan.now s.question.request (state i) (g.B.BestOf.calls_of s.finder)))
 

@@ -1,5 +1,5 @@
-use Rattle.std.proofs.Common.{sym, subst}
-use Rattle.sabr_frontier.specs.loading.Partial.{IsPartial}
+use Rattle.std.proofs.Common.{[], sym, subst}
+use Rattle.sabr_frontier.specs.loading.Partial.{IsPartial, partial_shape_of}
 use Rattle.sabr_frontier.proofs.LoadingLemmas.LoadedParts.{nothing_yet_is}
 use Rattle.sabr_frontier.proofs.loader.Loader.new.Goals as goal
 
@@ -10,5 +10,5 @@ invariant_of-result g c =
     record {
       rules = c.rules_hold.ensures;
       limits = c.limits_hold.ensures;
-      partial = subst (IsPartial p r) (sym c.new.ensures) (nothing_yet_is p r {A = g.row.A.Denot});
+      partial = subst (λ ts. IsPartial p r ts (partial_shape_of c.new-2.result)) (sym c.new.ensures) (subst (IsPartial p r []) (sym c.new-2.ensures) (nothing_yet_is p r {A = g.row.A.Denot}));
     }

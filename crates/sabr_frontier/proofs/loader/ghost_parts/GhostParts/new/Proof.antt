@@ -1,13 +1,13 @@
--- It begins with no list.
+-- It begins with no part.
 use Rattle.sabr_frontier.proofs.LoadingLemmas.GhostWalks.{[], ◌∷◌, refl, proved, ftrue, raw, ‵, ◌$◌, ◌∵◌, !, qed, done, keep, fjoin, suffices, enter, no_more, returns, alloc_all, pass_all, free_all, look_at, sets, nothing, owned, move, on_entry, Stays, walk_of, says, ends_at, agg}
 use mir.Val.{vstruct, vnil}
 use denote.Laws.{Is}
 use denote.Struct.Struct.{Struct, Struct-Makes}
 use denote.Struct.Owning.{shape}
-use Rattle.sabr_frontier.specs.contracts.loader.ghost_lists.GhostLists.new as f
-use Rattle.sabr_frontier.proofs.loader.ghost_lists.GhostLists.new.Statement.{statement}
-use Rattle.sabr_frontier.proofs.loader.ghost_lists.GhostLists.new.Code as code
-use Rattle.sabr_frontier.specs.contracts.loader.ghost_lists.GhostLists.{the_type}
+use Rattle.sabr_frontier.specs.contracts.loader.ghost_parts.GhostParts.new as f
+use Rattle.sabr_frontier.proofs.loader.ghost_parts.GhostParts.new.Statement.{statement}
+use Rattle.sabr_frontier.proofs.loader.ghost_parts.GhostParts.new.Code as code
+use Rattle.sabr_frontier.specs.contracts.loader.ghost_parts.GhostParts.{the_type}
 
 abbrev stayed : Stays f.ended.signature.params f.ended.kept
 stayed = tt
