@@ -2,7 +2,8 @@
 
 A shared library that is loaded before the C library refuses one request, and counts them. Such a run ends as ever, if it
 does without that memory, or says that there is no memory: with status 6, nothing on standard output, and no file of a
-session. Only `many` and `follow` may have printed whole answers before that. This needs a C compiler.
+session. Only `many` and `follow` may have printed whole answers before that. And a session's parts that can't follow
+are counted to take no memory. This needs a C compiler.
 """
 
 import os
@@ -67,14 +68,28 @@ class Refusing(Room):
         if not met:
             yield f"of {number} requests none was missed"
 
+    def requests(self, parts):
+        """The status of a run that verifies a session of some parts, of which the second can't follow, and the requests."""
+        head = self.read("session").partition("emitted ")[0]
+        stray = "".join(f"part {number} / - / -\n" for number in range(10000, 10000 + parts - 1))
+        self.file("stray", f"{head}emitted 0\nlast -\nparts {parts}\npart - / - / -\n{stray}end\n")
+        ran, _ = self.ended(f"verify --plan {TOP}/examples/relay.txt --session stray")
+        return ran.status, int(self.read("count"))
+
 
 def each_request(room):
     for title, words in RUNS:
         yield title, "", lambda: "\n".join(room.faults(words))
 
 
+def stray_parts(room):
+    few = room.requests(10)
+    yield "10 parts that can't follow", 4, lambda: few[0]
+    yield "10000 take no more requests than 10", few, lambda: room.requests(10000)
+
+
 def checks(asked):
     if asked.trials or not shutil.which("cc"):
         print("note: memory is left out, since " + ("a trial has an allocator of its own" if asked.trials else "there is no cc"))
         return ()
-    return checks_of("memory", Refusing(asked.program("cgrlist")), [each_request])
+    return checks_of("memory", Refusing(asked.program("cgrlist")), [each_request, stray_parts])
