@@ -69,7 +69,7 @@ class Refusing(Room):
             yield f"of {number} requests none was missed"
 
     def requests(self, parts):
-        """The status of a run that verifies a session of some parts, of which the second can't follow, and the requests."""
+        """The status of a run that verifies a session whose second part can't follow, and its requests for memory."""
         head = self.read("session").partition("emitted ")[0]
         stray = "".join(f"part {number} / - / -\n" for number in range(10000, 10000 + parts - 1))
         self.file("stray", f"{head}emitted 0\nlast -\nparts {parts}\npart - / - / -\n{stray}end\n")
@@ -83,9 +83,9 @@ def each_request(room):
 
 
 def stray_parts(room):
-    few = room.requests(10)
-    yield "10 parts that can't follow", 4, lambda: few[0]
-    yield "10000 take no more requests than 10", few, lambda: room.requests(10000)
+    few = room.requests(1000)
+    yield "1000 parts that can't follow", 1, lambda: few[0]
+    yield "10000 take no more requests than 1000", few, lambda: room.requests(10000)
 
 
 def checks(asked):
