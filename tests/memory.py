@@ -2,8 +2,8 @@
 
 A shared library that is loaded before the C library refuses one request, and counts them. Such a run ends as ever, if it
 does without that memory, or says that there is no memory: with status 6, nothing on standard output, and no file of a
-session. Only `many` and `follow` may have printed whole answers before that. And a session's parts that can't follow
-are counted to take no memory. This needs a C compiler.
+session. Only `many` and `follow` may have printed whole answers before that. The requests are also counted for a session
+text whose second part can't follow: further parts make none. This needs a C compiler.
 """
 
 import os
