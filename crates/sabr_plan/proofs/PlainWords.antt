@@ -1,15 +1,16 @@
 -- The words of a line, and graphic words, each after blanks.
-use Rattle.std.proofs.Common.{◌≡◌, ℕ, suc, ◌+◌, ◌<◌, true, false, List, [], ◌∷◌, ◌++◌, length, drop, get_or, refl, sym, ap, ◌∙◌, arith, append-nil, ◌≢◌, Bool, eqb, append_assoc, length-append, not}
-use Rattle.std.specs.List.{All, list_all}
-use Rattle.std.proofs.Math.Seq.{drop-cons}
-use Rattle.std.proofs.Math.Numerals.{add-one}
+use Rattle.std.proofs.Common.{◌≡◌, ℕ, ◌-◌, ◌<◌, true, false, List, [], ◌∷◌, ◌++◌, length, take, drop, get_or, refl, sym, ap, ◌∙◌, inl, inr, arith, add-zero, append-nil, ◌≢◌, Bool, eqb, append_assoc, get_or-take, get_or-drop, length-append, length-take, length-drop, not}
+use Rattle.std.specs.Prelude.{Option, Some, None, unwrap_or}
+use Rattle.std.specs.List.{All, list_all, position, position_or_len}
 use Rattle.std.proofs.lemmas.List.Splits.{slice_split-cons_yes, slice_split_none, slice_split_at}
-use borrow.Author.Tests.{lt-ltb, ltb-true}
+use borrow.Author.Tests.{lt-ltb, le-ltb, ltb-true}
 use Rattle.sabr_plan.specs.Words.{is_blank, words_of, is_plain, is_comment, has_bytes, is_one_line}
-use Rattle.std.proofs.lemmas.Bool.{and_parts, ne_eqb, false≢true}
+use Rattle.std.proofs.lemmas.Bool.{and_parts, both_ways, cases_lt, ne_eqb, false≢true, not-false, not-true}
 use Rattle.std.proofs.lemmas.Bool.Decides.{nat_tests}
 use Rattle.std.proofs.lemmas.List.Folds.{list_all-append}
-use Rattle.std.proofs.lemmas.List.Sums.{AllPass-from_list_all, list_all-from_AllPass}
+use Rattle.std.proofs.lemmas.List.{drop_all, take-append-drop}
+use Rattle.std.proofs.lemmas.List.Quantifiers.{position-Some}
+use Rattle.std.proofs.lemmas.List.Sums.{AllPass-from_list_all, list_all-from_AllPass, fails_before_first, passes_at_first, prefix_len-le-length}
 use Rattle.sabr_plan.specs.Digits.{is_digit}
 use Rattle.sabr_plan.specs.PlainWords.{is_graphic, is_graphic_word, IsAfterBlanks, IsFront, IsAhead}
 
@@ -19,10 +20,6 @@ use Rattle.sabr_plan.specs.PlainWords.{is_graphic, is_graphic_word, IsAfterBlank
 pub words_of-blank : (b : ℕ) (s : List ℕ) → is_blank b ≡ true → words_of (b ∷ s) ≡ words_of s
 unfolding words_of
 words_of-blank b s h = rw (slice_split-cons_yes is_blank b s h) refl
-
-pub words_of-drop : (text : List ℕ) (i : ℕ) → i < length text → is_blank (get_or text i 0) ≡ true → words_of (drop (i + 1) text) ≡ words_of (drop i text)
-words_of-drop text i h blank =
-    sym (rw (drop-cons text i 0 h) (rw (add-one i) (words_of-blank (get_or text i 0) (drop (suc i) text) blank)))
 
 -- no bytes have no word
 pub words_of-nil : words_of [] ≡ []
@@ -83,6 +80,48 @@ plain_blanks bs h = all_weaker is_blank is_plain bs (λ b h. grind (arith, nat_t
 words_of-blanks : (bs text : List ℕ) → list_all is_blank bs ≡ true → words_of (bs ++ text) ≡ words_of text
 words_of-blanks [] text h = refl
 words_of-blanks (b ∷ bs) text h = let p = and_parts (is_blank b) (list_all is_blank bs) h in words_of-blank b (bs ++ text) p.0 ∙ words_of-blanks bs text p.1
+
+-- the index of the first byte that passes, or the length
+first_or_len : (p : ℕ → Bool) (text : List ℕ) → unwrap_or (position p text) (length text) ≡ position_or_len p text
+first_or_len p text =
+    let within = prefix_len-le-length (λ b. not (p b)) text in
+    elim (cases_lt (position_or_len p text) (length text)) [
+      | inl lt ↦ rw (lt-ltb _ _ lt) refl
+      | inr ge ↦ rw (le-ltb _ _ ge) (omega (arith, within, ge))
+    ]
+
+-- the blanks before the first other byte
+words_of-from : (text : List ℕ) (o : Option ℕ) → position (λ b. not (is_blank b)) text ≡ o → words_of (drop (unwrap_or o (length text)) text) ≡ words_of text
+words_of-from text o is =
+    let n = unwrap_or o (length text) in
+    let at : n ≡ position_or_len (λ b. not (is_blank b)) text = sym (ap (λ o. unwrap_or o (length text)) is) ∙ first_or_len (λ b. not (is_blank b)) text in
+    let blank = list_all-from_AllPass is_blank (take n text) (λ k d less.
+    let low : k < n = omega (arith, less, length-take n text) in
+    rw (get_or-take n text k d low) (not-false _ (fails_before_first (λ b. not (is_blank b)) text k d (omega (arith, low, at))))) in
+    sym (words_of-blanks (take n text) (drop n text) blank) ∙ ap words_of (take-append-drop n text)
+
+-- without one there is no word
+pub no_word : (text : List ℕ) → position (λ b. not (is_blank b)) text ≡ None → words_of text ≡ []
+no_word text none = sym (words_of-from text None none) ∙ ap words_of (drop_all (length text) text (omega arith)) ∙ words_of-nil
+
+-- the bytes from there up to the next blank are a word
+pub first_word : (text start : List ℕ) (at : ℕ) → position (λ b. not (is_blank b)) text ≡ Some at → start ≡ drop at text
+    → words_of text ≡ take (unwrap_or (position is_blank start) (length start)) start ∷ words_of (drop (unwrap_or (position is_blank start) (length start)) start)
+first_word text start at found is =
+    let p = position-Some (λ b. not (is_blank b)) text at 0 found in
+    let first : is_blank (get_or start 0 0) ≡ false = rw (is, get_or-drop, add-zero) (not-true _ p.1) in
+    let n = position_or_len is_blank start in
+    let long = length-take n start in
+    let some : 0 < length start = omega (arith, p.0, ap length is, length-drop at text) in
+    let more : 0 < n =
+    elim (cases_lt 0 n) [
+      | inl lt ↦ lt
+      | inr none ↦ let e : n ≡ 0 = omega arith in absurd (both_ways (is_blank (get_or start 0 0)) first (rw e at (passes_at_first is_blank start 0 (omega (arith, none, some)))))
+    ] in
+    rw (first_or_len is_blank start) (sym (words_of-from text (Some at) found) ∙ ap words_of (sym is ∙ sym (take-append-drop n start))
+    ∙ first_is (take n start) (drop n start) (omega (arith, more, some, long))
+    (λ k d less. let low : k < n = omega (arith, less, long) in rw (get_or-take n start k d low) (fails_before_first is_blank start k d low))
+    (λ left. rw (get_or-drop, add-zero) (passes_at_first is_blank start 0 (omega (arith, left, length-drop n start)))))
 
 -- the first of them
 first_blank : (bs text : List ℕ) → 0 < length bs → list_all is_blank bs ≡ true → is_blank (get_or (bs ++ text) 0 0) ≡ true

@@ -1,9 +1,9 @@
 //! The words of a plan line.
 
-ghost use Rattle.std.specs.Prelude.{◌≡◌, ◌≢◌, [], ◌∷◌, false, ℕ, ◌<◌, length, slice_index, MatchOption, if◌then◌else◌};
-ghost use Rattle.std.specs.List.{list_all};
+ghost use Rattle.std.specs.Prelude.{◌≡◌, ◌≢◌, [], ◌∷◌, length, not, MatchOption};
+ghost use Rattle.std.specs.List.{list_all, position};
 ghost use Rattle.std.specs.Str.{bytes_eq};
-ghost use Rattle.sabr_plan.specs.Words.{is_blank, is_plain, is_comment, has_bytes, words_of};
+ghost use Rattle.sabr_plan.specs.Words.{is_blank, is_plain, is_comment, words_of};
 
 /// Returns true if the line is a comment.
 pub fn is_comment(line: &[u8]) -> bool
@@ -45,84 +45,55 @@ pub fn is_word(word: &[u8], text: &[u8]) -> bool
     word == text
 }
 
-/// Returns the text without the blanks at its front.
-fn skip_blanks(text: &[u8]) -> &[u8]
-    ensures words { words_of result.now ≡ words_of text.now }
-    ensures start { 0 < length result.now → is_blank (slice_index result.now 0) ≡ false }
+/// Returns the index of the first blank.
+fn first_blank(text: &[u8]) -> Option<usize>
+    ensures { result ≡ position is_blank text.now }
 {
-    let mut at = 0;
-    while at < text.len() && is_blank(text[at]) {
-        at += 1;
-    }
-    &text[at..]
+    text.iter().position(|b| is_blank(*b))
 }
 
-/// Returns the first word, which is empty if there is none, and the text after it.
-fn first_word(text: &[u8]) -> (&[u8], &[u8])
-    ensures words { words_of text.now ≡ (if has_bytes result.0.now then result.0.now ∷ words_of result.1.now else []) }
-    ensures none { has_bytes result.0.now ≡ false → words_of result.1.now ≡ [] }
+/// Returns the index of the first byte that is no blank.
+fn first_other(text: &[u8]) -> Option<usize>
+    ensures { result ≡ position (λ b. not (is_blank b)) text.now }
 {
-    let text = skip_blanks(text);
-    let mut end = 0;
-    while end < text.len() && !is_blank(text[end]) {
-        end += 1;
-    }
-    text.split_at(end)
+    text.iter().position(|b| !is_blank(*b))
 }
 
 /// Returns the first word and the text after it, if there is a word.
 pub fn next_word(text: &[u8]) -> Option<(&[u8], &[u8])>
     ensures { MatchOption result (words_of text.now ≡ []) (λ w. words_of text.now ≡ w.0.now ∷ words_of w.1.now) }
 {
-    let (word, rest) = first_word(text);
-    if word.is_empty() {
-        None
-    } else {
-        Some((word, rest))
-    }
+    let (_, text) = text.split_at(first_other(text)?);
+    Some(text.split_at(first_blank(text).unwrap_or(text.len())))
 }
 
 /// Returns the word of a text that has exactly one, and `None` otherwise.
 pub fn one_word(text: &[u8]) -> Option<&[u8]>
     ensures { MatchOption result (length (words_of text.now) ≢ 1) (λ w. words_of text.now ≡ w.now ∷ []) }
 {
-    let (word, rest) = first_word(text);
-    let (next, _) = first_word(rest);
-    if word.is_empty() || !next.is_empty() {
-        None
-    } else {
-        Some(word)
+    let (word, rest) = next_word(text)?;
+    if next_word(rest).is_some() {
+        return None;
     }
+    Some(word)
 }
 
 /// Returns the words of a text that has exactly three, and `None` otherwise.
 pub fn three_words(text: &[u8]) -> Option<(&[u8], &[u8], &[u8])>
     ensures { MatchOption result (length (words_of text.now) ≢ 3) (λ w. words_of text.now ≡ w.0.now ∷ w.1.now ∷ w.2.now ∷ []) }
 {
-    let (a, rest) = first_word(text);
-    let (b, rest) = first_word(rest);
-    let (c, rest) = first_word(rest);
-    let (next, _) = first_word(rest);
-    if c.is_empty() || !next.is_empty() {
-        None
-    } else {
-        Some((a, b, c))
-    }
+    let (a, rest) = next_word(text)?;
+    let (b, rest) = next_word(rest)?;
+    let c = one_word(rest)?;
+    Some((a, b, c))
 }
 
 /// Returns the words of a text that has exactly five, and `None` otherwise.
 pub fn five_words(text: &[u8]) -> Option<(&[u8], &[u8], &[u8], &[u8], &[u8])>
     ensures { MatchOption result (length (words_of text.now) ≢ 5) (λ w. words_of text.now ≡ w.0.now ∷ w.1.now ∷ w.2.now ∷ w.3.now ∷ w.4.now ∷ []) }
 {
-    let (a, rest) = first_word(text);
-    let (b, rest) = first_word(rest);
-    let (c, rest) = first_word(rest);
-    let (d, rest) = first_word(rest);
-    let (e, rest) = first_word(rest);
-    let (next, _) = first_word(rest);
-    if e.is_empty() || !next.is_empty() {
-        None
-    } else {
-        Some((a, b, c, d, e))
-    }
+    let (a, rest) = next_word(text)?;
+    let (b, rest) = next_word(rest)?;
+    let (c, d, e) = three_words(rest)?;
+    Some((a, b, c, d, e))
 }
