@@ -1,16 +1,16 @@
 -- The days of the calendar, one after another, and their numbers.
-use Rattle.std.proofs.Common.{◌≡◌, ℕ, zero, suc, ◌+◌, ◌<◌, ◌≤◌, inl, inr, sym, ap, ◌∙◌, arith, rules, pos, false, true, ℤ, negsuc, refl, subst, w16, w8, w32, to_z, of_z, unsigned_abs}
-use Rattle.std.proofs.lemmas.Bool.{cases_lt, false≢true}
+use Rattle.std.proofs.Common.{◌≡◌, ℕ, zero, suc, ◌+◌, ◌<◌, ◌≤◌, inl, inr, sym, ap, ◌∙◌, arith, rules, pos, ◌-◌, ◌+ℤ◌, ◌≢◌, ℤ, subst, w16, w8, to_z, of_z}
+use Rattle.std.specs.Prelude.{Option, Some, None, IfSome, IsNone, SomeIff}
+use Rattle.std.proofs.lemmas.Bool.{cases_lt}
 use borrow.Author.Tests.{lt-ltb, le-ltb}
 use Rattle.jiff_core.specs.declared.civil.date.Date.{Date}
-use Rattle.jiff_core.specs.Calendar.{days_from_civil, days_in_month, IsCivilDate, IsDate, IsEpochDay}
+use Rattle.jiff_core.specs.Calendar.{days_from_civil, days_in_month, IsCivilDate, IsDate}
 use Rattle.jiff_core.specs.Date.{epoch_day}
-use Rattle.jiff_core.proofs.SignedLemmas.{signed_arith, back_small}
+use Rattle.jiff_core.proofs.SignedLemmas.{signed_arith}
 use Rattle.jiff_core.proofs.CalendarLemmas.{days_in_month_bounds}
 use Rattle.jiff_core.proofs.DateLemmas.{epoch_day_injective, days_from_civil-day, days_from_civil-next_month, days_from_civil-next_year, days_from_civil-max}
 use Rattle.sabr_plan.specs.Times.{CalendarDay, next_day, day_after_epoch}
 use Rattle.std.proofs.lemmas.Int.{to_z_pos}
-use lib.Signed.{lt_z}
 
 -- the calendar has the day, it is not before 1970, and n is its number
 pub record IsDay (n : ℕ) (d : CalendarDay) : Type 0 where
@@ -102,39 +102,27 @@ module _ (year month day : ℕ) (y : year < 10000) (m : month < 100) (d : day < 
       rw (year_is, month_is, day_is) (civil.0, (omega (arith, signed_arith, civil.1), omega (arith, signed_arith, civil.1)), (omega (arith, signed_arith, civil.2), omega (arith, signed_arith, civil.2)))
 
   module _ (date : Date) (a : date.year ≡ to_z w16 year) (b : pos date.month ≡ to_z w8 month) (c : pos date.day ≡ to_z w8 day) where
+    date_is : (date.year ≡ pos year) × (date.month ≡ month) × (date.day ≡ day)
+    date_is = (a ∙ year_is, let k : pos date.month ≡ pos month = b ∙ month_is in cc, let k : pos date.day ≡ pos day = c ∙ day_is in cc)
+
     -- its number is the day's
-    pub number_is : (n : ℕ) → n ≤ 2932896 → day_after_epoch n ≡ record { year = year; month = month; day = day } → epoch_day date ≡ pos n
-    number_is n h e =
-        let number = (subst (IsDay n) e (day_after_epoch_is n h)).number in
-        let p : date.year ≡ pos year = a ∙ year_is in
-        let q : date.month ≡ month = let k : pos date.month ≡ pos month = b ∙ month_is in cc in
-        let r : date.day ≡ day = let k : pos date.day ≡ pos day = c ∙ day_is in cc in
-        rw (p, q, r) number
+    number_is : (n : ℕ) → n ≤ 2932896 → day_after_epoch n ≡ record { year = year; month = month; day = day } → epoch_day date ≡ pos n
+    number_is n h e = rw (date_is.0, date_is.1, date_is.2) (subst (IsDay n) e (day_after_epoch_is n h)).number
 
     -- and the day of its number is that day
     pub day_is_of : (n : ℕ) → n ≤ 2932896 → epoch_day date ≡ pos n → day_after_epoch n ≡ record { year = year; month = month; day = day }
     day_is_of n h e =
         let same = same_day n date h e in
-        let p : (day_after_epoch n).year ≡ year = let k : pos (day_after_epoch n).year ≡ pos year = sym same.0 ∙ a ∙ year_is in cc in
-        let q : (day_after_epoch n).month ≡ month = let k : pos date.month ≡ pos month = b ∙ month_is in cc in
-        let r : (day_after_epoch n).day ≡ day = let k : pos date.day ≡ pos day = c ∙ day_is in cc in
-        let made : ◌≡◌ {A = CalendarDay} (record { year = (day_after_epoch n).year; month = (day_after_epoch n).month; day = (day_after_epoch n).day }) (record { year = year; month = month; day = day }) = rw (p, q, r) refl in
-        made
+        let same_year : (day_after_epoch n).year ≡ year = let k : pos (day_after_epoch n).year ≡ pos year = sym same.0 ∙ date_is.0 in cc in
+        λ i. record { year = same_year i; month = (sym same.1 ∙ date_is.1) i; day = (sym same.2 ∙ date_is.2) i }
 
--- a day number that is not negative when cast is at most 2932896, and casting keeps it
-pub not_negative : (z : ℤ) → IsEpochDay z → lt_z (to_z w32 (of_z w32 z)) (pos 0) ≡ false → (unsigned_abs (to_z w32 (of_z w32 z)) ≤ 2932896) × (z ≡ pos (unsigned_abs (to_z w32 (of_z w32 z))))
-not_negative (pos n) h e =
-    let small : n ≤ 2932896 = omega (arith, signed_arith, h.1) in
-    let back : to_z w32 (of_z w32 (pos n)) ≡ pos n = back_small w32 (pos n) (omega arith) in
-    rw back (small, refl)
-not_negative (negsuc n) h e =
-    let small : n < 4371587 = omega (arith, signed_arith, h.0) in
-    let back : to_z w32 (of_z w32 (negsuc n)) ≡ negsuc n = back_small w32 (negsuc n) (omega arith) in
-    absurd (false≢true (sym (rw back at e)))
-
--- the number of a day from 1970 to 9999 is not negative when cast
-pub negative : (n : ℕ) → n ≤ 2932896 → (z : ℤ) → z ≡ pos n → lt_z (to_z w32 (of_z w32 z)) (pos 0) ≡ true → ⊥
-negative n h z e lt = omega (arith, signed_arith)
+    -- from its days since the calendar's first, the day's number, if there is one
+    pub numbered : (since : ℕ) → (epoch_day date +ℤ pos 4371587) ≡ pos since → since ≤ 7304483 → (o : Option ℕ) → SomeIff o (4371587 ≤ since) (since - 4371587)
+        → IfSome o (λ n. (n ≤ 2932896) × (day_after_epoch n ≡ record { year = year; month = month; day = day })) × (IsNone o → (n : ℕ) → n ≤ 2932896 → day_after_epoch n ≢ record { year = year; month = month; day = day })
+    numbered since is high None early = (tt, λ none n h e. let number = number_is n h e in early (omega (arith, signed_arith)))
+    numbered since is high (Some n) (late, number) =
+        let small : n ≤ 2932896 = omega arith in
+        ((small, day_is_of n small (omega (arith, signed_arith))), λ none. absurd cc)
 
 -- a year of that size keeps its value when cast
 pub cast_year : (z : ℤ) (n : ℕ) → z ≡ pos n → n < 10000 → to_z w16 (of_z w16 z) ≡ pos n

@@ -5,7 +5,7 @@ ghost use Rattle.sabr_model.specs.plan.Plan.{last_time};
 ghost use Rattle.sabr_plan.specs.Times.{day_after_epoch, pair_at, spelled, fields_of, last_spelled, time_text_of, time_of};
 ghost use Rattle.sabr_plan.specs.Times.{is_pair, has_shape, fields_at, HasWidth};
 
-use jiff::civil::Date;
+use jiff_core::civil::Date;
 use sabr_model::LAST_TIME;
 
 /// The number of seconds of a day.
@@ -14,20 +14,14 @@ pub const DAY_SECONDS: u64 = 86400;
 /// The number of days from the first day of jiff's calendar to 1970/01/01.
 const DAYS_BEFORE_EPOCH: u32 = 4371587;
 
-/// A date of the Gregorian calendar, and the time of day.
+/// A date of the Gregorian calendar, and the time of day. Months and days count from 1, and the others from 0.
 #[derive(Clone, Copy)]
 pub struct TimeFields {
-    /// The year.
     pub year: u16,
-    /// The month, from 1.
     pub month: u8,
-    /// The day of the month, from 1.
     pub day: u8,
-    /// The hour, from 0.
     pub hour: u8,
-    /// The minute, from 0.
     pub minute: u8,
-    /// The second, from 0.
     pub second: u8,
 }
 
@@ -38,7 +32,7 @@ fn fields_of(second: u64) -> TimeFields
 {
     let days = second / DAY_SECONDS;
     let clock = (second % DAY_SECONDS) as u32;
-    let date = jiff_core::civil::Date::from_days_since_min(days as u32 + DAYS_BEFORE_EPOCH);
+    let date = Date::from_days_since_min(days as u32 + DAYS_BEFORE_EPOCH);
     TimeFields {
         year: date.year as u16,
         month: date.month,
@@ -61,8 +55,7 @@ fn day_number(year: u16, month: u8, day: u8) -> Option<u32>
     let Ok(date) = Date::new(year as i16, month as i8, day as i8) else {
         return None;
     };
-    let days = date.to_plain().to_unix_epoch_day();
-    if days < 0 { None } else { Some(days as u32) }
+    date.days_since_min().checked_sub(DAYS_BEFORE_EPOCH)
 }
 
 /// Returns the second with these calendar and clock fields. `None` if there is no such second up to the latest time,
