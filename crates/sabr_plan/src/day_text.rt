@@ -49,30 +49,16 @@ impl DayText {
         requires { clock < 86400 }
         ensures { result ≡ time_text_of (self.now.begin + clock) }
     {
-        let day = &self.text;
         let hour = (clock / 3600) as u8;
         let minute = (clock % 3600 / 60) as u8;
         let second = (clock % 60) as u8;
-        [
-            day[0],
-            day[1],
-            day[2],
-            day[3],
-            day[4],
-            day[5],
-            day[6],
-            day[7],
-            day[8],
-            day[9],
-            day[10],
-            digit(hour / 10),
-            digit(hour % 10),
-            b':',
-            digit(minute / 10),
-            digit(minute % 10),
-            b':',
-            digit(second / 10),
-            digit(second % 10),
-        ]
+        let mut text = self.text;
+        text[11] = digit(hour / 10);
+        text[12] = digit(hour % 10);
+        text[14] = digit(minute / 10);
+        text[15] = digit(minute % 10);
+        text[17] = digit(second / 10);
+        text[18] = digit(second % 10);
+        text
     }
 }
